@@ -1,0 +1,75 @@
+//! Laws of the definitions, for the crates above.
+ghost use Rattle.std.specs.Prelude.{◌≡◌, ◌<◌, ◌≤◌, ◌++◌, [], ◌∷◌, ℕ, List, take, length};
+ghost use Rattle.std.specs.FinMap as map;
+ghost use Rattle.std.specs.Prelude.{Option, true};
+ghost use Rattle.records.specs.Values.{Place};
+ghost use Rattle.records.specs.declared.row.Row.{Row};
+ghost use Rattle.records.specs.ChangeValue.{ChangeValue};
+ghost use Rattle.records.specs.RecordValue.{RecordValue};
+ghost use Rattle.records.specs.Spelling.{old_row, new_row};
+ghost use Rattle.records.specs.Maps.{set_at};
+ghost use Rattle.model.specs.declared.write.Write.{Write};
+ghost use Rattle.model.specs.Table.{Table, applied, written_at};
+ghost use Rattle.model.specs.Committed.{IsCommitted, IsHeldByNoOther, touches, writes_of};
+ghost use Rattle.model.specs.Recovery.{IsExclusive, recovered_rows};
+ghost use Rattle.model.specs.Cells.{Cells, cells_after, rows_after, set_by, reverted, changed, AreChanges, Pending, list_of, with_list, noted, taken_off};
+ghost use Rattle.model.specs.History.{Item, Stage, table_after, table_with, stage_after, stage_with, up_to, AreRising, last_number};
+
+/// A record after others sets its cells last.
+pub fn one_more_record()
+    ensures rows { (cells : Cells) (records : List RecordValue) → (cells_after cells records).rows ≡ rows_after cells.rows records }
+    ensures all { (cells : Cells) (records : List RecordValue) (r : RecordValue) → cells_after cells (records ++ r ∷ []) ≡ set_by (cells_after cells records) r.action }
+{}
+
+/// An item after others counts last.
+pub fn one_more_item()
+    ensures table { (table : Table) (items : List Item) (item : Item) → table_after table (items ++ item ∷ []) ≡ table_with (table_after table items) item.deed }
+    ensures stage { (stage : Stage) (items : List Item) (item : Item) → stage_after stage (items ++ item ∷ []) ≡ stage_with (stage_after stage items) item.deed }
+    ensures held { (n m : ℕ) (items : List Item) (item : Item) → AreRising m (items ++ item ∷ []) → item.number ≤ n → up_to n (items ++ item ∷ []) ≡ items ++ item ∷ [] }
+    ensures later { (n : ℕ) (items : List Item) (item : Item) → n < item.number → up_to n (items ++ item ∷ []) ≡ up_to n items }
+    ensures prefix { (n m : ℕ) (items : List Item) → AreRising m items → (k : ℕ) × (up_to n items ≡ take k items) }
+{}
+
+/// To take back a change that was just made leaves the rows as they were.
+pub fn one_more_change()
+    ensures taken { (rows : Table) (changes : List ChangeValue) (c : ChangeValue) → reverted rows (changes ++ c ∷ []) ≡ reverted (set_at rows c.rid (old_row c.rows)) changes }
+    ensures made { (rows : Table) (changes : List ChangeValue) (c : ChangeValue) → map.get rows c.rid ≡ old_row c.rows → reverted (set_at rows c.rid (new_row c.rows)) (changes ++ c ∷ []) ≡ reverted rows changes }
+{}
+
+/// The first record of a change puts it at the end of its transaction's list,
+/// a later one leaves the list, and the last one of its undo takes it off.
+pub fn listed_changes()
+    ensures first { (changes : List ChangeValue) (c : ChangeValue) → c.position ≡ length changes → noted changes c ≡ changes ++ c ∷ [] }
+    ensures again { (changes : List ChangeValue) (c : ChangeValue) → c.position ≡ length changes → noted (changes ++ c ∷ []) c ≡ changes ++ c ∷ [] }
+    ensures last { (changes : List ChangeValue) (c : ChangeValue) → taken_off (changes ++ c ∷ []) true ≡ changes }
+{}
+
+/// Changes that found what was there are taken back to it.
+pub fn unfinished_changes()
+    ensures { (rows : Table) (changes : List ChangeValue) → AreChanges rows changes → reverted (changed rows changes) changes ≡ rows }
+{}
+
+/// A commit after another applies last.
+pub fn commit_order()
+    ensures { (table : Table) (writes later : List Write) → applied table (writes ++ later) ≡ applied (applied table writes) later }
+{}
+
+/// What was set at a place is there.
+pub fn set_is_there()
+    ensures { (table : Table) (r : Place) (x : Option Row) → map.get (set_at table r x) r ≡ x }
+{}
+
+/// The committed table: a change that found its row leaves it, and a commit
+/// applies its transaction's writes.
+pub fn committed_table()
+    ensures step { (rows : Table) (pending : Pending) (table : Table) (txn : ℕ) (c : ChangeValue) → IsCommitted rows pending table → map.get rows c.rid ≡ old_row c.rows → IsHeldByNoOther pending txn c.rid → IsCommitted (set_at rows c.rid (new_row c.rows)) (with_list pending txn (list_of pending txn ++ c ∷ [])) table }
+    ensures set { (rows : Table) (pending : Pending) (table : Table) (txn : ℕ) (place : Place) (row : Option Row) → IsCommitted rows pending table → touches (list_of pending txn) place ≡ true → IsHeldByNoOther pending txn place → IsCommitted (set_at rows place row) pending table }
+    ensures off { (rows : Table) (pending : Pending) (table : Table) (txn : ℕ) (changes : List ChangeValue) (c : ChangeValue) → IsCommitted rows pending table → list_of pending txn ≡ changes ++ c ∷ [] → map.get rows c.rid ≡ old_row c.rows → IsHeldByNoOther pending txn c.rid → IsCommitted rows (with_list pending txn changes) table }
+    ensures commit { (rows : Table) (pending : Pending) (table : Table) (txn : ℕ) → IsCommitted rows pending table → ((q : Place) → touches (list_of pending txn) q ≡ true → IsHeldByNoOther pending txn q) → ((q : Place) → touches (list_of pending txn) q ≡ true → written_at (writes_of (list_of pending txn)) q (map.get table q) ≡ map.get rows q) → IsCommitted rows (with_list pending txn []) (applied table (writes_of (list_of pending txn))) }
+{}
+
+/// Where no place is changed by two transactions, taking every unfinished one
+/// back gives the committed table.
+pub fn recovery()
+    ensures { (cells : Cells) (table : Table) → IsExclusive cells.pending → IsCommitted cells.rows cells.pending table → recovered_rows cells ≡ table }
+{}

@@ -1,0 +1,27 @@
+//! The definitions that several crates speak of, with the plain slow program
+//! that computes them.
+#![tactic(auto)]
+
+mod cell_maps;
+mod entry_map;
+mod key_action;
+mod laws;
+mod life;
+mod list_map;
+mod row_map;
+mod write;
+
+pub use cell_maps::CellMaps;
+pub use entry_map::EntryMap;
+pub use key_action::{KeyAction, after_action};
+pub use laws::{
+    commit_order, committed_table, listed_changes, one_more_change, one_more_item, one_more_record,
+    recovery, set_is_there, unfinished_changes,
+};
+pub use life::Life;
+pub use list_map::ListMap;
+pub use row_map::RowMap;
+pub use write::Write;
+
+#[cfg(test)]
+mod tests;

@@ -1,0 +1,11 @@
+pub mod Refusals
+pub mod GeometryValue
+pub mod Padded
+pub mod Values
+pub mod Orders
+pub mod Maps
+pub mod ChangeValue
+pub mod RecordValue
+pub mod Spelling
+pub mod Reading
+pub mod Codes

@@ -1,0 +1,149 @@
+-- How records are spelled, and which values have a spelling.
+use Rattle.std.specs.Prelude.{ℕ, ◌<◌, ◌≤◌, ◌^◌, List, [], ◌∷◌, ◌++◌, length, Option, Some, None, IsTrue, Bool, true, false}
+use Rattle.byteorder.specs.Endian.{big_bytes}
+use Rattle.records.specs.declared.key.TheConstants.{KEY_MAX, BODY_MAX}
+use Rattle.records.specs.declared.rid.TheConstants.{SLOTS_PER_PAGE}
+use Rattle.records.specs.declared.change.TheConstants.{CHANGES_MAX}
+use Rattle.records.specs.declared.number.TheConstants.{LAST_NUMBER}
+use Rattle.records.specs.Values.{Place}
+use Rattle.records.specs.ChangeValue.{ChangeValue}
+use Rattle.records.specs.RecordValue.{RecordValue, has_rows}
+use Rattle.records.specs.declared.row.Row.{Row}
+use Rattle.records.specs.declared.pair.Pair.{Pair}
+use Rattle.records.specs.declared.change.Rows.{Rows}
+use Rattle.records.specs.declared.change.Rows.TheVariants.{Inserted, Deleted, Updated}
+use Rattle.records.specs.declared.record.Part.{Part}
+use Rattle.records.specs.declared.record.Part.TheVariants.{Slot, OldEntry, NewEntry}
+use Rattle.records.specs.declared.record.TxnAction.{TxnAction}
+use Rattle.records.specs.declared.record.TxnAction.TheVariants.{Forward, Undo, Commit, End}
+use Rattle.records.specs.declared.record.IndexAction.{IndexAction}
+use Rattle.records.specs.declared.record.IndexAction.TheVariants.{Create, BuildPlace, BuildCheckpoint, BuildDone, Clean}
+use Rattle.records.specs.declared.record.Action.{Action}
+use Rattle.records.specs.declared.record.Action.TheVariants.{OfTxn, OfIndex}
+
+-- a byte of length, and that many bytes
+abbrev pub short : List ℕ → List ℕ
+short bytes = length bytes ∷ bytes
+
+-- numbers of two, four and eight bytes, the highest byte first
+unfoldable pub u16 : ℕ → List ℕ
+u16 n = big_bytes 2 n
+
+unfoldable pub u32 : ℕ → List ℕ
+u32 n = big_bytes 4 n
+
+unfoldable pub u64 : ℕ → List ℕ
+u64 n = big_bytes 8 n
+
+abbrev pub rid : Place → List ℕ
+rid r = u32 r.page ++ u16 r.slot
+
+-- 0, or 1 and the row
+abbrev pub row : Option Row → List ℕ
+row None = 0 ∷ []
+row (Some r) = 1 ∷ (short r.key ++ short r.body)
+
+abbrev pub old_row : Rows → Option Row
+old_row (Inserted new) = None
+old_row (Deleted old) = Some old
+old_row (Updated old new) = Some old
+
+abbrev pub new_row : Rows → Option Row
+new_row (Inserted new) = Some new
+new_row (Deleted old) = None
+new_row (Updated old new) = Some new
+
+abbrev pub change : ChangeValue → List ℕ
+change c = c.position ∷ (rid c.rid ++ (row (old_row c.rows) ++ row (new_row c.rows)))
+
+abbrev pub pair : Pair → List ℕ
+pair p = short p.key ++ rid p.rid
+
+abbrev pub flag : Bool → List ℕ
+flag false = 0 ∷ []
+flag true = 1 ∷ []
+
+abbrev pub forward_kind : Part → ℕ
+forward_kind Slot = 1
+forward_kind OldEntry = 2
+forward_kind NewEntry = 3
+
+abbrev pub undo_kind : Part → ℕ
+undo_kind NewEntry = 4
+undo_kind Slot = 5
+undo_kind OldEntry = 6
+
+-- the kind, and the fields
+abbrev pub txn_fields : TxnAction → List ℕ
+txn_fields (Forward part c) = forward_kind part ∷ change c
+txn_fields (Undo part c last) = undo_kind part ∷ (change c ++ flag last)
+txn_fields Commit = 7 ∷ []
+txn_fields End = 8 ∷ []
+
+abbrev pub index_fields : IndexAction → List ℕ
+index_fields Create = 9 ∷ []
+index_fields (BuildPlace p) = 10 ∷ pair p
+index_fields (BuildCheckpoint p) = 11 ∷ pair p
+index_fields BuildDone = 12 ∷ []
+index_fields (Clean p) = 13 ∷ pair p
+
+abbrev pub fields_of : Action → List ℕ
+fields_of (OfTxn txn action) = txn_fields action
+fields_of (OfIndex action) = index_fields action
+
+-- the transaction, or 0
+abbrev pub txn_of : Action → ℕ
+txn_of (OfTxn txn action) = txn
+txn_of (OfIndex action) = 0
+
+abbrev pub spelling : RecordValue → List ℕ
+spelling r = u64 r.number ++ (u64 (txn_of r.action) ++ fields_of r.action)
+
+-- The limits of each value. A value of the program is within them.
+pub record RidFits (r : Place) : Type 0 where
+  pub page : r.page < 2 ^ 32
+  pub slot : r.slot < SLOTS_PER_PAGE
+
+pub record RowFits (r : Row) : Type 0 where
+  pub key : length r.key ≤ KEY_MAX
+  pub body : length r.body ≤ BODY_MAX
+
+abbrev pub RowsFit : Rows → Type 0
+RowsFit (Inserted new) = RowFits new
+RowsFit (Deleted old) = RowFits old
+RowsFit (Updated old new) = RowFits old × RowFits new
+
+pub record ChangeFits (c : ChangeValue) : Type 0 where
+  pub position : c.position < CHANGES_MAX
+  pub rid : RidFits c.rid
+  pub rows : RowsFit c.rows
+
+pub record PairFits (p : Pair) : Type 0 where
+  pub key : length p.key ≤ KEY_MAX
+  pub rid : RidFits p.rid
+
+abbrev pub IsTxn : ℕ → Type 0
+IsTxn n = (1 ≤ n) × (n < 2 ^ 64)
+
+abbrev pub TxnActionFits : TxnAction → Type 0
+TxnActionFits (Forward part c) = ChangeFits c
+TxnActionFits (Undo part c last) = ChangeFits c
+TxnActionFits Commit = Unit {0}
+TxnActionFits End = Unit {0}
+
+abbrev pub IndexActionFits : IndexAction → Type 0
+IndexActionFits Create = Unit {0}
+IndexActionFits (BuildPlace p) = PairFits p
+IndexActionFits (BuildCheckpoint p) = PairFits p
+IndexActionFits BuildDone = Unit {0}
+IndexActionFits (Clean p) = PairFits p
+
+abbrev pub ActionFits : Action → Type 0
+ActionFits (OfTxn txn action) = IsTxn txn × TxnActionFits action
+ActionFits (OfIndex action) = IndexActionFits action
+
+pub record Fits (r : RecordValue) : Type 0 where
+  pub first : 1 ≤ r.number
+  pub last : r.number ≤ LAST_NUMBER
+  pub rows : IsTrue (has_rows r.action)
+  pub action : ActionFits r.action

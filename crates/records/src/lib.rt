@@ -1,0 +1,40 @@
+//! The values of the index builder: keys, bodies, places of rows, and pairs.
+#![tactic(auto)]
+
+mod change;
+mod decode;
+mod encode;
+mod error;
+mod geometry;
+mod key;
+mod number;
+mod pair;
+mod record;
+mod rid;
+mod row;
+mod short_bytes;
+mod sink;
+mod size;
+mod txn;
+
+pub use change::{CHANGES_MAX, Change, Rows};
+pub use error::Error;
+pub use geometry::{
+    ENTRIES_MAX, ENTRIES_MIN, ENTRIES_PER_SECTOR, FRONT_SECTORS, Geometry, HEADER_SECTORS,
+    HEADS_SECTORS, LOG_SLOTS_MAX, LOG_SLOTS_MIN, PAGE_SECTORS, PAGES_MAX, SLOT_SECTORS,
+    UNDO_SECTORS,
+};
+pub use key::{BODY_MAX, Body, KEY_MAX, Key};
+pub use number::{LAST_NUMBER, RecordNumber};
+pub use pair::{Mark, Pair, compare_pairs};
+pub use record::{
+    Action, IndexAction, Part, RECORD_MAX, RECORD_MIN, Record, TxnAction, each_has_a_spelling,
+    one_spelling,
+};
+pub use rid::{Rid, SLOTS_PER_PAGE, compare_rids};
+pub use row::Row;
+pub use sink::Sink;
+pub use txn::{TXNS_MAX, Txn};
+
+#[cfg(test)]
+mod tests;

@@ -1,0 +1,27 @@
+//! What takes records.
+ghost use Rattle.std.specs.Prelude.{◌≡◌, ◌++◌, [], ◌∷◌, List, ℕ, MatchResult};
+ghost use Rattle.records.specs.RecordValue.{RecordValue};
+
+use crate::record::Record;
+use std::alloc::Allocator;
+
+/// A place for records in the order of their making, such as a list or the
+/// queue to the log's writer.
+pub trait Sink {
+    /// The records that it has taken, the first of them first.
+    ghost taken: { Self → List RecordValue };
+
+    /// Takes the record as the last one, or gives it back and has then taken
+    /// nothing.
+    fn take(&mut self, item: Record) -> Result<(), Record>
+        ensures { MatchResult result (λ _. taken self.new ≡ taken self.old ++ item ∷ []) (λ back. (back ≡ item) × (taken self.new ≡ taken self.old)) };
+}
+
+/// A vector takes records at its end, and refuses one where it can't grow.
+impl<A: Allocator> Sink for Vec<Record, A> {
+    ghost taken = { λ records. records.items };
+
+    fn take(&mut self, item: Record) -> Result<(), Record> {
+        self.push(item).map_err(|refused| refused.value)
+    }
+}
