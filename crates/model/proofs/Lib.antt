@@ -5,3 +5,4 @@ pub mod HistoryLaws
 pub mod MapUses
 pub mod CommittedLaws
 pub mod RecoveryLaws
+pub mod PrefixLaws

@@ -5,4 +5,5 @@ pub mod History
 pub mod Committed
 pub mod Lists
 pub mod Recovery
+pub mod Prefixes
 pub mod Redo

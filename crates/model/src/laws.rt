@@ -1,5 +1,5 @@
 //! Laws of the definitions, for the crates above.
-ghost use Rattle.std.specs.Prelude.{◌≡◌, ◌<◌, ◌≤◌, ◌++◌, [], ◌∷◌, ℕ, List, take, length};
+ghost use Rattle.std.specs.Prelude.{◌≡◌, ◌<◌, ◌≤◌, ◌+◌, ◌++◌, [], ◌∷◌, ℕ, List, take, length};
 ghost use Rattle.std.specs.FinMap as map;
 ghost use Rattle.std.specs.Prelude.{Option, true};
 ghost use Rattle.records.specs.Values.{Place};
@@ -12,8 +12,12 @@ ghost use Rattle.model.specs.declared.write.Write.{Write};
 ghost use Rattle.model.specs.Table.{Table, applied, written_at};
 ghost use Rattle.model.specs.Committed.{IsCommitted, IsHeldByNoOther, touches, writes_of};
 ghost use Rattle.model.specs.Recovery.{IsExclusive, recovered_rows};
+ghost use Rattle.model.specs.Prefixes.{TellsHistory, at_rest};
+ghost use Rattle.records.specs.declared.record.Action.TheVariants.{OfTxn};
+ghost use Rattle.records.specs.declared.record.TxnAction.TheVariants.{Forward, Commit};
+ghost use Rattle.records.specs.declared.record.Part.TheVariants.{Slot};
 ghost use Rattle.model.specs.Cells.{Cells, cells_after, rows_after, set_by, reverted, changed, AreChanges, Pending, list_of, with_list, noted, taken_off};
-ghost use Rattle.model.specs.History.{Item, Stage, table_after, table_with, stage_after, stage_with, up_to, AreRising, last_number};
+ghost use Rattle.model.specs.History.{Item, Committed, Stage, table_after, table_with, stage_after, stage_with, up_to, AreRising, last_number};
 
 /// A record after others sets its cells last.
 pub fn one_more_record()
@@ -72,4 +76,16 @@ pub fn committed_table()
 /// back gives the committed table.
 pub fn recovery()
     ensures { (cells : Cells) (table : Table) → IsExclusive cells.pending → IsCommitted cells.rows cells.pending table → recovered_rows cells ≡ table }
+{}
+
+/// The history that records tell goes on by a forward step on a row, which
+/// found the row that was there, and by a commit.
+pub fn told_history()
+    ensures first { (table : Table) (base : ℕ) → TellsHistory table base [] [] }
+    ensures row { (table : Table) (base : ℕ) (records : List RecordValue) (items : List Item) (r : RecordValue) (txn : ℕ) (c : ChangeValue) → TellsHistory table base records items
+        → r.action ≡ OfTxn txn (Forward Slot c) → c.position ≡ length (list_of (cells_after (at_rest table) records).pending txn) → map.get (cells_after (at_rest table) records).rows c.rid ≡ old_row c.rows
+        → IsHeldByNoOther (cells_after (at_rest table) records).pending txn c.rid → TellsHistory table base (records ++ r ∷ []) items }
+    ensures commit { (table : Table) (base : ℕ) (records : List RecordValue) (items : List Item) (r : RecordValue) (txn : ℕ) → TellsHistory table base records items
+        → r.action ≡ OfTxn txn Commit → r.number ≡ base + length records + 1
+        → TellsHistory table base (records ++ r ∷ []) (items ++ record { number = r.number; deed = Committed (writes_of (list_of (cells_after (at_rest table) records).pending txn)) } ∷ []) }
 {}

@@ -16,7 +16,7 @@ pub use entry_map::EntryMap;
 pub use key_action::{KeyAction, after_action};
 pub use laws::{
     commit_order, committed_table, listed_changes, one_more_change, one_more_item, one_more_record,
-    recovery, set_is_there, unfinished_changes,
+    recovery, set_is_there, told_history, unfinished_changes,
 };
 pub use life::Life;
 pub use list_map::ListMap;

@@ -1,4 +1,5 @@
-pub mod Laws
+pub mod Spellings
+pub mod Numbers
 mod Steps
 mod Fields
 mod Records

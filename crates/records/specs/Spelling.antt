@@ -1,5 +1,5 @@
 -- How records are spelled, and which values have a spelling.
-use Rattle.std.specs.Prelude.{ℕ, ◌<◌, ◌≤◌, ◌^◌, List, [], ◌∷◌, ◌++◌, length, Option, Some, None, IsTrue, Bool, true, false}
+use Rattle.std.specs.Prelude.{ℕ, ◌<◌, ◌≤◌, ◌^◌, List, [], ◌∷◌, ◌++◌, length, Option, Some, None, IsTrue, Bool, true, false, slice_index}
 use Rattle.byteorder.specs.Endian.{big_bytes}
 use Rattle.records.specs.declared.key.TheConstants.{KEY_MAX, BODY_MAX}
 use Rattle.records.specs.declared.rid.TheConstants.{SLOTS_PER_PAGE}
@@ -20,6 +20,10 @@ use Rattle.records.specs.declared.record.IndexAction.{IndexAction}
 use Rattle.records.specs.declared.record.IndexAction.TheVariants.{Create, BuildPlace, BuildCheckpoint, BuildDone, Clean}
 use Rattle.records.specs.declared.record.Action.{Action}
 use Rattle.records.specs.declared.record.Action.TheVariants.{OfTxn, OfIndex}
+
+-- each element is a byte
+abbrev pub IsBytes : List ℕ → Type 0
+IsBytes bytes = (i : ℕ) → slice_index bytes i < 256
 
 -- a byte of length, and that many bytes
 abbrev pub short : List ℕ → List ℕ

@@ -1,7 +1,7 @@
 //! Writing records.
 ghost use Rattle.std.specs.Prelude.{◌≡◌, ◌<◌, ◌++◌, ◌∷◌, [], ℕ, List, length, take, OnOk, OnErr, IfErr};
 ghost use Rattle.records.specs.Spelling as as_bytes;
-ghost use Rattle.records.specs.Spelling.{spelling};
+ghost use Rattle.records.specs.Spelling.{spelling, Fits};
 
 use crate::change::{Change, Rows};
 use crate::error::Error;
@@ -172,23 +172,25 @@ impl Action {
     }
 }
 
-fn put_record<A: Allocator>(out: &mut Vec<u8, A>, record: &Record) -> Result<(), AllocError>
-    ensures ok { OnOk result (out.new.items ≡ out.old.items ++ spelling record.now) }
+fn put_record<A: Allocator>(out: &mut Vec<u8, A>, logged: &Record) -> Result<(), AllocError>
+    ensures ok { OnOk result (out.new.items ≡ out.old.items ++ spelling logged.now) }
     ensures kept { take (length out.old.items) out.new.items ≡ out.old.items }
 {
-    put_u64(out, record.number.get())?;
-    put_u64(out, record.action.txn_number())?;
-    put_fields(out, &record.action)
+    put_u64(out, logged.number.get())?;
+    put_u64(out, logged.action.txn_number())?;
+    put_fields(out, &logged.action)
 }
 
 impl Record {
     /// Appends the record's spelling.
     pub fn encode_into<A: Allocator>(&self, out: &mut Vec<u8, A>) -> Result<(), Error>
         ensures ok { OnOk result (out.new.items ≡ out.old.items ++ spelling self.now) }
+        ensures fits { Fits self.now }
         ensures err { OnErr result (out.new.items ≡ out.old.items) }
         ensures no_memory { IfErr result (λ e. e ≡ Error.NoMemory) }
     {
         let start = out.len();
+        out.reserve(self.size())?;
         let put = put_record(out, self);
         if put.is_err() {
             out.truncate(start);

@@ -7,6 +7,8 @@ mod encode;
 mod error;
 mod geometry;
 mod key;
+mod laws;
+mod limits;
 mod number;
 mod pair;
 mod record;
@@ -25,6 +27,8 @@ pub use geometry::{
     UNDO_SECTORS,
 };
 pub use key::{BODY_MAX, Body, KEY_MAX, Key};
+pub use laws::{number_in_front, one_number, size_of_numbers};
+pub use limits::{ATTEMPTS_PER_CHECKPOINT, PLACES_PER_CHANGE};
 pub use number::{LAST_NUMBER, RecordNumber};
 pub use pair::{Mark, Pair, compare_pairs};
 pub use record::{

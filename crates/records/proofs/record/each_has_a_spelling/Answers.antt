@@ -1,4 +1,4 @@
-use Rattle.records.proofs.Laws.{spelling_least, spelling_most}
+use Rattle.records.proofs.Spellings.{spelling_least, spelling_most}
 use Rattle.records.proofs.record.each_has_a_spelling.Goals as goal
 
 pub returns-clause-least : goal.returns-clause-least

@@ -1,0 +1,2 @@
+mod Keeps
+mod Names

@@ -1,0 +1,90 @@
+-- How views are cut and joined, and what each step on a word tells.
+use Rattle.std.specs.Prelude.{◌≡◌, ℕ, ◌≤◌, max, true, false, ◌==◌, []}
+use Rattle.atomic_table.specs.Table.{Me, Step}
+use Rattle.board.specs.declared.knowledge.Knowledge.{Knowledge}
+use Rattle.board.specs.Views.{stays_as, leaves_as}
+
+-- the builder's view is cut off the first one
+abbrev pub without_builder : Knowledge → Knowledge
+without_builder v = record v { builds = false }
+
+abbrev pub builder_of : Knowledge → Knowledge
+builder_of v = record v { flushes = false; may_stop = false; stops = false }
+
+-- a thread's view is cut off the first one
+abbrev pub without_reader : Knowledge → Knowledge
+without_reader v = record v { may_stop = false }
+
+abbrev pub reader_of : Knowledge → Knowledge
+reader_of v = record v { flushes = false; builds = false }
+
+-- a view becomes two, which have seen as much
+abbrev pub staying : Knowledge → Knowledge
+staying v = record v { name = stays_as v.name }
+
+abbrev pub leaving : Knowledge → Knowledge
+leaving v = record v { flushes = false; builds = false; name = leaves_as v.name; stops = false }
+
+-- what a view has seen, with no right to do anything
+abbrev pub seen_by : Knowledge → Knowledge
+seen_by v = record v { flushes = false; builds = false; may_stop = false; stops = false }
+
+-- the same, with what the flusher has published as seen
+abbrev pub flushed_by : Knowledge → Knowledge
+flushed_by v = record (seen_by v) { horizon = v.published; failed = v.device_failed }
+
+-- the same, with what the builder has published as seen
+abbrev pub built_by : Knowledge → Knowledge
+built_by v = record (seen_by v) { progress = v.attempts }
+
+-- the first view has now seen what the second had
+abbrev pub informed : Knowledge → Knowledge → Knowledge
+informed v told = record v {
+  horizon = told.horizon;
+  progress = told.progress;
+  failed = told.failed;
+  stopped = told.stopped;
+}
+
+-- What a step tells of the step, the view before, the number found or stored, and the view after. No
+-- view holds a slot of the table, so the second half of each pair stays as it was.
+abbrev Seated : Type 0
+Seated = Me (Unit {0}) Knowledge
+
+abbrev Tells : Type 1
+Tells = Step (Unit {0}) → Seated → ℕ → Seated → Type 0
+
+abbrev pub RaisesHorizon : Tells
+RaisesHorizon st m n m' = m' ≡ (record m.0 { published = max m.0.published st.first }, m.1)
+
+abbrev pub RaisesProgress : Tells
+RaisesProgress st m n m' = m' ≡ (record m.0 { attempts = max m.0.attempts st.first }, m.1)
+
+abbrev pub SetsFailed : Tells
+SetsFailed st m n m' = m' ≡ (record m.0 { device_failed = true }, m.1)
+
+abbrev pub SetsStop : Tells
+SetsStop st m n m' = m' ≡ (record m.0 { stopped = true; stops = true }, m.1)
+
+abbrev pub ReadsHorizon : Tells
+ReadsHorizon st m n m' = (m.0.horizon ≤ n) × (m' ≡ (record m.0 { horizon = n }, m.1))
+
+abbrev pub ReadsProgress : Tells
+ReadsProgress st m n m' = (m.0.progress ≤ n) × (m' ≡ (record m.0 { progress = n }, m.1))
+
+abbrev pub ReadsFailed : Tells
+ReadsFailed st m n m' = (m.0.failed ≡ true → (n == 1) ≡ true) × (m' ≡ (record m.0 { failed = n == 1 }, m.1))
+
+-- where the view was never made two, nobody else can have set the flag
+abbrev pub ReadsStop : Tells
+ReadsStop st m n m' =
+    (m.0.stopped ≡ true → (n == 1) ≡ true)
+    × (m.0.name ≡ [] → (n == 1) ≡ true → m.0.stops ≡ true)
+    × (m' ≡ (record m.0 { stopped = n == 1 }, m.1))
+
+-- nothing that the view knows to be seen is beyond what its holder has published
+abbrev pub Compares : Tells
+Compares st m n m' =
+    (m' ≡ m)
+    × (m.0.flushes ≡ true → (m.0.horizon ≤ m.0.published) × (m.0.failed ≡ true → m.0.device_failed ≡ true))
+    × (m.0.builds ≡ true → m.0.progress ≤ m.0.attempts)

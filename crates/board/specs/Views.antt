@@ -1,0 +1,79 @@
+-- What contracts see of the tokens that threads step with.
+use Rattle.std.specs.Prelude.{◌≡◌, ℕ, Bool, true, false, List, [], ◌∷◌, ◌++◌}
+use Rattle.atomic_table.specs.Seated.{TableId}
+use Rattle.board.specs.declared.knowledge.Knowledge.{Knowledge}
+
+-- What the holder of a view has seen of a board: the last horizon and the last count of attempts
+-- that it read, and whether it found the failed flag and the stop flag set.
+-- Then whether it has set the stop flag itself, and the view's name.
+pub record Sighting : Type 0 where
+  pub board : TableId
+  pub horizon : ℕ
+  pub progress : ℕ
+  pub failed : Bool
+  pub stopped : Bool
+  pub stops : Bool
+  pub name : List Bool
+
+-- What the flusher has published on a board: its own count, and whether it has said that its device
+-- failed.
+pub record FlusherCount : Type 0 where
+  pub board : TableId
+  pub horizon : ℕ
+  pub failed : Bool
+
+-- What the builder has published on a board: its own count of attempts.
+pub record BuilderCount : Type 0 where
+  pub board : TableId
+  pub progress : ℕ
+
+abbrev pub nothing_seen : TableId → Sighting
+nothing_seen board = record {
+  board = board;
+  horizon = 0;
+  progress = 0;
+  failed = false;
+  stopped = false;
+  stops = false;
+  name = [];
+}
+
+-- Views have names, so that none is made unseen. The first view of a board has the empty name. Where
+-- a view becomes two, the one that stays adds false to its name, and the one that leaves adds true.
+abbrev pub stays_as : List Bool → List Bool
+stays_as name = name ++ false ∷ []
+
+abbrev pub leaves_as : List Bool → List Bool
+leaves_as name = name ++ true ∷ []
+
+-- Two names part ways: at some place one has false and the other true. So neither view comes from
+-- the other.
+abbrev pub part_ways : List Bool → List Bool → Bool
+part_ways [] other = false
+part_ways (a ∷ name) [] = false
+part_ways (true ∷ name) (true ∷ other) = part_ways name other
+part_ways (true ∷ name) (false ∷ other) = true
+part_ways (false ∷ name) (true ∷ other) = true
+part_ways (false ∷ name) (false ∷ other) = part_ways name other
+
+-- what contracts see of what a view knows
+abbrev pub sighting_of : TableId → Knowledge → Sighting
+sighting_of board v = record {
+  board = board;
+  horizon = v.horizon;
+  progress = v.progress;
+  failed = v.failed;
+  stopped = v.stopped;
+  stops = v.stops;
+  name = v.name;
+}
+
+abbrev pub flusher_count_of : TableId → Knowledge → FlusherCount
+flusher_count_of board v = record { board = board; horizon = v.published; failed = v.device_failed }
+
+abbrev pub builder_count_of : TableId → Knowledge → BuilderCount
+builder_count_of board v = record { board = board; progress = v.attempts }
+
+-- it is neither the flusher's nor the builder's, and may set the stop flag
+abbrev pub IsThread : Knowledge → Type 0
+IsThread v = (v.flushes ≡ false) × (v.builds ≡ false) × (v.may_stop ≡ true)

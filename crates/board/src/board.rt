@@ -1,0 +1,192 @@
+//! The board, and the steps on it.
+ghost use Rattle.std.specs.Prelude.{◌≡◌, ◌≤◌, ℕ, true, false, [], max, IfOk, IsTrue};
+ghost use Rattle.board.specs.Views.{Sighting, FlusherCount, BuilderCount, nothing_seen, stays_as, leaves_as};
+
+use crate::knowledge::Knowledge;
+use crate::rule::{
+    BoardRule, Compare, CutBuilder, CutReader, CutView, Learn, RaiseHorizon, RaiseProgress,
+    ReadFailed, ReadHorizon, ReadProgress, ReadStop, SetFailed, SetStop, TellBuilt, TellFlushed,
+    TellSeen,
+};
+use crate::views::{BuildView, FlushView, View};
+use atomic_table::Table;
+use std::alloc::{AllocError, Allocator};
+use std::marker::Model;
+
+const HORIZON: usize = 0;
+
+const PROGRESS: usize = 1;
+
+const FAILED: usize = 2;
+
+const STOP: usize = 3;
+
+/// Four words that threads share by a `&`. To a contract a board is its identity, which each of its views names.
+#[derive(Drop)]
+pub struct Board<A: Allocator> {
+    table: Table<(), Knowledge, (), BoardRule, A>,
+}
+
+impl<A: Allocator> Model for Board<A> {
+    ghost use Rattle.std.specs.Prelude.{◌≡◌};
+    ghost use Rattle.atomic_table.specs.Seated.{TableId, table_id_coded};
+
+    ghost Value = { TableId };
+
+    ghost coded = { table_id_coded };
+
+    ghost view = { λ b. b.table.shared.table_id };
+
+    ghost invariant = { λ b. b.table.shared.table_id.words ≡ 4 };
+}
+
+impl<A: Allocator> Board<A> {
+    /// A board with nothing published, the flusher's view, the builder's, and a first one for the other threads.
+    ///
+    /// The error is that the memory for the four words was refused.
+    pub fn new(alloc: A) -> Result<(Board<A>, FlushView, BuildView, View), AllocError>
+        ensures flush { IfOk result (λ r. r.1 ≡ record { board = r.0; horizon = 0; failed = false }) }
+        ensures build { IfOk result (λ r. r.2 ≡ record { board = r.0; progress = 0 }) }
+        ensures view { IfOk result (λ r. r.3 ≡ nothing_seen r.0) }
+    {
+        let (table, mut seat) = Table::of_words(alloc, &[0; 4], &())?;
+        let builder = table.shared.split_seat::<CutBuilder>(&mut seat);
+        let reader = table.shared.split_seat::<CutReader>(&mut seat);
+        Ok((
+            Board { table },
+            FlushView { seat },
+            BuildView { seat: builder },
+            View { seat: reader },
+        ))
+    }
+
+    /// Makes a view for another thread, which has seen as much as this one. Each of the two has a name of its own from
+    /// now on, and no word changes.
+    pub fn another(&self, view: &mut View) -> View
+        requires { view.old.board ≡ self.now }
+        ensures stays { view.new ≡ record view.old { name = stays_as view.old.name } }
+        ensures leaves { result ≡ record view.old { name = leaves_as view.old.name; stops = false } }
+    {
+        let shared = &self.table.shared;
+        let seat = shared.split_seat::<CutView>(&mut view.seat);
+        View { seat }
+    }
+
+    /// The flusher raises the horizon to the number of a record. A number that is not above its own count changes
+    /// nothing.
+    pub fn publish(&self, view: &mut FlushView, horizon: u64)
+        requires { view.old.board ≡ self.now }
+        ensures { view.new ≡ record view.old { horizon = max view.old.horizon horizon } }
+    {
+        let shared = &self.table.shared;
+        shared.fetch_max::<RaiseHorizon>(&mut view.seat, HORIZON, horizon);
+    }
+
+    /// Reads the horizon: the number up to which the flusher has published that records are safe on the device. It is
+    /// never below one that this view saw before.
+    pub fn horizon(&self, view: &mut View) -> u64
+        requires { view.old.board ≡ self.now }
+        ensures seen { view.new ≡ record view.old { horizon = result } }
+        ensures rises { view.old.horizon ≤ result }
+    {
+        let shared = &self.table.shared;
+        shared.load::<ReadHorizon>(&mut view.seat, HORIZON)
+    }
+
+    /// The builder raises the count of its attempts. A number that is not above its own count changes nothing.
+    pub fn raise_progress(&self, view: &mut BuildView, progress: u64)
+        requires { view.old.board ≡ self.now }
+        ensures { view.new ≡ record view.old { progress = max view.old.progress progress } }
+    {
+        let shared = &self.table.shared;
+        shared.fetch_max::<RaiseProgress>(&mut view.seat, PROGRESS, progress);
+    }
+
+    /// Reads the count of attempts that the builder has published. It is never below one that this view saw before.
+    pub fn progress(&self, view: &mut View) -> u64
+        requires { view.old.board ≡ self.now }
+        ensures seen { view.new ≡ record view.old { progress = result } }
+        ensures rises { view.old.progress ≤ result }
+    {
+        let shared = &self.table.shared;
+        shared.load::<ReadProgress>(&mut view.seat, PROGRESS)
+    }
+
+    /// The flusher sets the failed flag, which says that its device failed. It stays set.
+    pub fn fail(&self, view: &mut FlushView)
+        requires { view.old.board ≡ self.now }
+        ensures { view.new ≡ record view.old { failed = true } }
+    {
+        let shared = &self.table.shared;
+        shared.store::<SetFailed>(&mut view.seat, FAILED, 1);
+    }
+
+    /// Reads the failed flag. It stays true once this view has seen it.
+    pub fn failed(&self, view: &mut View) -> bool
+        requires { view.old.board ≡ self.now }
+        ensures seen { view.new ≡ record view.old { failed = result } }
+        ensures stays { IsTrue view.old.failed → IsTrue result }
+    {
+        let shared = &self.table.shared;
+        shared.load::<ReadFailed>(&mut view.seat, FAILED) == 1
+    }
+
+    /// Sets the stop flag, which asks all threads to stop. It stays set.
+    pub fn stop(&self, view: &mut View)
+        requires { view.old.board ≡ self.now }
+        ensures { view.new ≡ record view.old { stopped = true; stops = true } }
+    {
+        let shared = &self.table.shared;
+        shared.store::<SetStop>(&mut view.seat, STOP, 1);
+    }
+
+    /// Reads the stop flag. It stays true once this view has seen it.
+    pub fn stopped(&self, view: &mut View) -> bool
+        requires { view.old.board ≡ self.now }
+        ensures seen { view.new ≡ record view.old { stopped = result } }
+        ensures stays { IsTrue view.old.stopped → IsTrue result }
+
+        // Where the view was never made two, nobody else can have set the flag.
+        ensures alone { view.old.name ≡ [] → IsTrue result → IsTrue view.old.stops }
+    {
+        let shared = &self.table.shared;
+        shared.load::<ReadStop>(&mut view.seat, STOP) == 1
+    }
+
+    /// One thread that holds the flusher's view and another, as at the end, has them compared. It learns that no
+    /// horizon which the other has seen is above the flusher's own count, and that a failed flag which it has seen is
+    /// true. The other view has now seen all that the flusher has published, so it reads no less from now on.
+    pub fn settle(&self, flush: &mut FlushView, view: &mut View)
+        requires flush { flush.old.board ≡ self.now }
+        requires view { view.old.board ≡ self.now }
+        ensures same { flush.new ≡ flush.old }
+        ensures horizon { view.old.horizon ≤ flush.old.horizon }
+        ensures failed { IsTrue view.old.failed → IsTrue flush.old.failed }
+        ensures informed { view.new ≡ record view.old { horizon = flush.old.horizon; failed = flush.old.failed } }
+    {
+        let shared = &self.table.shared;
+        let seen = shared.split_seat::<TellSeen>(&mut view.seat);
+        shared.join_seat::<Learn>(&mut flush.seat, seen);
+        shared.load::<Compare>(&mut flush.seat, HORIZON);
+        let published = shared.split_seat::<TellFlushed>(&mut flush.seat);
+        shared.join_seat::<Learn>(&mut view.seat, published);
+    }
+
+    /// One thread that holds the builder's view and another has them compared. It learns that no progress which the
+    /// other has seen is above the builder's own count. The other view has now seen all that the builder has
+    /// published, so it reads no less from now on.
+    pub fn settle_progress(&self, build: &mut BuildView, view: &mut View)
+        requires build { build.old.board ≡ self.now }
+        requires view { view.old.board ≡ self.now }
+        ensures same { build.new ≡ build.old }
+        ensures progress { view.old.progress ≤ build.old.progress }
+        ensures informed { view.new ≡ record view.old { progress = build.old.progress } }
+    {
+        let shared = &self.table.shared;
+        let seen = shared.split_seat::<TellSeen>(&mut view.seat);
+        shared.join_seat::<Learn>(&mut build.seat, seen);
+        shared.load::<Compare>(&mut build.seat, HORIZON);
+        let published = shared.split_seat::<TellBuilt>(&mut build.seat);
+        shared.join_seat::<Learn>(&mut view.seat, published);
+    }
+}

@@ -1,0 +1,20 @@
+//! A board of four words that threads read and write without a lock: how far the log is safe on the device, how far
+//! the builder of the index has come, whether the device failed, and whether the threads are to stop.
+//!
+//! A thread steps with a view, a token that it owns and that takes no bytes. The flusher has the [`FlushView`] and
+//! alone raises the horizon or says that the device failed. The builder has the [`BuildView`] and alone raises the
+//! progress. Every other thread has a [`View`]: it reads the four words and may set the stop flag.
+//!
+//! Only [`Board::new`] takes memory. Every other call returns at once with its answer: it takes no memory, waits for
+//! nothing and cannot fail. A call of the six kinds of step makes one atomic step on one word.
+#![tactic(auto)]
+
+mod board;
+mod knowledge;
+mod rule;
+#[cfg(test)]
+mod tests;
+mod views;
+
+pub use board::Board;
+pub use views::{BuildView, FlushView, View};

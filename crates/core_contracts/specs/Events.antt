@@ -1,0 +1,91 @@
+-- What is asked of the core, what it answers, and what the answers count.
+use Rattle.std.specs.Prelude.{List, Option, ℕ, ◌+◌, ◌-◌}
+use Rattle.records.specs.Values.{Place}
+use Rattle.records.specs.declared.error.Error.{Error}
+use Rattle.records.specs.declared.pair.Pair.{Pair}
+use Rattle.records.specs.declared.row.Row.{Row}
+use Rattle.model.specs.declared.life.Life as life
+
+pub data Event : Type 0 where
+  Begin : Event
+  Insert : (t : ℕ) → Row → Event
+  Delete : (t : ℕ) → Place → Event
+  Update : (t : ℕ) → Place → Row → Event
+  Step : (t : ℕ) → Event
+  Undo : (t : ℕ) → Event
+  End : (t : ℕ) → Event
+  Commit : (t : ℕ) → Event
+  Create : Event
+  Build : Event
+  Clean : Event
+  Get : Place → Event
+  Find : (key : List ℕ) → Event
+  Life : Event
+
+pub data BuildReply : Type 0 where
+  Scanned : (page : ℕ) → BuildReply
+  Placed : Pair → BuildReply
+  Rejected : Pair → BuildReply
+  Marked : Pair → (record_number : ℕ) → BuildReply
+  Done : (record_number : ℕ) → BuildReply
+  Idle : BuildReply
+
+pub data CleanReply : Type 0 where
+  Cleaned : Pair → CleanReply
+  Kept : Pair → CleanReply
+  Wrapped : CleanReply
+
+pub data Reply : Type 0 where
+  Txn : (t : ℕ) → Reply
+  Rid : Place → Reply
+  Stepped : Reply
+  Undone : Reply
+  Empty : Reply
+  Ended : Reply
+  Committed : (record_number : ℕ) → (commit : ℕ) → Reply  -- the ticket of a commit, with its number since the restart
+  Created : (record_number : ℕ) → Reply  -- the ticket of a creation
+  Built : BuildReply → Reply
+  Cleaner : CleanReply → Reply
+  RowIs : Option Row → Reply
+  Found : List Place → Reply
+  LifeIs : life.Life → Reply
+  Skipped : Reply
+  Refused : Error → Reply
+
+-- what events and replies alone change
+pub record Standing : Type 0 where
+  pub made : ℕ  -- the number of the last record made
+  pub begun : ℕ  -- the transactions begun since the restart
+  pub active : ℕ  -- those of them that have not ended
+  pub commits : ℕ  -- the commits since the restart
+  pub attempts : ℕ  -- the builder's attempts since its last checkpoint, the creation or the restart
+  pub scanned : ℕ  -- the pages that it took in a row since its last attempt, the creation or the restart
+
+abbrev pub after_build : Standing → BuildReply → Standing
+after_build k (Scanned page) = record k { scanned = k.scanned + 1 }
+after_build k (Placed p) = record k { made = k.made + 1; attempts = k.attempts + 1; scanned = 0 }
+after_build k (Rejected p) = record k { attempts = k.attempts + 1; scanned = 0 }
+after_build k (BuildReply.Marked p n) = record k { made = k.made + 1; attempts = 0 }
+after_build k (Done n) = record k { made = k.made + 1 }
+after_build k Idle = k
+
+abbrev pub after_clean : Standing → CleanReply → Standing
+after_clean k (Cleaned p) = record k { made = k.made + 1 }
+after_clean k (Kept p) = k
+after_clean k Wrapped = k
+
+abbrev pub standing_after : Standing → Reply → Standing
+standing_after k (Txn t) = record k { begun = k.begun + 1; active = k.active + 1 }
+standing_after k (Reply.Rid r) = record k { made = k.made + 1 }
+standing_after k Stepped = record k { made = k.made + 1 }
+standing_after k Undone = record k { made = k.made + 1 }
+standing_after k Ended = record k { made = k.made + 1; active = k.active - 1 }
+standing_after k (Reply.Committed n c) = record k { made = k.made + 1; active = k.active - 1; commits = k.commits + 1 }
+standing_after k (Reply.Created n) = record k { made = k.made + 1; attempts = 0; scanned = 0 }
+standing_after k (Built b) = after_build k b
+standing_after k (Cleaner c) = after_clean k c
+standing_after k _ = k
+
+-- after a restart that read records up to this number
+abbrev pub standing_at : ℕ → Standing
+standing_at last = record { made = last; begun = 0; active = 0; commits = 0; attempts = 0; scanned = 0 }

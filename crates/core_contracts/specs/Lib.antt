@@ -1,0 +1,9 @@
+pub mod Records
+pub mod Parts
+pub mod Scans
+pub mod Tables
+pub mod CoreValues
+pub mod Events
+pub mod Replies
+pub mod Served
+pub mod Worked

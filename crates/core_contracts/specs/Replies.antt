@@ -1,0 +1,203 @@
+-- Which reply an event may get, and what it does.
+use Rattle.std.specs.FinMap.{get, len}
+use Rattle.std.specs.List.{Contains}
+use Rattle.std.specs.List.Sorted.{IsStrictlySortedBy}
+use Rattle.std.specs.Ordering.{is_lt}
+use Rattle.std.specs.Prelude.{List, None, Option, Some, [], false, length, true, ℕ, ◌+◌, ◌<◌, ◌↔◌, ◌∷◌, ◌≡◌, ◌≢◌, ◌≤◌, ◌⊎◌}
+use Rattle.records.specs.ChangeValue.{ChangeValue}
+use Rattle.records.specs.Orders.{rid_cmp}
+use Rattle.records.specs.Values.{Place}
+use Rattle.records.specs.declared.change.Rows.{Rows}
+use Rattle.records.specs.declared.change.Rows.TheVariants.{Deleted, Inserted, Updated}
+use Rattle.records.specs.declared.change.TheConstants.{CHANGES_MAX}
+use Rattle.records.specs.declared.error.Error.{Error}
+use Rattle.records.specs.declared.pair.Mark.TheVariants.{Live}
+use Rattle.records.specs.declared.pair.Pair.{Pair}
+use Rattle.records.specs.declared.number.TheConstants.{LAST_NUMBER}
+use Rattle.records.specs.declared.rid.TheConstants.{SLOTS_PER_PAGE}
+use Rattle.records.specs.declared.row.Row.{Row}
+use Rattle.model.specs.declared.life.Life.TheVariants.{Absent, Complete}
+use Rattle.core_contracts.specs.Events.{BuildReply, Built, CleanReply, Cleaned, Cleaner, Done, Empty, Ended, Event, Found, Idle, Kept, LifeIs, Placed, Refused, Rejected, Reply, Rid, RowIs, Scanned, Skipped, Standing, Stepped, Txn, Undone, Wrapped, standing_after}
+use Rattle.core_contracts.specs.Records.{action_of}
+use Rattle.records.specs.declared.limits.TheConstants.{ATTEMPTS_PER_CHECKPOINT}
+use Rattle.records.specs.declared.txn.TheConstants.{TXNS_MAX}
+use Rattle.core_model.specs.States.{Active, OldMarked, RowSet, State}
+use Rattle.core_model.specs.Steps.{Attempt, CanClean, CanFinish, Checkpoint, Finish, IsBuilding, IsReady, Keep, Next, Start, Step, Take, Wrap, above, after, all_reserved, is_indexed, places_of, txn_at}
+
+-- ---- what an event asks for first
+
+-- the event is of a transaction that is not active
+abbrev pub IsOfNone : State → Event → Type 0
+IsOfNone s (Event.Insert t row) = s.txns t ≡ None
+IsOfNone s (Event.Delete t rid) = s.txns t ≡ None
+IsOfNone s (Event.Update t rid row) = s.txns t ≡ None
+IsOfNone s (Event.Step t) = s.txns t ≡ None
+IsOfNone s (Event.Undo t) = s.txns t ≡ None
+IsOfNone s (Event.End t) = s.txns t ≡ None
+IsOfNone s (Event.Commit t) = s.txns t ≡ None
+IsOfNone s _ = ⊥
+
+-- a step of the newest change is owed, and the transaction is not rolling back
+abbrev pub Owes : Active → Type 0
+Owes x = ((x.phase ≡ OldMarked) ⊎ (x.phase ≡ RowSet)) × (x.rolling ≡ false)
+
+-- what the caller is to see to; an event that does not meet it is skipped
+abbrev pub IsProper : State → Event → Type 0
+IsProper s (Event.Insert t row) = IsReady (txn_at s t)
+IsProper s (Event.Delete t rid) = IsReady (txn_at s t)
+IsProper s (Event.Update t rid row) = IsReady (txn_at s t)
+IsProper s (Event.Step t) = Owes (txn_at s t)
+IsProper s (Event.Commit t) = IsReady (txn_at s t)
+IsProper s (Event.End t) = (txn_at s t).changes ≡ []
+IsProper s _ = Unit {0}
+
+-- ---- refusals
+
+-- each with the state in which it comes, in order
+abbrev pub Refusals : Type 1
+Refusals = List (Type 0 × Error)
+
+-- the first whose state holds, or none
+abbrev pub IsFirst : Refusals → Option Error → Type 0
+IsFirst [] answer = answer ≡ None
+IsFirst (r ∷ rs) answer = (r.0 × (answer ≡ Some r.1)) ⊎ ((r.0 → ⊥) × IsFirst rs answer)
+
+-- a place of the heap without a row, which no transaction holds
+pub record IsFree (s : State) (r : Place) : Type 0 where
+  pub inside : r.page < s.pages
+  pub slot : r.slot < SLOTS_PER_PAGE
+  pub empty : get s.rows r ≡ None
+  pub unheld : s.holder r ≡ None
+
+abbrev pub IsHeldByOther : State → ℕ → Place → Type 0
+IsHeldByOther s t r = (u : ℕ) × (s.holder r ≡ Some u) × (u ≢ t)
+
+abbrev pub HasNoMoreChanges : State → ℕ → Type 0
+HasNoMoreChanges s t = CHANGES_MAX ≤ length (txn_at s t).changes
+
+abbrev pub IsAnyActive : State → Type 0
+IsAnyActive s = (t : ℕ) × (x : Active) × (s.txns t ≡ Some x)
+
+-- the refusals that the state alone decides
+abbrev pub refusals : State → Standing → Event → Refusals
+refusals s k Event.Begin = (TXNS_MAX ≤ k.active, Error.TooManyTxns) ∷ []
+refusals s k (Event.Insert t row) = (HasNoMoreChanges s t, Error.TooManyChanges) ∷ (((r : Place) → IsFree s r → ⊥), Error.HeapFull) ∷ []
+refusals s k (Event.Delete t rid) = (HasNoMoreChanges s t, Error.TooManyChanges) ∷ (IsHeldByOther s t rid, Error.RowBusy) ∷ (get s.rows rid ≡ None, Error.NoSuchRow) ∷ []
+refusals s k (Event.Update t rid row) = (HasNoMoreChanges s t, Error.TooManyChanges) ∷ (IsHeldByOther s t rid, Error.RowBusy) ∷ (get s.rows rid ≡ None, Error.NoSuchRow) ∷ []
+refusals s k Event.Create = (is_indexed s.life ≡ true, Error.IndexExists) ∷ (IsAnyActive s, Error.TxnsActive) ∷ []
+refusals s k Event.Build = (s.life ≡ Absent, Error.NoIndex) ∷ []
+refusals s k Event.Clean = (s.life ≡ Absent, Error.NoIndex) ∷ []
+refusals s k (Event.Find key) = (s.life ≡ Absent, Error.NoIndex) ∷ (IsBuilding s.life, Error.NotBuilt) ∷ []
+refusals s k _ = []
+
+-- the step has no entry place to reserve or to use
+abbrev pub HasNoPlace : State → Step → Type 0
+HasNoPlace s (Start t c) = (is_indexed s.life ≡ true) × (s.places < len s.entries + all_reserved s.pledges + places_of true)
+HasNoPlace s (Attempt p) = (get s.entries p ≡ None) × (s.places ≤ len s.entries + all_reserved s.pledges)
+HasNoPlace s _ = ⊥
+
+-- and those that come last, of the step that is due
+abbrev pub last_refusals : State → Standing → Step → Refusals
+last_refusals s k e = (HasNoPlace s e, Error.IndexFull) ∷ ((LAST_NUMBER ≤ k.made) × (action_of s e ≢ None), Error.Exhausted) ∷ []
+
+abbrev pub refusals_of : State → Standing → Option Step → Refusals
+refusals_of s k None = []
+refusals_of s k (Some e) = last_refusals s k e
+
+-- ---- the reply and the step that are due
+
+pub record IsLeastFree (s : State) (r : Place) : Type 0 where
+  pub free : IsFree s r
+  pub least : (q : Place) → IsFree s q → is_lt (rid_cmp q r) ≡ false
+
+abbrev pub change_of : State → ℕ → Place → Rows → ChangeValue
+change_of s t rid rows = record { position = length (txn_at s t).changes; rid = rid; rows = rows }
+
+-- the builder is not to make a checkpoint
+abbrev pub IsBetween : State → Standing → Type 0
+IsBetween s k = IsBuilding s.life × (k.attempts < ATTEMPTS_PER_CHECKPOINT)
+
+-- a pair that the scan has next
+pub record IsNextPair (s : State) (p : Pair) : Type 0 where
+  pub given : s.given p ≡ true
+  pub rising : above s.bound p ≡ true
+  pub all_taken : (n : ℕ) → n < s.pages → s.taken n ≡ true
+  pub none_left : (q : Pair) → above s.bound q ≡ true → above (Some q) p ≡ true → s.taken q.rid.page ≡ true → s.missed q ≡ true
+
+abbrev pub IsBuildDue : State → Standing → BuildReply → Type 0
+IsBuildDue s k Idle = s.life ≡ Complete
+IsBuildDue s k (BuildReply.Marked p n) = IsBuilding s.life × (ATTEMPTS_PER_CHECKPOINT ≤ k.attempts) × (s.bound ≡ Some p) × (n ≡ k.made + 1)
+IsBuildDue s k (Scanned page) = IsBetween s k × (page ≡ k.scanned) × (page < s.pages)
+IsBuildDue s k (Placed p) = IsBetween s k × IsNextPair s p × (get s.entries p ≡ None)
+IsBuildDue s k (Rejected p) = IsBetween s k × IsNextPair s p × (get s.entries p ≢ None)
+IsBuildDue s k (Done n) = IsBetween s k × CanFinish s × (n ≡ k.made + 1)
+
+abbrev pub build_step : BuildReply → Option Step
+build_step (Scanned page) = Some (Take page)
+build_step (Placed p) = Some (Attempt p)
+build_step (Rejected p) = Some (Attempt p)
+build_step (BuildReply.Marked p n) = Some Checkpoint
+build_step (Done n) = Some Finish
+build_step Idle = None
+
+-- the least entry above the cleaner's place
+pub record IsNextEntry (s : State) (p : Pair) : Type 0 where
+  pub there : get s.entries p ≢ None
+  pub above_place : above s.cleaned p ≡ true
+  pub least : (q : Pair) → get s.entries q ≢ None → above s.cleaned q ≡ true → above (Some q) p ≡ false
+
+abbrev pub IsCleanDue : State → CleanReply → Type 0
+IsCleanDue s (Cleaned p) = IsNextEntry s p × CanClean s p
+IsCleanDue s (Kept p) = IsNextEntry s p × (CanClean s p → ⊥)
+IsCleanDue s Wrapped = (p : Pair) → above s.cleaned p ≡ true → get s.entries p ≡ None
+
+abbrev pub clean_step : CleanReply → Step
+clean_step (Cleaned p) = Step.Clean p
+clean_step (Kept p) = Keep p
+clean_step Wrapped = Wrap
+
+-- the places of the live entries of this key, in order
+pub record AreFound (s : State) (key : List ℕ) (rids : List Place) : Type 0 where
+  pub live : (r : Place) → Contains rids r ↔ (get s.entries (record { key = key; rid = r }) ≡ Some Live)
+  pub in_order : IsStrictlySortedBy rid_cmp rids
+
+-- the reply of an event that succeeds, and its step, if it makes one
+abbrev pub IsDue : State → Standing → Event → Reply → Option Step → Type 0
+IsDue s k Event.Begin reply step = (reply ≡ Txn (k.begun + 1)) × (step ≡ Some (Step.Begin (k.begun + 1)))
+IsDue s k (Event.Insert t row) reply step = (r : Place) × IsLeastFree s r × (reply ≡ Rid r) × (step ≡ Some (Start t (change_of s t r (Inserted row))))
+IsDue s k (Event.Delete t r) reply step = (old : Row) × (get s.rows r ≡ Some old) × (reply ≡ Stepped) × (step ≡ Some (Start t (change_of s t r (Deleted old))))
+IsDue s k (Event.Update t r row) reply step = (old : Row) × (get s.rows r ≡ Some old) × (reply ≡ Stepped) × (step ≡ Some (Start t (change_of s t r (Updated old row))))
+IsDue s k (Event.Step t) reply step = (reply ≡ Stepped) × (step ≡ Some (Next t))
+IsDue s k (Event.Undo t) reply step = ((((txn_at s t).changes ≡ []) × (reply ≡ Empty)) ⊎ (((txn_at s t).changes ≢ []) × (reply ≡ Undone))) × (step ≡ Some (Step.Undo t))
+IsDue s k (Event.End t) reply step = (reply ≡ Ended) × (step ≡ Some (Step.End t))
+IsDue s k (Event.Commit t) reply step = (reply ≡ Reply.Committed (k.made + 1) (k.commits + 1)) × (step ≡ Some (Step.Commit t))
+IsDue s k Event.Create reply step = (reply ≡ Reply.Created (k.made + 1)) × (step ≡ Some Step.Create)
+IsDue s k Event.Build reply step = (b : BuildReply) × IsBuildDue s k b × (reply ≡ Built b) × (step ≡ build_step b)
+IsDue s k Event.Clean reply step = (c : CleanReply) × IsCleanDue s c × (reply ≡ Cleaner c) × (step ≡ Some (clean_step c))
+IsDue s k (Event.Get r) reply step = (reply ≡ RowIs (get s.rows r)) × (step ≡ None)
+IsDue s k (Event.Find key) reply step = (rids : List Place) × AreFound s key rids × (reply ≡ Found rids) × (step ≡ None)
+IsDue s k Event.Life reply step = (reply ≡ LifeIs s.life) × (step ≡ None)
+
+-- ---- all of it
+
+-- whether an event may want memory
+abbrev pub WantsMemory : Event → Type 0
+WantsMemory (Event.Get r) = ⊥
+WantsMemory Event.Life = ⊥
+WantsMemory _ = Unit {0}
+
+abbrev pub after_any : State → Option Step → State
+after_any s None = s
+after_any s (Some e) = after s e
+
+-- an event may get this reply, and leads to this state and standing
+pub data IsAllowed (s : State) (k : Standing) (e : Event) : Reply → State → Standing → Type 0 where
+  unknown : IsOfNone s e → IsAllowed s k e (Refused Error.NoSuchTxn) s k
+  skipped : (IsOfNone s e → ⊥) → (IsProper s e → ⊥) → IsAllowed s k e Skipped s k
+  refused : (IsOfNone s e → ⊥) → IsProper s e → (error : Error) → IsFirst (refusals s k e) (Some error) → IsAllowed s k e (Refused error) s k
+  refused_last : (IsOfNone s e → ⊥) → IsProper s e → IsFirst (refusals s k e) None → (reply : Reply) (step : Option Step) → IsDue s k e reply step
+      → (error : Error) → IsFirst (refusals_of s k step) (Some error) → IsAllowed s k e (Refused error) s k
+  no_memory : (IsOfNone s e → ⊥) → IsProper s e → IsFirst (refusals s k e) None → (reply : Reply) (step : Option Step) → IsDue s k e reply step
+      → IsFirst (refusals_of s k step) None → WantsMemory e → IsAllowed s k e (Refused Error.NoMemory) s k
+  accepted : (IsOfNone s e → ⊥) → IsProper s e → IsFirst (refusals s k e) None → (reply : Reply) (step : Option Step) → IsDue s k e reply step
+      → IsFirst (refusals_of s k step) None → IsAllowed s k e reply (after_any s step) (standing_after k reply)

@@ -1,0 +1,370 @@
+-- Every run has the history of its steps.
+use Rattle.std.proofs.Common.{Bool, List, None, Option, Some, [], ap, arith, false, inl, inr, refl, reverse, subst, sym, true, true≢false, unwrap_or, ℕ, ◌++◌, ◌∙◌, ◌∷◌, ◌≡◌, ◌≢◌, ◌≤◌, ◌⊎◌}
+use Rattle.std.specs.Cmp.{nat_cmp_total}
+use Rattle.std.specs.FinMap.{get, len, nat_cmp-IsAntisymmetric}
+use Rattle.std.specs.Ordering.{eq_by_cmp, nat_cmp}
+use Rattle.std.specs.Prelude.{map}
+use Rattle.records.specs.ChangeValue.{ChangeValue}
+use Rattle.records.specs.Orders.{rid_cmp, rid_cmp-IsAntisymmetric, rid_cmp_total}
+use Rattle.records.specs.Spelling.{old_row}
+use Rattle.records.specs.Values.{Place}
+use Rattle.records.specs.declared.pair.Mark.{Mark}
+use Rattle.records.specs.declared.pair.Mark.TheVariants.{Live, Marked}
+use Rattle.records.specs.declared.pair.Pair.{Pair}
+use Rattle.records.specs.declared.row.Row.{Row}
+use Rattle.model.specs.Committed.{writes_of}
+use Rattle.model.specs.History.{Deed, Item, Stage, stage_after, stage_of, stage_with, table_after, table_with}
+use Rattle.model.specs.Table.{Table, applied}
+use Rattle.model.specs.declared.life.Life.{Life}
+use Rattle.model.specs.declared.life.Life.TheVariants.{Absent, Building, Complete}
+use Rattle.model.specs.declared.write.Write.{Write}
+use Rattle.core_model.proofs.Frames.{nat_decided, rid_decided, same_some}
+use Rattle.core_model.proofs.Latest.{not_none, taken_back_applied, taken_back_latest}
+use Rattle.core_model.proofs.Orders.{apart, level, update_apart, update_here}
+use Rattle.core_model.proofs.Runs.{run_keeps}
+use Rattle.core_model.proofs.Sums.{none_reserved}
+use Rattle.core_model.proofs.Txns.{newest_last}
+use Rattle.core_model.specs.Changes.{latest, new_pair, old_pair, pair_of, taken_back}
+use Rattle.core_model.specs.Histories.{AreItemsOf, CanOpen, IsAmong, IsCovered, IsFaithful, IsTold, IsWhole, Opened, deeds_of, highest_of, history, no_writes, opened, restored, stage_over, table_over, write_of, writes_after}
+use Rattle.core_model.specs.Invariants.{Invariant, IsAhead, IsChained, IsCoherent, IsHeld, IsHolderOf, Run, no_step, one_step}
+use Rattle.core_model.specs.States.{Active, Made, NewMarked, OldMarked, OldSet, Phase, RowSet, State}
+use Rattle.core_model.specs.Steps.{Attempt, Begin, Checkpoint, Clean, Commit, Create, End, Finish, IsEnabled, Keep, Next, Start, Step, Take, Undo, Wrap, above, after, carried_on, is_applied, is_indexed, new_txn, row_made, row_undone, started, txn_at, undoing, undone, undone_first, update, with_change, with_phase, without_newest}
+
+-- ---- a core over loaded cells
+module _ (o : Opened) (can : CanOpen o) where
+  ahead_by : (p : Pair) (life : Life) (m : Option Mark) (b : Bool) → get o.entries p ≡ m → m ≢ Some Marked → (IsCovered life (highest_of life) p → get o.entries p ≡ Some Live) → above (highest_of life) p ≡ b
+      → (life ≡ Absent → get o.entries p ≡ None)
+      → (get o.entries p ≡ Some Live) ⊎ (get o.entries p ≡ None) × IsAhead life (highest_of life) (λ q. false) p
+  ahead_by p life (Some Live) b e u c k a = inl e
+  ahead_by p life (Some Marked) b e u c k a = absurd (u refl)
+  ahead_by p Absent None b e u c k a = inr (e, tt)
+  ahead_by p (Building h) None true e u c k a = inr (e, (k, refl))
+  ahead_by p (Building h) None false e u c k a = absurd (not_none (c k) e)
+  ahead_by p Complete None b e u c k a = absurd (not_none (c tt) e)
+
+  opened_coherent : IsCoherent (opened o)
+  opened_coherent = record {
+    free = λ r e. refl;
+    held = λ r t e. absurd (not_none e refl);
+    inside = can.inside;
+    txns = λ t x e. absurd (not_none e refl);
+    sound = can.sound;
+    visible = λ r row e idle. ahead_by (pair_of r row) o.life _ _ refl (can.unmarked r row e) (can.complete r row e) refl (λ a. can.empty a (pair_of r row));
+    empty = can.empty;
+    backed = λ h e p g a. absurd (true≢false (sym g));
+    behind = λ h e p a. subst (λ l. above (highest_of l) p ≡ true) e a;
+  }
+
+  pub opened_holds : Invariant (opened o)
+  opened_holds = record {
+    coherent = opened_coherent;
+    places = record {
+      fits =
+          let fits : len o.entries ≤ o.places = can.fits in
+          rw none_reserved (omega (arith, fits));
+      enough = λ t x e. absurd (not_none e refl);
+    };
+    numbered = λ t x e. absurd (not_none e refl);
+  }
+
+-- ---- taking back
+module _ (s : State) (i : IsCoherent s) (r : Place) where
+  taken_unnamed : (t : ℕ) (cs : List ChangeValue) (v : Option Row) → IsHolderOf s.holder t cs → s.holder r ≢ Some t → taken_back cs r v ≡ v
+  taken_unnamed t [] v h n = refl
+  taken_unnamed t (c ∷ older) v h n = rw (apart rid_cmp-IsAntisymmetric r c.rid (λ e. n (ap s.holder e ∙ h.0))) (taken_unnamed t older v h.1 n)
+
+  other_by : (t : ℕ) (o : Option Active) → s.txns t ≡ o → (v : Option Row) → s.holder r ≢ Some t → taken_back (unwrap_or o new_txn).changes r v ≡ v
+  other_by t None e v n = refl
+  other_by t (Some x) e v n = taken_unnamed t x.changes v (i.txns t x e).names n
+
+  -- the changes of the row's holder lead back to the committed row
+  again : (cs : List ChangeValue) → IsChained s.committed cs → (v : Option Row) → v ≡ get s.committed r → taken_back cs r v ≡ get s.committed r
+  again [] k v e = e
+  again (c ∷ older) k v e = elim (rid_decided r c.rid) [
+    | inl same ↦
+        let before : (old_row c.rows) ≡ latest older r (get s.committed r) = k.0 ∙ ap (λ q. latest older q (get s.committed q)) (sym same) in
+        let here : eq_by_cmp rid_cmp r c.rid ≡ true = ap (λ q. eq_by_cmp rid_cmp q c.rid) same ∙ level rid_cmp_total c.rid in
+        rw (here, before) (taken_back_latest s.committed older r k.1)
+    | inr n ↦ rw (apart rid_cmp-IsAntisymmetric r c.rid n) (again older k.1 v e)
+  ]
+
+  holder_by : (t : ℕ) → s.holder r ≡ Some t → (v : Option Row) → (v ≡ get s.rows r) ⊎ (v ≡ get s.committed r) → taken_back (txn_at s t).changes r v ≡ get s.committed r
+  holder_by t e v w =
+      let h : IsHeld s r t = i.held r t e in
+      let is : h.txn ≡ txn_at s t = ap (λ o. unwrap_or o new_txn) (sym h.active) in
+      let k : IsChained s.committed h.txn.changes = (i.txns t h.txn h.active).chained in
+      subst (λ (x : Active). taken_back x.changes r v ≡ get s.committed r) is (elim w [
+        | inl now ↦ ap (taken_back h.txn.changes r) (now ∙ h.row) ∙ taken_back_applied s.committed h.txn.changes (is_applied h.txn.phase) r k
+        | inr then ↦ again h.txn.changes k v then
+      ])
+
+  who : (o : Option ℕ) (t : ℕ) → (o ≡ Some t) ⊎ (o ≢ Some t)
+  who None t = inr (λ e. not_none e refl)
+  who (Some u) t = elim (nat_decided u t) [ inl same ↦ inl (ap Some same) | inr n ↦ inr (λ e. n (same_some refl e)) ]
+
+  restored_at : (o : Option ℕ) → s.holder r ≡ o → (v : Option Row) → (v ≡ get s.rows r) ⊎ (v ≡ get s.committed r) → ((t : ℕ) → s.holder r ≡ Some t → v ≡ get s.committed r) → v ≡ get s.committed r
+  restored_at None e v (inl now) h = now ∙ i.free r e
+  restored_at None e v (inr then) h = then
+  restored_at (Some t) e v w h = h t e
+
+  restored_is : (ts : List ℕ) (v : Option Row) → (v ≡ get s.rows r) ⊎ (v ≡ get s.committed r) → ((t : ℕ) → s.holder r ≡ Some t → IsAmong t ts ⊎ (v ≡ get s.committed r)) → restored s ts r v ≡ get s.committed r
+  restored_is [] v w h = restored_at (s.holder r) refl v w (λ t e. elim (h t e) [ inl no_place ↦ absurd no_place | inr is ↦ is ])
+  restored_is (t ∷ ts) v w h = elim (who (s.holder r) t) [
+    | inl mine ↦
+        let is : taken_back (txn_at s t).changes r v ≡ get s.committed r = holder_by t mine v w in
+        restored_is ts _ (inr is) (λ u e. inr is)
+    | inr other ↦
+        let is : taken_back (txn_at s t).changes r v ≡ v = other_by t (s.txns t) refl v other in
+        restored_is ts _ (elim w [ inl now ↦ inl (is ∙ now) | inr then ↦ inr (is ∙ then) ])
+        (λ u e. elim (h u e) [
+          | inl among ↦ elim among [ inl same ↦ absurd (other (e ∙ ap Some same)) | inr later ↦ inl later ]
+          | inr then ↦ inr (is ∙ then)
+        ])
+  ]
+
+pub complete_by : (life : Life) (bound : Option Pair) (missed : Pair → Bool) (p : Pair) → IsAhead life bound missed p → IsCovered life bound p → ⊥
+complete_by Absent bound missed p a c = c
+complete_by (Building h) bound missed p a c = true≢false (sym a.0 ∙ c)
+complete_by Complete bound missed p a c = a
+
+pub faithful : (s : State) → Invariant s → IsFaithful s s.committed
+faithful s i = record {
+  back = λ ts all r. restored_is s i.coherent r ts (get s.rows r) (inl refl) (λ t e. let h : IsHeld s r t = i.coherent.held r t e in inl (all t h.txn h.active));
+  sound = i.coherent.sound;
+  complete = λ r row e idle c. elim (i.coherent.visible r row e idle) [ inl live ↦ live | inr w ↦ absurd (complete_by s.life s.bound s.missed (pair_of r row) w.1 c) ];
+  empty = i.coherent.empty;
+  fits = i.places.fits;
+}
+
+pub whole : (s : State) → Invariant s → s.life ≡ Complete → ((t : ℕ) → s.txns t ≡ None) → IsWhole s
+whole s i complete quiet p = (
+  i.coherent.sound p,
+  λ is.
+      subst (λ (q : Pair). get s.entries q ≡ Some Live) (λ j. record { key = is.has_key j; rid = p.rid })
+      ((faithful s i).complete p.rid is.row is.is_there (λ h. not_none h.active (quiet h.transaction)) (subst (λ life. IsCovered life s.bound (pair_of p.rid is.row)) (sym complete) tt)),
+)
+
+-- ---- the history
+-- one transaction changes, and its writes with it
+module _ (txns : ℕ → Option Active) (writes writes' : ℕ → List Write) (told : IsTold txns writes) (t : ℕ) (same : (u : ℕ) → u ≢ t → writes' u ≡ writes u) where
+  other_idle : (o : Option Active) (u : ℕ) → u ≢ t → update nat_cmp txns t o u ≡ None → writes' u ≡ []
+  other_idle o u n e = same u n ∙ told.idle u (sym (update_apart nat_cmp-IsAntisymmetric txns t o u n) ∙ e)
+
+  other_active : (o : Option Active) (u : ℕ) (x : Active) → u ≢ t → update nat_cmp txns t o u ≡ Some x → x.rolling ≡ false → writes' u ≡ writes_of (reverse x.changes)
+  other_active o u x n e f = same u n ∙ told.active u x (sym (update_apart nat_cmp-IsAntisymmetric txns t o u n) ∙ e) f
+
+  at_txn : (o : Option Active) (u : ℕ) → u ≡ t → update nat_cmp txns t o u ≡ o
+  at_txn o u e = ap (update nat_cmp txns t o) e ∙ update_here nat_cmp_total txns t o
+
+  pub told_left : writes' t ≡ [] → IsTold (update nat_cmp txns t None) writes'
+  told_left none_left = record {
+    idle = λ u e. elim (nat_decided u t) [ inl is ↦ ap writes' is ∙ none_left | inr n ↦ other_idle None u n e ];
+    active = λ u x e f. elim (nat_decided u t) [ inl is ↦ absurd (not_none e (at_txn None u is)) | inr n ↦ other_active None u x n e f ];
+  }
+
+  pub told_now : (x' : Active) → (x'.rolling ≡ false → writes' t ≡ writes_of (reverse x'.changes)) → IsTold (update nat_cmp txns t (Some x')) writes'
+  told_now x' now = record {
+    idle = λ u e. elim (nat_decided u t) [ inl is ↦ absurd (not_none (at_txn (Some x') u is) e) | inr n ↦ other_idle (Some x') u n e ];
+    active = λ u x e f. elim (nat_decided u t) [
+      | inl is ↦
+          let who : x' ≡ x = same_some (at_txn (Some x') u is) e in
+          ap writes' is ∙ now (ap (λ (y : Active). y.rolling) who ∙ f) ∙ ap (λ (y : Active). writes_of (reverse y.changes)) who
+      | inr n ↦ other_active (Some x') u x n e f
+    ];
+  }
+
+-- the same writes, where the transaction goes on with its changes or rolls back
+told_on : (txns : ℕ → Option Active) (writes : ℕ → List Write) → IsTold txns writes → (t : ℕ) (x x' : Active) → txns t ≡ Some x → (x'.rolling ≡ false → (x.rolling ≡ false) × (x'.changes ≡ x.changes)) → IsTold (update nat_cmp txns t (Some x')) writes
+told_on txns writes told t x x' active on =
+    told_now txns writes writes told t (λ u n. refl) x' (λ f. told.active t x active (on f).0 ∙ ap (λ cs. writes_of (reverse cs)) (sym (on f).1))
+
+rolls : (x x' : Active) → x'.rolling ≡ true → x'.rolling ≡ false → (x.rolling ≡ false) × (x'.changes ≡ x.changes)
+rolls x x' e f = absurd (true≢false (sym e ∙ f))
+
+told_started : (s : State) (writes : ℕ → List Write) → IsTold s.txns writes → (t : ℕ) (x : Active) (c : ChangeValue) → s.txns t ≡ Some x → x.rolling ≡ false → (o : Option Pair)
+    → IsTold (started s t x c o).txns (update nat_cmp writes t (writes t ++ write_of c ∷ []))
+told_started s writes told t x c active forward (Some p) =
+    told_now s.txns writes (update nat_cmp writes t (writes t ++ write_of c ∷ [])) told t (λ u n. update_apart nat_cmp-IsAntisymmetric writes t _ u n) (with_change x c OldMarked)
+    (λ f. update_here nat_cmp_total writes t _ ∙ ap (λ w. w ++ write_of c ∷ []) (told.active t x active forward) ∙ sym (newest_last c x.changes))
+told_started s writes told t x c active forward None =
+    told_now s.txns writes (update nat_cmp writes t (writes t ++ write_of c ∷ [])) told t (λ u n. update_apart nat_cmp-IsAntisymmetric writes t _ u n) (with_change x c (row_made (new_pair (is_indexed s.life) c)))
+    (λ f. update_here nat_cmp_total writes t _ ∙ ap (λ w. w ++ write_of c ∷ []) (told.active t x active forward) ∙ sym (newest_last c x.changes))
+
+told_carried : (s : State) (writes : ℕ → List Write) → IsTold s.txns writes → (t : ℕ) (x : Active) → s.txns t ≡ Some x → (cs : List ChangeValue) (phase : Phase) → IsTold (carried_on s t x cs phase).txns writes
+told_carried s writes told t x active [] phase = told
+told_carried s writes told t x active (c ∷ older) OldMarked = told_on s.txns writes told t x (with_phase x (row_made (new_pair (is_indexed s.life) c))) active (λ f. (f, refl))
+told_carried s writes told t x active (c ∷ older) RowSet = told_on s.txns writes told t x (with_phase x Made) active (λ f. (f, refl))
+told_carried s writes told t x active (c ∷ older) Made = told
+told_carried s writes told t x active (c ∷ older) (NewMarked b) = told
+told_carried s writes told t x active (c ∷ older) OldSet = told
+
+undone_rolls : (x : Active) (older : List ChangeValue) (o : Option Pair) → (row_undone x older o).rolling ≡ true
+undone_rolls x older None = refl
+undone_rolls x older (Some p) = refl
+
+told_first : (s : State) (writes : ℕ → List Write) → IsTold s.txns writes → (t : ℕ) (x : Active) → s.txns t ≡ Some x → (c : ChangeValue) (older : List ChangeValue) (b : Bool) (o : Option Pair) → IsTold (undone_first s t x c older b o).txns writes
+told_first s writes told t x active c older b (Some p) = told_on s.txns writes told t x (undoing x (NewMarked b)) active (rolls x (undoing x (NewMarked b)) refl)
+told_first s writes told t x active c older b None = told_on s.txns writes told t x (row_undone x older (old_pair (is_indexed s.life) c)) active (rolls x (row_undone x older (old_pair (is_indexed s.life) c)) (undone_rolls x older (old_pair (is_indexed s.life) c)))
+
+told_undone : (s : State) (writes : ℕ → List Write) → IsTold s.txns writes → (t : ℕ) (x : Active) → s.txns t ≡ Some x → (cs : List ChangeValue) (phase : Phase) → IsTold (undone s t x cs phase).txns writes
+told_undone s writes told t x active [] phase = told_on s.txns writes told t x (undoing x phase) active (rolls x (undoing x phase) refl)
+told_undone s writes told t x active (c ∷ older) OldMarked = told_first s writes told t x active c older false (new_pair (is_indexed s.life) c)
+told_undone s writes told t x active (c ∷ older) RowSet = told_first s writes told t x active c older true (new_pair (is_indexed s.life) c)
+told_undone s writes told t x active (c ∷ older) Made = told_first s writes told t x active c older true (new_pair (is_indexed s.life) c)
+told_undone s writes told t x active (c ∷ older) (NewMarked b) = told_on s.txns writes told t x (row_undone x older (old_pair (is_indexed s.life) c)) active (rolls x (row_undone x older (old_pair (is_indexed s.life) c)) (undone_rolls x older (old_pair (is_indexed s.life) c)))
+told_undone s writes told t x active (c ∷ older) OldSet = told_on s.txns writes told t x (without_newest older) active (rolls x (without_newest older) refl)
+
+emptied : (writes : ℕ → List Write) (t u : ℕ) → u ≢ t → update nat_cmp writes t [] u ≡ writes u
+emptied writes t u n = update_apart nat_cmp-IsAntisymmetric writes t [] u n
+
+told_gone : (s : State) (writes : ℕ → List Write) → IsTold s.txns writes → (t : ℕ) → IsTold (update nat_cmp s.txns t None) (update nat_cmp writes t [])
+told_gone s writes told t = told_left s.txns writes (update nat_cmp writes t []) told t (emptied writes t) (update_here nat_cmp_total writes t [])
+
+pub same_started : (s : State) (t : ℕ) (x : Active) (c : ChangeValue) (o : Option Pair) → (started s t x c o).committed ≡ s.committed
+same_started s t x c None = refl
+same_started s t x c (Some p) = refl
+
+pub same_carried : (s : State) (t : ℕ) (x : Active) (cs : List ChangeValue) (phase : Phase) → (carried_on s t x cs phase).committed ≡ s.committed
+same_carried s t x [] phase = refl
+same_carried s t x (c ∷ older) OldMarked = refl
+same_carried s t x (c ∷ older) RowSet = refl
+same_carried s t x (c ∷ older) Made = refl
+same_carried s t x (c ∷ older) (NewMarked b) = refl
+same_carried s t x (c ∷ older) OldSet = refl
+
+same_first : (s : State) (t : ℕ) (x : Active) (c : ChangeValue) (older : List ChangeValue) (b : Bool) (o : Option Pair) → (undone_first s t x c older b o).committed ≡ s.committed
+same_first s t x c older b None = refl
+same_first s t x c older b (Some p) = refl
+
+pub same_undone : (s : State) (t : ℕ) (x : Active) (cs : List ChangeValue) (phase : Phase) → (undone s t x cs phase).committed ≡ s.committed
+same_undone s t x [] phase = refl
+same_undone s t x (c ∷ older) OldMarked = same_first s t x c older false (new_pair (is_indexed s.life) c)
+same_undone s t x (c ∷ older) RowSet = same_first s t x c older true (new_pair (is_indexed s.life) c)
+same_undone s t x (c ∷ older) Made = same_first s t x c older true (new_pair (is_indexed s.life) c)
+same_undone s t x (c ∷ older) (NewMarked b) = refl
+same_undone s t x (c ∷ older) OldSet = refl
+
+-- a commit adds just what its transaction set
+pub table_step : (s : State) (writes : ℕ → List Write) → IsTold s.txns writes → (e : Step) → IsEnabled s e → (after s e).committed ≡ table_over s.committed (deeds_of writes e)
+table_step s writes told (Begin t) a = refl
+table_step s writes told (Start t c) a = same_started s t (txn_at s t) c (old_pair (is_indexed s.life) c)
+table_step s writes told (Next t) a = same_carried s t (txn_at s t) (txn_at s t).changes (txn_at s t).phase
+table_step s writes told (Undo t) a = same_undone s t (txn_at s t) (txn_at s t).changes (txn_at s t).phase
+table_step s writes told (End t) a = refl
+table_step s writes told (Commit t) a = ap (applied s.committed) (sym (told.active t (txn_at s t) a.0 a.1.1))
+table_step s writes told Create a = refl
+table_step s writes told (Take n) a = refl
+table_step s writes told (Attempt p) a = refl
+table_step s writes told Checkpoint a = refl
+table_step s writes told Finish a = refl
+table_step s writes told (Clean p) a = refl
+table_step s writes told (Keep p) a = refl
+table_step s writes told Wrap a = refl
+
+pub told_step : (s : State) (writes : ℕ → List Write) → IsTold s.txns writes → (e : Step) → IsEnabled s e → IsTold (after s e).txns (writes_after writes e)
+told_step s writes told (Begin t) a = told_now s.txns writes writes told t (λ u n. refl) new_txn (λ f. told.idle t a)
+told_step s writes told (Start t c) a = told_started s writes told t (txn_at s t) c a.active a.ready.1 (old_pair (is_indexed s.life) c)
+told_step s writes told (Next t) a = told_carried s writes told t (txn_at s t) a.0 (txn_at s t).changes (txn_at s t).phase
+told_step s writes told (Undo t) a = told_undone s writes told t (txn_at s t) a (txn_at s t).changes (txn_at s t).phase
+told_step s writes told (End t) a = told_gone s writes told t
+told_step s writes told (Commit t) a = told_gone s writes told t
+told_step s writes told Create a = told
+told_step s writes told (Take n) a = told
+told_step s writes told (Attempt p) a = told
+told_step s writes told Checkpoint a = told
+told_step s writes told Finish a = told
+told_step s writes told (Clean p) a = told
+told_step s writes told (Keep p) a = told
+told_step s writes told Wrap a = told
+
+life_started : (s : State) (t : ℕ) (x : Active) (c : ChangeValue) (o : Option Pair) → (started s t x c o).life ≡ s.life
+life_started s t x c None = refl
+life_started s t x c (Some p) = refl
+
+life_carried : (s : State) (t : ℕ) (x : Active) (cs : List ChangeValue) (phase : Phase) → (carried_on s t x cs phase).life ≡ s.life
+life_carried s t x [] phase = refl
+life_carried s t x (c ∷ older) OldMarked = refl
+life_carried s t x (c ∷ older) RowSet = refl
+life_carried s t x (c ∷ older) Made = refl
+life_carried s t x (c ∷ older) (NewMarked b) = refl
+life_carried s t x (c ∷ older) OldSet = refl
+
+life_first : (s : State) (t : ℕ) (x : Active) (c : ChangeValue) (older : List ChangeValue) (b : Bool) (o : Option Pair) → (undone_first s t x c older b o).life ≡ s.life
+life_first s t x c older b None = refl
+life_first s t x c older b (Some p) = refl
+
+life_undone : (s : State) (t : ℕ) (x : Active) (cs : List ChangeValue) (phase : Phase) → (undone s t x cs phase).life ≡ s.life
+life_undone s t x [] phase = refl
+life_undone s t x (c ∷ older) OldMarked = life_first s t x c older false (new_pair (is_indexed s.life) c)
+life_undone s t x (c ∷ older) RowSet = life_first s t x c older true (new_pair (is_indexed s.life) c)
+life_undone s t x (c ∷ older) Made = life_first s t x c older true (new_pair (is_indexed s.life) c)
+life_undone s t x (c ∷ older) (NewMarked b) = refl
+life_undone s t x (c ∷ older) OldSet = refl
+
+pub stage_step : (s : State) (writes : ℕ → List Write) (e : Step) → IsEnabled s e → stage_of (after s e).life ≡ stage_over (stage_of s.life) (deeds_of writes e)
+stage_step s writes (Begin t) a = refl
+stage_step s writes (Start t c) a = ap stage_of (life_started s t (txn_at s t) c (old_pair (is_indexed s.life) c))
+stage_step s writes (Next t) a = ap stage_of (life_carried s t (txn_at s t) (txn_at s t).changes (txn_at s t).phase)
+stage_step s writes (Undo t) a = ap stage_of (life_undone s t (txn_at s t) (txn_at s t).changes (txn_at s t).phase)
+stage_step s writes (End t) a = refl
+stage_step s writes (Commit t) a = refl
+stage_step s writes Create a = refl
+stage_step s writes (Take n) a = refl
+stage_step s writes (Attempt p) a = refl
+stage_step s writes Checkpoint a = sym (ap stage_of a.0.1)
+stage_step s writes Finish a = refl
+stage_step s writes (Clean p) a = refl
+stage_step s writes (Keep p) a = refl
+stage_step s writes Wrap a = refl
+
+pub table_over-append : (table : Table) (ds es : List Deed) → table_over table (ds ++ es) ≡ table_over (table_over table ds) es
+table_over-append table [] es = refl
+table_over-append table (d ∷ ds) es = table_over-append (table_with table d) ds es
+
+pub stage_over-append : (stage : Stage) (ds es : List Deed) → stage_over stage (ds ++ es) ≡ stage_over (stage_over stage ds) es
+stage_over-append stage [] es = refl
+stage_over-append stage (d ∷ ds) es = stage_over-append (stage_with stage d) ds es
+
+-- the life is that of the history
+pub tells_stage : (s s' : State) (es : List Step) → Run s es s' → (writes : ℕ → List Write) → stage_of s'.life ≡ stage_over (stage_of s.life) (history writes es)
+tells_stage s s' es no_step writes = refl
+tells_stage s s' es (one_step e rest a r) writes =
+    tells_stage (after s e) s' rest r (writes_after writes e)
+    ∙ ap (λ stage. stage_over stage (history (writes_after writes e) rest)) (stage_step s writes e a)
+    ∙ sym (stage_over-append (stage_of s.life) (deeds_of writes e) (history (writes_after writes e) rest))
+
+-- the committed table is that of the history
+pub tells_table : (s s' : State) (es : List Step) → Run s es s' → (writes : ℕ → List Write) → IsTold s.txns writes → s'.committed ≡ table_over s.committed (history writes es)
+tells_table s s' es no_step writes told = refl
+tells_table s s' es (one_step e rest a r) writes told =
+    tells_table (after s e) s' rest r (writes_after writes e) (told_step s writes told e a)
+    ∙ ap (λ table. table_over table (history (writes_after writes e) rest)) (table_step s writes told e a)
+    ∙ sym (table_over-append s.committed (deeds_of writes e) (history (writes_after writes e) rest))
+
+pub nothing_told : IsTold (λ t. None) no_writes
+nothing_told = record { idle = λ t e. refl; active = λ t x e f. absurd (not_none e refl) }
+
+pub items_table : (table : Table) (items : List Item) → table_over table (map (λ (item : Item). item.deed) items) ≡ table_after table items
+items_table table [] = refl
+items_table table (item ∷ items) = items_table (table_with table item.deed) items
+
+pub items_stage : (stage : Stage) (items : List Item) → stage_over stage (map (λ (item : Item). item.deed) items) ≡ stage_after stage items
+items_stage stage [] = refl
+items_stage stage (item ∷ items) = items_stage (stage_with stage item.deed) items
+
+pub told_table : (o : Opened) (es : List Step) (s : State) → Run (opened o) es s → (items : List Item) → AreItemsOf items es → s.committed ≡ table_after o.rows items
+told_table o es s r items h = tells_table (opened o) s es r no_writes nothing_told ∙ ap (table_over o.rows) (sym h) ∙ items_table o.rows items
+
+told_stage : (o : Opened) (es : List Step) (s : State) → Run (opened o) es s → (items : List Item) → AreItemsOf items es → stage_of s.life ≡ stage_after (stage_of o.life) items
+told_stage o es s r items h = tells_stage (opened o) s es r no_writes ∙ ap (stage_over (stage_of o.life)) (sym h) ∙ items_stage (stage_of o.life) items
+
+-- whatever the order of the steps
+pub interleaved : (o : Opened) → CanOpen o → (es : List Step) (s : State) → Run (opened o) es s → (items : List Item) → AreItemsOf items es
+    → IsFaithful s (table_after o.rows items) × (stage_of s.life ≡ stage_after (stage_of o.life) items)
+interleaved o can es s r items h = (
+  subst (IsFaithful s) (told_table o es s r items h) (faithful s (run_keeps _ s es r (opened_holds o can))),
+  told_stage o es s r items h,
+)
+
+pub interleaved_whole : (o : Opened) → CanOpen o → (es : List Step) (s : State) → Run (opened o) es s → s.life ≡ Complete → ((t : ℕ) → s.txns t ≡ None) → IsWhole s
+interleaved_whole o can es s r complete quiet = whole s (run_keeps _ s es r (opened_holds o can)) complete quiet

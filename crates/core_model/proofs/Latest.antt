@@ -1,0 +1,134 @@
+-- What changes make of a row, and what taking them back gives.
+use Rattle.std.proofs.Common.{Bool, List, None, Option, Some, [], ap, cond, false, inl, inr, refl, sym, true, ℕ, ◌∙◌, ◌∷◌, ◌≡◌, ◌≢◌, ◌⊎◌}
+use Rattle.std.specs.FinMap.{entries, get, nat_cmp-IsAntisymmetric, slice_cmp-IsAntisymmetric}
+use Rattle.std.specs.Ordering.{eq_by_cmp}
+use Rattle.records.specs.ChangeValue.{ChangeValue}
+use Rattle.records.specs.Orders.{rid_cmp, rid_cmp-IsAntisymmetric, rid_cmp_total}
+use Rattle.records.specs.Spelling.{new_row, old_row}
+use Rattle.records.specs.Values.{Place}
+use Rattle.records.specs.declared.pair.Mark.TheVariants.{Marked}
+use Rattle.records.specs.declared.pair.Pair.{Pair}
+use Rattle.records.specs.declared.row.Row.{Row}
+use Rattle.model.specs.Table.{Index, Table}
+use Rattle.core_model.proofs.Orders.{apart, by_test, decided, level}
+use Rattle.core_model.specs.Changes.{gone, latest, pair_of, same_key, taken_back}
+use Rattle.core_model.specs.Invariants.{IsChained, IsHolderOf, IsInPhase, IsPhaseOf, applied_of}
+use Rattle.core_model.specs.States.{Made, NewMarked, OldMarked, OldSet, Phase, RowSet}
+
+pub not_none : {A : Type 0} {a : A} {o : Option A} → o ≡ Some a → o ≡ None → ⊥
+not_none p q = absurd (cc)
+
+pub same_key_is : (a b : Row) → same_key a b ≡ true → a.key ≡ b.key
+same_key_is a b e = by_test (slice_cmp-IsAntisymmetric nat_cmp-IsAntisymmetric) a.key b.key e
+
+pub record Gone (indexed : Bool) (rid : Place) (row : Option Row) (p : Pair) : Type 0 where
+  pub there : indexed ≡ true
+  pub of : Row
+  pub is : row ≡ Some of
+  pub pair : p ≡ pair_of rid of
+
+gone_by : (rid : Place) (row other : Row) (b : Bool) (p : Pair) → cond b None (Some (pair_of rid row)) ≡ Some p → Gone true rid (Some row) p
+gone_by rid row other true p e = absurd (not_none e refl)
+gone_by rid row other false p e = record { there = refl; of = row; is = refl; pair = cc }
+
+-- the pair that goes is that of the row
+pub gone_is : (indexed : Bool) (rid : Place) (row other : Option Row) (p : Pair) → gone indexed rid row other ≡ Some p → Gone indexed rid row p
+gone_is false rid row other p e = absurd (not_none e refl)
+gone_is true rid None other p e = absurd (not_none e refl)
+gone_is true rid (Some row) None p e = record { there = refl; of = row; is = refl; pair = cc }
+gone_is true rid (Some row) (Some other) p e = gone_by rid row other (same_key row other) p e
+
+pub record Stays (row : Row) (other : Option Row) : Type 0 where
+  pub it : Row
+  pub is : other ≡ Some it
+  pub key : it.key ≡ row.key
+
+stays_by : (rid : Place) (row other : Row) (b : Bool) → same_key row other ≡ b → cond b None (Some (pair_of rid row)) ≡ None → Stays row (Some other)
+stays_by rid row other true t e = record { it = other; is = refl; key = sym (same_key_is row other t) }
+stays_by rid row other false t e = absurd (not_none refl e)
+
+-- where no pair goes, the other row has the key
+pub stays : (rid : Place) (row : Row) (other : Option Row) → gone true rid (Some row) other ≡ None → Stays row other
+stays rid row None e = absurd (not_none refl e)
+stays rid row (Some other) e = stays_by rid row other _ refl e
+
+-- changes that name other rows leave this one
+pub latest_unnamed : (holder : Place → Option ℕ) (t : ℕ) (cs : List ChangeValue) (r : Place) (v : Option Row) → IsHolderOf holder t cs → holder r ≢ Some t → latest cs r v ≡ v
+latest_unnamed holder t [] r v h n = refl
+latest_unnamed holder t (c ∷ older) r v h n =
+    rw (apart rid_cmp-IsAntisymmetric r c.rid (λ e. n (ap holder e ∙ h.0))) (latest_unnamed holder t older r v h.1 n)
+
+pub latest_other : (c : ChangeValue) (older : List ChangeValue) (q : Place) (v : Option Row) → q ≢ c.rid → latest (c ∷ older) q v ≡ latest older q v
+latest_other c older q v n = rw (apart rid_cmp-IsAntisymmetric q c.rid n)
+
+pub latest_here : (c : ChangeValue) (older : List ChangeValue) (v : Option Row) → latest (c ∷ older) c.rid v ≡ (new_row c.rows)
+latest_here c older v = rw (level rid_cmp_total c.rid)
+
+pub chained_same : (holder : Place → Option ℕ) (t : ℕ) (committed other : Table) → ((r : Place) → holder r ≡ Some t → get other r ≡ get committed r)
+    → (cs : List ChangeValue) → IsHolderOf holder t cs → IsChained committed cs → IsChained other cs
+chained_same holder t committed other same [] h k = tt
+chained_same holder t committed other same (c ∷ older) h k =
+    (k.0 ∙ ap (latest older c.rid) (sym (same c.rid h.0)), chained_same holder t committed other same older h.1 k.1)
+
+pub holds_more : (holder other : Place → Option ℕ) (t : ℕ) → ((r : Place) → holder r ≡ Some t → other r ≡ Some t) → (cs : List ChangeValue) → IsHolderOf holder t cs → IsHolderOf other t cs
+holds_more holder other t same [] h = tt
+holds_more holder other t same (c ∷ older) h = (same c.rid h.0, holds_more holder other t same older h.1)
+
+taken_by : (committed : Table) (c : ChangeValue) (older : List ChangeValue) (r : Place) (v : Option Row) → IsChained committed (c ∷ older)
+    → (taken_back older r (latest older r (get committed r)) ≡ get committed r)
+    → (v ≡ latest older r (get committed r)) ⊎ (r ≡ c.rid)
+    → taken_back (c ∷ older) r v ≡ get committed r
+taken_by committed c older r v k ih w = elim (decided rid_cmp_total rid_cmp-IsAntisymmetric r c.rid) [
+  | inl e ↦
+      let before : (old_row c.rows) ≡ latest older r (get committed r) = k.0 ∙ ap (λ q. latest older q (get committed q)) (sym e) in
+      let here : eq_by_cmp rid_cmp r c.rid ≡ true = ap (λ q. eq_by_cmp rid_cmp q c.rid) e ∙ level rid_cmp_total c.rid in
+      rw (here, before) ih
+  | inr n ↦ elim w [
+    | inl e ↦ rw (apart rid_cmp-IsAntisymmetric r c.rid n, e) ih
+    | inr e ↦ absurd (n e)
+  ]
+]
+
+latest_or : (c : ChangeValue) (older : List ChangeValue) (r : Place) (v : Option Row) → (latest (c ∷ older) r v ≡ latest older r v) ⊎ (r ≡ c.rid)
+latest_or c older r v = elim (decided rid_cmp_total rid_cmp-IsAntisymmetric r c.rid) [ inl e ↦ inr e | inr n ↦ inl (latest_other c older r v n) ]
+
+pub taken_back_latest : (committed : Table) (cs : List ChangeValue) (r : Place) → IsChained committed cs → taken_back cs r (latest cs r (get committed r)) ≡ get committed r
+taken_back_latest committed [] r k = refl
+taken_back_latest committed (c ∷ older) r k = taken_by committed c older r _ k (taken_back_latest committed older r k.1) (latest_or c older r (get committed r))
+
+-- also where the newest change has not set its row, or has had it set back
+pub taken_back_applied : (committed : Table) (cs : List ChangeValue) (b : Bool) (r : Place) → IsChained committed cs → taken_back cs r (latest (applied_of cs b) r (get committed r)) ≡ get committed r
+taken_back_applied committed [] b r k = refl
+taken_back_applied committed (c ∷ older) true r k = taken_back_latest committed (c ∷ older) r k
+taken_back_applied committed (c ∷ older) false r k = taken_by committed c older r _ k (taken_back_latest committed older r k.1) (inl refl)
+
+-- what a phase says of an entry stays, where no entry of its row changes
+phase_by : (indexed : Bool) (c : ChangeValue) (entries other : Index) → ((p : Pair) → p.rid ≡ c.rid → get other p ≡ get entries p)
+    → (older : List ChangeValue) (phase : Phase) (rolling : Bool) → IsPhaseOf indexed entries (c ∷ older) phase rolling → IsPhaseOf indexed other (c ∷ older) phase rolling
+phase_by indexed c entries other same older OldMarked rolling h =
+    record { it = h.it; is = h.is; holds = λ e. same h.it (ap (λ p. p.rid) (gone_is indexed c.rid (old_row c.rows) (new_row c.rows) h.it h.is).pair) ∙ h.holds e }
+phase_by indexed c entries other same older RowSet rolling h = record { it = h.it; is = h.is; holds = tt }
+phase_by indexed c entries other same older Made rolling h = tt
+phase_by indexed c entries other same older (NewMarked b) rolling h =
+    record { it = h.it; is = h.is; holds = same h.it (ap (λ p. p.rid) (gone_is indexed c.rid (new_row c.rows) (old_row c.rows) h.it h.is).pair) ∙ h.holds }
+phase_by indexed c entries other same older OldSet rolling h = record { it = h.it; is = h.is; holds = tt }
+
+pub phase_same : (indexed : Bool) (holder : Place → Option ℕ) (t : ℕ) (entries other : Index) → ((p : Pair) → holder p.rid ≡ Some t → get other p ≡ get entries p)
+    → (cs : List ChangeValue) (phase : Phase) (rolling : Bool) → IsHolderOf holder t cs → IsPhaseOf indexed entries cs phase rolling → IsPhaseOf indexed other cs phase rolling
+phase_same indexed holder t entries other same [] phase rolling n h = h
+phase_same indexed holder t entries other same (c ∷ older) phase rolling n h =
+    phase_by indexed c entries other (λ p e. same p (ap holder e ∙ n.0)) older phase rolling h
+
+-- or where what is marked stays marked
+kept_by : (indexed : Bool) (c : ChangeValue) (entries other : Index) → ((p : Pair) → get entries p ≡ Some Marked → get other p ≡ Some Marked)
+    → (phase : Phase) (rolling : Bool) → IsInPhase indexed entries c phase rolling → IsInPhase indexed other c phase rolling
+kept_by indexed c entries other same OldMarked rolling h = record { it = h.it; is = h.is; holds = λ e. same h.it (h.holds e) }
+kept_by indexed c entries other same RowSet rolling h = record { it = h.it; is = h.is; holds = tt }
+kept_by indexed c entries other same Made rolling h = tt
+kept_by indexed c entries other same (NewMarked b) rolling h = record { it = h.it; is = h.is; holds = same h.it h.holds }
+kept_by indexed c entries other same OldSet rolling h = record { it = h.it; is = h.is; holds = tt }
+
+pub phase_kept : (indexed : Bool) (entries other : Index) → ((p : Pair) → get entries p ≡ Some Marked → get other p ≡ Some Marked)
+    → (cs : List ChangeValue) (phase : Phase) (rolling : Bool) → IsPhaseOf indexed entries cs phase rolling → IsPhaseOf indexed other cs phase rolling
+phase_kept indexed entries other same [] phase rolling h = h
+phase_kept indexed entries other same (c ∷ older) phase rolling h = kept_by indexed c entries other same phase rolling h

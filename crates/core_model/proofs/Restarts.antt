@@ -1,0 +1,153 @@
+-- A core with no transaction can be opened again from its cells.
+use Rattle.std.proofs.Common.{Bool, List, None, Option, Some, [], ap, arith, false, inl, inr, refl, subst, sym, true, true≢false, ℕ, ◌+◌, ◌∙◌, ◌∷◌, ◌≡◌, ◌≢◌, ◌≤◌}
+use Rattle.std.specs.Cmp.{nat_cmp_total}
+use Rattle.std.specs.FinMap.{entries, get, len, nat_cmp-IsAntisymmetric, remove}
+use Rattle.std.specs.Ordering.{nat_cmp}
+use Rattle.records.specs.ChangeValue.{ChangeValue}
+use Rattle.records.specs.Maps.{alike, rid_exact}
+use Rattle.records.specs.Values.{Place}
+use Rattle.records.specs.declared.pair.Mark.TheVariants.{Live, Marked}
+use Rattle.records.specs.declared.pair.Pair.{Pair}
+use Rattle.records.specs.declared.row.Row.{Row}
+use Rattle.model.specs.History.{Item, table_after}
+use Rattle.model.specs.Table.{Index}
+use Rattle.model.specs.declared.life.Life.{Life}
+use Rattle.model.specs.declared.life.Life.TheVariants.{Absent, Building, Complete}
+use Rattle.core_model.proofs.Frames.{nat_decided, txn_here}
+use Rattle.core_model.proofs.Histories.{complete_by, opened_holds, told_table}
+use Rattle.core_model.proofs.Latest.{not_none}
+use Rattle.core_model.proofs.Orders.{update_apart, update_here, update_twice}
+use Rattle.core_model.proofs.Places.{fewer_lacking, grown_by, lacking_less}
+use Rattle.core_model.proofs.Runs.{other_pledges, run_keeps}
+use Rattle.core_model.proofs.Sums.{left_apart, reserved_left}
+use Rattle.core_model.proofs.Txns.{end_keeps, taken_off_whole, undo_whole}
+use Rattle.core_model.specs.Changes.{new_pair, old_pair, pair_of}
+use Rattle.core_model.specs.Histories.{AreItemsOf, CanOpen, IsCovered, Opened, highest_of, opened}
+use Rattle.core_model.specs.Invariants.{HasPlaces, Invariant, IsCoherent, IsUnfinished, IsVisibleOrAhead, Run, lacking, lacks}
+use Rattle.core_model.specs.Restarts.{IsListing, entries_undone, restarted, rows_back, rows_undone}
+use Rattle.core_model.specs.States.{Active, Phase, State}
+use Rattle.core_model.specs.Steps.{Step, above, all_reserved, freed, is_indexed, reserved, update, with_entry, without_newest}
+
+module _ (s : State) (i : IsCoherent s) (quiet : (t : ℕ) → s.txns t ≡ None) where
+  not_unfinished : (r : Place) → IsUnfinished s r → ⊥
+  not_unfinished r h = not_none h.active (quiet h.transaction)
+
+  held_by_none : (r : Place) (o : Option ℕ) → s.holder r ≡ o → s.holder r ≡ None
+  held_by_none r None e = e
+  held_by_none r (Some t) e = absurd (not_none (i.held r t e).active (quiet t))
+
+  -- the rows are the committed table
+  pub only_committed : (r : Place) → get s.rows r ≡ get s.committed r
+  only_committed r = i.free r (held_by_none r (s.holder r) refl)
+
+  covered_by : (life : Life) → s.life ≡ life → (p : Pair) → IsCovered life (highest_of life) p → IsCovered life s.bound p
+  covered_by Absent e p c = c
+  covered_by (Building h) e p c = below (above s.bound p) refl
+    where
+      below : (b : Bool) → above s.bound p ≡ b → above s.bound p ≡ false
+      below true a = absurd (true≢false (sym (i.behind h e p a) ∙ c))
+      below false a = a
+  covered_by Complete e p c = c
+
+  opens_complete : (r : Place) (row : Row) → get s.rows r ≡ Some row → IsCovered s.life (highest_of s.life) (pair_of r row) → get s.entries (pair_of r row) ≡ Some Live
+  opens_complete r row e c = elim (i.visible r row e (not_unfinished r)) [
+    | inl live ↦ live
+    | inr w ↦ absurd (complete_by s.life s.bound s.missed (pair_of r row) w.1 (covered_by s.life refl (pair_of r row) c))
+  ]
+
+  unmarked_by : (p : Pair) → IsVisibleOrAhead s p → get s.entries p ≢ Some Marked
+  unmarked_by p (inl live) e = absurd (cc)
+  unmarked_by p (inr w) e = not_none e w.0
+
+  opens : len s.entries ≤ s.places → CanOpen (record { rows = s.rows; entries = s.entries; life = s.life; pages = s.pages; places = s.places })
+  opens fits = record {
+    inside = i.inside;
+    sound = i.sound;
+    complete = opens_complete;
+    unmarked = λ r row e. unmarked_by (pair_of r row) (i.visible r row e (not_unfinished r));
+    empty = i.empty;
+    fits = fits;
+  }
+
+-- ---- the changes that are left are taken back
+abbrev rolled : State → ℕ → List ChangeValue → State
+rolled s t cs = record s {
+  rows = rows_undone cs s.rows;
+  entries = entries_undone (is_indexed s.life) cs s.entries;
+  txns = update nat_cmp s.txns t None;
+  holder = λ r. freed t (s.holder r);
+}
+
+rolled_keeps : (t : ℕ) (cs : List ChangeValue) (s : State) → IsCoherent s → (phase : Phase) (rolling : Bool) → s.txns t ≡ Some (record { changes = cs; phase = phase; rolling = rolling }) → IsCoherent (rolled s t cs)
+rolled_keeps t [] s i phase rolling active = end_keeps s i t (record { changes = []; phase = phase; rolling = rolling }) active refl
+rolled_keeps t (c ∷ older) s i phase rolling active =
+    let s' : State = taken_off_whole s t c older (new_pair (is_indexed s.life) c) (old_pair (is_indexed s.life) c) in
+    let i' : IsCoherent s' = undo_whole s t c older i phase rolling active in
+    subst (λ f. IsCoherent (record (rolled s t (c ∷ older)) { txns = f })) (update_twice nat_cmp s.txns t (Some (without_newest older)) None)
+    (rolled_keeps t older s' i' (without_newest older).phase (without_newest older).rolling (txn_here s t (without_newest older)))
+
+rolled_by : (t : ℕ) (x : Active) (cs : List ChangeValue) (s : State) → IsCoherent s → s.txns t ≡ Some x → x.changes ≡ cs → IsCoherent (rolled s t cs)
+rolled_by t x cs s i active e = subst (λ l. IsCoherent (rolled s t l)) e (rolled_keeps t x.changes s i x.phase x.rolling active)
+
+-- ---- their places
+module _ (indexed : Bool) where
+  undone_grown : (cs : List ChangeValue) (entries : Index) → len (entries_undone indexed cs entries) ≤ len entries + lacking indexed entries cs
+  undone_grown [] entries = omega arith
+  undone_grown (c ∷ older) entries =
+      let marked : Index = with_entry entries (new_pair indexed c) Marked in
+      let put : Index = with_entry marked (old_pair indexed c) Live in
+      let first : len marked ≡ len entries + lacks entries (new_pair indexed c) = grown_by entries Marked (new_pair indexed c) in
+      let second : len put ≡ len marked + lacks marked (old_pair indexed c) = grown_by marked Live (old_pair indexed c) in
+      let fewer : lacks marked (old_pair indexed c) ≤ lacks entries (old_pair indexed c) = fewer_lacking entries Marked (new_pair indexed c) (old_pair indexed c) in
+      let one : lacking indexed marked older ≤ lacking indexed entries older = lacking_less indexed entries marked (fewer_lacking entries Marked (new_pair indexed c)) older in
+      let two : lacking indexed put older ≤ lacking indexed marked older = lacking_less indexed marked put (fewer_lacking marked Live (old_pair indexed c)) older in
+      let rest : len (entries_undone indexed older put) ≤ len put + lacking indexed put older = undone_grown older put in
+      omega (arith, first, second, fewer, one, two, rest)
+
+  undone_fewer : (cs : List ChangeValue) (entries : Index) (q : Option Pair) → lacks (entries_undone indexed cs entries) q ≤ lacks entries q
+  undone_fewer [] entries q = omega arith
+  undone_fewer (c ∷ older) entries q =
+      let marked : Index = with_entry entries (new_pair indexed c) Marked in
+      let put : Index = with_entry marked (old_pair indexed c) Live in
+      let one : lacks marked q ≤ lacks entries q = fewer_lacking entries Marked (new_pair indexed c) q in
+      let two : lacks put q ≤ lacks marked q = fewer_lacking marked Live (old_pair indexed c) q in
+      let rest : lacks (entries_undone indexed older put) q ≤ lacks put q = undone_fewer older put q in
+      omega (arith, one, two, rest)
+
+rolled_places : (s : State) (t : ℕ) (x : Active) (cs : List ChangeValue) → HasPlaces s → s.txns t ≡ Some x → x.changes ≡ cs → HasPlaces (record (rolled s t cs) { pledges = remove s.pledges t })
+rolled_places s t x cs p active e = record {
+  fits =
+      let sums : all_reserved (remove s.pledges t) + reserved s.pledges t ≡ all_reserved s.pledges = reserved_left s.pledges t in
+      let fits : len s.entries + all_reserved s.pledges ≤ s.places = p.fits in
+      let enough : lacking (is_indexed s.life) s.entries cs ≤ reserved s.pledges t = subst (λ l. lacking (is_indexed s.life) s.entries l ≤ reserved s.pledges t) e (p.enough t x active) in
+      let grown : len (entries_undone (is_indexed s.life) cs s.entries) ≤ len s.entries + lacking (is_indexed s.life) s.entries cs = undone_grown (is_indexed s.life) cs s.entries in
+      omega (arith, sums, fits, enough, grown);
+  enough = λ u y a. elim (nat_decided u t) [
+    | inl same ↦ absurd (not_none a (ap (update nat_cmp s.txns t None) same ∙ update_here nat_cmp_total s.txns t None))
+    | inr n ↦
+        let before : lacking (is_indexed s.life) s.entries y.changes ≤ reserved s.pledges u = p.enough u y (sym (update_apart nat_cmp-IsAntisymmetric s.txns t None u n) ∙ a) in
+        let fewer : lacking (is_indexed s.life) (entries_undone (is_indexed s.life) cs s.entries) y.changes ≤ lacking (is_indexed s.life) s.entries y.changes =
+        lacking_less (is_indexed s.life) s.entries (entries_undone (is_indexed s.life) cs s.entries) (undone_fewer (is_indexed s.life) cs s.entries) y.changes in
+        rw (left_apart s.pledges t u n) (omega (arith, before, fewer))
+  ];
+}
+
+pub record CanRestart (s : State) (ls : List (ℕ × List ChangeValue)) : Type 0 where
+  pub table : (r : Place) → get (rows_back ls s.rows) r ≡ get s.committed r
+  pub opens : CanOpen (restarted s ls)
+
+pub can_restart : (ls : List (ℕ × List ChangeValue)) (s : State) → IsCoherent s → HasPlaces s → IsListing s.txns ls → CanRestart s ls
+can_restart [] s i p quiet = record { table = only_committed s i quiet; opens = opens s i quiet (let fits : len s.entries + all_reserved s.pledges ≤ s.places = p.fits in omega (arith, fits)) }
+can_restart (l ∷ ls) s i p listing =
+    let s' : State = record (rolled s l.0 l.1) { pledges = remove s.pledges l.0 } in
+    let after : CanRestart s' ls =
+    can_restart ls s' (other_pledges (rolled s l.0 l.1) (remove s.pledges l.0) (rolled_by l.0 listing.0.0 l.1 s i listing.0.1 listing.0.2)) (rolled_places s l.0 listing.0.0 l.1 p listing.0.1 listing.0.2) listing.1 in
+    record { table = after.table; opens = after.opens }
+
+-- a restart at any stop gives the table of the history
+pub stopped : (o : Opened) → CanOpen o → (es : List Step) (s : State) → Run (opened o) es s → (items : List Item) → AreItemsOf items es → (ls : List (ℕ × List ChangeValue)) → IsListing s.txns ls
+    → ((restarted s ls).rows ≡ table_after o.rows items) × CanOpen (restarted s ls)
+stopped o can es s run items h ls listing =
+    let i : Invariant s = run_keeps _ s es run (opened_holds o can) in
+    let done : CanRestart s ls = can_restart ls s i.coherent i.places listing in
+    (alike rid_exact (rows_back ls s.rows) s.committed done.table ∙ told_table o es s run items h, done.opens)

@@ -1,0 +1,5 @@
+use Rattle.core_model.proofs.Restarts.{stopped}
+use Rattle.core_model.proofs.any_stop.Goals as goal
+
+pub returns : goal.returns
+returns c = stopped

@@ -1,0 +1,40 @@
+-- A run: a row is inserted while the index is built, its page is taken, and the insertion is undone.
+use Rattle.std.specs.FinMap.{empty}
+use Rattle.std.specs.Prelude.{List, [], ◌∷◌}
+use Rattle.records.specs.ChangeValue.{ChangeValue}
+use Rattle.records.specs.Values.{Place}
+use Rattle.records.specs.declared.change.Rows.TheVariants.{Inserted}
+use Rattle.records.specs.declared.pair.Pair.{Pair}
+use Rattle.records.specs.declared.row.Row.{Row}
+use Rattle.model.specs.declared.life.Life.TheVariants.{Absent}
+use Rattle.core_model.specs.Histories.{Opened, opened}
+use Rattle.core_model.specs.States.{State}
+use Rattle.core_model.specs.Steps.{Attempt, Begin, Create, End, Finish, Start, Step, Take, Undo, after}
+
+-- The builder then leaves the marked entry as it is, and the index is complete without it.
+
+abbrev pub place : Place
+place = record { page = 0; slot = 0 }
+
+abbrev pub row : Row
+row = record { key = 107 ∷ []; body = [] }
+
+abbrev pub pair : Pair
+pair = record { key = 107 ∷ []; rid = place }
+
+abbrev pub insertion : ChangeValue
+insertion = record { position = 0; rid = place; rows = Inserted row }
+
+-- no row, no index, one page, 64 entries
+abbrev pub opening : Opened
+opening = record { rows = empty; entries = empty; life = Absent; pages = 1; places = 64 }
+
+abbrev pub steps : List Step
+steps = Create ∷ Begin 1 ∷ Start 1 insertion ∷ Take 0 ∷ Undo 1 ∷ Undo 1 ∷ Undo 1 ∷ End 1 ∷ Attempt pair ∷ Finish ∷ []
+
+abbrev pub all_after : State → List Step → State
+all_after s [] = s
+all_after s (e ∷ es) = all_after (after s e) es
+
+abbrev pub last : State
+last = all_after (opened opening) steps

@@ -1,0 +1,137 @@
+-- What every step keeps.
+use Rattle.std.specs.FinMap.{entries, get, len}
+use Rattle.std.specs.Prelude.{Bool, List, None, Option, Some, [], cond, false, is_some, length, true, ℕ, ◌+◌, ◌<◌, ◌∷◌, ◌≡◌, ◌≢◌, ◌≤◌, ◌⊎◌}
+use Rattle.records.specs.ChangeValue.{ChangeValue}
+use Rattle.records.specs.Spelling.{old_row}
+use Rattle.records.specs.Values.{Place}
+use Rattle.records.specs.declared.pair.Mark.TheVariants.{Live, Marked}
+use Rattle.records.specs.declared.pair.Pair.{Pair}
+use Rattle.records.specs.declared.row.Row.{Row}
+use Rattle.model.specs.Table.{Index, IsPairOf, Table, applied}
+use Rattle.model.specs.declared.life.Life.{Life}
+use Rattle.model.specs.declared.life.Life.TheVariants.{Absent, Building, Complete}
+use Rattle.core_model.specs.Changes.{latest, new_pair, old_pair, pair_of}
+use Rattle.core_model.specs.States.{Active, Made, NewMarked, OldMarked, OldSet, Phase, RowSet, State}
+use Rattle.core_model.specs.Steps.{IsEnabled, Step, above, after, all_reserved, is_applied, is_indexed, reserved}
+
+-- ---- rows, entries, builder
+
+-- the newest change names this row, and is neither made nor taken back whole
+abbrev pub IsBusyWith : List ChangeValue → Phase → Place → Type 0
+IsBusyWith [] phase r = ⊥
+IsBusyWith (c ∷ older) phase r = (c.rid ≡ r) × (phase ≢ Made)
+
+-- a row with an unfinished change
+pub record IsUnfinished (s : State) (r : Place) : Type 0 where
+  pub transaction : ℕ
+  pub txn : Active
+  pub active : s.txns transaction ≡ Some txn
+  pub busy : IsBusyWith txn.changes txn.phase r
+
+-- the changes that the rows show
+abbrev pub applied_of : List ChangeValue → Bool → List ChangeValue
+applied_of [] applied = []
+applied_of (c ∷ older) true = c ∷ older
+applied_of (c ∷ older) false = older
+
+abbrev pub made_of : Active → List ChangeValue
+made_of x = applied_of x.changes (is_applied x.phase)
+
+-- each change names a row that this transaction holds
+abbrev pub IsHolderOf : (Place → Option ℕ) → ℕ → List ChangeValue → Type 0
+IsHolderOf holder t [] = Unit {0}
+IsHolderOf holder t (c ∷ older) = (holder c.rid ≡ Some t) × IsHolderOf holder t older
+
+-- each change began from what the older ones made of the committed table
+abbrev pub IsChained : Table → List ChangeValue → Type 0
+IsChained committed [] = Unit {0}
+IsChained committed (c ∷ older) = (old_row c.rows ≡ latest older c.rid (get committed c.rid)) × IsChained committed older
+
+-- there is this pair, and it is so
+pub record HasPair (pair : Option Pair) (P : Pair → Type 0) : Type 0 where
+  pub it : Pair
+  pub is : pair ≡ Some it
+  pub holds : P it
+
+abbrev pub IsInPhase : Bool → Index → ChangeValue → Phase → Bool → Type 0
+IsInPhase indexed entries c OldMarked rolling = HasPair (old_pair indexed c) (λ p. rolling ≡ false → get entries p ≡ Some Marked)
+IsInPhase indexed entries c RowSet rolling = HasPair (new_pair indexed c) (λ p. Unit {0})
+IsInPhase indexed entries c Made rolling = Unit {0}
+IsInPhase indexed entries c (NewMarked applied) rolling = HasPair (new_pair indexed c) (λ p. get entries p ≡ Some Marked)
+IsInPhase indexed entries c OldSet rolling = HasPair (old_pair indexed c) (λ p. Unit {0})
+
+abbrev pub IsPhaseOf : Bool → Index → List ChangeValue → Phase → Bool → Type 0
+IsPhaseOf indexed entries [] phase rolling = phase ≡ Made
+IsPhaseOf indexed entries (c ∷ older) phase rolling = IsInPhase indexed entries c phase rolling
+
+pub record TxnHolds (s : State) (t : ℕ) (x : Active) : Type 0 where
+  pub names : IsHolderOf s.holder t x.changes
+  pub chained : IsChained s.committed x.changes
+  pub phase : IsPhaseOf (is_indexed s.life) s.entries x.changes x.phase x.rolling
+
+pub record IsHeld (s : State) (r : Place) (t : ℕ) : Type 0 where
+  pub txn : Active
+  pub active : s.txns t ≡ Some txn
+  pub row : get s.rows r ≡ latest (made_of txn) r (get s.committed r)
+  pub inside : r.page < s.pages
+
+-- the builder is still to come to this pair
+abbrev pub IsAhead : Life → Option Pair → (Pair → Bool) → Pair → Type 0
+IsAhead Absent bound missed p = Unit {0}
+IsAhead (Building highest) bound missed p = (above bound p ≡ true) × (missed p ≡ false)
+IsAhead Complete bound missed p = ⊥
+
+abbrev pub IsVisibleOrAhead : State → Pair → Type 0
+IsVisibleOrAhead s p = (get s.entries p ≡ Some Live) ⊎ (get s.entries p ≡ None) × IsAhead s.life s.bound s.missed p
+
+-- a pair that a page gave still is that of a row, or has an entry
+abbrev pub IsBacked : State → Pair → Type 0
+IsBacked s p = IsPairOf s.rows p ⊎ (get s.entries p ≢ None)
+
+-- rows, entries and transactions fit each other, and the builder passes over no row
+pub record IsCoherent (s : State) : Type 0 where
+  pub free : (r : Place) → s.holder r ≡ None → get s.rows r ≡ get s.committed r
+  pub held : (r : Place) (t : ℕ) → s.holder r ≡ Some t → IsHeld s r t
+  pub inside : (r : Place) (row : Row) → get s.rows r ≡ Some row → r.page < s.pages
+  pub txns : (t : ℕ) (x : Active) → s.txns t ≡ Some x → TxnHolds s t x
+  pub sound : (p : Pair) → get s.entries p ≡ Some Live → IsPairOf s.rows p
+  pub visible : (r : Place) (row : Row) → get s.rows r ≡ Some row → (IsUnfinished s r → ⊥) → IsVisibleOrAhead s (pair_of r row)
+  pub empty : s.life ≡ Absent → (p : Pair) → get s.entries p ≡ None
+  pub backed : (highest : Option Pair) → s.life ≡ Building highest → (p : Pair) → s.given p ≡ true → above s.bound p ≡ true → IsBacked s p
+  pub behind : (highest : Option Pair) → s.life ≡ Building highest → (p : Pair) → above s.bound p ≡ true → above highest p ≡ true
+
+-- ---- places of entries
+
+-- one where this pair has no entry, else none
+abbrev pub lacks : Index → Option Pair → ℕ
+lacks entries None = 0
+lacks entries (Some p) = cond (is_some (get entries p)) 0 1
+
+-- how many of the pairs of these changes have no entry
+abbrev pub lacking : Bool → Index → List ChangeValue → ℕ
+lacking indexed entries [] = 0
+lacking indexed entries (c ∷ older) = lacks entries (old_pair indexed c) + lacks entries (new_pair indexed c) + lacking indexed entries older
+
+-- entries and reserved places fit the geometry, and each transaction has reserved a place for each entry that its steps and their undo may add
+pub record HasPlaces (s : State) : Type 0 where
+  pub fits : len s.entries + all_reserved s.pledges ≤ s.places
+  pub enough : (t : ℕ) (x : Active) → s.txns t ≡ Some x → lacking (is_indexed s.life) s.entries x.changes ≤ reserved s.pledges t
+
+-- ---- positions of changes
+
+-- the positions count from the oldest change
+abbrev pub IsNumbered : List ChangeValue → Type 0
+IsNumbered [] = Unit {0}
+IsNumbered (c ∷ older) = (c.position ≡ length older) × IsNumbered older
+
+-- ---- all of it
+
+pub record Invariant (s : State) : Type 0 where
+  pub coherent : IsCoherent s
+  pub places : HasPlaces s
+  pub numbered : (t : ℕ) (x : Active) → s.txns t ≡ Some x → IsNumbered x.changes
+
+-- a run of the core
+pub data Run : State → List Step → State → Type 0 where
+  no_step : {s : State} → Run s [] s
+  one_step : {s s' : State} (e : Step) (es : List Step) → IsEnabled s e → Run (after s e) es s' → Run s (e ∷ es) s'

@@ -1,0 +1,7 @@
+pub mod Changes
+pub mod States
+pub mod Steps
+pub mod Invariants
+pub mod Histories
+pub mod Restarts
+pub mod Example

@@ -1,0 +1,43 @@
+-- What the core consists of, as a value.
+use Rattle.std.specs.FinMap.{FinMap}
+use Rattle.std.specs.Ordering.{nat_cmp}
+use Rattle.std.specs.Prelude.{Bool, List, Option, ℕ}
+use Rattle.records.specs.ChangeValue.{ChangeValue}
+use Rattle.records.specs.Values.{Place}
+use Rattle.records.specs.declared.pair.Pair.{Pair}
+use Rattle.model.specs.Table.{Index, Table}
+use Rattle.model.specs.declared.life.Life.{Life}
+
+-- how far a transaction is with its newest change
+pub data Phase : Type 0 where
+  OldMarked : Phase  -- the old pair is marked, and the row is owed
+  RowSet : Phase  -- the row is set, and the new pair is owed
+  Made : Phase  -- nothing is owed, or there is no change
+  NewMarked : (applied : Bool) → Phase  -- being undone: the new pair is marked, and the row is still as the forward steps left it
+  OldSet : Phase  -- being undone: the old row is back, and the old pair is owed
+
+-- an active transaction
+pub record Active : Type 0 where
+  pub changes : List ChangeValue  -- those that may still be taken back, the newest first
+  pub phase : Phase
+  pub rolling : Bool  -- whether it is rolling back
+
+-- how many entry places each active transaction has reserved and not used
+abbrev pub Pledges : Type 0
+Pledges = FinMap nat_cmp ℕ
+
+pub record State : Type 0 where
+  pub rows : Table
+  pub entries : Index
+  pub txns : ℕ → Option Active
+  pub holder : Place → Option ℕ  -- the active transaction that touched a row
+  pub pledges : Pledges
+  pub life : Life
+  pub pages : ℕ  -- the geometry's pages
+  pub places : ℕ  -- the geometry's entries
+  pub bound : Option Pair  -- the pair attempted last in this run and build, else the one that was checkpointed
+  pub given : Pair → Bool  -- the pairs that some taking of a page gave to the scan
+  pub missed : Pair → Bool  -- the pairs that some taking of their page did not give
+  pub taken : ℕ → Bool  -- the pages taken
+  pub cleaned : Option Pair  -- the cleaner's place
+  pub committed : Table  -- the table of the commits

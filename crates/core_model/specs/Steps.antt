@@ -1,0 +1,294 @@
+-- The steps of the core: what each does, and when it is enabled.
+use Rattle.std.specs.Cmp.Lexicographic.{slice_cmp}
+use Rattle.std.specs.FinMap.{entries, get, insert, len, remove, values}
+use Rattle.std.specs.Ordering.{eq_by_cmp, is_lt, nat_cmp}
+use Rattle.std.specs.Prelude.{Bool, List, None, Option, Some, [], cond, false, length, nat_eq, not, reverse, sum, true, unwrap_or, ℕ, ◌&&◌, ◌+◌, ◌-◌, ◌<◌, ◌||◌, ◌∷◌, ◌≡◌, ◌≤◌, ◌⊎◌}
+use Rattle.std.specs.declared.cmp.Ordering.{Ordering}
+use Rattle.records.specs.ChangeValue.{ChangeValue}
+use Rattle.records.specs.Maps.{set_at}
+use Rattle.records.specs.Orders.{pair_cmp, rid_cmp}
+use Rattle.records.specs.Spelling.{new_row, old_row}
+use Rattle.records.specs.declared.pair.Mark.{Mark}
+use Rattle.records.specs.declared.pair.Mark.TheVariants.{Live, Marked}
+use Rattle.records.specs.declared.pair.Pair.{Pair}
+use Rattle.records.specs.declared.row.Row.{Row}
+use Rattle.model.specs.Committed.{writes_of}
+use Rattle.model.specs.KeyActions.{after_action}
+use Rattle.model.specs.Table.{Index, Table, applied}
+use Rattle.model.specs.declared.key_action.KeyAction.TheVariants.{BuildPut}
+use Rattle.model.specs.declared.life.Life.{Life}
+use Rattle.model.specs.declared.life.Life.TheVariants.{Absent, Building, Complete}
+use Rattle.core_model.specs.Changes.{new_pair, old_pair}
+use Rattle.records.specs.declared.limits.TheConstants.{PLACES_PER_CHANGE}
+use Rattle.core_model.specs.States.{Active, Made, NewMarked, OldMarked, OldSet, Phase, Pledges, RowSet, State}
+
+-- the function with this value at this argument
+unfoldable pub update : {K X : Type 0} → (K → K → Ordering) → (K → X) → K → X → K → X
+update R f k v q = cond (eq_by_cmp R q k) v (f q)
+
+abbrev pub is_indexed : Life → Bool
+is_indexed Absent = false
+is_indexed (Building highest) = true
+is_indexed Complete = true
+
+abbrev pub above : Option Pair → Pair → Bool
+above None q = true
+above (Some p) q = is_lt (pair_cmp p q)
+
+-- whether a pair is that of a row
+abbrev pub is_pair_of : Option Row → Pair → Bool
+is_pair_of None p = false
+is_pair_of (Some row) p = eq_by_cmp (slice_cmp nat_cmp) row.key p.key
+
+-- ---- transactions
+
+abbrev pub new_txn : Active
+new_txn = record { changes = []; phase = Made; rolling = false }
+
+abbrev pub txn_at : State → ℕ → Active
+txn_at s t = unwrap_or (s.txns t) new_txn
+
+abbrev pub with_txn : State → ℕ → Active → ℕ → Option Active
+with_txn s t x = update nat_cmp s.txns t (Some x)
+
+-- the entry of this pair, where there is one, gets this mark
+abbrev pub with_entry : Index → Option Pair → Mark → Index
+with_entry entries None mark = entries
+with_entry entries (Some p) mark = set_at entries p (Some mark)
+
+-- the phase after the row is set
+abbrev pub row_made : Option Pair → Phase
+row_made None = Made
+row_made (Some p) = RowSet
+
+-- whether the row is as the change makes it
+abbrev pub is_applied : Phase → Bool
+is_applied OldMarked = false
+is_applied RowSet = true
+is_applied Made = true
+is_applied (NewMarked applied) = applied
+is_applied OldSet = false
+
+abbrev pub with_phase : Active → Phase → Active
+with_phase x phase = record x { phase = phase }
+
+abbrev pub with_change : Active → ChangeValue → Phase → Active
+with_change x c phase = record x { changes = c ∷ x.changes; phase = phase }
+
+-- the newest change is taken off
+abbrev pub without_newest : List ChangeValue → Active
+without_newest older = record { changes = older; phase = Made; rolling = true }
+
+abbrev pub undoing : Active → Phase → Active
+undoing x phase = record { changes = x.changes; phase = phase; rolling = true }
+
+-- the first step of a change, which marks this pair where there is one, and else sets the row
+abbrev pub started : State → ℕ → Active → ChangeValue → Option Pair → State
+started s t x c (Some p) = record s {
+  entries = set_at s.entries p (Some Marked);
+  txns = with_txn s t (with_change x c OldMarked);
+  holder = update rid_cmp s.holder c.rid (Some t);
+}
+started s t x c None = record s {
+  rows = set_at s.rows c.rid (new_row c.rows);
+  txns = with_txn s t (with_change x c (row_made (new_pair (is_indexed s.life) c)));
+  holder = update rid_cmp s.holder c.rid (Some t);
+}
+
+-- the step that a transaction owes
+abbrev pub carried_on : State → ℕ → Active → List ChangeValue → Phase → State
+carried_on s t x (c ∷ older) OldMarked = record s {
+  rows = set_at s.rows c.rid (new_row c.rows);
+  txns = with_txn s t (with_phase x (row_made (new_pair (is_indexed s.life) c)));
+}
+carried_on s t x (c ∷ older) RowSet = record s {
+  entries = with_entry s.entries (new_pair (is_indexed s.life) c) Live;
+  txns = with_txn s t (with_phase x Made);
+}
+carried_on s t x _ _ = s
+
+-- the old row is set again, and this old pair is then owed, or the undo is at its end
+abbrev pub row_undone : Active → List ChangeValue → Option Pair → Active
+row_undone x older None = without_newest older
+row_undone x older (Some p) = undoing x OldSet
+
+abbrev pub undone_row : State → ℕ → Active → ChangeValue → List ChangeValue → State
+undone_row s t x c older = record s {
+  rows = set_at s.rows c.rid (old_row c.rows);
+  txns = with_txn s t (row_undone x older (old_pair (is_indexed s.life) c));
+}
+
+-- the first undo step, which marks this pair where there is one, and else sets the row
+abbrev pub undone_first : State → ℕ → Active → ChangeValue → List ChangeValue → Bool → Option Pair → State
+undone_first s t x c older applied (Some p) = record s {
+  entries = set_at s.entries p (Some Marked);
+  txns = with_txn s t (undoing x (NewMarked applied));
+}
+undone_first s t x c older applied None = undone_row s t x c older
+
+abbrev pub undone : State → ℕ → Active → List ChangeValue → Phase → State
+undone s t x [] phase = record s { txns = with_txn s t (undoing x phase) }
+undone s t x (c ∷ older) OldMarked = undone_first s t x c older false (new_pair (is_indexed s.life) c)
+undone s t x (c ∷ older) RowSet = undone_first s t x c older true (new_pair (is_indexed s.life) c)
+undone s t x (c ∷ older) Made = undone_first s t x c older true (new_pair (is_indexed s.life) c)
+undone s t x (c ∷ older) (NewMarked applied) = undone_row s t x c older
+undone s t x (c ∷ older) OldSet = record s {
+  entries = with_entry s.entries (old_pair (is_indexed s.life) c) Live;
+  txns = with_txn s t (without_newest older);
+}
+
+abbrev pub freed : ℕ → Option ℕ → Option ℕ
+freed t None = None
+freed t (Some u) = cond (eq_by_cmp nat_cmp u t) None (Some u)
+
+-- a transaction leaves: its rows are free, and this is the committed table
+abbrev pub left : State → ℕ → Table → State
+left s t committed = record s { txns = update nat_cmp s.txns t None; holder = λ r. freed t (s.holder r); committed = committed }
+
+-- ---- the builder and the cleaner
+
+abbrev pub created : State → State
+created s = record s { life = Building None; bound = None; given = λ p. false; missed = λ p. false; taken = λ n. false }
+
+abbrev pub page_taken : State → ℕ → State
+page_taken s n = record s {
+  given = λ p. s.given p || (nat_eq p.rid.page n && is_pair_of (get s.rows p.rid) p);
+  missed = λ p. s.missed p || (nat_eq p.rid.page n && not (is_pair_of (get s.rows p.rid) p));
+  taken = λ m. s.taken m || nat_eq m n;
+}
+
+abbrev pub attempted : State → Pair → State
+attempted s p = record s { entries = set_at s.entries p (after_action BuildPut (get s.entries p)); bound = Some p }
+
+-- ---- all steps
+
+pub data Step : Type 0 where
+  Begin : (t : ℕ) → Step
+  Start : (t : ℕ) → ChangeValue → Step
+  Next : (t : ℕ) → Step
+  Undo : (t : ℕ) → Step
+  End : (t : ℕ) → Step
+  Commit : (t : ℕ) → Step
+  Create : Step
+  Take : (page : ℕ) → Step
+  Attempt : Pair → Step
+  Checkpoint : Step
+  Finish : Step
+  Clean : Pair → Step
+  Keep : Pair → Step
+  Wrap : Step
+
+-- what a step makes of the cells, the transactions, the builder and the cleaner
+abbrev pub moved_by : State → Step → State
+moved_by s (Begin t) = record s { txns = with_txn s t new_txn }
+moved_by s (Start t c) = started s t (txn_at s t) c (old_pair (is_indexed s.life) c)
+moved_by s (Next t) = carried_on s t (txn_at s t) (txn_at s t).changes (txn_at s t).phase
+moved_by s (Undo t) = undone s t (txn_at s t) (txn_at s t).changes (txn_at s t).phase
+moved_by s (End t) = left s t s.committed
+moved_by s (Commit t) = left s t (applied s.committed (writes_of (reverse (txn_at s t).changes)))
+moved_by s Create = created s
+moved_by s (Take page) = page_taken s page
+moved_by s (Attempt p) = attempted s p
+moved_by s Checkpoint = record s { life = Building s.bound }
+moved_by s Finish = record s { life = Complete }
+moved_by s (Clean p) = record s { entries = set_at s.entries p None; cleaned = Some p }
+moved_by s (Keep p) = record s { cleaned = Some p }
+moved_by s Wrap = record s { cleaned = None }
+
+-- ---- reserved entry places
+
+-- how many entry places a change reserves
+abbrev pub places_of : Bool → ℕ
+places_of false = 0
+places_of true = PLACES_PER_CHANGE
+
+abbrev pub reserved : Pledges → ℕ → ℕ
+reserved pledges t = unwrap_or (get pledges t) 0
+
+abbrev pub all_reserved : Pledges → ℕ
+all_reserved pledges = sum (values pledges)
+
+-- a transaction reserves so many more places, and uses one for each entry that it adds
+abbrev pub places_used : Pledges → ℕ → (more used : ℕ) → Pledges
+places_used pledges t more used = insert pledges t (reserved pledges t + more - used)
+
+abbrev pub with_places : State → ℕ → ℕ → Index → Pledges
+with_places s t more entries = places_used s.pledges t more (len entries - len s.entries)
+
+abbrev pub pledges_after : State → Step → Index → Pledges
+pledges_after s (Begin t) entries = insert s.pledges t 0
+pledges_after s (Start t c) entries = with_places s t (places_of (is_indexed s.life)) entries
+pledges_after s (Next t) entries = with_places s t 0 entries
+pledges_after s (Undo t) entries = with_places s t 0 entries
+pledges_after s (End t) entries = remove s.pledges t
+pledges_after s (Commit t) entries = remove s.pledges t
+pledges_after s _ entries = s.pledges
+
+abbrev pub after : State → Step → State
+after s e = record (moved_by s e) { pledges = pledges_after s e (moved_by s e).entries }
+
+-- ---- when a step is enabled
+
+abbrev pub IsActive : State → ℕ → Type 0
+IsActive s t = s.txns t ≡ Some (txn_at s t)
+
+-- nothing is owed, and nothing is being undone
+abbrev pub IsReady : Active → Type 0
+IsReady x = (x.phase ≡ Made) × (x.rolling ≡ false)
+
+-- there is room for the places that a change reserves
+abbrev pub HasRoom : State → Type 0
+HasRoom s = is_indexed s.life ≡ true → len s.entries + all_reserved s.pledges + places_of true ≤ s.places
+
+pub record CanStart (s : State) (t : ℕ) (c : ChangeValue) : Type 0 where
+  pub active : IsActive s t
+  pub ready : IsReady (txn_at s t)
+  pub position : c.position ≡ length (txn_at s t).changes
+  pub before : get s.rows c.rid ≡ old_row c.rows
+  pub mine : (s.holder c.rid ≡ None) ⊎ (s.holder c.rid ≡ Some t)
+  pub inside : c.rid.page < s.pages
+  pub room : HasRoom s
+
+abbrev pub IsBuilding : Life → Type 0
+IsBuilding life = (highest : Option Pair) × (life ≡ Building highest)
+
+-- every page was taken, and of the pairs that every taking of their page gave, none above the last one attempted is left below this one
+pub record CanAttempt (s : State) (p : Pair) : Type 0 where
+  pub building : IsBuilding s.life
+  pub given : s.given p ≡ true
+  pub rising : above s.bound p ≡ true
+  pub all_taken : (n : ℕ) → n < s.pages → s.taken n ≡ true
+  pub none_left : (q : Pair) → above s.bound q ≡ true → above (Some q) p ≡ true → s.taken q.rid.page ≡ true → s.missed q ≡ true
+  pub room : get s.entries p ≡ None → len s.entries + all_reserved s.pledges < s.places
+
+pub record CanFinish (s : State) : Type 0 where
+  pub building : IsBuilding s.life
+  pub all_taken : (n : ℕ) → n < s.pages → s.taken n ≡ true
+  pub none_left : (q : Pair) → above s.bound q ≡ true → s.taken q.rid.page ≡ true → s.missed q ≡ true
+
+-- where the cleaner may take out an entry
+abbrev pub IsPassed : Life → Pair → Type 0
+IsPassed Absent p = ⊥
+IsPassed (Building highest) p = above highest p ≡ false
+IsPassed Complete p = Unit {0}
+
+pub record CanClean (s : State) (p : Pair) : Type 0 where
+  pub marked : get s.entries p ≡ Some Marked
+  pub free : s.holder p.rid ≡ None
+  pub passed : IsPassed s.life p
+
+abbrev pub IsEnabled : State → Step → Type 0
+IsEnabled s (Begin t) = s.txns t ≡ None
+IsEnabled s (Start t c) = CanStart s t c
+IsEnabled s (Next t) = IsActive s t × (txn_at s t).rolling ≡ false
+IsEnabled s (Undo t) = IsActive s t
+IsEnabled s (End t) = IsActive s t × (txn_at s t).changes ≡ []
+IsEnabled s (Commit t) = IsActive s t × IsReady (txn_at s t)
+IsEnabled s Create = (s.life ≡ Absent) × ((t : ℕ) → s.txns t ≡ None)
+IsEnabled s (Take page) = IsBuilding s.life
+IsEnabled s (Attempt p) = CanAttempt s p
+IsEnabled s Checkpoint = IsBuilding s.life × (p : Pair) × (s.bound ≡ Some p)
+IsEnabled s Finish = CanFinish s
+IsEnabled s (Clean p) = CanClean s p
+IsEnabled s (Keep p) = Unit {0}
+IsEnabled s Wrap = Unit {0}

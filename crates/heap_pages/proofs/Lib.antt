@@ -1,0 +1,9 @@
+mod SlotLists
+mod RidOrder
+mod Cells
+mod Writes
+mod Empty
+mod Free
+mod Held
+mod Pairs
+mod PairLaws

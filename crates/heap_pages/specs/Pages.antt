@@ -1,0 +1,66 @@
+-- What clauses see of a heap.
+use Rattle.std.specs.Prelude.{◌≡◌, ℕ, ◌+◌, ◌<◌, List, [], ◌∷◌, ◌++◌, map, Option, Some, None, Contains, ◌==◌, refl}
+use Rattle.std.specs.FinMap.{FinMap, code, entries, get, retain_keys, from_sorted}
+use Rattle.std.specs.Coded.{Coded, code_by, coded×, coded_ℕ}
+use Rattle.records.specs.Values.{Place}
+use Rattle.records.specs.Orders.{rid_cmp}
+use Rattle.records.specs.Codes.{coded_rid, coded_row}
+use Rattle.records.specs.declared.rid.TheConstants.{SLOTS_PER_PAGE}
+use Rattle.records.specs.declared.row.Row.{Row}
+use Rattle.records.specs.declared.pair.Pair.{Pair}
+
+-- the rows of a table, each at its place
+abbrev pub Rows : Type 0
+Rows = FinMap rid_cmp Row
+
+-- how many pages there are, and the rows in them
+pub record HeapValue : Type 0 where
+  pub pages : ℕ
+  pub rows : Rows
+
+abbrev pub coded_heap : Coded HeapValue
+coded_heap = code_by (ℕ × Rows) (coded× coded_ℕ (code coded_rid coded_row)) (λ h. (h.pages, h.rows)) (λ p. record { pages = p.0; rows = p.1 }) (λ _. refl)
+
+-- the place is one of the heap's
+abbrev pub IsInside : HeapValue → Place → Type 0
+IsInside h r = (r.page < h.pages) × (r.slot < SLOTS_PER_PAGE)
+
+-- a place of the heap that is empty and not among the held ones
+pub record IsFree (h : HeapValue) (held : List Place) (r : Place) : Type 0 where
+  pub inside : IsInside h r
+  pub empty : get h.rows r ≡ None
+  pub not_held : ¬ Contains held r
+
+-- the pair of a row of page n
+pub record IsPairOnPage (rows : Rows) (n : ℕ) (pair : Pair) : Type 0 where
+  pub row : Row
+  pub is_there : get rows pair.rid ≡ Some row
+  pub has_key : row.key ≡ pair.key
+  pub on_page : pair.rid.page ≡ n
+
+-- the rows of page n
+abbrev pub page_rows : Rows → ℕ → Rows
+page_rows rows n = retain_keys rows (λ r. r.page == n)
+
+-- the key of the row and its place
+abbrev pub pair_of : Place × Row → Pair
+pair_of e = record { key = e.1.key; rid = e.0 }
+
+-- the pair of each row, in the order of the places
+abbrev pub pairs_of : Rows → List Pair
+pairs_of rows = map pair_of (entries rows)
+
+-- the rows of a page's slots from slot i on
+abbrev pub page_entries : ℕ → ℕ → List (Option Row) → List (Place × Row)
+page_entries n i [] = []
+page_entries n i (None ∷ slots) = page_entries n (i + 1) slots
+page_entries n i (Some row ∷ slots) = (record { page = n; slot = i }, row) ∷ page_entries n (i + 1) slots
+
+-- the rows of the pages from page n on
+abbrev pub heap_entries : ℕ → List (List (Option Row)) → List (Place × Row)
+heap_entries n [] = []
+heap_entries n (slots ∷ pages) = page_entries n 0 slots ++ heap_entries (n + 1) pages
+
+-- the row in each slot of each page, by its place
+abbrev pub rows_of : List (List (Option Row)) → Rows
+rows_of pages = from_sorted (heap_entries 0 pages)

@@ -1,0 +1,135 @@
+//! The pages of the heap.
+ghost use Rattle.std.specs.Prelude.{◌≡◌, ◌≢◌, ◌<◌, ◌↔◌, map, Contains, IfOk, IfErr, IsErr, IsSome};
+ghost use Rattle.std.specs.List.Sorted.{IsStrictlyIncreasing};
+ghost use Rattle.std.specs.declared.cmp.Ordering.{Ordering};
+ghost use Rattle.std.specs.FinMap.{get, empty};
+ghost use Rattle.records.specs.Values.{Place};
+ghost use Rattle.records.specs.Orders.{rid_cmp};
+ghost use Rattle.records.specs.Maps.{set_at};
+ghost use Rattle.records.specs.declared.pair.Pair.{Pair};
+ghost use Rattle.heap_pages.specs.Pages.{IsInside, IsFree, IsPairOnPage, page_rows, pairs_of};
+
+use crate::page::{HeapPage, held_slots};
+use records::{Error, Pair, Rid, Row, SLOTS_PER_PAGE};
+use std::alloc::Allocator;
+use std::marker::Model;
+
+/// The rows of the table, each at its place.
+///
+/// Whether a row may be touched is no matter of the heap: it keeps what is put where.
+#[derive(Drop)]
+pub struct Heap<A: Allocator> {
+    alloc: A,
+    pages: Vec<HeapPage, A>,
+}
+
+impl<A: Allocator> Model for Heap<A> {
+    ghost use Rattle.std.specs.Prelude.{◌<◌, ◌^◌, map, length};
+    ghost use Rattle.heap_pages.specs.Slots.{slots_of};
+    ghost use Rattle.heap_pages.specs.Pages.{HeapValue, coded_heap, rows_of};
+
+    ghost Value = { HeapValue };
+
+    ghost coded = { coded_heap };
+
+    ghost view = { λ h. record {
+      pages = length h.pages.items;
+      rows = rows_of (map slots_of h.pages.items);
+    } };
+
+    ghost invariant = { λ h. length h.pages.items < 2 ^ 32 };
+}
+
+impl<A: Allocator + Copy> Heap<A> {
+    /// A heap of so many empty pages.
+    ///
+    /// The memory of all pages is taken here: to put a row or to look for one takes none.
+    /// The one error is `NoMemory`.
+    pub fn new(alloc: A, pages: u32) -> Result<Self, Error>
+        ensures made { IfOk result (λ heap. heap ≡ record { pages = pages; rows = empty }) }
+        ensures no_memory { IfErr result (λ e. e ≡ Error.NoMemory) }
+    {
+        let mut made = Vec::with_capacity(alloc, pages as usize)?;
+        for _ in 0..pages {
+            made.push(HeapPage::new())?;
+        }
+        Ok(Heap { alloc, pages: made })
+    }
+
+    /// How many pages there are.
+    pub fn pages(&self) -> u32
+        ensures number { result ≡ self.now.pages }
+        ensures rows_inside { (r : Place) → IsSome (get self.now.rows r) → IsInside self.now r }
+    {
+        self.pages.len() as u32
+    }
+
+    /// The row at the place: none where it is empty, or on a page that the heap does not have.
+    pub fn get(&self, rid: Rid) -> Option<Row>
+        ensures { result ≡ get self.now.rows rid }
+    {
+        match self.pages.get(rid.page as usize) {
+            Some(page) => page.get(rid.slot),
+            None => None,
+        }
+    }
+
+    /// Puts the row at the place, or empties it. Every other place stays as it was.
+    ///
+    /// It takes no memory.
+    pub fn set(&mut self, rid: Rid, row: Option<Row>)
+        requires { rid.page < self.old.pages }
+        ensures { self.new ≡ record self.old { rows = set_at self.old.rows rid row } }
+    {
+        let page = &mut self.pages[rid.page as usize];
+        page.set(rid.slot, row);
+    }
+
+    /// The least place that is empty and not among the held ones: first by its page, then by its
+    /// slot.
+    ///
+    /// It takes no memory. The one error is `HeapFull`, where there is no such place.
+    pub fn least_free(&self, held: &[Rid]) -> Result<Rid, Error>
+        ensures free { IfOk result (IsFree self.now held.now) }
+        ensures least { IfOk result (λ r.
+            (q : Place) → IsFree self.now held.now q → rid_cmp q r ≢ Ordering.Less) }
+        ensures full { IsErr result → (q : Place) → ¬ IsFree self.now held.now q }
+        ensures heap_full { IfErr result (λ e. e ≡ Error.HeapFull) }
+    {
+        for page in 0..self.pages() {
+            let slots = &self.pages[page as usize];
+            if slots.is_full() {
+                continue;
+            }
+            if let Some(slot) = slots.first_free(&held_slots(page, held)) {
+                return Ok(Rid { page, slot });
+            }
+        }
+        Err(Error::HeapFull)
+    }
+
+    /// The pair of each row of the page, once, in the order of the slots.
+    ///
+    /// The one error is `NoMemory`.
+    pub fn page_pairs(&self, page: u32) -> Result<Vec<Pair, A>, Error>
+        requires { page < self.now.pages }
+        ensures pairs { IfOk result (λ pairs. pairs.items ≡ pairs_of (page_rows self.now.rows page)) }
+        ensures each { IfOk result (λ pairs.
+            (p : Pair) → Contains pairs.items p ↔ IsPairOnPage self.now.rows page p) }
+        ensures in_slot_order { IfOk result (λ pairs.
+            IsStrictlyIncreasing (map (λ p. p.rid.slot) pairs.items)) }
+        ensures no_memory { IfErr result (λ e. e ≡ Error.NoMemory) }
+    {
+        let slots = &self.pages[page as usize];
+        let mut pairs = Vec::new(self.alloc);
+        for slot in 0..SLOTS_PER_PAGE {
+            if let Some(row) = slots.get(slot) {
+                pairs.push(Pair {
+                    key: row.key,
+                    rid: Rid { page, slot },
+                })?;
+            }
+        }
+        Ok(pairs)
+    }
+}

@@ -1,0 +1,11 @@
+//! The rows of the table, in pages of slots.
+#![tactic(auto)]
+
+mod heap;
+mod page;
+
+pub use heap::Heap;
+pub use page::HeapPage;
+
+#[cfg(test)]
+mod tests;

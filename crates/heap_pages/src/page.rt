@@ -1,0 +1,110 @@
+//! A page of the heap.
+ghost use Rattle.std.specs.Prelude.{◌≡◌, ◌<◌, ◌↔◌, ℕ, Some, IsTrue, IsSome, MatchOption, slice_get, ◌+◌, if◌then◌else◌};
+ghost use Rattle.std.specs.FinMap.{get, empty};
+ghost use Rattle.records.specs.Maps.{set_at};
+ghost use Rattle.heap_pages.specs.Slots.{is_among, IsFirstFree, NoneFree};
+
+use records::{Rid, Row, SLOTS_PER_PAGE};
+use std::marker::Model;
+
+const SLOTS: usize = SLOTS_PER_PAGE as usize;
+
+/// A page of `SLOTS_PER_PAGE` slots, each with a row or none.
+#[derive(Drop)]
+pub struct HeapPage {
+    slots: [Option<Row>; SLOTS],
+    // how many slots have a row
+    taken: u16,
+}
+
+impl Model for HeapPage {
+    ghost use Rattle.std.specs.Prelude.{◌≡◌, length, count_by, is_some};
+    ghost use Rattle.records.specs.declared.rid.TheConstants.{SLOTS_PER_PAGE};
+    ghost use Rattle.heap_pages.specs.Slots.{Slots, coded_slots, page_of};
+
+    ghost Value = { Slots };
+
+    ghost coded = { coded_slots };
+
+    ghost view = { λ p. page_of p.slots };
+
+    ghost invariant = { λ p. (length p.slots ≡ SLOTS_PER_PAGE) × (p.taken ≡ count_by is_some p.slots) };
+}
+
+/// How many slots are taken after one of them changed.
+fn taken_after(taken: u16, was_taken: bool, is_taken: bool) -> u16
+    requires some { IsTrue was_taken → 0 < taken }
+    requires room { taken < u16.MAX }
+    ensures { result + (if was_taken then 1 else 0) ≡ taken + (if is_taken then 1 else 0) }
+{
+    match (was_taken, is_taken) {
+        (true, false) => taken - 1,
+        (false, true) => taken + 1,
+        _ => taken,
+    }
+}
+
+/// Which slots of the page are among the held places.
+pub(crate) fn held_slots(page: u32, held: &[Rid]) -> [bool; SLOTS]
+    ensures { (s : ℕ) → s < SLOTS_PER_PAGE →
+        slice_get result s ≡ Some (is_among (record { page = page; slot = s }) held.now) }
+{
+    let mut slots = [false; SLOTS];
+    for rid in held {
+        if rid.page == page {
+            slots[rid.slot as usize] = true;
+        }
+    }
+    slots
+}
+
+impl HeapPage {
+    /// A page without rows.
+    pub fn new() -> Self
+        ensures { result ≡ empty }
+    {
+        HeapPage {
+            slots: [None; SLOTS],
+            taken: 0,
+        }
+    }
+
+    /// The row in the slot: none where it is empty, or beyond the last slot.
+    pub fn get(&self, slot: u16) -> Option<Row>
+        ensures { result ≡ get self.now slot }
+    {
+        match self.slots.get(slot as usize) {
+            Some(row) => *row,
+            None => None,
+        }
+    }
+
+    /// Puts the row into the slot, or empties it. Every other slot stays as it was.
+    pub fn set(&mut self, slot: u16, row: Option<Row>)
+        requires { slot < SLOTS_PER_PAGE }
+        ensures { self.new ≡ set_at self.old slot row }
+    {
+        let was_taken = self.slots[slot as usize].is_some();
+        self.taken = taken_after(self.taken, was_taken, row.is_some());
+        self.slots[slot as usize] = row;
+    }
+
+    /// Whether each slot has a row.
+    pub(crate) fn is_full(&self) -> bool
+        ensures { IsTrue result ↔ ((s : ℕ) → s < SLOTS_PER_PAGE → IsSome (get self.now s)) }
+    {
+        self.taken == SLOTS_PER_PAGE
+    }
+
+    /// The first slot that is empty and not held.
+    pub(crate) fn first_free(&self, held: &[bool; SLOTS]) -> Option<u16>
+        ensures { MatchOption result (NoneFree SLOTS_PER_PAGE self.now held.now) (IsFirstFree self.now held.now) }
+    {
+        for slot in 0..SLOTS_PER_PAGE {
+            if self.get(slot).is_none() && !held[slot as usize] {
+                return Some(slot);
+            }
+        }
+        None
+    }
+}

@@ -1,0 +1,3 @@
+mod Refusing
+mod Outbox
+mod Following

@@ -1,0 +1,13 @@
+use Rattle.std.proofs.Common.{ap}
+use Rattle.std.proofs.lemmas.Result.{on_err_weaker}
+use Rattle.txn_table.specs.Table.{TableValue}
+use Rattle.nsf_core.specs.State.{state_of}
+use Rattle.nsf_core.proofs.Refusing.{begin_refused}
+use Rattle.nsf_core.proofs.store.Core.begin.Goals as goal
+
+pub returns-clause-err : goal.returns-clause-err
+returns-clause-err g c =
+    let s = state_of c.args.self.now in
+    let with_txns = λ (t : TableValue). record s { txns = t } in
+    let known = c.begin.ensures in
+    begin_refused _ _ c.begin.result _ known.full known.spent known.room (on_err_weaker c.begin.result (λ same. ap with_txns same) known.err)

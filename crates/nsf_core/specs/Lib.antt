@@ -1,0 +1,3 @@
+pub mod State
+pub mod Refusals
+pub mod Follows

@@ -1,0 +1,57 @@
+-- Which refusal comes in which state: the first one whose state holds, and want of memory last.
+use Rattle.std.specs.Prelude.{◌≡◌, ◌≢◌, ◌⊎◌, ℕ, Bool, is_some, length, Option, Some, None, nat_le, ◌==◌, ◌||◌, if◌then◌else◌}
+use Rattle.std.specs.declared.cmp.Ordering.TheVariants.{Less}
+use Rattle.std.specs.FinMap as map
+use Rattle.records.specs.Values.{Place}
+use Rattle.records.specs.Orders.{rid_cmp}
+use Rattle.records.specs.declared.number.TheConstants.{LAST_NUMBER}
+use Rattle.records.specs.declared.txn.TheConstants.{TXNS_MAX}
+use Rattle.records.specs.declared.error.Error.{Error}
+use Rattle.records.specs.declared.error.Error.TheVariants.{NoMemory, TooManyTxns, NoSuchTxn, HeapFull, Exhausted}
+use Rattle.heap_pages.specs.Pages.{IsInside}
+use Rattle.txn_table.specs.Table as table
+use Rattle.nsf_core.specs.State.{State}
+
+-- that refusal, or where there is none, want of memory
+abbrev pub IsRefusedBy : Option Error → Error → Type 0
+IsRefusedBy (Some refusal) e = e ≡ refusal
+IsRefusedBy None e = e ≡ NoMemory
+
+abbrev pub is_active : State → ℕ → Bool
+is_active s txn = is_some (table.state_of txn s.txns.active)
+
+-- why no further record may be made
+abbrev pub number_refusal : State → Option Error
+number_refusal s = if s.last == LAST_NUMBER then Some Exhausted else None
+
+-- why no further transaction may begin: enough are active, or all numbers of 64 bits were given
+abbrev pub begin_refusal : State → Option Error
+begin_refusal s = if nat_le TXNS_MAX (length s.txns.active) || nat_le 18446744073709551615 s.txns.begun then Some TooManyTxns else None
+
+-- why a transaction may not commit
+abbrev pub commit_refusal : State → ℕ → Option Error
+commit_refusal s txn = if is_active s txn then number_refusal s else Some NoSuchTxn
+
+-- a place of the heap where no row is, and which no active transaction holds
+pub record IsFree (s : State) (r : Place) : Type 0 where
+  pub inside : IsInside s.heap r
+  pub empty : map.get s.heap.rows r ≡ None
+  pub not_held : table.holder_of r s.txns.active ≡ None
+
+-- the least free place
+pub record IsLeastFree (s : State) (r : Place) : Type 0 where
+  pub free : IsFree s r
+  pub least : (q : Place) → IsFree s q → rid_cmp q r ≢ Less
+
+-- why a transaction may not insert a row: NoSuchTxn and TooManyChanges, then HeapFull, then Exhausted, then want of memory
+abbrev pub IsInsertRefusal : State → ℕ → Error → Type 0
+IsInsertRefusal s txn e =
+    (table.change_refusal txn s.txns.active ≡ Some e)
+    ⊎ ((table.change_refusal txn s.txns.active ≡ None) × ((r : Place) → ¬ IsFree s r) × (e ≡ HeapFull))
+    ⊎ ((table.change_refusal txn s.txns.active ≡ None) × ((r : Place) × IsFree s r) × IsRefusedBy (number_refusal s) e)
+
+-- a transaction may insert a row at this place
+pub record CanInsert (s : State) (txn : ℕ) (r : Place) : Type 0 where
+  pub allowed : table.change_refusal txn s.txns.active ≡ None
+  pub place : IsLeastFree s r
+  pub numbered : number_refusal s ≡ None

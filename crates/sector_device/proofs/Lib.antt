@@ -1,0 +1,6 @@
+pub mod Counts
+pub mod Moments
+pub mod Record
+pub mod Sectors
+pub mod Tear
+pub mod Within

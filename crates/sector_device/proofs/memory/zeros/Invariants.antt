@@ -1,0 +1,6 @@
+use Rattle.std.proofs.Common.{◌≡◌, replicate}
+use Rattle.sector_device.specs.Memory.{zero_sector}
+use Rattle.sector_device.proofs.memory.zeros.Given as goal
+
+abbrev pub invariant-loop : goal.invariant-loop
+invariant-loop g l = l.image.items ≡ replicate l.counter zero_sector

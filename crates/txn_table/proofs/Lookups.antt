@@ -1,0 +1,141 @@
+-- Lookups by number and by row.
+use Rattle.std.proofs.Common.{◌≡◌, ℕ, ◌<◌, Bool, true, false, cond, List, [], ◌∷◌, ◌++◌, Some, None, nat_eq, ◌==◌, ◌&&◌, ◌||◌, ◌⊎◌, inl, inr, refl, sym, ap, ◌∙◌, arith, eqb, eq-eqb, zero, suc, drop, slice_get}
+use Rattle.std.proofs.Math.Bool.{or-false}
+use Rattle.std.proofs.lemmas.Bool.{eqb-true}
+use Rattle.std.proofs.lemmas.List.Folds.{list_any-append}
+use Rattle.std.specs.Map.{lookup, set_value}
+use Rattle.records.specs.Values.{Place}
+use Rattle.txn_table.specs.Table.{TxnState, is_among, with_rid, holder_of, with_state}
+use Rattle.txn_table.specs.Sound.{Rises, OneHolder}
+
+and_first : (a b : Bool) → (a && b) ≡ true → a ≡ true
+and_first true b e = refl
+and_first false b e = absurd cc
+
+and_second : (a b : Bool) → (a && b) ≡ true → b ≡ true
+and_second true b e = e
+and_second false b e = absurd cc
+
+or_cases : (a b : Bool) → (a || b) ≡ true → (a ≡ true) ⊎ (b ≡ true)
+or_cases true b e = inl refl
+or_cases false b e = inr e
+
+-- a write through the map is one by number
+pub set_value-with_state : (f : TxnState → TxnState) (txn : ℕ) (es : List (ℕ × TxnState)) (w w' : TxnState) → lookup (nat_eq txn) es ≡ Some w → w' ≡ f w → set_value (nat_eq txn) es w' ≡ with_state f txn es
+set_value-with_state f txn [] w w' here e = refl
+set_value-with_state f txn (d ∷ es) w w' here e = by (λ h. set_value-with_state f txn es w w' h e) (eqb txn d.0) here
+  where
+    by : (lookup (nat_eq txn) es ≡ Some w → set_value (nat_eq txn) es w' ≡ with_state f txn es) → (b : Bool) → cond b (Some d.1) (lookup (nat_eq txn) es) ≡ Some w → cond b ((d.0, w') ∷ es) (d ∷ set_value (nat_eq txn) es w') ≡ cond b ((d.0, f d.1) ∷ es) (d ∷ with_state f txn es)
+    by rest true h = let same : d.1 ≡ w = cc in ap (λ (x : TxnState). (d.0, x) ∷ es) (e ∙ ap f (sym same))
+    by rest false h = ap (λ xs. d ∷ xs) (rest h)
+
+-- a write of the same state changes nothing
+pub set_value-same : (txn : ℕ) (es : List (ℕ × TxnState)) (w w' : TxnState) → lookup (nat_eq txn) es ≡ Some w → w' ≡ w → set_value (nat_eq txn) es w' ≡ es
+set_value-same txn [] w w' here e = refl
+set_value-same txn (d ∷ es) w w' here e = by (λ h. set_value-same txn es w w' h e) (eqb txn d.0) here
+  where
+    by : (lookup (nat_eq txn) es ≡ Some w → set_value (nat_eq txn) es w' ≡ es) → (b : Bool) → cond b (Some d.1) (lookup (nat_eq txn) es) ≡ Some w → cond b ((d.0, w') ∷ es) (d ∷ set_value (nat_eq txn) es w') ≡ d ∷ es
+    by rest true h = let same : d.1 ≡ w = cc in ap (λ (x : TxnState). (d.0, x) ∷ es) (e ∙ sym same)
+    by rest false h = ap (λ xs. d ∷ xs) (rest h)
+
+-- an unknown transaction's state cannot be changed
+pub with_state-unknown : (f : TxnState → TxnState) (txn : ℕ) (es : List (ℕ × TxnState)) → lookup (nat_eq txn) es ≡ None → with_state f txn es ≡ es
+with_state-unknown f txn [] none = refl
+with_state-unknown f txn (d ∷ es) none = by (with_state-unknown f txn es) (eqb txn d.0) none
+  where
+    by : (lookup (nat_eq txn) es ≡ None → with_state f txn es ≡ es) → (b : Bool) → cond b (Some d.1) (lookup (nat_eq txn) es) ≡ None → cond b ((d.0, f d.1) ∷ es) (d ∷ with_state f txn es) ≡ d ∷ es
+    by rest true h = absurd cc
+    by rest false h = ap (λ xs. d ∷ xs) (rest h)
+
+-- the holder's number is above the bound
+pub holder_above : (low high : ℕ) (r : Place) (es : List (ℕ × TxnState)) (k : ℕ) → Rises low es high → holder_of r es ≡ Some k → low < k
+holder_above low high r [] k rises h = absurd cc
+holder_above low high r (e ∷ es) k rises h = by (holder_above e.0 high r es k rises.1) (is_among r e.1.rows) h
+  where
+    by : (holder_of r es ≡ Some k → e.0 < k) → (b : Bool) → cond b (Some e.0) (holder_of r es) ≡ Some k → low < k
+    by rest true h = let same : e.0 ≡ k = cc in let first = rises.0 in omega arith
+    by rest false h = let later = rest h in let first = rises.0 in omega arith
+
+-- an active transaction with the row is its holder
+pub holder_is : (txn : ℕ) (w : TxnState) (r : Place) (es : List (ℕ × TxnState)) → OneHolder es → lookup (nat_eq txn) es ≡ Some w → is_among r w.rows ≡ true → holder_of r es ≡ Some txn
+holder_is txn w r [] one here among = absurd cc
+holder_is txn w r (e ∷ es) one here among = by (λ h. holder_is txn w r es one.1 h among) (eqb txn e.0) (eqb-true txn e.0) here
+  where
+    later : holder_of r es ≡ Some txn → (b : Bool) → is_among r e.1.rows ≡ b → cond b (Some e.0) (holder_of r es) ≡ Some txn
+    later held true also = let none = one.0 r also in absurd cc
+    later held false not_here = held
+
+    by : (lookup (nat_eq txn) es ≡ Some w → holder_of r es ≡ Some txn) → (b : Bool) → (b ≡ true → txn ≡ e.0) → cond b (Some e.1) (lookup (nat_eq txn) es) ≡ Some w
+        → cond (is_among r e.1.rows) (Some e.0) (holder_of r es) ≡ Some txn
+    by rest true same h =
+        let its : e.1 ≡ w = cc in
+        ap (λ b. cond b (Some e.0) (holder_of r es)) (ap (λ (x : TxnState). is_among r x.rows) its ∙ among) ∙ ap Some (sym (same refl))
+    by rest false same h = later (rest h) (is_among r e.1.rows) refl
+
+-- a transaction does not have a row that nobody holds
+pub not_among : (txn : ℕ) (w : TxnState) (r : Place) (es : List (ℕ × TxnState)) → lookup (nat_eq txn) es ≡ Some w → holder_of r es ≡ None → is_among r w.rows ≡ false
+not_among txn w r [] here none = absurd cc
+not_among txn w r (e ∷ es) here none = by (not_among txn w r es) (eqb txn e.0) here (is_among r e.1.rows) refl none
+  where
+    by : (lookup (nat_eq txn) es ≡ Some w → holder_of r es ≡ None → is_among r w.rows ≡ false) → (b : Bool) → cond b (Some e.1) (lookup (nat_eq txn) es) ≡ Some w → (a : Bool) → is_among r e.1.rows ≡ a → cond a (Some e.0) (holder_of r es) ≡ None → is_among r w.rows ≡ false
+    by rest b h true among n = absurd cc
+    by rest true h false among n = let its : e.1 ≡ w = cc in ap (λ (x : TxnState). is_among r x.rows) (sym its) ∙ among
+    by rest false h false among n = rest h n
+
+pub place_test : (q r : Place) → ((r.page == q.page) && (r.slot == q.slot)) ≡ true → q ≡ r
+place_test q r e =
+    let page = eqb-true r.page q.page (and_first (r.page == q.page) (r.slot == q.slot) e) in
+    let slot = eqb-true r.slot q.slot (and_second (r.page == q.page) (r.slot == q.slot) e) in
+    λ i. record { page = sym page i; slot = sym slot i }
+
+pub is_among-append : (q r : Place) (rs : List Place) → is_among q (rs ++ r ∷ []) ≡ (is_among q rs || ((r.page == q.page) && (r.slot == q.slot)))
+is_among-append q r rs =
+    list_any-append (λ x. (x.page == q.page) && (x.slot == q.slot)) rs (r ∷ []) ∙ ap (λ b. is_among q rs || b) (or-false ((r.page == q.page) && (r.slot == q.slot)))
+
+-- a row among those with r was among them, or is r
+pub among_more : (q r : Place) (rs : List Place) → is_among q (with_rid r rs) ≡ true → (is_among q rs ≡ true) ⊎ (q ≡ r)
+among_more q r rs = by (is_among r rs)
+  where
+    by : (b : Bool) → is_among q (cond b rs (rs ++ r ∷ [])) ≡ true → (is_among q rs ≡ true) ⊎ (q ≡ r)
+    by true e = inl e
+    by false e = last (or_cases (is_among q rs) ((r.page == q.page) && (r.slot == q.slot)) (sym (is_among-append q r rs) ∙ e))
+      where
+        last : (is_among q rs ≡ true) ⊎ (((r.page == q.page) && (r.slot == q.slot)) ≡ true) → (is_among q rs ≡ true) ⊎ (q ≡ r)
+        last (inl h) = inl h
+        last (inr h) = inr (place_test q r h)
+
+or_left : (a b : Bool) → a ≡ true → (a || b) ≡ true
+or_left true b e = refl
+or_left false b e = absurd cc
+
+or_right : (a b : Bool) → b ≡ true → (a || b) ≡ true
+or_right true b e = refl
+or_right false b e = e
+
+-- and each of them stays
+pub among_kept : (q r : Place) (rs : List Place) → is_among q rs ≡ true → is_among q (with_rid r rs) ≡ true
+among_kept q r rs e = by (is_among r rs)
+  where
+    by : (b : Bool) → is_among q (cond b rs (rs ++ r ∷ [])) ≡ true
+    by true = e
+    by false = is_among-append q r rs ∙ or_left (is_among q rs) ((r.page == q.page) && (r.slot == q.slot)) e
+
+same_test : (n : ℕ) → eqb n n ≡ true
+same_test n = eq-eqb n n refl
+
+-- and r is there
+pub among_new : (r : Place) (rs : List Place) → is_among r (with_rid r rs) ≡ true
+among_new r rs = by (is_among r rs) refl
+  where
+    itself : ((r.page == r.page) && (r.slot == r.slot)) ≡ true
+    itself = (λ i. same_test r.page i && same_test r.slot i)
+
+    by : (b : Bool) → is_among r rs ≡ b → is_among r (cond b rs (rs ++ r ∷ [])) ≡ true
+    by true e = e
+    by false e = is_among-append r r rs ∙ or_right (is_among r rs) ((r.page == r.page) && (r.slot == r.slot)) itself
+
+-- a search from i on looks at that entry first
+pub holder_of-drop : (r : Place) (es : List (ℕ × TxnState)) (i : ℕ) (e : ℕ × TxnState) → slice_get es i ≡ Some e → holder_of r (drop i es) ≡ cond (is_among r e.1.rows) (Some e.0) (holder_of r (drop (suc i) es))
+holder_of-drop r [] i e h = absurd cc
+holder_of-drop r (d ∷ es) zero e h = let same : d ≡ e = cc in ap (λ (x : ℕ × TxnState). cond (is_among r x.1.rows) (Some x.0) (holder_of r es)) same
+holder_of-drop r (d ∷ es) (suc i) e h = holder_of-drop r es i e h

@@ -1,0 +1,46 @@
+use Rattle.std.proofs.Common.{◌≡◌, None, take, sym, ap, ◌∙◌}
+use Rattle.records.specs.ChangeValue.{ChangeValue}
+use Rattle.txn_table.specs.Table.{TableValue, with_rid, noted, touch_refusal}
+use Rattle.txn_table.proofs.Noted.{kept_after_note, kept_as_before, after_write, after_same, take_with_rid}
+use Rattle.std.proofs.Common.{subst}
+use Rattle.txn_table.specs.Table.{state_of, holder_of}
+use Rattle.txn_table.specs.Sound.{OneHolder}
+use Rattle.txn_table.proofs.TableLaws.{holder_of-noted, holder_of-noted_other}
+use Rattle.txn_table.proofs.table.TxnTable.note.Goals as goal
+
+pub invariant_of-self-in-Err : goal.invariant_of-self-in-Err
+invariant_of-self-in-Err g c =
+    let es = c.self.inside.active.entries in
+    let rows = c.self.inside.held.items in
+    let before = c.truncate.ensures.items ∙ (λ i. take ((c.len-rows.ensures ∙ c.self.inside.held.ok.0) i) (c.in_ok-hold.ensures.ok i)) ∙ take_with_rid c.change.inside.rid rows in
+    kept_as_before es _ rows c.truncate.new.self.items c.self.inside.begun c.args.txn c.in-Some.active.now c.note.new.self (sym c.in-Some.ensures.value) (c.get_mut.follows.holds c.note.new.self).0 c.in-Err.ensures.err before c.self.invariant
+
+pub returns-in-Err-clause-err : goal.returns-in-Err-clause-err
+returns-in-Err-clause-err g c =
+    after_same c.self.inside.active.entries _ c.self.inside.begun c.args.txn c.in-Some.active.now c.note.new.self c.args.self.now c.self.view_is (sym c.in-Some.ensures.value) (c.get_mut.follows.holds c.note.new.self).0 c.in-Err.ensures.err
+
+pub invariant_of-self-in_default-note : goal.invariant_of-self-in_default-note
+invariant_of-self-in_default-note g c =
+    let es = c.self.inside.active.entries in
+    let accepted : touch_refusal c.args.txn c.args.change.rid es ≡ None =
+    ap (λ (v : TableValue). touch_refusal c.args.txn c.args.change.rid v.active) c.self.view_is
+    ∙ ap (λ r. touch_refusal c.args.txn r c.args.self.now.active) (sym (ap (λ (x : ChangeValue). x.rid) c.change.view_is))
+    ∙ sym c.in_ok-check_touch.ensures in
+    let rows = c.in_ok-hold.ensures.ok ∙ ap (λ (x : ChangeValue). with_rid x.rid c.self.inside.held.items) c.change.view_is in
+    kept_after_note es _ c.self.inside.held.items c.hold.new.held.items c.self.inside.begun c.args.txn c.args.change c.in-Some.active.now c.note.new.self (sym c.in-Some.ensures.value) (c.get_mut.follows.holds c.note.new.self).0 c.in_default-note.ensures.ok rows accepted c.self.invariant
+
+pub returns-clause-ok : goal.returns-clause-ok
+returns-clause-ok g c =
+    after_write (noted c.args.change) c.self.inside.active.entries _ c.self.inside.begun c.args.txn c.in-Some.active.now c.note.new.self c.args.self.now c.self.view_is (sym c.in-Some.ensures.value) (c.get_mut.follows.holds c.note.new.self).0 c.in_default-note.ensures.ok
+
+pub returns-clause-held : goal.returns-clause-held
+returns-clause-held g c =
+    let is = ap (λ (v : TableValue). v.active) (returns-clause-ok g c) in
+    let here = ap (λ (v : TableValue). state_of c.args.txn v.active) (sym c.self.view_is) ∙ sym c.in-Some.ensures.value in
+    let kept = invariant_of-self-in_default-note g c in
+    ap (holder_of c.args.change.rid) is
+    ∙ holder_of-noted c.args.txn c.args.change c.args.self.now.active c.in-Some.active.now here (subst OneHolder is kept.sound.one_holder)
+
+pub returns-clause-others : goal.returns-clause-others
+returns-clause-others g c = λ r other.
+    ap (λ (v : TableValue). holder_of r v.active) (returns-clause-ok g c) ∙ holder_of-noted_other c.args.txn c.args.change r c.args.self.now.active other

@@ -1,0 +1,84 @@
+-- What clauses see of the table: the active transactions in the order in which they began.
+use Rattle.std.specs.Prelude.{ℕ, ◌+◌, ◌-◌, List, [], ◌∷◌, ◌++◌, length, take, Option, Some, None, Bool, false, not, nat_eq, nat_le, ◌==◌, ◌&&◌, if◌then◌else◌, slice_get}
+use Rattle.std.specs.List.{list_any}
+use Rattle.std.specs.Option.{option_or}
+use Rattle.std.specs.Map.{lookup, remove_entry}
+use Rattle.records.specs.Values.{Place}
+use Rattle.records.specs.ChangeValue.{ChangeValue}
+use Rattle.records.specs.declared.change.TheConstants.{CHANGES_MAX}
+use Rattle.records.specs.declared.error.Error.{Error}
+use Rattle.records.specs.declared.error.Error.TheVariants.{NoSuchTxn, TooManyChanges, RowBusy}
+
+-- the changes that a transaction may still take back, oldest first, and the rows that it holds, in the order of its first touch
+pub record TxnState : Type 0 where
+  pub changes : List ChangeValue
+  pub rows : List Place
+
+-- the active transactions by their numbers, oldest first, and how many were begun at all
+pub record TableValue : Type 0 where
+  pub active : List (ℕ × TxnState)
+  pub begun : ℕ
+
+-- whether the place is among these
+abbrev pub is_among : Place → List Place → Bool
+is_among r rs = list_any (λ q. (q.page == r.page) && (q.slot == r.slot)) rs
+
+-- these places, with this one last where it is new
+abbrev pub with_rid : Place → List Place → List Place
+with_rid r rs = if is_among r rs then rs else rs ++ r ∷ []
+
+-- a transaction with one more change, whose row it holds from now on
+abbrev pub noted : ChangeValue → TxnState → TxnState
+noted c s = record { changes = s.changes ++ c ∷ []; rows = with_rid c.rid s.rows }
+
+-- a transaction without its last change. It still holds the row
+abbrev pub without_last : TxnState → TxnState
+without_last s = record { changes = take (length s.changes - 1) s.changes; rows = s.rows }
+
+-- the change that is taken back first
+abbrev pub last_change : TxnState → Option ChangeValue
+last_change s = slice_get s.changes (length s.changes - 1)
+
+-- the state of an active transaction
+abbrev pub state_of : ℕ → List (ℕ × TxnState) → Option TxnState
+state_of txn active = lookup (nat_eq txn) active
+
+-- the transactions, with the state of one changed
+abbrev pub with_state : (TxnState → TxnState) → ℕ → List (ℕ × TxnState) → List (ℕ × TxnState)
+with_state f txn [] = []
+with_state f txn (e ∷ es) = if txn == e.0 then (e.0, f e.1) ∷ es else e ∷ with_state f txn es
+
+-- the transactions without one
+abbrev pub without : ℕ → List (ℕ × TxnState) → List (ℕ × TxnState)
+without txn active = remove_entry (nat_eq txn) active
+
+-- the table with the next transaction
+abbrev pub with_next : TableValue → TableValue
+with_next t = record { active = t.active ++ (t.begun + 1, record { changes = []; rows = [] }) ∷ []; begun = t.begun + 1 }
+
+-- the transaction that holds the row
+abbrev pub holder_of : Place → List (ℕ × TxnState) → Option ℕ
+holder_of r [] = None
+holder_of r (e ∷ es) = if is_among r e.1.rows then Some e.0 else holder_of r es
+
+-- whether a transaction other than this holds it
+abbrev pub is_other : ℕ → Option ℕ → Bool
+is_other txn None = false
+is_other txn (Some holder) = not (holder == txn)
+
+-- why a transaction in this state may make no further change
+abbrev pub full_refusal : Option TxnState → Option Error
+full_refusal None = Some NoSuchTxn
+full_refusal (Some s) = if nat_le CHANGES_MAX (length s.changes) then Some TooManyChanges else None
+
+-- why a row with this holder may not be touched
+abbrev pub busy_refusal : ℕ → Option ℕ → Option Error
+busy_refusal txn holder = if is_other txn holder then Some RowBusy else None
+
+-- why the transaction may make no further change of any row
+abbrev pub change_refusal : ℕ → List (ℕ × TxnState) → Option Error
+change_refusal txn active = full_refusal (state_of txn active)
+
+-- why the transaction may not change this row: that it may change none comes first
+abbrev pub touch_refusal : ℕ → Place → List (ℕ × TxnState) → Option Error
+touch_refusal txn r active = option_or (change_refusal txn active) (busy_refusal txn (holder_of r active))

@@ -1,0 +1,77 @@
+//! One active transaction.
+ghost use Rattle.std.specs.Prelude.{◌≡◌, ◌↔◌, ◌≤◌, [], IsTrue, IfErr, OnOk, OnErr, length};
+ghost use Rattle.txn_table.specs.Table.{is_among, noted, without_last, last_change};
+
+use records::{CHANGES_MAX, Change, Error, Rid};
+use std::alloc::Allocator;
+use std::marker::Model;
+
+/// The changes that a transaction may still take back, and the rows that it holds.
+#[derive(Drop)]
+pub(crate) struct ActiveTxn<A: Allocator> {
+    changes: Vec<Change, A>,
+    rows: Vec<Rid, A>,
+}
+
+impl<A: Allocator> Model for ActiveTxn<A> {
+    ghost use Rattle.txn_table.specs.Table.{TxnState};
+
+    ghost Value = { TxnState };
+
+    ghost view = { λ t. record { changes = t.changes.items; rows = t.rows.items } };
+}
+
+impl<A: Allocator + Copy> ActiveTxn<A> {
+    /// No change and no row.
+    pub(crate) fn new(alloc: A) -> Self
+        ensures { result ≡ record { changes = []; rows = [] } }
+    {
+        ActiveTxn {
+            changes: Vec::new(alloc),
+            rows: Vec::new(alloc),
+        }
+    }
+
+    /// The changes, oldest first.
+    pub(crate) fn changes(&self) -> &[Change]
+        ensures { result.now ≡ self.now.changes }
+    {
+        self.changes.as_slice()
+    }
+
+    /// Whether there is no place for another change.
+    pub(crate) fn is_full(&self) -> bool
+        ensures { IsTrue result ↔ (CHANGES_MAX ≤ length self.now.changes) }
+    {
+        self.changes.len() >= CHANGES_MAX as usize
+    }
+
+    /// Whether the row is held.
+    pub(crate) fn holds(&self, rid: Rid) -> bool
+        ensures { result ≡ is_among rid self.now.rows }
+    {
+        self.rows.contains(&rid)
+    }
+
+    /// Puts the change at the end of the list, and holds its row.
+    pub(crate) fn note(&mut self, change: Change) -> Result<(), Error>
+        ensures ok { OnOk result (self.new ≡ noted change self.old) }
+        ensures err { OnErr result (self.new ≡ self.old) }
+        ensures no_memory { IfErr result (λ e. e ≡ Error.NoMemory) }
+    {
+        self.changes.push(change)?;
+        if !self.rows.contains(&change.rid) && self.rows.push(change.rid).is_err() {
+            self.changes.pop();
+            return Err(Error::NoMemory);
+        }
+        Ok(())
+    }
+
+    /// Takes the last change off. Its row stays held.
+    pub(crate) fn pop(&mut self) -> Option<Change>
+        ensures last { result ≡ last_change self.old }
+        ensures rest { self.new ≡ without_last self.old }
+    {
+        self.changes.pop()
+    }
+}

@@ -1,0 +1,259 @@
+//! The table of the active transactions.
+ghost use Rattle.std.specs.Prelude.{◌≡◌, ◌≢◌, ◌+◌, ◌<◌, ◌≤◌, ◌↔◌, ℕ, [], length, not, filter, Contains, Some, None, is_some, slice_get, option_map, option_and_then, IsTrue, IsErr, IsSome, IfOk, IfErr, OnOk, OnErr, IsOkUnless};
+ghost use Rattle.std.specs.Result.{result_err};
+ghost use Rattle.records.specs.Values.{Place};
+ghost use Rattle.txn_table.specs.Table.{TxnState, is_among, with_rid, holder_of, state_of, with_state, with_next, without, noted, without_last, last_change, change_refusal, touch_refusal};
+ghost use Rattle.txn_table.specs.Sound.{IsSound};
+
+use crate::active::ActiveTxn;
+use indexmap::IndexMap;
+use records::{Change, Error, Rid, TXNS_MAX, Txn};
+use std::alloc::Allocator;
+use std::hash::{BuildHasherDefault, FoldHasher};
+use std::marker::Model;
+
+/// The active transactions in the order in which they began, each with the changes that it may
+/// still take back and the rows that it holds.
+///
+/// A transaction holds each row that it touched, from the change that touched it first to the
+/// transaction's end, also after its changes were taken back. No row is held by two.
+#[derive(Drop)]
+pub struct TxnTable<A: Allocator> {
+    alloc: A,
+    active: IndexMap<Txn, ActiveTxn<A>, BuildHasherDefault<FoldHasher>, A>,
+    held: Vec<Rid, A>,
+    begun: u64,
+}
+
+impl<A: Allocator> Model for TxnTable<A> {
+    ghost use Rattle.txn_table.specs.Table.{TableValue};
+    ghost use Rattle.txn_table.specs.Sound.{IsKept};
+
+    ghost Value = { TableValue };
+
+    ghost view = { λ t. record { active = t.active.entries; begun = t.begun } };
+
+    ghost invariant = { λ t. IsKept (record { active = t.active.entries; begun = t.begun }) t.held.items };
+}
+
+/// Adds the row to the held ones, unless it is there. `NoMemory` leaves them as before.
+fn hold<A: Allocator>(held: &mut Vec<Rid, A>, rid: Rid) -> Result<(), Error>
+    ensures ok { OnOk result (held.new.items ≡ with_rid rid held.old.items) }
+    ensures err { OnErr result (held.new.items ≡ held.old.items) }
+    ensures no_memory { IfErr result (λ e. e ≡ Error.NoMemory) }
+{
+    if !held.contains(&rid) {
+        held.push(rid)?;
+    }
+    Ok(())
+}
+
+/// Takes the rows that the transaction holds off the held ones.
+fn release<A: Allocator + Copy>(held: &mut Vec<Rid, A>, ended: &ActiveTxn<A>)
+    ensures { held.new.items ≡ filter (λ r. not (is_among r ended.now.rows)) held.old.items }
+{
+    held.retain(|rid| !ended.holds(*rid));
+}
+
+impl<A: Allocator + Copy> TxnTable<A> {
+    /// A table without transactions. The first to begin has number 1.
+    pub fn new(alloc: A) -> Self
+        ensures { result ≡ record { active = []; begun = 0 } }
+    {
+        TxnTable {
+            alloc,
+            active: IndexMap::new(alloc),
+            held: Vec::new(alloc),
+            begun: 0,
+        }
+    }
+
+    /// How many transactions are active.
+    pub fn len(&self) -> usize
+        ensures number { result ≡ length self.now.active }
+        ensures sound { IsSound self.now }
+    {
+        self.active.len()
+    }
+
+    /// Whether no transaction is active.
+    pub fn is_empty(&self) -> bool
+        ensures { IsTrue result ↔ (self.now.active ≡ []) }
+    {
+        self.active.is_empty()
+    }
+
+    /// Whether the transaction is active.
+    pub fn is_active(&self, txn: Txn) -> bool
+        ensures { result ≡ is_some (state_of txn self.now.active) }
+    {
+        self.active.contains_key(&txn)
+    }
+
+    /// The active transaction at this place in the order of beginning, from 0.
+    pub fn txn_at(&self, index: usize) -> Option<Txn>
+        ensures { result ≡ option_map (λ e. e.0) (slice_get self.now.active index) }
+    {
+        match self.active.get_index(index) {
+            Some((txn, _)) => Some(*txn),
+            None => None,
+        }
+    }
+
+    /// The changes that an active transaction may still take back, oldest first.
+    pub fn changes(&self, txn: Txn) -> Option<&[Change]>
+        ensures { option_map (λ cs. cs.now) result ≡
+            option_map (λ s. s.changes) (state_of txn self.now.active) }
+    {
+        match self.active.get(&txn) {
+            Some(active) => Some(active.changes()),
+            None => None,
+        }
+    }
+
+    /// The transaction that holds the row. There is at most one.
+    pub fn holder(&self, rid: Rid) -> Option<Txn>
+        ensures holder { result ≡ holder_of rid self.now.active }
+        ensures only { (txn : ℕ) (s : TxnState) →
+            state_of txn self.now.active ≡ Some s → Contains s.rows rid → result ≡ Some txn }
+    {
+        for i in 0..self.len() {
+            let Some((txn, active)) = self.active.get_index(i) else {
+                unreachable!()
+            };
+            if active.holds(rid) {
+                return Some(*txn);
+            }
+        }
+        None
+    }
+
+    /// The rows that somebody holds: a place for a new row is none of these. It takes no memory.
+    pub fn held_rows(&self) -> &[Rid]
+        ensures { (r : Place) → Contains result.now r ↔ IsSome (holder_of r self.now.active) }
+    {
+        self.held.as_slice()
+    }
+
+    /// Begins the next transaction. The numbers rise from 1, and none comes again.
+    ///
+    /// `TooManyTxns` comes where `TXNS_MAX` are active, and where the last number, 2^64 - 1, was
+    /// given. After it and after `NoMemory` the table is as before, and no number is used up.
+    pub fn begin(&mut self) -> Result<Txn, Error>
+        ensures full { TXNS_MAX ≤ length self.old.active → result ≡ Err Error.TooManyTxns }
+        ensures spent { u64.MAX ≤ self.old.begun → result ≡ Err Error.TooManyTxns }
+        ensures room { length self.old.active < TXNS_MAX → self.old.begun < u64.MAX →
+            IsOkUnless result Error.NoMemory }
+        ensures number { IfOk result (λ txn. txn ≡ self.old.begun + 1) }
+        ensures ok { OnOk result (self.new ≡ with_next self.old) }
+        ensures err { OnErr result (self.new ≡ self.old) }
+        ensures holders { (r : Place) → holder_of r self.new.active ≡ holder_of r self.old.active }
+    {
+        if self.len() >= TXNS_MAX {
+            return Err(Error::TooManyTxns);
+        }
+        let Some(number) = self.begun.checked_add(1) else {
+            return Err(Error::TooManyTxns);
+        };
+        let Some(txn) = Txn::new(number) else {
+            unreachable!()
+        };
+        self.active.insert(txn, ActiveTxn::new(self.alloc))?;
+        self.begun = number;
+        Ok(txn)
+    }
+
+    /// Whether the transaction may make a further change, of a row that nobody else holds.
+    ///
+    /// The errors are `NoSuchTxn` and then `TooManyChanges`, where `CHANGES_MAX` are on its list.
+    pub fn check_change(&self, txn: Txn) -> Result<(), Error>
+        ensures { result_err result ≡ change_refusal txn self.now.active }
+    {
+        let Some(active) = self.active.get(&txn) else {
+            return Err(Error::NoSuchTxn);
+        };
+        if active.is_full() {
+            return Err(Error::TooManyChanges);
+        }
+        Ok(())
+    }
+
+    /// Whether the transaction may change the row.
+    ///
+    /// The errors are those of `check_change`, and then `RowBusy`, where another holds the row.
+    pub fn check_touch(&self, txn: Txn, rid: Rid) -> Result<(), Error>
+        ensures { result_err result ≡ touch_refusal txn rid self.now.active }
+    {
+        self.check_change(txn)?;
+        match self.holder(rid) {
+            Some(holder) if holder != txn => Err(Error::RowBusy),
+            _ => Ok(()),
+        }
+    }
+
+    /// Puts the change at the end of the transaction's list. From now on the transaction holds
+    /// its row.
+    ///
+    /// The errors are those of `check_touch`, and then `NoMemory`. After an error the table is as
+    /// before.
+    pub fn note(&mut self, txn: Txn, change: Change) -> Result<(), Error>
+        ensures refused { (e : Error) → touch_refusal txn change.rid self.old.active ≡ Some e →
+            result ≡ Err e }
+        ensures accepted { touch_refusal txn change.rid self.old.active ≡ None →
+            IsOkUnless result Error.NoMemory }
+        ensures ok { OnOk result (self.new ≡
+            record self.old { active = with_state (noted change) txn self.old.active }) }
+        ensures err { OnErr result (self.new ≡ self.old) }
+
+        ensures held { OnOk result (holder_of change.rid self.new.active ≡ Some txn) }
+        ensures sound { IsSound self.old }
+        ensures others { OnOk result ((r : Place) → r ≢ change.rid →
+            holder_of r self.new.active ≡ holder_of r self.old.active) }
+    {
+        self.check_touch(txn, change.rid)?;
+        let rows = self.held.len();
+        hold(&mut self.held, change.rid)?;
+        let Some(active) = self.active.get_mut(&txn) else {
+            unreachable!()
+        };
+        if let Err(error) = active.note(change) {
+            self.held.truncate(rows);
+            return Err(error);
+        }
+        Ok(())
+    }
+
+    /// Takes the transaction's last change off its list, and answers it. Its row stays held.
+    ///
+    /// It answers none where the list is empty, and where the transaction is not active.
+    pub fn pop_undo(&mut self, txn: Txn) -> Option<Change>
+        ensures last { result ≡ option_and_then last_change (state_of txn self.old.active) }
+        ensures rest { self.new ≡ record self.old { active = with_state without_last txn self.old.active } }
+        ensures holders { (r : Place) → holder_of r self.new.active ≡ holder_of r self.old.active }
+    {
+        let active = self.active.get_mut(&txn)?;
+        active.pop()
+    }
+
+    /// Ends the transaction: it is no longer active, and none of its rows is held any more.
+    ///
+    /// The one error is `NoSuchTxn`, where it is not active.
+    pub fn end(&mut self, txn: Txn) -> Result<(), Error>
+        ensures unknown { IsErr result ↔ (state_of txn self.old.active ≡ None) }
+        ensures no_such_txn { IfErr result (λ e. e ≡ Error.NoSuchTxn) }
+        ensures ok { OnOk result (self.new ≡ record self.old { active = without txn self.old.active }) }
+        ensures gone { OnOk result (state_of txn self.new.active ≡ None) }
+        ensures err { OnErr result (self.new ≡ self.old) }
+
+        ensures released { OnOk result ((r : Place) → holder_of r self.old.active ≡ Some txn →
+            holder_of r self.new.active ≡ None) }
+        ensures others { OnOk result ((r : Place) → holder_of r self.old.active ≢ Some txn →
+            holder_of r self.new.active ≡ holder_of r self.old.active) }
+    {
+        let Some(ended) = self.active.shift_remove(&txn) else {
+            return Err(Error::NoSuchTxn);
+        };
+        release(&mut self.held, &ended);
+        Ok(())
+    }
+}
