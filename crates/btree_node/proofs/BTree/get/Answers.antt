@@ -1,0 +1,33 @@
+use Rattle.std.proofs.Common.{arith, ◌∙◌, sym, ap, subst, length}
+use Rattle.node_parts.specs.Tree.{entries, depth}
+use Rattle.node_parts.specs.Order.{mark_in}
+use Rattle.node_parts.proofs.Balance.{at_most_four}
+use Rattle.btree_node.specs.Top.{tree_at, IsWhole}
+use Rattle.btree_node.proofs.Top.{root_some}
+use Rattle.btree_node.proofs.Contents.{get-contents}
+use Rattle.btree_node.proofs.BTree.get.Goals as goal
+
+pub get_in-requires-clause-some : goal.get_in-requires-clause-some
+get_in-requires-clause-some g c =
+    let whole = subst IsWhole c.in-Some.is c.self.invariant.whole in
+    rw c.deref.ensures (root_some _ _ whole)
+
+pub get_in-requires-clause-low : goal.get_in-requires-clause-low
+get_in-requires-clause-low g c =
+    let whole = subst IsWhole c.in-Some.is c.self.invariant.whole in
+    let few = at_most_four _ _ whole (omega (arith, c.self.invariant.counted, c.self.invariant.few, ap (λ r. length (entries (tree_at r))) c.in-Some.is)) in
+    rw c.deref.ensures few
+
+pub returns-in-None-clause-found : goal.returns-in-None-clause-found
+returns-in-None-clause-found g c =
+    ap (λ t. mark_in (entries t) c.args.pair.now) (sym (ap tree_at c.in-None.is) ∙ c.self.view_is) ∙ sym (get-contents _ _)
+
+pub returns-in-Some-clause-found : goal.returns-in-Some-clause-found
+returns-in-Some-clause-found g c =
+    c.get_in.ensures.found ∙ ap (λ t. mark_in (entries t) c.args.pair.now) (c.deref.ensures ∙ sym (ap tree_at c.in-Some.is) ∙ c.self.view_is) ∙ sym (get-contents _ _)
+
+pub returns-in-Some-clause-few_visited : goal.returns-in-Some-clause-few_visited
+returns-in-Some-clause-few_visited g c =
+    let whole = subst IsWhole c.in-Some.is c.self.invariant.whole in
+    let few = at_most_four _ _ whole (omega (arith, c.self.invariant.counted, c.self.invariant.few, ap (λ r. length (entries (tree_at r))) c.in-Some.is)) in
+    omega (arith, few, c.get_in.ensures.visited, ap depth c.deref.ensures)

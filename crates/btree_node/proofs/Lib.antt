@@ -1,0 +1,14 @@
+pub mod Contents
+pub mod Insert
+pub mod At
+pub mod Ascending
+pub mod Top
+pub mod Counting
+pub mod Above
+pub mod Marks
+pub mod Found
+pub mod Leaves
+pub mod Splice
+pub mod Mending
+pub mod Remove
+pub mod Path

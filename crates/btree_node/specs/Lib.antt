@@ -1,0 +1,9 @@
+pub mod Contents
+pub mod Grown
+pub mod Splits
+pub mod Top
+pub mod Plans
+pub mod Above
+pub mod Without
+pub mod Mended
+pub mod Path

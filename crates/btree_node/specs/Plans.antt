@@ -1,0 +1,20 @@
+-- Which plans serve which trees.
+use Rattle.records.specs.declared.geometry.TheConstants.{ENTRIES_MAX}
+use Rattle.std.specs.Prelude.{◌≡◌, ℕ, ◌<◌, List, length}
+use Rattle.records.specs.declared.pair.Pair.{Pair}
+use Rattle.node_parts.specs.Tree.{Tree, entries}
+use Rattle.btree_node.specs.Path.{top_path}
+use Rattle.btree_node.specs.Top.{nodes_for}
+use Rattle.btree_node.specs.Grown.{Nodes, AreEnough}
+
+-- what a plan is seen as: its pair, the places on its way, and how many nodes it has at hand
+pub record Planned : Type 0 where
+  pub pair : Pair
+  pub path : List ℕ
+  pub spares : Nodes
+
+-- the plan was made for this tree: the tree has room for an entry, the path leads to where the pair belongs in it, and the nodes are enough
+pub record IsPlanFor (tree : Tree) (plan : Planned) : Type 0 where
+  pub room : length (entries tree) < ENTRIES_MAX
+  pub way : plan.path ≡ top_path tree plan.pair
+  pub enough : AreEnough (nodes_for tree plan.pair) plan.spares

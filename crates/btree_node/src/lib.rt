@@ -1,0 +1,215 @@
+//! An ordered map from pair to mark, in a B-tree that takes memory before it changes and never half way.
+#![tactic(auto)]
+
+ghost use Rattle.std.specs.Prelude.{◌≡◌, ◌<◌, ◌≤◌, ◌↔◌, None, IfOk, IfErr, IsSome, IsTrue};
+ghost use Rattle.std.specs.Option.{option_copied};
+ghost use Rattle.std.specs.FinMap as map;
+ghost use Rattle.btree_node.specs.Contents.{contents};
+ghost use Rattle.btree_node.specs.Top.{height_of};
+ghost use Rattle.btree_node.specs.Plans.{IsPlanFor};
+ghost use Rattle.btree_node.specs.Above.{IsLeastAbove};
+
+mod inline;
+mod insertion;
+mod lookup;
+mod marking;
+mod removal;
+mod spares;
+mod walk;
+
+use inline::Inline;
+use insertion::insert_top;
+use lookup::{get_in, levels, way_to};
+use marking::set_mark_in;
+use node_parts::{Entry, Node};
+use records::{Error, Mark, Pair};
+use removal::{remove_below, shrink};
+use smallvec::SmallVec;
+use spares::Spares;
+use std::alloc::Allocator;
+use std::marker::Model;
+use walk::{above_in, first_in};
+
+/// The most entries that a tree can have.
+pub const ENTRIES_MAX: usize = records::ENTRIES_MAX as usize;
+
+/// The most levels of a tree.
+pub const LEVELS_MAX: usize = 4;
+
+/// A pair to be put into a tree, with its way down from the root and every node that it takes.
+#[derive(Drop)]
+pub struct Plan<A: Allocator> {
+    pair: Pair,
+    path: SmallVec<usize, LEVELS_MAX, Inline>,
+    spares: Spares<A>,
+}
+
+impl<A: Allocator> Model for Plan<A> {
+    ghost use Rattle.std.specs.Prelude.{◌≡◌};
+    ghost use Rattle.btree_node.specs.Plans.{Planned};
+
+    ghost Value = { Planned };
+
+    ghost view = { λ p. record { pair = p.pair; path = p.path.items; spares = p.spares } };
+
+    ghost invariant = { λ p. p.path.capacity ≡ 4 };
+}
+
+/// A map from pair to mark, in the order of pairs. Contracts see the nodes as plain data, of which `contents` is the map.
+#[derive(Drop)]
+pub struct BTree<A: Allocator> {
+    alloc: A,
+    root: Option<Box<Node<A>, A>>,
+    len: usize,
+}
+
+impl<A: Allocator> Model for BTree<A> {
+    ghost use Rattle.node_parts.specs.Tree.{Tree, tree_code};
+
+    ghost Value = { Tree };
+
+    ghost coded = { tree_code };
+
+    ghost use Rattle.btree_node.specs.Top.{tree_at, IsSoundTop};
+
+    ghost view = { λ b. tree_at b.root };
+
+    ghost invariant = { λ b. IsSoundTop b.root b.len };
+}
+
+impl<A: Allocator + Clone> BTree<A> {
+    /// An empty tree, which has no node and takes no memory.
+    pub fn new(alloc: A) -> Self
+        ensures empty { contents result ≡ map.empty }
+        ensures height { height_of result ≡ 0 }
+    {
+        BTree {
+            alloc,
+            root: None,
+            len: 0,
+        }
+    }
+
+    /// How many entries there are.
+    pub fn len(&self) -> usize
+        ensures len { result ≡ map.len (contents self.now) }
+        ensures most { result ≤ ENTRIES_MAX }
+    {
+        self.len
+    }
+
+    /// Whether there is no entry.
+    pub fn is_empty(&self) -> bool
+        ensures { IsTrue result ↔ (contents self.now ≡ map.empty) }
+    {
+        self.len == 0
+    }
+
+    /// How many levels of nodes there are: none in an empty tree, and never more than four.
+    pub fn height(&self) -> u32
+        ensures height { result ≡ height_of self.now }
+        ensures low { result ≤ LEVELS_MAX }
+        ensures empty { (result ≡ 0) ↔ (contents self.now ≡ map.empty) }
+    {
+        match &self.root {
+            None => 0,
+            Some(root) => levels(root),
+        }
+    }
+
+    /// The mark of a pair, if it has an entry, and how many nodes were visited.
+    pub fn get(&self, pair: &Pair) -> (Option<Mark>, u32)
+        ensures found { result.0 ≡ map.get (contents self.now) pair.now }
+        ensures visited { result.1 ≤ height_of self.now }
+        ensures few_visited { result.1 ≤ LEVELS_MAX }
+    {
+        match &self.root {
+            None => (None, 0),
+            Some(root) => get_in(root, pair),
+        }
+    }
+
+    /// The least entry whose pair comes after the given one, or the least of all.
+    pub fn above(&self, pair: Option<&Pair>) -> Option<(Pair, Mark)>
+        ensures { IsLeastAbove (contents self.now) (option_copied pair.entry) result }
+    {
+        let Some(root) = &self.root else {
+            return None;
+        };
+        let entry = match pair {
+            None => first_in(root),
+            Some(pair) => above_in(root, pair)?,
+        };
+        Some((entry.pair, entry.mark))
+    }
+
+    /// Makes every node that the insertion of a pair takes, a new root included, and changes nothing.
+    /// It is refused with `NoMemory` alone.
+    pub fn plan_insert(&self, pair: &Pair) -> Result<Plan<A>, Error>
+        requires room { map.len (contents self.now) < ENTRIES_MAX }
+        ensures pair { IfOk result (λ plan. plan.pair ≡ pair.now) }
+        ensures plan { IfOk result (IsPlanFor self.now) }
+        ensures no_memory { IfErr result (λ e. e ≡ Error.NoMemory) }
+    {
+        let mut path = SmallVec::new(Inline);
+        let count = match &self.root {
+            None => 1,
+            Some(root) => {
+                let (splits, all) = way_to(root, pair, &mut path);
+                splits + usize::from(all)
+            }
+        };
+        Ok(Plan {
+            pair: *pair,
+            path,
+            spares: Spares::new(&self.alloc, count)?,
+        })
+    }
+
+    /// Puts a planned pair in with a mark. It takes no memory and succeeds.
+    pub fn insert(&mut self, plan: Plan<A>, mark: Mark)
+        requires plan { IsPlanFor self.old plan }
+        requires absent { map.get (contents self.old) plan.pair ≡ None }
+        ensures { contents self.new ≡ map.insert (contents self.old) plan.pair mark }
+    {
+        let Plan {
+            pair,
+            path,
+            mut spares,
+        } = plan;
+        let root = insert_top(
+            self.root.take(),
+            path.as_slice(),
+            Entry { pair, mark },
+            &mut spares,
+        );
+        self.root = Some(root);
+        self.len += 1;
+    }
+
+    /// Gives the entry of a pair another mark. It takes no memory and succeeds.
+    pub fn set_mark(&mut self, pair: &Pair, mark: Mark)
+        requires present { IsSome (map.get (contents self.old) pair.now) }
+        ensures { contents self.new ≡ map.insert (contents self.old) pair.now mark }
+    {
+        if let Some(root) = &mut self.root {
+            set_mark_in(root, pair, mark);
+        }
+    }
+
+    /// Takes the entry of a pair out. It takes no memory and succeeds.
+    pub fn remove(&mut self, pair: &Pair)
+        requires present { IsSome (map.get (contents self.old) pair.now) }
+        ensures { contents self.new ≡ map.remove (contents self.old) pair.now }
+    {
+        let Some(mut root) = self.root.take() else {
+            return;
+        };
+        remove_below(&mut root, pair);
+        self.root = shrink(root);
+        self.len -= 1;
+    }
+}
+
+#[cfg(test)]
+mod tests;

@@ -1,0 +1,51 @@
+//! The least entries above a pair.
+ghost use Rattle.std.specs.Prelude.{◌≡◌, ◌<◌, length, Some};
+ghost use Rattle.btree_node.specs.Above.{first_of, first_above};
+ghost use Rattle.node_parts.specs.Tree.{entries, depth};
+ghost use Rattle.node_parts.specs.Balance.{IsTree};
+ghost use Rattle.node_parts.specs.Order.{IsAscending};
+
+use node_parts::search::precedes;
+use node_parts::{Entry, Node, Parts};
+use records::Pair;
+use std::alloc::Allocator;
+
+/// The first entry of a subtree.
+pub fn first_in<A: Allocator>(node: &Node<A>) -> Entry
+    requires some { 0 < length (entries node.now) }
+    ensures { first_of (entries node.now) ≡ Some result }
+{
+    match &node.parts {
+        Parts::Leaf(row) => row[0],
+        Parts::Inner(row) => first_in(&row[0].node),
+    }
+}
+
+/// The first of ascending entries after a pair, found by halving.
+fn first_after(row: &[Entry], pair: &Pair) -> Option<Entry>
+    requires ascending { IsAscending row.now }
+    ensures { result ≡ first_above row.now pair.now }
+{
+    let at = row.partition_point(|entry| !precedes(pair, &entry.pair));
+    row.get(at).copied()
+}
+
+/// The first entry of a subtree after a pair.
+pub fn above_in<A: Allocator>(node: &Node<A>, pair: &Pair) -> Option<Entry>
+    requires ascending { IsAscending (entries node.now) }
+    requires tree { IsTree (depth node.now) node.now }
+    requires some { 0 < length (entries node.now) }
+    ensures { result ≡ first_above (entries node.now) pair.now }
+{
+    let at = node.place(pair);
+    match &node.parts {
+        Parts::Leaf(row) => first_after(row, pair),
+        Parts::Inner(row) => {
+            let found = above_in(&row[at].node, pair);
+            if found.is_some() || at + 1 == row.len() {
+                return found;
+            }
+            Some(first_in(&row[at + 1].node))
+        }
+    }
+}

@@ -1,0 +1,5 @@
+mod Groups
+mod Areas
+mod Runs
+mod Slots
+pub mod Readings

@@ -1,0 +1,22 @@
+-- What a caller of a log may conclude: an image has one reading, and a log that was read stands for it.
+use Rattle.std.proofs.Common.{◌≡◌, ℕ, List, length, ◌∙◌, ap}
+use Rattle.sector_device.specs.Disk.{Image}
+use Rattle.records.specs.RecordValue.{RecordValue}
+use Rattle.gate_log.specs.Area.{Area, Log, HoldsGroups, Stands, IsFirstDamaged}
+use Rattle.gate_log.proofs.Areas as areas
+
+-- an image holds one list of groups at most
+pub one_reading : (area : Area) (image : Image) (a b : List (List RecordValue)) → HoldsGroups area image a → HoldsGroups area image b → a ≡ b
+one_reading = areas.one_reading
+
+-- it is damaged first at one sector at most
+pub one_damage : (area : Area) (image : Image) (a b : ℕ) → IsFirstDamaged area image a → IsFirstDamaged area image b → a ≡ b
+one_damage = areas.one_damage
+
+-- where it is damaged it holds no groups
+pub not_damaged : (area : Area) (image : Image) (sector : ℕ) (groups : List (List RecordValue)) → IsFirstDamaged area image sector → ¬ HoldsGroups area image groups
+not_damaged = areas.not_damaged
+
+-- a log that stands for some groups stands for any that its area holds
+pub stands_for : (log : Log) (image : Image) (found groups : List (List RecordValue)) → Stands log image found → HoldsGroups log.area image groups → Stands log image groups
+stands_for log image found groups stands held = record { held = held; counted = stands.counted ∙ ap length (one_reading log.area image found groups stands.held held) }

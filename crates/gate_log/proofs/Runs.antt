@@ -1,0 +1,36 @@
+-- The bytes of a body, cut into sectors and joined again.
+use Rattle.std.specs.Prelude.{is_err}
+use Rattle.std.proofs.Common.{Result, Ok, Err, OnOk, ◌≡◌, ℕ, ◌+◌, ◌*◌, ◌<◌, ◌≤◌, false, List, ◌++◌, length, take, drop, slice_range, sym, ap, ◌∙◌, arith, zero, suc}
+use Rattle.std.specs.List.{concat}
+use Rattle.std.specs.Simd.{first_chunks}
+use Rattle.std.proofs.lemmas.List.{take-append-drop, nil_from_length, length-drop}
+use Rattle.sector_device.specs.Disk.{Image, sector}
+use Rattle.sector_device.proofs.Sectors.{part_is}
+
+-- sectors joined give back the bytes that were cut into them
+first_chunks-all : (k : ℕ) (xs : List ℕ) → length xs ≡ 512 * k → concat (first_chunks 512 k xs) ≡ xs
+first_chunks-all zero xs long = sym (nil_from_length xs (omega arith))
+first_chunks-all (suc k) xs long =
+    ap (λ (t : List ℕ). take 512 xs ++ t) (first_chunks-all k (drop 512 xs) (omega (arith, length-drop 512 xs))) ∙ take-append-drop 512 xs
+
+-- seven sectors that were written hold the body
+pub body_written : (image rows : Image) (bytes : List ℕ) (n gate : ℕ) → gate + 8 ≤ length image → length bytes ≡ 3584 → n ≡ 7 → rows ≡ first_chunks 512 n bytes → length rows ≡ 7
+    → ((k : ℕ) → k < 7 → sector image (gate + 1 + k) ≡ sector rows k) → concat (slice_range image (gate + 1) (gate + 8)) ≡ bytes
+body_written image rows bytes n gate room long seven rows-is size each =
+    ap concat (part_is image rows (gate + 1) (gate + 8) room (omega arith) (λ k lt. each k (omega arith)))
+    ∙ ap concat (rows-is ∙ ap (λ (m : ℕ). first_chunks 512 m bytes) seven)
+    ∙ first_chunks-all 7 bytes (omega arith)
+
+-- ---- results
+
+pub on_ok : {T E : Type 0} (P Q : Type 0) (r : Result T E) → (P → Q) → OnOk r P → OnOk r Q
+on_ok P Q (Ok x) f h = f h
+on_ok P Q (Err e) f h = tt
+
+pub on_ok_always : {T E : Type 0} (P : Type 0) (r : Result T E) → P → OnOk r P
+on_ok_always P (Ok x) h = h
+on_ok_always P (Err e) h = tt
+
+pub from_ok : {T E : Type 0} (P : Type 0) (r : Result T E) → is_err r ≡ false → OnOk r P → P
+from_ok P (Ok x) is h = h
+from_ok P (Err e) is h = absurd cc

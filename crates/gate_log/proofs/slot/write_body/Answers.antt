@@ -1,0 +1,78 @@
+use Rattle.std.proofs.Common.{◌≡◌, ⊎_elim, inl, ◌+◌, ◌/◌, ◌<◌, ◌≤◌, ℕ, [], length, slice_range, sym, ◌∙◌, ap, subst, refl, arith}
+use Rattle.std.specs.List.{concat}
+use Rattle.std.proofs.lemmas.Bool.{cases_eq}
+use Rattle.std.proofs.lemmas.Grind.{get_or-set_at}
+use Rattle.sector_device.specs.Disk.{sector, IsSynced, after_sync, SameOutside}
+use Rattle.sector_device.proofs.Sectors.{sector_other, content_after, holds_after_sync}
+use Rattle.sector_device.proofs.Within.{within_start_unsynced, within_write, within_sync}
+use Rattle.sector_device.proofs.Counts.{counts_later}
+use Rattle.gate_log.proofs.Runs.{body_written, on_ok}
+use Rattle.gate_log.proofs.slot.write_body.Goals as goal
+
+pub loop-i-init : goal.loop-i-init
+loop-i-init g c =
+    let h = g.D.Device.history c.args.device.now in
+    record { written = λ k below. absurd (omega arith); outside = record { sectors = refl; same = λ k out. refl }; within = within_start_unsynced (λ k. (c.args.gate + 1 ≤ k) × (k < c.args.gate + 8)) h; failures = refl }
+
+pub returns-in_err-write-clause-within : goal.returns-in_err-write-clause-within
+returns-in_err-write-clause-within g c = within_write _ _ _ _ _ c.loop-i.invariant.within c.write.ensures.time (c.args.gate + 1 + c.loop-i.i) _ c.write.result (inl (omega arith, omega (arith, c.as_chunks.ensures.front_len, c.requires.size, c.loop-i-test.true))) c.write.ensures.ok c.write.ensures.err
+
+pub loop-i-preserved : goal.loop-i-preserved
+loop-i-preserved g c =
+    let h = g.D.Device.history in
+    let base = c.args.gate + 1 in
+    let i = c.loop-i.i in
+    let mid = (h c.loop-i.device).disk in
+    let rows = c.as_chunks.result.0.now in
+    let row = sector rows i in
+    let ok = c.in_ok-write.ensures.ok in
+    let below_seven : i < 7 = omega (arith, c.as_chunks.ensures.front_len, c.requires.size, c.loop-i-test.true) in
+    let room : base + i < length mid.content = omega (arith, c.requires.inside, below_seven, c.loop-i.invariant.outside.sectors) in
+    record {
+      written = λ k below. ap (λ d. sector d.content (base + k)) ok ∙ ⊎_elim
+          (λ same. get_or-set_at mid.content (base + i) (base + k) row [] (omega (arith, same)) room ∙ ap (sector rows) (sym same))
+          (λ other. sector_other mid (base + i) (base + k) row (omega (arith, other)) ∙ c.loop-i.invariant.written k (omega (arith, below, other)))
+          (cases_eq k i);
+      outside = content_after _ _ mid (base + i) _ _ c.write.result c.write.ensures.ok c.write.ensures.err (omega arith, omega arith) c.loop-i.invariant.outside;
+      within = within_write _ _ _ _ _ c.loop-i.invariant.within c.write.ensures.time (base + i) _ c.write.result (inl (omega arith, omega arith)) c.write.ensures.ok c.write.ensures.err;
+      failures = c.in_ok-write.ensures.counts.none ∙ c.loop-i.invariant.failures;
+    }
+
+pub returns-clause-written : goal.returns-clause-written
+returns-clause-written g c =
+    let h = g.D.Device.history in
+    let gate = c.args.gate in
+    let old = (h c.loop-i.device).disk in
+    let new = (h c.sync.new.self).disk in
+    let rows = c.as_chunks.result.0.now in
+    let size : length rows ≡ 7 = omega (arith, c.as_chunks.ensures.front_len, c.requires.size) in
+    let sectors = c.loop-i.invariant.outside.sectors in
+    let there = body_written old.content rows c.args.bytes.now (length c.args.bytes.now / 512) gate (omega (arith, c.requires.inside, sectors)) c.requires.size (omega (arith, c.requires.size)) c.as_chunks.ensures.front size
+    (λ k lt. c.loop-i.invariant.written k (omega (arith, size, lt, c.loop-i-test.false))) in
+    on_ok (new ≡ after_sync old) _ c.sync.result (λ ok. ap (λ d. concat (slice_range d.content (gate + 1) (gate + 8))) ok ∙ there) c.sync.ensures.ok
+
+pub returns-clause-outside : goal.returns-clause-outside
+returns-clause-outside g c =
+    let h = g.D.Device.history in
+    let old = (h c.loop-i.device).disk in
+    let new = (h c.sync.new.self).disk in
+    let start = (h c.args.device.now).disk.content in
+    let S : ℕ → Type 0 = λ n. (c.args.gate + 1 ≤ n) × (n < c.args.gate + 8) in
+    holds_after_sync (λ d. SameOutside S start d.content) old new c.sync.result c.sync.ensures.ok c.sync.ensures.err c.loop-i.invariant.outside c.loop-i.invariant.outside
+
+pub returns-in_err-write-clause-outside : goal.returns-in_err-write-clause-outside
+returns-in_err-write-clause-outside g c =
+    let seven : c.loop-i.i < 7 = omega (arith, c.as_chunks.ensures.front_len, c.requires.size, c.loop-i-test.true) in
+    content_after _ _ _ (c.args.gate + 1 + c.loop-i.i) _ _ c.write.result c.write.ensures.ok c.write.ensures.err (omega arith, omega arith) c.loop-i.invariant.outside
+
+pub returns-clause-synced : goal.returns-clause-synced
+returns-clause-synced g c =
+    let h = g.D.Device.history in
+    on_ok ((h c.sync.new.self).disk ≡ after_sync (h c.loop-i.device).disk) _ c.sync.result (λ ok. subst IsSynced (sym ok) (λ k. refl)) c.sync.ensures.ok
+
+pub returns-clause-within : goal.returns-clause-within
+returns-clause-within g c =
+    within_sync _ _ _ _ _ c.loop-i.invariant.within c.sync.ensures.time c.sync.result c.sync.ensures.ok c.sync.ensures.err
+
+pub returns-clause-counts : goal.returns-clause-counts
+returns-clause-counts g c = counts_later _ _ _ c.sync.result c.loop-i.invariant.failures c.sync.ensures.counts

@@ -1,0 +1,140 @@
+//! Groups of records, as the bytes of a slot's body.
+ghost use Rattle.std.specs.Prelude.{◌≡◌, ◌↔◌, ◌+◌, ◌-◌, ◌≤◌, ◌<◌, ◌++◌, ℕ, List, length, drop, All, IfOk, OnOk, IfErr, IsTrue, MatchOption};
+ghost use Rattle.records.specs.RecordValue.{RecordValue};
+ghost use Rattle.records.specs.Spelling.{Fits};
+ghost use Rattle.gate_log.specs.Group.{spellings, header, FitsGroup, IsGroup};
+ghost use Rattle.gate_log.specs.Steps.{AreSpelled};
+
+use byteorder::{BigEndian, ByteOrder};
+use records::{Error, Record, SLOT_SECTORS};
+use sector_device::SECTOR_SIZE;
+use std::alloc::{AllocError, Global};
+
+/// The sectors of a slot behind its gate.
+pub(crate) const BODY_SECTORS: u64 = SLOT_SECTORS - 1;
+
+/// The bytes of a slot's body.
+pub(crate) const BODY_SIZE: usize = BODY_SECTORS as usize * SECTOR_SIZE;
+
+/// The bytes in front of a group's records: how many records there are, and how many bytes they take.
+pub(crate) const HEADER_SIZE: usize = 4;
+
+/// The most bytes that the records of a group take (the format document, "Log").
+pub const GROUP_MAX: usize = BODY_SIZE - HEADER_SIZE;
+
+/// Whether the records can be one group of a log: there is one at least, and together they take `GROUP_MAX` bytes at
+/// most. This is what `LogArea::append` requires.
+pub fn fits(records: &[Record]) -> bool
+    ensures { IsTrue result ↔ FitsGroup records.now }
+{
+    let mut len = 0;
+    for record in records {
+        len += record.size();
+        if GROUP_MAX < len {
+            return false;
+        }
+    }
+    !records.is_empty()
+}
+
+// The records, spelled one after the other.
+fn spelled(alloc: Global, records: &[Record]) -> Result<Vec<u8>, Error>
+    ensures ok { IfOk result (λ bytes. bytes.items ≡ spellings records.now) }
+    ensures fits { OnOk result (All Fits records.now) }
+    ensures no_memory { IfErr result (λ e. e ≡ Error.NoMemory) }
+{
+    let mut bytes = Vec::new(alloc);
+    for record in records {
+        record.encode_into(&mut bytes)?;
+    }
+    Ok(bytes)
+}
+
+// The number of records, and the length of their spellings.
+#[tactic(auto, unfolding(crate::specs::Group::header, records::specs::Spelling::u16))]
+fn header(count: u16, len: u16) -> [u8; HEADER_SIZE]
+    ensures { result ≡ header count len }
+{
+    let mut bytes = [0; HEADER_SIZE];
+    BigEndian::write_u16(&mut bytes, count);
+    BigEndian::write_u16(&mut bytes[2..], len);
+    bytes
+}
+
+/// The body of a group of these records.
+pub(crate) fn group_body(alloc: Global, records: &[Record]) -> Result<Vec<u8>, Error>
+    requires { FitsGroup records.now }
+    ensures ok { IfOk result (λ body. IsGroup records.now body.items) }
+    ensures no_memory { IfErr result (λ e. e ≡ Error.NoMemory) }
+{
+    let spelled = spelled(alloc, records)?;
+    let header = header(records.len() as u16, spelled.len() as u16);
+    let mut body = Vec::with_capacity(alloc, BODY_SIZE)?;
+    body.extend_from_slice(&header)?;
+    body.extend_from_slice(&spelled)?;
+    body.resize(BODY_SIZE, 0)?;
+    Ok(body)
+}
+
+// The two numbers at the front.
+fn read_header(body: &[u8]) -> (u16, u16)
+    requires { HEADER_SIZE ≤ length body.now }
+    ensures { body.now ≡ header result.0 result.1 ++ drop HEADER_SIZE body.now }
+{
+    let (_, behind) = body.split_at(2);
+    (BigEndian::read_u16(body), BigEndian::read_u16(behind))
+}
+
+fn are_zeros(bytes: &[u8]) -> bool
+    ensures { IsTrue result ↔ All (λ b. b ≡ 0) bytes.now }
+{
+    bytes.iter().all(|byte| *byte == 0)
+}
+
+// This many records, spelled one after the other with nothing behind them.
+fn spelled_records(alloc: Global, count: u16, bytes: &[u8]) -> Result<Option<Vec<Record>>, Error>
+    ensures found { IfOk result (λ found. MatchOption found
+        ((records : List RecordValue) → ¬ AreSpelled records count bytes.now)
+        (λ records. AreSpelled records.items count bytes.now)) }
+    ensures no_memory { IfErr result (λ e. e ≡ Error.NoMemory) }
+{
+    let mut records = Vec::new(alloc);
+    let mut rest = bytes;
+    for _i in 0..count {
+        let Some(found) = Record::decode(rest) else {
+            return Ok(None);
+        };
+        records.push(found.0)?;
+        let (_, behind) = rest.split_at(found.1);
+        rest = behind;
+    }
+    if rest.is_empty() {
+        Ok(Some(records))
+    } else {
+        Ok(None)
+    }
+}
+
+/// The records of a group with this body, if it is one.
+pub(crate) fn group_records(alloc: Global, body: &[u8]) -> Result<Option<Vec<Record>>, Error>
+    requires { length body.now ≡ BODY_SIZE }
+    ensures found { IfOk result (λ found. MatchOption found
+        ((records : List RecordValue) → ¬ IsGroup records body.now)
+        (λ records. IsGroup records.items body.now)) }
+    ensures no_memory { IfErr result (λ e. e ≡ Error.NoMemory) }
+{
+    let (count, len) = read_header(body);
+    if count == 0 {
+        return Ok(None);
+    }
+    let len = usize::from(len);
+    if GROUP_MAX < len {
+        return Ok(None);
+    }
+    let (_, rest) = body.split_at(HEADER_SIZE);
+    let (spelled, zeros) = rest.split_at(len);
+    if !are_zeros(zeros) {
+        return Ok(None);
+    }
+    spelled_records(alloc, count, spelled)
+}

@@ -1,0 +1,8 @@
+-- Lemmas on nodes, rows and ascending entries, for this crate and those above it.
+pub mod Order
+pub mod Children
+pub mod Local
+pub mod Balance
+pub mod RowLemmas
+pub mod Neighbours
+pub mod Places

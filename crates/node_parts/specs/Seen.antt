@@ -1,0 +1,26 @@
+-- What a node is seen as.
+use Rattle.std.specs.Prelude.{◌≡◌, ◌≤◌, List, [], ◌∷◌, map, vec_len, vec_capacity, Option, Some, None}
+use Rattle.node_parts.specs.Tree.{Tree, leaf, branch, forest_of, entries}
+use Rattle.records.specs.declared.pair.Pair.{Pair}
+use Rattle.node_parts.specs.declared.Entry.{Entry}
+use Rattle.node_parts.specs.declared.Parts.{Parts}
+use Rattle.node_parts.specs.declared.Parts.TheVariants.{Leaf, Inner}
+use Rattle.node_parts.specs.declared.Child.{Child}
+
+abbrev pub tree_of : {A : Type 0} → Parts A → Tree
+tree_of (Leaf es) = leaf es.items
+tree_of (Inner cs) = branch (forest_of (map (λ c. c.node.value) cs.items))
+
+-- the least pair of ascending entries
+abbrev pub least_of : List Entry → Option Pair
+least_of [] = None
+least_of (e ∷ es) = Some e.pair
+
+-- each child has an entry, and its label is its least pair
+abbrev pub AreLabelled : {A : Type 0} → List (Child A) → Type 0
+AreLabelled [] = Unit {0}
+AreLabelled (c ∷ cs) = (least_of (entries c.node.value) ≡ Some c.least) × AreLabelled cs
+
+abbrev pub IsSound : {A : Type 0} → Parts A → Type 0
+IsSound (Leaf es) = (vec_len es ≤ 32) × (32 ≤ vec_capacity es)
+IsSound (Inner cs) = (vec_len cs ≤ 32) × (32 ≤ vec_capacity cs) × AreLabelled cs.items
