@@ -1,0 +1,5 @@
+mod ZeroRows
+mod Spelled
+mod Formats
+mod Fresh
+pub mod Stores

@@ -1,0 +1,96 @@
+-- What an image is a store of, for proofs in the crates above.
+use Rattle.std.proofs.Common.{◌≡◌, ◌⊎◌, inl, inr, ℕ, ◌+◌, ◌<◌, ◌≤◌, List, All, refl, ap, sym, ◌∙◌, subst, arith}
+use Rattle.sector_device.specs.Disk.{Image, sector, SameOutside}
+use Rattle.records.specs.declared.error.Error.{Error}
+use Rattle.records.specs.declared.error.Error.TheVariants.{NotFormatted, Damaged}
+use Rattle.records.specs.GeometryValue.{GeometryValue, sectors_of}
+use Rattle.flip_image.specs.declared.half.Half.{Half}
+use Rattle.flip_image.specs.declared.half.Half.TheVariants.{A, B}
+use Rattle.flip_image.specs.Layout.{HalvesValue, header_sector, heads_sector, page_sector, log_first, InLog}
+use Rattle.flip_image.specs.Store.{Names, IsSuperblock, IsStore, AreZeros, IsFresh, IsFormatted, IsTooSmall, IsUntitled, IsSuperblockDamaged, IsRefused, IsDeviceFailure}
+use Rattle.flip_image.proofs.Spelled as spelled
+
+-- an image is of a store of one geometry at most
+pub one_geometry : (g h : GeometryValue) (a b : Half) (image : Image) → IsStore g a image → IsStore h b image → g ≡ h
+one_geometry g h a b image first second = spelled.one_geometry g h (sector image 0) first.limits second.limits first.superblock-is second.superblock-is
+
+-- no reader refuses it
+pub accepted : (g : GeometryValue) (half : Half) (image : Image) (e : Error) → IsStore g half image → ¬ IsRefused image e
+accepted g half image e store (inl (is, (inl small))) = omega (arith, small, store.room)
+accepted g half image e store (inl (is, (inr (h, limits, there, small)))) =
+    let same = spelled.one_geometry g h (sector image 0) store.limits limits store.superblock-is there in
+    omega (arith, small, store.room, ap sectors_of same)
+accepted g half image e store (inr (inl (is, untitled))) = untitled.other (spelled.titled g (sector image 0) store.superblock-is)
+accepted g half image e store (inr (inr (is, damaged))) = damaged.none g store.limits store.superblock-is
+
+small_not_untitled : (image : Image) → IsTooSmall image → ¬ IsUntitled image
+small_not_untitled image (inl small) other = omega (arith, small, other.room)
+small_not_untitled image (inr (g, limits, there, small)) other = other.other (spelled.titled g (sector image 0) there)
+
+small_not_damaged : (image : Image) → IsTooSmall image → ¬ IsSuperblockDamaged image
+small_not_damaged image (inl small) other = omega (arith, small, other.room)
+small_not_damaged image (inr (g, limits, there, small)) other = other.none g limits there
+
+-- it is refused in one way at most
+pub one_refusal : (image : Image) (d e : Error) → IsRefused image d → IsRefused image e → d ≡ e
+one_refusal image d e (inl p) (inl q) = p.0 ∙ sym q.0
+one_refusal image d e (inl p) (inr (inl q)) = absurd (small_not_untitled image p.1 q.1)
+one_refusal image d e (inl p) (inr (inr q)) = absurd (small_not_damaged image p.1 q.1)
+one_refusal image d e (inr (inl p)) (inl q) = absurd (small_not_untitled image q.1 p.1)
+one_refusal image d e (inr (inl p)) (inr (inl q)) = p.0 ∙ sym q.0
+one_refusal image d e (inr (inl p)) (inr (inr q)) = absurd (p.1.other q.1.titled)
+one_refusal image d e (inr (inr p)) (inl q) = absurd (small_not_damaged image q.1 p.1)
+one_refusal image d e (inr (inr p)) (inr (inl q)) = absurd (q.1.other p.1.titled)
+one_refusal image d e (inr (inr p)) (inr (inr q)) = p.0 ∙ sym q.0
+
+-- one half of it is current
+pub one_half : (g h : GeometryValue) (a b : Half) (image : Image) → IsStore g a image → IsStore h b image → a ≡ b
+one_half g h A A image first second = refl
+one_half g h A B image first second = absurd (first.current second.current)
+one_half g h B A image first second = absurd (second.current first.current)
+one_half g h B B image first second = refl
+
+-- so a reader gives one value
+pub one_value : (g : GeometryValue) (half : Half) (halves : HalvesValue) (image : Image) → IsStore halves.geometry halves.current image → IsStore g half image → halves ≡ record { geometry = g; current = half }
+one_value g half halves image first second =
+    ap (λ (x : GeometryValue). record { geometry = x; current = halves.current }) (one_geometry halves.geometry g halves.current half image first second)
+    ∙ ap (λ (x : Half). record { geometry = g; current = x }) (one_half halves.geometry g halves.current half image first second)
+
+-- a reader of its superblock can only fail with the device
+pub superblock_accepted : (g : GeometryValue) (half : Half) (image : Image) (a b : ℕ) (e : Error) → IsStore g half image
+    → IsDeviceFailure a b e ⊎ (((e ≡ NotFormatted) × IsUntitled image) ⊎ ((e ≡ Damaged 0) × IsSuperblockDamaged image)) → IsDeviceFailure a b e
+superblock_accepted g half image a b e store (inl failed) = failed
+superblock_accepted g half image a b e store (inr refused) = absurd (accepted g half image e store (inr refused))
+
+-- ---- sectors apart from a log
+
+-- a store depends on no sector of the log
+pub store_apart : (g : GeometryValue) (half : Half) (image other : Image) → SameOutside (InLog g half) image other → IsStore g half image → IsStore g half other
+store_apart g half image other same store = record {
+  limits = store.limits;
+  room = omega (arith, store.room, same.sectors);
+  superblock-is = subst (IsSuperblock g) (sym (same.same 0 (λ is. front 0 (omega arith) is))) store.superblock-is;
+  current = subst (λ (b : List ℕ). Names b half) (sym (same.same 1 (λ is. front 1 (omega arith) is))) store.current;
+}
+  where
+    low : (h : Half) → 2 ≤ header_sector g h
+    low A = omega arith
+    low B = omega arith
+
+    front : (n : ℕ) → n < 2 → ¬ InLog g half n
+    front n below is = omega (arith, below, is.0, low half)
+
+-- nor does it make a half other than fresh
+pub fresh_apart : (g : GeometryValue) (half : Half) (image other : Image) → SameOutside (InLog g half) image other → IsFresh g half image → IsFresh g half other
+fresh_apart g half image other same fresh = record {
+  header = stay (header_sector g half) 1 (omega arith) fresh.header;
+  heads = stay (heads_sector g half) 1 (omega arith) fresh.heads;
+  pages = λ page below. stay (page_sector g half page) 8 (omega (arith, below)) (fresh.pages page below);
+}
+  where
+    stay : (first count : ℕ) → first + count ≤ log_first g half → AreZeros image first count → AreZeros other first count
+    stay first count before zeros i below = subst (All (λ b. b ≡ 0)) (sym (same.same (first + i) (λ is. omega (arith, before, below, is.0)))) (zeros i below)
+
+-- so what `format` leaves stays while only the log is written
+pub formatted_apart : (g : GeometryValue) (image other : Image) → SameOutside (InLog g A) image other → IsFormatted g image → IsFormatted g other
+formatted_apart g image other same formatted = record { store = store_apart g A image other same formatted.store; fresh = fresh_apart g A image other same formatted.fresh }

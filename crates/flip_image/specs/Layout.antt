@@ -1,0 +1,47 @@
+-- Where the parts of a half lie: header, transaction heads, undo items, pages, entries, log.
+use Rattle.std.specs.Prelude.{◌≡◌, ℕ, ◌+◌, ◌*◌, ◌<◌, ◌≤◌}
+use Rattle.records.specs.declared.geometry.TheConstants.{FRONT_SECTORS, HEADER_SECTORS, HEADS_SECTORS, UNDO_SECTORS, PAGE_SECTORS, ENTRIES_PER_SECTOR, SLOT_SECTORS}
+use Rattle.records.specs.GeometryValue.{GeometryValue, sectors_for, half_sectors_of}
+use Rattle.flip_image.specs.declared.half.Half.{Half}
+use Rattle.flip_image.specs.declared.half.Half.TheVariants.{A, B}
+
+-- half A lies behind the superblock and the flip sector, half B behind half A; each begins with its image's header
+abbrev pub header_sector : GeometryValue → Half → ℕ
+header_sector g A = FRONT_SECTORS
+header_sector g B = FRONT_SECTORS + half_sectors_of g
+
+abbrev pub heads_sector : GeometryValue → Half → ℕ
+heads_sector g half = header_sector g half + HEADER_SECTORS
+
+abbrev pub undo_first : GeometryValue → Half → ℕ
+undo_first g half = heads_sector g half + HEADS_SECTORS
+
+abbrev pub pages_first : GeometryValue → Half → ℕ
+pages_first g half = undo_first g half + UNDO_SECTORS
+
+-- the first sector of a page
+abbrev pub page_sector : GeometryValue → Half → ℕ → ℕ
+page_sector g half page = pages_first g half + PAGE_SECTORS * page
+
+abbrev pub entries_first : GeometryValue → Half → ℕ
+entries_first g half = page_sector g half g.pages
+
+abbrev pub log_first : GeometryValue → Half → ℕ
+log_first g half = entries_first g half + sectors_for g.entries ENTRIES_PER_SECTOR
+
+-- the gate of a slot of the log
+abbrev pub gate_sector : GeometryValue → Half → ℕ → ℕ
+gate_sector g half slot = log_first g half + SLOT_SECTORS * slot
+
+-- a sector of the log
+abbrev pub InLog : GeometryValue → Half → ℕ → Type 0
+InLog g half n = (log_first g half ≤ n) × (n < gate_sector g half g.slots)
+
+-- a gate of the log
+abbrev pub IsGate : GeometryValue → Half → ℕ → Type 0
+IsGate g half n = (slot : ℕ) × (slot < g.slots) × (n ≡ gate_sector g half slot)
+
+-- a store's geometry, and which half is current
+pub record HalvesValue : Type 0 where
+  pub geometry : GeometryValue
+  pub current : Half

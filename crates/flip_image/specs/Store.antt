@@ -1,0 +1,104 @@
+-- What a store holds where it begins, and what a reader refuses.
+use Rattle.std.specs.Prelude.{◌≡◌, ◌⊎◌, ℕ, ◌+◌, ◌<◌, ◌≤◌, List, ◌++◌, length, take, drop, All, slice_index, codes}
+use Rattle.sector_device.specs.Disk.{Image, sector}
+use Rattle.sector_device.specs.History.{Rises}
+use Rattle.records.specs.declared.geometry.TheConstants.{FRONT_SECTORS, HEADER_SECTORS, HEADS_SECTORS, PAGE_SECTORS}
+use Rattle.records.specs.declared.error.Error.{Error}
+use Rattle.records.specs.declared.error.Error.TheVariants.{DeviceFailed, NotFormatted, Damaged, DeviceTooSmall}
+use Rattle.records.specs.GeometryValue.{GeometryValue, IsGeometry, sectors_of}
+use Rattle.records.specs.Spelling.{u32}
+use Rattle.flip_image.specs.declared.half.Half.{Half}
+use Rattle.flip_image.specs.declared.half.Half.TheVariants.{A, B}
+use Rattle.flip_image.specs.declared.half.TheConstants.{FLIP_SECTOR, MARK}
+use Rattle.flip_image.specs.declared.superblock.TheConstants.{SUPERBLOCK_SECTOR, SUPERBLOCK_SIZE, TITLE_SIZE, VERSION}
+use Rattle.flip_image.specs.Layout.{header_sector, heads_sector, pages_first, entries_first, undo_first, page_sector, gate_sector, IsGate}
+
+-- ---- the sectors in front of the halves
+
+unfoldable pub title : List ℕ
+title = codes "NSFINDEX"
+
+-- the title, the version, and the three numbers of the geometry
+unfoldable pub superblock : GeometryValue → List ℕ
+superblock g = title ++ (u32 VERSION ++ (u32 g.pages ++ (u32 g.entries ++ u32 g.slots)))
+
+-- the bytes begin with that, and are zero behind it
+pub record IsSuperblock (g : GeometryValue) (bytes : List ℕ) : Type 0 where
+  pub spelled : bytes ≡ superblock g ++ drop SUPERBLOCK_SIZE bytes
+  pub rest : All (λ b. b ≡ 0) (drop SUPERBLOCK_SIZE bytes)
+
+-- the half that a flip sector names, by its first byte alone
+abbrev pub Names : List ℕ → Half → Type 0
+Names bytes A = ¬ (slice_index bytes 0 ≡ MARK)
+Names bytes B = slice_index bytes 0 ≡ MARK
+
+-- the image is of a store of this geometry, whose current half is this one
+pub record IsStore (g : GeometryValue) (half : Half) (image : Image) : Type 0 where
+  pub limits : IsGeometry g
+  pub room : sectors_of g ≤ length image
+  pub superblock-is : IsSuperblock g (sector image SUPERBLOCK_SECTOR)
+  pub current : Names (sector image FLIP_SECTOR) half
+
+-- ---- a half as `format` leaves it
+
+-- these sectors are all zeros, from the first on, this many
+abbrev pub AreZeros : Image → ℕ → ℕ → Type 0
+AreZeros image first count = (i : ℕ) → i < count → All (λ b. b ≡ 0) (sector image (first + i))
+
+-- Header, transaction heads and pages are zeros: no index, base 0, no entry, no transaction, no row.
+pub record IsFresh (g : GeometryValue) (half : Half) (image : Image) : Type 0 where
+  pub header : AreZeros image (header_sector g half) HEADER_SECTORS
+  pub heads : AreZeros image (heads_sector g half) HEADS_SECTORS
+  pub pages : (page : ℕ) → page < g.pages → AreZeros image (page_sector g half page) PAGE_SECTORS
+
+-- what `format` leaves, but for the log: a store whose half A is current and fresh
+pub record IsFormatted (g : GeometryValue) (image : Image) : Type 0 where
+  pub store : IsStore g A image
+  pub fresh : IsFresh g A image
+
+-- each gate of the log is closed
+abbrev pub AreGatesClosed : GeometryValue → Half → Image → Type 0
+AreGatesClosed g half image = (slot : ℕ) → slot < g.slots → ¬ (slice_index (sector image (gate_sector g half slot)) 0 ≡ MARK)
+
+-- a sector that `format` writes: superblock, flip sector, and in half A header, transaction heads, a page, or a gate
+abbrev pub IsFormatSector : GeometryValue → ℕ → Type 0
+IsFormatSector g n = (n < undo_first g A) ⊎ (((pages_first g A ≤ n) × (n < entries_first g A)) ⊎ IsGate g A n)
+
+-- ---- what a reader refuses
+
+-- the image has too few sectors for a superblock and a flip sector, or for the geometry in its superblock
+abbrev pub IsTooSmall : Image → Type 0
+IsTooSmall image =
+    (length image < FRONT_SECTORS)
+    ⊎ ((g : GeometryValue) × IsGeometry g × IsSuperblock g (sector image SUPERBLOCK_SECTOR) × (length image < sectors_of g))
+
+-- it has other bytes where the title should be
+pub record IsUntitled (image : Image) : Type 0 where
+  pub room : FRONT_SECTORS ≤ length image
+  pub other : ¬ (take TITLE_SIZE (sector image SUPERBLOCK_SECTOR) ≡ title)
+
+-- behind the title is no superblock of any geometry within its limits
+pub record IsSuperblockDamaged (image : Image) : Type 0 where
+  pub room : FRONT_SECTORS ≤ length image
+  pub titled : take TITLE_SIZE (sector image SUPERBLOCK_SECTOR) ≡ title
+  pub none : (g : GeometryValue) → IsGeometry g → ¬ IsSuperblock g (sector image SUPERBLOCK_SECTOR)
+
+-- why the image is refused: each refusal in its state, in which no other one is answered
+abbrev pub IsRefused : Image → Error → Type 0
+IsRefused image e =
+    ((e ≡ DeviceTooSmall) × IsTooSmall image)
+    ⊎ (((e ≡ NotFormatted) × IsUntitled image) ⊎ ((e ≡ Damaged SUPERBLOCK_SECTOR) × IsSuperblockDamaged image))
+
+-- the device failed
+abbrev pub IsDeviceFailure : ℕ → ℕ → Error → Type 0
+IsDeviceFailure before now e = (e ≡ DeviceFailed) × Rises before now
+
+-- The first part of a half that is not as `format` leaves it: its header, its transaction heads, or a page, named by its
+-- first sector.
+abbrev pub IsFirstUsed : GeometryValue → Half → Image → ℕ → Type 0
+IsFirstUsed g half image n =
+    ((n ≡ header_sector g half) × (¬ AreZeros image n HEADER_SECTORS))
+    ⊎ (((n ≡ heads_sector g half) × (¬ AreZeros image n HEADS_SECTORS) × AreZeros image (header_sector g half) HEADER_SECTORS)
+    ⊎ ((page : ℕ) × (page < g.pages) × (n ≡ page_sector g half page) × (¬ AreZeros image n PAGE_SECTORS)
+    × AreZeros image (header_sector g half) HEADER_SECTORS × AreZeros image (heads_sector g half) HEADS_SECTORS
+    × ((earlier : ℕ) → earlier < page → AreZeros image (page_sector g half earlier) PAGE_SECTORS)))

@@ -1,0 +1,242 @@
+//! A store on a device: formatted, opened, and checked to be fresh.
+ghost use Rattle.std.specs.Prelude.{◌≡◌, ◌⊎◌, ◌↔◌, ◌+◌, ◌*◌, ◌^◌, ◌≤◌, ◌<◌, ℕ, length, OnOk, IfOk, IfErr};
+ghost use Rattle.sector_device.specs.Disk.{sector, IsSynced, SameOutside};
+ghost use Rattle.sector_device.specs.History.{OnlyReads, CountsFailure};
+ghost use Rattle.records.specs.GeometryValue.{GeometryValue, IsGeometry, sectors_of};
+ghost use Rattle.flip_image.specs.Layout.{log_first};
+ghost use Rattle.flip_image.specs.Store.{Names, IsSuperblock, IsStore, IsFresh, IsFormatted, AreGatesClosed, IsFormatSector, IsRefused, IsFirstUsed, AreZeros, IsDeviceFailure, IsUntitled, IsSuperblockDamaged};
+
+use crate::half::{FLIP_SECTOR, Half, MARK};
+use crate::superblock::{SUPERBLOCK_SECTOR, geometry_of, superblock};
+use crate::zeros::{close_gates, read_zeros, write_zeros};
+use records::{
+    Error, FRONT_SECTORS, Geometry, HEADER_SECTORS, HEADS_SECTORS, PAGE_SECTORS, SLOT_SECTORS,
+};
+use sector_device::{Device, Failed, SECTOR_SIZE};
+use std::marker::Model;
+
+/// The two halves of a store, as its superblock and its flip sector say: how large they are, and which one is current.
+#[derive(Clone, Copy, Debug, PartialEq, Eq)]
+pub struct Halves {
+    geometry: Geometry,
+    current: Half,
+}
+
+impl Model for Halves {
+    ghost use Rattle.flip_image.specs.Layout.{HalvesValue};
+
+    ghost Value = { HalvesValue };
+
+    ghost view = { λ h. record { geometry = h.geometry; current = h.current } };
+
+    ghost inverse = { λ h. record { geometry = h.geometry; current = h.current } };
+}
+
+impl Halves {
+    /// Makes the device a store of this geometry with no row, no index and no record: half A is current, its image is
+    /// fresh, its log is empty, and all of it is synced. Half B stays as it is.
+    ///
+    /// `DeviceTooSmall` means that nothing was written. After `DeviceFailed`, and after a crash within the call, the
+    /// device must be formatted again.
+    pub fn format<D: Device>(device: &mut D, geometry: Geometry) -> Result<(), Error>
+        ensures formatted { OnOk result (IsFormatted geometry (D.history device.new).disk.content) }
+        ensures closed { OnOk result (AreGatesClosed geometry Half.A (D.history device.new).disk.content) }
+        ensures synced { OnOk result (IsSynced (D.history device.new).disk) }
+        ensures outside { SameOutside (IsFormatSector geometry) (D.history device.old).disk.content (D.history device.new).disk.content }
+        ensures too_small { (result ≡ Err Error.DeviceTooSmall) ↔ (length (D.history device.old).disk.content < sectors_of geometry) }
+        ensures unchanged { result ≡ Err Error.DeviceTooSmall → device.new ≡ device.old }
+        ensures refused { IfErr result (λ e. (e ≡ Error.DeviceTooSmall) ⊎ IsDeviceFailure (D.failures device.old) (D.failures device.new) e) }
+        ensures quiet { OnOk result (D.failures device.new ≡ D.failures device.old) }
+        ensures later { D.failures device.old ≤ D.failures device.new }
+    {
+        if device.sectors() < geometry.sectors() {
+            return Err(Error::DeviceTooSmall);
+        }
+        if write_store(device, geometry).is_err() {
+            return Err(Error::DeviceFailed);
+        }
+        Ok(())
+    }
+
+    /// The halves of the store on the device, by its superblock and its flip sector. Nothing is written.
+    ///
+    /// `DeviceTooSmall` where the device has fewer sectors than a superblock and a flip sector take; else
+    /// `NotFormatted` where the title is another; else `Damaged` with the superblock's sector where that is none; else
+    /// `DeviceTooSmall` where the device has fewer sectors than the geometry needs.
+    pub fn open<D: Device>(device: &mut D) -> Result<Self, Error>
+        ensures opened { IfOk result (λ halves. IsStore halves.geometry halves.current (D.history device.old).disk.content) }
+        ensures store { (g : GeometryValue) (half : Half) → IsStore g half (D.history device.old).disk.content
+            → IfOk result (λ halves. halves ≡ record { geometry = g; current = half }) }
+        ensures accepted { (g : GeometryValue) (half : Half) → IsStore g half (D.history device.old).disk.content
+            → IfErr result (IsDeviceFailure (D.failures device.old) (D.failures device.new)) }
+        ensures refused { IfErr result (λ e. IsRefused (D.history device.old).disk.content e
+            ⊎ IsDeviceFailure (D.failures device.old) (D.failures device.new) e) }
+        ensures reads { OnlyReads (D.history device.old) (D.history device.new) }
+        ensures quiet { OnOk result (D.failures device.new ≡ D.failures device.old) }
+        ensures later { D.failures device.old ≤ D.failures device.new }
+    {
+        if device.sectors() < FRONT_SECTORS {
+            return Err(Error::DeviceTooSmall);
+        }
+        let geometry = read_superblock(device)?;
+        if device.sectors() < geometry.sectors() {
+            return Err(Error::DeviceTooSmall);
+        }
+        let current = read_flip_sector(device)?;
+        Ok(Halves { geometry, current })
+    }
+
+    /// Checks that the current half's image is as `format` leaves it. Nothing is written.
+    ///
+    /// `Damaged` names the first part that is not: the sector of the header, the sector of the transaction heads, or
+    /// the first sector of a page.
+    pub fn check_fresh<D: Device>(&self, device: &mut D) -> Result<(), Error>
+        requires inside { sectors_of self.now.geometry ≤ length (D.history device.old).disk.content }
+        ensures fresh { OnOk result (IsFresh self.now.geometry self.now.current (D.history device.old).disk.content) }
+        ensures accepted { IsFresh self.now.geometry self.now.current (D.history device.old).disk.content
+            → IfErr result (IsDeviceFailure (D.failures device.old) (D.failures device.new)) }
+        ensures refused { IfErr result (λ e. IsDeviceFailure (D.failures device.old) (D.failures device.new) e
+            ⊎ ((sector : ℕ) × (e ≡ Error.Damaged sector) × IsFirstUsed self.now.geometry self.now.current (D.history device.old).disk.content sector)) }
+        ensures reads { OnlyReads (D.history device.old) (D.history device.new) }
+        ensures quiet { OnOk result (D.failures device.new ≡ D.failures device.old) }
+        ensures later { D.failures device.old ≤ D.failures device.new }
+    {
+        check_half(device, self.geometry, self.current)
+    }
+
+    /// How large the store is.
+    pub fn geometry(&self) -> Geometry
+        ensures { result ≡ self.now.geometry }
+    {
+        self.geometry
+    }
+
+    /// The half that is current.
+    pub fn current(&self) -> Half
+        ensures { result ≡ self.now.current }
+    {
+        self.current
+    }
+
+    /// The first sector of the current half's log, which has the geometry's slots and ends within the store.
+    pub fn log_first(&self) -> u64
+        ensures value { result ≡ log_first self.now.geometry self.now.current }
+        ensures inside { result + SLOT_SECTORS * self.now.geometry.slots ≤ sectors_of self.now.geometry }
+    {
+        self.current.log_first(self.geometry)
+    }
+}
+
+// Writes what `format` writes, and syncs.
+fn write_store<D: Device>(device: &mut D, geometry: Geometry) -> Result<(), Failed>
+    requires { sectors_of geometry ≤ length (D.history device.old).disk.content }
+    ensures formatted { OnOk result (IsFormatted geometry (D.history device.new).disk.content) }
+    ensures closed { OnOk result (AreGatesClosed geometry Half.A (D.history device.new).disk.content) }
+    ensures synced { OnOk result (IsSynced (D.history device.new).disk) }
+    ensures outside { SameOutside (IsFormatSector geometry) (D.history device.old).disk.content (D.history device.new).disk.content }
+    ensures counts { CountsFailure (D.failures device.old) (D.failures device.new) result }
+{
+    device.write(SUPERBLOCK_SECTOR, &superblock(geometry))?;
+    device.write(FLIP_SECTOR, &[0; SECTOR_SIZE])?;
+    let header = Half::A.header_sector(geometry);
+    write_zeros(device, header, HEADER_SECTORS + HEADS_SECTORS)?;
+    let pages = Half::A.pages_first(geometry);
+    write_zeros(device, pages, PAGE_SECTORS * u64::from(geometry.pages))?;
+    let log = Half::A.log_first(geometry);
+    close_gates(device, log, u64::from(geometry.slots))?;
+    device.sync()
+}
+
+// The geometry in the superblock.
+fn read_superblock<D: Device>(device: &mut D) -> Result<Geometry, Error>
+    requires { FRONT_SECTORS ≤ length (D.history device.old).disk.content }
+    ensures limits { IfOk result IsGeometry }
+    ensures found { IfOk result (λ geometry. IsSuperblock geometry (sector (D.history device.old).disk.content SUPERBLOCK_SECTOR)) }
+    ensures refused { IfErr result (λ e. IsDeviceFailure (D.failures device.old) (D.failures device.new) e
+        ⊎ (((e ≡ Error.NotFormatted) × IsUntitled (D.history device.old).disk.content)
+        ⊎ ((e ≡ Error.Damaged SUPERBLOCK_SECTOR) × IsSuperblockDamaged (D.history device.old).disk.content))) }
+    ensures reads { OnlyReads (D.history device.old) (D.history device.new) }
+    ensures quiet { OnOk result (D.failures device.new ≡ D.failures device.old) }
+    ensures later { D.failures device.old ≤ D.failures device.new }
+{
+    let mut bytes = [0; SECTOR_SIZE];
+    if device.read(SUPERBLOCK_SECTOR, &mut bytes).is_err() {
+        return Err(Error::DeviceFailed);
+    }
+    geometry_of(&bytes)
+}
+
+// The half that the flip sector names.
+fn read_flip_sector<D: Device>(device: &mut D) -> Result<Half, Error>
+    requires { FRONT_SECTORS ≤ length (D.history device.old).disk.content }
+    ensures found { IfOk result (Names (sector (D.history device.old).disk.content FLIP_SECTOR)) }
+    ensures refused { IfErr result (IsDeviceFailure (D.failures device.old) (D.failures device.new)) }
+    ensures reads { OnlyReads (D.history device.old) (D.history device.new) }
+    ensures quiet { OnOk result (D.failures device.new ≡ D.failures device.old) }
+    ensures later { D.failures device.old ≤ D.failures device.new }
+{
+    let mut bytes = [0; SECTOR_SIZE];
+    if device.read(FLIP_SECTOR, &mut bytes).is_err() {
+        return Err(Error::DeviceFailed);
+    }
+    if bytes[0] == MARK {
+        Ok(Half::B)
+    } else {
+        Ok(Half::A)
+    }
+}
+
+// Refuses with the first of these sectors where they are not all zeros.
+fn check_zeros<D: Device>(device: &mut D, first: u64, count: u64) -> Result<(), Error>
+    requires inside { first + count ≤ length (D.history device.old).disk.content }
+    requires number { first + count < 2 ^ 64 }
+    ensures zeros { OnOk result (AreZeros (D.history device.old).disk.content first count) }
+    ensures refused { IfErr result (λ e. IsDeviceFailure (D.failures device.old) (D.failures device.new) e
+        ⊎ ((e ≡ Error.Damaged first) × (¬ AreZeros (D.history device.old).disk.content first count))) }
+    ensures reads { OnlyReads (D.history device.old) (D.history device.new) }
+    ensures quiet { OnOk result (D.failures device.new ≡ D.failures device.old) }
+    ensures later { D.failures device.old ≤ D.failures device.new }
+{
+    if read_zeros(device, first, count)? {
+        Ok(())
+    } else {
+        Err(Error::Damaged { sector: first })
+    }
+}
+
+// Refuses with the first of these pages that is not all zeros.
+fn check_pages<D: Device>(device: &mut D, first: u64, pages: u64) -> Result<(), Error>
+    requires inside { first + PAGE_SECTORS * pages ≤ length (D.history device.old).disk.content }
+    requires number { first + PAGE_SECTORS * pages < 2 ^ 64 }
+    ensures zeros { OnOk result ((page : ℕ) → page < pages → AreZeros (D.history device.old).disk.content (first + PAGE_SECTORS * page) PAGE_SECTORS) }
+    ensures refused { IfErr result (λ e. IsDeviceFailure (D.failures device.old) (D.failures device.new) e
+        ⊎ ((page : ℕ) × (page < pages) × (e ≡ Error.Damaged (first + PAGE_SECTORS * page))
+        × (¬ AreZeros (D.history device.old).disk.content (first + PAGE_SECTORS * page) PAGE_SECTORS)
+        × ((earlier : ℕ) → earlier < page → AreZeros (D.history device.old).disk.content (first + PAGE_SECTORS * earlier) PAGE_SECTORS))) }
+    ensures reads { OnlyReads (D.history device.old) (D.history device.new) }
+    ensures quiet { OnOk result (D.failures device.new ≡ D.failures device.old) }
+    ensures later { D.failures device.old ≤ D.failures device.new }
+{
+    for page in 0..pages {
+        check_zeros(device, first + PAGE_SECTORS * page, PAGE_SECTORS)?;
+    }
+    Ok(())
+}
+
+// What `check_fresh` does, for a half of a store.
+fn check_half<D: Device>(device: &mut D, geometry: Geometry, half: Half) -> Result<(), Error>
+    requires inside { sectors_of geometry ≤ length (D.history device.old).disk.content }
+    ensures fresh { OnOk result (IsFresh geometry half (D.history device.old).disk.content) }
+    ensures refused { IfErr result (λ e. IsDeviceFailure (D.failures device.old) (D.failures device.new) e
+        ⊎ ((sector : ℕ) × (e ≡ Error.Damaged sector) × IsFirstUsed geometry half (D.history device.old).disk.content sector)) }
+    ensures reads { OnlyReads (D.history device.old) (D.history device.new) }
+    ensures quiet { OnOk result (D.failures device.new ≡ D.failures device.old) }
+    ensures later { D.failures device.old ≤ D.failures device.new }
+{
+    let header = half.header_sector(geometry);
+    check_zeros(device, header, HEADER_SECTORS)?;
+    let heads = half.heads_sector(geometry);
+    check_zeros(device, heads, HEADS_SECTORS)?;
+    let pages = half.pages_first(geometry);
+    check_pages(device, pages, u64::from(geometry.pages))
+}

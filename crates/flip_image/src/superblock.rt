@@ -1,0 +1,113 @@
+//! The superblock: which format a device has, and for which geometry.
+ghost use Rattle.std.specs.Prelude.{◌≡◌, ◌⊎◌, ◌↔◌, ◌≤◌, ◌++◌, length, take, drop, All, IsTrue, IfOk, IfErr};
+ghost use Rattle.records.specs.GeometryValue.{GeometryValue, IsGeometry};
+ghost use Rattle.records.specs.Spelling.{u32, u64};
+ghost use Rattle.flip_image.specs.Store.{title, superblock, IsSuperblock};
+
+use byteorder::{BigEndian, ByteOrder};
+use records::{Error, Geometry};
+use sector_device::SECTOR_SIZE;
+
+/// The sector of the superblock (the format document, "Device").
+pub const SUPERBLOCK_SECTOR: u64 = 0;
+
+/// The version of the format.
+pub const VERSION: u32 = 1;
+
+/// The bytes of the title.
+pub(crate) const TITLE_SIZE: usize = 8;
+
+/// The bytes of a superblock that are not zero: the title, and four numbers of four bytes.
+pub(crate) const SUPERBLOCK_SIZE: usize = TITLE_SIZE + 16;
+
+// The title, the text "NSFINDEX", as a number of eight bytes.
+const TITLE: u64 = 0x4E53_4649_4E44_4558;
+
+// Writes two numbers at the front.
+#[tactic(auto, unfolding(records::specs::Spelling::u32))]
+fn write_pair(bytes: &mut [u8], first: u32, second: u32)
+    requires { 8 ≤ length bytes.old }
+    ensures { bytes.new ≡ u32 first ++ (u32 second ++ drop 8 bytes.old) }
+{
+    BigEndian::write_u32(bytes, first);
+    BigEndian::write_u32(&mut bytes[4..], second);
+}
+
+// Writes the version and the geometry at the front.
+fn write_numbers(bytes: &mut [u8], geometry: Geometry)
+    requires { 16 ≤ length bytes.old }
+    ensures { bytes.new ≡ u32 VERSION ++ (u32 geometry.pages ++ (u32 geometry.entries ++ (u32 geometry.slots ++ drop 16 bytes.old))) }
+{
+    write_pair(bytes, VERSION, geometry.pages);
+    write_pair(&mut bytes[8..], geometry.entries, geometry.slots);
+}
+
+// Writes the title, the version and the geometry at the front.
+#[tactic(auto, unfolding(records::specs::Spelling::u64))]
+fn write_front(bytes: &mut [u8], geometry: Geometry)
+    requires { SUPERBLOCK_SIZE ≤ length bytes.old }
+    ensures { bytes.new ≡ superblock geometry ++ drop SUPERBLOCK_SIZE bytes.old }
+{
+    BigEndian::write_u64(bytes, TITLE);
+    write_numbers(&mut bytes[TITLE_SIZE..], geometry);
+}
+
+/// The superblock of a store of this geometry.
+pub(crate) fn superblock(geometry: Geometry) -> [u8; SECTOR_SIZE]
+    ensures { IsSuperblock geometry result }
+{
+    let mut bytes = [0; SECTOR_SIZE];
+    write_front(&mut bytes, geometry);
+    bytes
+}
+
+// The title, and four numbers, at the front.
+fn read_front(bytes: &[u8]) -> (u64, u32, u32, u32, u32)
+    requires { SUPERBLOCK_SIZE ≤ length bytes.now }
+    ensures { bytes.now ≡ u64 result.0 ++ (u32 result.1 ++ (u32 result.2 ++ (u32 result.3 ++ (u32 result.4 ++ drop SUPERBLOCK_SIZE bytes.now)))) }
+{
+    let (_, behind) = bytes.split_at(TITLE_SIZE);
+    let (_, second) = behind.split_at(4);
+    let (_, third) = second.split_at(4);
+    let (_, fourth) = third.split_at(4);
+    (
+        BigEndian::read_u64(bytes),
+        BigEndian::read_u32(behind),
+        BigEndian::read_u32(second),
+        BigEndian::read_u32(third),
+        BigEndian::read_u32(fourth),
+    )
+}
+
+/// Whether all bytes are zero.
+pub(crate) fn are_zeros(bytes: &[u8]) -> bool
+    ensures { IsTrue result ↔ All (λ b. b ≡ 0) bytes.now }
+{
+    bytes.iter().all(|byte| *byte == 0)
+}
+
+/// The geometry of the store with this superblock. `NotFormatted` where the bytes have another title, and `Damaged`
+/// where they have the title but are no superblock.
+pub(crate) fn geometry_of(bytes: &[u8]) -> Result<Geometry, Error>
+    requires { length bytes.now ≡ SECTOR_SIZE }
+    ensures ok { IfOk result (λ geometry. IsSuperblock geometry bytes.now) }
+    ensures err { IfErr result (λ e. ((e ≡ Error.NotFormatted) × (¬ (take TITLE_SIZE bytes.now ≡ title)))
+        ⊎ ((e ≡ Error.Damaged SUPERBLOCK_SECTOR) × (take TITLE_SIZE bytes.now ≡ title)
+        × ((g : GeometryValue) → IsGeometry g → ¬ IsSuperblock g bytes.now))) }
+{
+    let (title, version, pages, entries, slots) = read_front(bytes);
+    if title != TITLE {
+        return Err(Error::NotFormatted);
+    }
+    let (_, rest) = bytes.split_at(SUPERBLOCK_SIZE);
+    let damaged = Error::Damaged {
+        sector: SUPERBLOCK_SECTOR,
+    };
+    if version != VERSION || !are_zeros(rest) {
+        return Err(damaged);
+    }
+    let Ok(geometry) = Geometry::new(pages, entries, slots) else {
+        return Err(damaged);
+    };
+    Ok(geometry)
+}

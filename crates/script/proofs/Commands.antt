@@ -1,0 +1,182 @@
+-- The commands that are read are those that the words spell.
+use Rattle.std.specs.Prelude.{codes}
+use Rattle.std.proofs.Common.{◌≡◌, ℕ, ◌^◌, ◌<◌, ◌≤◌, true, false, cond, ltb, eqb, List, [], ◌∷◌, ◌++◌, Some, None, refl, sym, ap, subst, ◌∙◌, arith, inl, inr}
+use Rattle.std.specs.Fmt.{decimal}
+use Rattle.std.specs.List.{join_with_byte}
+use Rattle.std.proofs.lemmas.List.Splits.{join_with_byte-slice_split, slice_split_at, slice_split_none}
+use Rattle.std.proofs.lemmas.Bool.{ltb-true, lt-ltb, both_ways}
+use Rattle.records.specs.Values.{Place}
+use Rattle.records.specs.declared.rid.TheConstants.{SLOTS_PER_PAGE}
+use Rattle.script.specs.declared.fate.Fate.{Fate}
+use Rattle.script.specs.declared.fate.Fate.TheVariants.{Old, New, Zero, Gate, Junk}
+use Rattle.script.specs.declared.command.Command.{Command}
+use Rattle.script.specs.declared.command.Command.TheVariants.{Begin, Insert, Commit, Flush, Crash, Get, Dump}
+use Rattle.script.specs.Grammar.{rid_text, parted_by, words, is_left_out, IsTxn, IsRid, fate_name, Spell, IsLineOf, IsGood}
+use Rattle.script.specs.Reading.{◌>>=◌, only, first_three, number_at, txn_at, place_at, rid_at, text_at, fate_at, alone_at, insert_at, commit_at, crash_at, get_at, command_at}
+use Rattle.script.proofs.Steps.{bind_some, passed, passed_not, some_is, by_name}
+use Rattle.script.proofs.Numbers.{number_takes, number_again, no_such_byte}
+use Rattle.script.proofs.Texts.{text_takes, text_again}
+
+-- ---- words
+
+only_takes : (args : List (List ℕ)) (word : List ℕ) → only args ≡ Some word → args ≡ word ∷ []
+only_takes [] word e = absurd cc
+only_takes (one ∷ []) word e = ap (λ (w : List ℕ). w ∷ []) (some_is one word e)
+only_takes (one ∷ more ∷ rest) word e = absurd cc
+
+txn_takes : (word : List ℕ) (txn : ℕ) → txn_at word ≡ Some txn → (word ≡ decimal txn) × IsTxn txn
+unfolding txn_at
+txn_takes word txn e =
+    let n = bind_some (number_at word) (λ n. cond (eqb n 0) None (Some n)) txn e in
+    let some = passed_not (eqb n.0 0) (Some n.0) txn n.2 in
+    let read = number_takes word n.0 n.1 in
+    let low : 1 ≤ n.0 = grind (arith, some.0) in
+    subst (λ (t : ℕ). (word ≡ decimal t) × IsTxn t) (some_is n.0 txn some.1) (read.0, (low, read.1))
+
+txn_again : (txn : ℕ) → IsTxn txn → txn_at (decimal txn) ≡ Some txn
+unfolding txn_at
+txn_again txn h =
+    let some : eqb txn 0 ≡ false = grind (arith, h.0) in
+    rw (number_again txn h.1, some) refl
+
+place_takes : (parts : List (List ℕ)) (rid : Place) → place_at parts ≡ Some rid → (parts ≡ decimal rid.page ∷ decimal rid.slot ∷ []) × (rid.page < 2 ^ 32) × (rid.slot < SLOTS_PER_PAGE)
+place_takes [] rid e = absurd cc
+place_takes (first ∷ rest) rid e =
+    let p = bind_some (number_at first) (λ page. only rest >>= λ second. number_at second >>= λ slot. cond (ltb slot SLOTS_PER_PAGE) (Some (record { page = page; slot = slot })) None) rid e in
+    let o = bind_some (only rest) (λ second. number_at second >>= λ slot. cond (ltb slot SLOTS_PER_PAGE) (Some (record { page = p.0; slot = slot })) None) rid p.2 in
+    let s = bind_some (number_at o.0) (λ slot. cond (ltb slot SLOTS_PER_PAGE) (Some (record { page = p.0; slot = slot })) None) rid o.2 in
+    let place : Place = record { page = p.0; slot = s.0 } in
+    let low = passed (ltb s.0 SLOTS_PER_PAGE) (Some place) rid s.2 in
+    let page = number_takes first p.0 p.1 in
+    let slot = number_takes o.0 s.0 s.1 in
+    let whole : first ∷ rest ≡ decimal p.0 ∷ decimal s.0 ∷ [] = ap (λ (t : List (List ℕ)). first ∷ t) (only_takes rest o.0 o.1) ∙ ap (λ (w : List ℕ). w ∷ o.0 ∷ []) page.0 ∙ ap (λ (w : List ℕ). decimal p.0 ∷ w ∷ []) slot.0 in
+    subst (λ (r : Place). (first ∷ rest ≡ decimal r.page ∷ decimal r.slot ∷ []) × (r.page < 2 ^ 32) × (r.slot < SLOTS_PER_PAGE)) (some_is place rid low.1)
+    (whole, page.1, ltb-true _ _ low.0)
+
+rid_takes : (word : List ℕ) (rid : Place) → rid_at word ≡ Some rid → (word ≡ rid_text rid) × IsRid rid
+unfolding rid_at
+rid_takes word rid e =
+    let p = place_takes (parted_by 46 word) rid e in
+    (sym (join_with_byte-slice_split 46 word) ∙ ap (join_with_byte 46) p.0, (p.1, p.2))
+
+rid_parts : (page slot : ℕ) → page < 2 ^ 32 → slot < 2 ^ 32 → parted_by 46 (decimal page ++ 46 ∷ decimal slot) ≡ decimal page ∷ decimal slot ∷ []
+rid_parts page slot p s =
+    slice_split_at (λ b. eqb b 46) (decimal page) 46 (decimal slot) (no_such_byte 46 page (omega arith) p) refl
+    ∙ ap (λ (t : List (List ℕ)). decimal page ∷ t) (slice_split_none (λ b. eqb b 46) (decimal slot) (no_such_byte 46 slot (omega arith) s))
+
+rid_again : (rid : Place) → IsRid rid → rid_at (rid_text rid) ≡ Some rid
+unfolding rid_at
+rid_again rid h =
+    let low : ltb rid.slot SLOTS_PER_PAGE ≡ true = lt-ltb _ _ h.1 in
+    let slot_fits : rid.slot < 2 ^ 32 = omega (arith, h.1) in
+    rw (rid_parts rid.page rid.slot h.0 slot_fits, number_again rid.page h.0, number_again rid.slot slot_fits, low) refl
+
+fate_takes : (word : List ℕ) (fate : Fate) → fate_at word ≡ Some fate → word ≡ fate_name fate
+fate_takes word fate e =
+    by_name word (codes "old") (λ is h. is ∙ ap fate_name (some_is Old fate h))
+    (by_name word (codes "new") (λ is h. is ∙ ap fate_name (some_is New fate h))
+    (by_name word (codes "zero") (λ is h. is ∙ ap fate_name (some_is Zero fate h))
+    (by_name word (codes "a5") (λ is h. is ∙ ap fate_name (some_is Gate fate h))
+    (by_name word (codes "junk") (λ is h. is ∙ ap fate_name (some_is Junk fate h)) (λ h. absurd cc)))))
+    e
+
+fate_again : (fate : Fate) → fate_at (fate_name fate) ≡ Some fate
+fate_again Old = refl
+fate_again New = refl
+fate_again Zero = refl
+fate_again Gate = refl
+fate_again Junk = refl
+
+-- ---- commands
+
+abbrev one_word : List ℕ → List (List ℕ)
+one_word w = w ∷ []
+
+three_take : (args : List (List ℕ)) (three : List ℕ × List ℕ × List ℕ) → first_three args ≡ Some three → args ≡ three.0 ∷ three.1 ∷ three.2 ∷ []
+three_take [] three e = absurd cc
+three_take (a ∷ []) three e = absurd cc
+three_take (a ∷ b ∷ []) three e = absurd cc
+three_take (a ∷ b ∷ c ∷ []) three e = ap (λ (t : List ℕ × List ℕ × List ℕ). t.0 ∷ t.1 ∷ t.2 ∷ []) (some_is (a, b, c) three e)
+three_take (a ∷ b ∷ c ∷ d ∷ rest) three e = absurd cc
+
+alone_takes : (verb : List ℕ) (args : List (List ℕ)) (command c : Command) → Spell (verb ∷ []) command → alone_at command args ≡ Some c → Spell (verb ∷ args) c
+alone_takes verb [] command c spelled e = subst (Spell (verb ∷ [])) (some_is command c e) spelled
+alone_takes verb (word ∷ more) command c spelled e = absurd cc
+
+spelled_so : (verb name : List ℕ) (args rest : List (List ℕ)) → verb ≡ name → args ≡ rest → verb ∷ args ≡ name ∷ rest
+spelled_so verb name args rest p q = cc
+
+insert_takes : (verb : List ℕ) (args : List (List ℕ)) (c : Command) → verb ≡ codes "insert" → insert_at args ≡ Some c → Spell (verb ∷ args) c
+unfolding insert_at
+insert_takes verb args c is e =
+    let three = bind_some (first_three args) (λ three. txn_at three.0 >>= λ txn. text_at three.1 >>= λ key. text_at three.2 >>= λ body. Some (Insert txn key body)) c e in
+    let words = three.0 in
+    let txn = bind_some (txn_at words.0) (λ txn. text_at words.1 >>= λ key. text_at words.2 >>= λ body. Some (Insert txn key body)) c three.2 in
+    let key = bind_some (text_at words.1) (λ key. text_at words.2 >>= λ body. Some (Insert txn.0 key body)) c txn.2 in
+    let body = bind_some (text_at words.2) (λ body. Some (Insert txn.0 key.0 body)) c key.2 in
+    let number = txn_takes words.0 txn.0 txn.1 in
+    subst (Spell (verb ∷ args)) (some_is (Insert txn.0 key.0 body.0) c body.2)
+    (words.1, words.2, spelled_so verb (codes "insert") args (decimal txn.0 ∷ words.1 ∷ words.2 ∷ []) is (three_take args words three.1 ∙ ap (λ (w : List ℕ). w ∷ words.1 ∷ words.2 ∷ []) number.0), number.1, text_takes words.1 key.0 key.1, text_takes words.2 body.0 body.1)
+
+commit_takes : (verb : List ℕ) (args : List (List ℕ)) (c : Command) → verb ≡ codes "commit" → commit_at args ≡ Some c → Spell (verb ∷ args) c
+unfolding commit_at
+commit_takes verb args c is e =
+    let word = bind_some (only args) (λ word. txn_at word >>= λ txn. Some (Commit txn)) c e in
+    let txn = bind_some (txn_at word.0) (λ txn. Some (Commit txn)) c word.2 in
+    let number = txn_takes word.0 txn.0 txn.1 in
+    subst (Spell (verb ∷ args)) (some_is (Commit txn.0) c txn.2)
+    (spelled_so verb (codes "commit") args (decimal txn.0 ∷ []) is (only_takes args word.0 word.1 ∙ ap one_word number.0), number.1)
+
+crash_takes : (verb : List ℕ) (args : List (List ℕ)) (c : Command) → verb ≡ codes "crash" → crash_at args ≡ Some c → Spell (verb ∷ args) c
+unfolding crash_at
+crash_takes verb args c is e =
+    let word = bind_some (only args) (λ word. fate_at word >>= λ fate. Some (Crash fate)) c e in
+    let fate = bind_some (fate_at word.0) (λ fate. Some (Crash fate)) c word.2 in
+    let name : word.0 ≡ fate_name fate.0 = fate_takes word.0 fate.0 fate.1 in
+    subst (Spell (verb ∷ args)) (some_is (Crash fate.0) c fate.2)
+    (spelled_so verb (codes "crash") args (fate_name fate.0 ∷ []) is (only_takes args word.0 word.1 ∙ ap one_word name))
+
+get_takes : (verb : List ℕ) (args : List (List ℕ)) (c : Command) → verb ≡ codes "get" → get_at args ≡ Some c → Spell (verb ∷ args) c
+unfolding get_at
+get_takes verb args c is e =
+    let word = bind_some (only args) (λ word. rid_at word >>= λ rid. Some (Get rid)) c e in
+    let rid = bind_some (rid_at word.0) (λ rid. Some (Get rid)) c word.2 in
+    let place = rid_takes word.0 rid.0 rid.1 in
+    subst (Spell (verb ∷ args)) (some_is (Get rid.0) c rid.2)
+    (spelled_so verb (codes "get") args (rid_text rid.0 ∷ []) is (only_takes args word.0 word.1 ∙ ap one_word place.0), place.1)
+
+pub command_takes : (words : List (List ℕ)) (c : Command) → command_at words ≡ Some c → Spell words c
+unfolding command_at
+command_takes [] c e = absurd cc
+command_takes (verb ∷ args) c e =
+    by_name verb (codes "begin") (λ is h. alone_takes verb args Begin c (ap one_word is) h)
+    (by_name verb (codes "insert") (insert_takes verb args c)
+    (by_name verb (codes "commit") (commit_takes verb args c)
+    (by_name verb (codes "flush") (λ is h. alone_takes verb args Flush c (ap one_word is) h)
+    (by_name verb (codes "crash") (crash_takes verb args c)
+    (by_name verb (codes "get") (get_takes verb args c)
+    (by_name verb (codes "dump") (λ is h. alone_takes verb args Dump c (ap one_word is) h) (λ h. absurd cc)))))))
+    e
+
+pub command_again : (words : List (List ℕ)) (c : Command) → Spell words c → command_at words ≡ Some c
+unfolding command_at insert_at commit_at crash_at get_at
+command_again words Begin h = ap command_at h
+command_again words (Insert txn key body) h = ap command_at h.2 ∙ rw (txn_again txn h.3, text_again h.0 key h.4, text_again h.1 body h.5) refl
+command_again words (Commit txn) h = ap command_at h.0 ∙ rw (txn_again txn h.1) refl
+command_again words Flush h = ap command_at h
+command_again words (Crash fate) h = ap command_at h ∙ rw (fate_again fate) refl
+command_again words (Get rid) h = ap command_at h.0 ∙ rw (rid_again rid h.1) refl
+command_again words Dump h = ap command_at h
+
+-- no words spell two commands
+pub one_command : (words : List (List ℕ)) (c d : Command) → Spell words c → Spell words d → c ≡ d
+one_command words c d p q = some_is c d (sym (command_again words c p) ∙ command_again words d q)
+
+-- ---- lines
+
+pub read_line : (line : List ℕ) (command : Command) → Some command ≡ command_at (words line) → IsLineOf line command
+read_line line command e = command_takes (words line) command (sym e)
+
+pub bad_line : (line : List ℕ) → is_left_out line ≡ false → None ≡ command_at (words line) → IsGood line → ⊥
+bad_line line kept none (inl skipped) = both_ways (is_left_out line) kept skipped
+bad_line line kept none (inr (command, is)) = let read = command_again (words line) command is in let bad = none ∙ read in cc

@@ -1,0 +1,7 @@
+mod Cuts
+mod Steps
+mod Numbers
+mod Texts
+mod Commands
+mod Scripts
+mod Writing

@@ -1,0 +1,98 @@
+-- The grammar of scripts.
+use Rattle.std.specs.Prelude.{◌≡◌, ℕ, ◌^◌, ◌<◌, ◌≤◌, ◌==◌, ◌⊎◌, ◌++◌, Bool, true, not, IsTrue, List, [], ◌∷◌, length, take, slice_index_or, codes}
+use Rattle.std.specs.List.{All, AllZip, filter, slice_split}
+use Rattle.std.specs.Char.{IsAsciiGraphic}
+use Rattle.std.specs.Fmt.{decimal}
+use Rattle.std.specs.Io.BufRead.{strip_last}
+use Rattle.hex.specs.Hex.{encode_lower, IsBytes}
+use Rattle.records.specs.Values.{Place}
+use Rattle.records.specs.declared.rid.TheConstants.{SLOTS_PER_PAGE}
+use Rattle.script.specs.declared.lines.TheConstants.{LINES_MAX}
+use Rattle.script.specs.declared.fate.Fate.{Fate}
+use Rattle.script.specs.declared.fate.Fate.TheVariants.{Old, New, Zero, Gate, Junk}
+use Rattle.script.specs.declared.command.Command.{Command}
+use Rattle.script.specs.declared.command.Command.TheVariants.{Begin, Insert, Commit, Flush, Crash, Get, Dump}
+
+-- the parts of a text between its separators: with none, the text itself
+abbrev pub parted_by : ℕ → List ℕ → List (List ℕ)
+parted_by separator text = slice_split (λ b. b == separator) text
+
+-- the lines of a script are parted by line feeds; one at the very end begins no further line
+abbrev pub lines : List ℕ → List (List ℕ)
+lines text = parted_by 10 (strip_last 10 text)
+
+-- the words of a line are parted by single spaces
+abbrev pub words : List ℕ → List (List ℕ)
+words line = parted_by 32 line
+
+-- an empty line, or one that begins with `#`
+abbrev pub is_left_out : List ℕ → Bool
+is_left_out [] = true
+is_left_out (first ∷ rest) = first == 35
+
+-- the numbers that a transaction may have in a script
+abbrev pub IsTxn : ℕ → Type 0
+IsTxn txn = (1 ≤ txn) × (txn < 2 ^ 32)
+
+-- the places that a row may have
+abbrev pub IsRid : Place → Type 0
+IsRid rid = (rid.page < 2 ^ 32) × (rid.slot < SLOTS_PER_PAGE)
+
+-- a page and a slot in decimal, with a point between them
+abbrev pub rid_text : Place → List ℕ
+rid_text rid = decimal rid.page ++ 46 ∷ decimal rid.slot
+
+-- `=` and graphic bytes as they stand, or `:` and bytes in lower-case hexadecimal digits
+abbrev pub IsByteText : List ℕ → List ℕ → Type 0
+IsByteText word bytes = ((word ≡ 61 ∷ bytes) × All IsAsciiGraphic bytes) ⊎ ((word ≡ 58 ∷ encode_lower bytes) × IsBytes bytes)
+
+abbrev pub fate_name : Fate → List ℕ
+fate_name Old = codes "old"
+fate_name New = codes "new"
+fate_name Zero = codes "zero"
+fate_name Gate = codes "a5"
+fate_name Junk = codes "junk"
+
+-- the words of a line spell a command
+abbrev pub Spell : List (List ℕ) → Command → Type 0
+Spell words Begin = words ≡ codes "begin" ∷ []
+Spell words (Insert txn key body) = (k b : List ℕ) × (words ≡ codes "insert" ∷ decimal txn ∷ k ∷ b ∷ []) × IsTxn txn × IsByteText k key × IsByteText b body
+Spell words (Commit txn) = (words ≡ codes "commit" ∷ decimal txn ∷ []) × IsTxn txn
+Spell words Flush = words ≡ codes "flush" ∷ []
+Spell words (Crash fate) = words ≡ codes "crash" ∷ fate_name fate ∷ []
+Spell words (Get rid) = (words ≡ codes "get" ∷ rid_text rid ∷ []) × IsRid rid
+Spell words Dump = words ≡ codes "dump" ∷ []
+
+-- a line is this command: its words, parted by single spaces, spell it
+abbrev pub IsLineOf : List ℕ → Command → Type 0
+IsLineOf line command = Spell (words line) command
+
+-- the lines that are not left out
+abbrev pub kept : List (List ℕ) → List (List ℕ)
+kept lines = filter (λ line. not (is_left_out line)) lines
+
+-- a line that is left out or a command
+abbrev pub IsGood : List ℕ → Type 0
+IsGood line = IsTrue (is_left_out line) ⊎ ((command : Command) × IsLineOf line command)
+
+-- a script of these commands: as many lines as may be, and each that is not left out is its command, in order
+pub record IsScript (lines : List (List ℕ)) (commands : List Command) : Type 0 where
+  pub few : length lines ≤ LINES_MAX
+  pub each : AllZip IsLineOf (kept lines) commands
+
+-- the line of this index, from 0, is the first fault: all before it are good, and it is not, or it is one too many
+pub record IsFirstFault (lines : List (List ℕ)) (index : ℕ) : Type 0 where
+  pub is_there : index < length lines
+  pub good_before : All IsGood (take index lines)
+  pub within : index ≤ LINES_MAX
+  pub bad : index < LINES_MAX → IsGood (slice_index_or lines index []) → ⊥
+
+-- the commands that a script can give: their numbers are within the limits, and their bytes are bytes
+abbrev pub CanBeGiven : Command → Type 0
+CanBeGiven Begin = Unit {0}
+CanBeGiven (Insert txn key body) = IsTxn txn × IsBytes key × IsBytes body
+CanBeGiven (Commit txn) = IsTxn txn
+CanBeGiven Flush = Unit {0}
+CanBeGiven (Crash _) = Unit {0}
+CanBeGiven (Get rid) = IsRid rid
+CanBeGiven Dump = Unit {0}

@@ -1,0 +1,129 @@
+-- Reading a line from left to right.
+use Rattle.std.specs.Prelude.{◌≡◌, ◌⊎◌, ◌++◌, IsTrue, ℕ, ◌^◌, ◌==◌, ◌&&◌, nat_lt, nat_le, Bool, false, List, [], ◌∷◌, Option, Some, None, if◌then◌else◌, codes}
+use Rattle.std.specs.List.{list_all, list_any}
+use Rattle.std.specs.Char.{is_ascii_graphic, is_ascii_uppercase}
+use Rattle.std.specs.Fmt.{decimal}
+use Rattle.std.specs.Result.{result_ok}
+use Rattle.std.specs.Str.{bytes_eq}
+use Rattle.std.specs.Str.Parse.{digits_value}
+use Rattle.hex.specs.Hex.{decode_of}
+use Rattle.records.specs.Values.{Place}
+use Rattle.records.specs.declared.rid.TheConstants.{SLOTS_PER_PAGE}
+use Rattle.script.specs.declared.fate.Fate.{Fate}
+use Rattle.script.specs.declared.fate.Fate.TheVariants.{Old, New, Zero, Gate, Junk}
+use Rattle.script.specs.declared.command.Command.{Command}
+use Rattle.script.specs.declared.command.Command.TheVariants.{Begin, Insert, Commit, Flush, Crash, Get, Dump}
+use Rattle.script.specs.Grammar.{parted_by, is_left_out, IsLineOf}
+
+infixl 10 ◌>>=◌
+abbrev pub ◌>>=◌ : {A B : Type 0} → Option A → (A → Option B) → Option B
+(Some x) >>= f = f x
+None >>= f = None
+
+-- the parts of what is left
+abbrev pub parts_left : ℕ → Option (List ℕ) → List (List ℕ)
+parts_left separator None = []
+parts_left separator (Some rest) = parted_by separator rest
+
+abbrev pub only : List (List ℕ) → Option (List ℕ)
+only [] = None
+only (word ∷ []) = Some word
+only (word ∷ more ∷ rest) = None
+
+abbrev pub first_three : List (List ℕ) → Option (List ℕ × List ℕ × List ℕ)
+first_three [] = None
+first_three (a ∷ []) = None
+first_three (a ∷ b ∷ []) = None
+first_three (a ∷ b ∷ c ∷ []) = Some (a, b, c)
+first_three (a ∷ b ∷ c ∷ d ∷ rest) = None
+
+-- a digit, or a digit from 1 and more
+abbrev pub begins_as_number : List ℕ → Bool
+begins_as_number [] = false
+begins_as_number (digit ∷ []) = nat_le 48 digit && nat_le digit 57
+begins_as_number (first ∷ second ∷ rest) = nat_le 49 first && nat_le first 57
+
+-- a word that is how the number of its digits is written
+unfoldable pub number_at : List ℕ → Option ℕ
+number_at word = if nat_lt (digits_value 10 word) (2 ^ 32) && bytes_eq word (decimal (digits_value 10 word)) then Some (digits_value 10 word) else None
+
+unfoldable pub txn_at : List ℕ → Option ℕ
+txn_at word = do
+  n ← number_at word
+  if n == 0 then None else Some n
+
+abbrev pub place_at : List (List ℕ) → Option Place
+place_at [] = None
+place_at (first ∷ rest) = do
+  page ← number_at first
+  second ← only rest
+  slot ← number_at second
+  if nat_lt slot SLOTS_PER_PAGE then Some (record { page = page; slot = slot }) else None
+
+unfoldable pub rid_at : List ℕ → Option Place
+rid_at word = place_at (parted_by 46 word)
+
+unfoldable pub hex_at : List ℕ → Option (List ℕ)
+hex_at digits = if list_any is_ascii_uppercase digits then None else result_ok (decode_of digits)
+
+unfoldable pub text_at : List ℕ → Option (List ℕ)
+text_at [] = None
+text_at (first ∷ rest) =
+    if first == 61 then (if list_all is_ascii_graphic rest then Some rest else None)
+    else if first == 58 then hex_at rest
+    else None
+
+abbrev pub fate_at : List ℕ → Option Fate
+fate_at word =
+    if bytes_eq word (codes "old") then Some Old
+    else if bytes_eq word (codes "new") then Some New
+    else if bytes_eq word (codes "zero") then Some Zero
+    else if bytes_eq word (codes "a5") then Some Gate
+    else if bytes_eq word (codes "junk") then Some Junk
+    else None
+
+abbrev pub alone_at : Command → List (List ℕ) → Option Command
+alone_at command [] = Some command
+alone_at command (word ∷ rest) = None
+
+unfoldable pub insert_at : List (List ℕ) → Option Command
+insert_at args = do
+  three ← first_three args
+  txn ← txn_at three.0
+  key ← text_at three.1
+  body ← text_at three.2
+  Some (Insert txn key body)
+
+unfoldable pub commit_at : List (List ℕ) → Option Command
+commit_at args = do
+  word ← only args
+  txn ← txn_at word
+  Some (Commit txn)
+
+unfoldable pub crash_at : List (List ℕ) → Option Command
+crash_at args = do
+  word ← only args
+  fate ← fate_at word
+  Some (Crash fate)
+
+unfoldable pub get_at : List (List ℕ) → Option Command
+get_at args = do
+  word ← only args
+  rid ← rid_at word
+  Some (Get rid)
+
+unfoldable pub command_at : List (List ℕ) → Option Command
+command_at [] = None
+command_at (verb ∷ args) =
+    if bytes_eq verb (codes "begin") then alone_at Begin args
+    else if bytes_eq verb (codes "insert") then insert_at args
+    else if bytes_eq verb (codes "commit") then commit_at args
+    else if bytes_eq verb (codes "flush") then alone_at Flush args
+    else if bytes_eq verb (codes "crash") then crash_at args
+    else if bytes_eq verb (codes "get") then get_at args
+    else if bytes_eq verb (codes "dump") then alone_at Dump args
+    else None
+
+-- the commands with the one of a line that is not left out
+abbrev pub Adds : List ℕ → List Command → List Command → Type 0
+Adds line old new = (IsTrue (is_left_out line) × (new ≡ old)) ⊎ ((is_left_out line ≡ false) × (command : Command) × IsLineOf line command × (new ≡ old ++ command ∷ []))

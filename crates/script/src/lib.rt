@@ -1,0 +1,20 @@
+//! Scripts of commands: the values of commands, and their reader.
+#![tactic(auto)]
+
+mod byte_text;
+mod command;
+mod fate;
+mod laws;
+mod line;
+mod lines;
+mod parts;
+mod word;
+
+pub use byte_text::ByteText;
+pub use command::Command;
+pub use fate::Fate;
+pub use laws::{each_has_a_line, no_command_left_out, one_command};
+pub use lines::{LINES_MAX, read};
+
+#[cfg(test)]
+mod tests;

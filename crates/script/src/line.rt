@@ -1,0 +1,98 @@
+//! Lines.
+ghost use Rattle.std.specs.Prelude.{◌≡◌, IfOk};
+ghost use Rattle.std.specs.Option.{option_map};
+ghost use Rattle.script.specs.Grammar.{words, is_left_out};
+ghost use Rattle.script.specs.Reading.{parts_left, alone_at, insert_at, commit_at, crash_at, get_at, command_at};
+
+use crate::command::Command;
+use crate::fate::Fate;
+use crate::parts::{cut_at, only_part, three_parts};
+use crate::word::{rid_of, text_of, txn_of};
+use std::alloc::{AllocError, Global};
+
+/// Whether a line is left out: it is empty, or a comment.
+pub fn is_skipped(line: &[u8]) -> bool
+    ensures { result ≡ is_left_out line.now }
+{
+    match line {
+        [] => true,
+        [first, ..] => *first == b'#',
+    }
+}
+
+fn alone(rest: Option<&[u8]>, command: Command) -> Option<Command>
+    ensures { result ≡ alone_at command (parts_left 32 (option_map (λ r. r.now) rest.entry)) }
+{
+    match rest {
+        None => Some(command),
+        Some(_) => None,
+    }
+}
+
+#[tactic(auto, unfolding(crate::specs::Reading::insert_at))]
+fn insert_of(alloc: Global, rest: Option<&[u8]>) -> Result<Option<Command>, AllocError>
+    ensures { IfOk result (λ r. r ≡ insert_at (parts_left 32 (option_map (λ r. r.now) rest.entry))) }
+{
+    let Some((txn, key, body)) = three_parts(b' ', rest) else {
+        return Ok(None);
+    };
+    let Some(txn) = txn_of(txn) else {
+        return Ok(None);
+    };
+    let Some(key) = text_of(alloc, key)? else {
+        return Ok(None);
+    };
+    let Some(body) = text_of(alloc, body)? else {
+        return Ok(None);
+    };
+    Ok(Some(Command::Insert { txn, key, body }))
+}
+
+#[tactic(auto, unfolding(crate::specs::Reading::commit_at))]
+fn commit_of(rest: Option<&[u8]>) -> Option<Command>
+    ensures { result ≡ commit_at (parts_left 32 (option_map (λ r. r.now) rest.entry)) }
+{
+    let txn = txn_of(only_part(b' ', rest)?)?;
+    Some(Command::Commit { txn })
+}
+
+#[tactic(auto, unfolding(crate::specs::Reading::crash_at))]
+fn crash_of(rest: Option<&[u8]>) -> Option<Command>
+    ensures { result ≡ crash_at (parts_left 32 (option_map (λ r. r.now) rest.entry)) }
+{
+    let fate = Fate::named(only_part(b' ', rest)?)?;
+    Some(Command::Crash { fate })
+}
+
+#[tactic(auto, unfolding(crate::specs::Reading::get_at))]
+fn get_of(rest: Option<&[u8]>) -> Option<Command>
+    ensures { result ≡ get_at (parts_left 32 (option_map (λ r. r.now) rest.entry)) }
+{
+    let rid = rid_of(only_part(b' ', rest)?)?;
+    Some(Command::Get { rid })
+}
+
+/// The command that a line spells, where it spells one.
+#[tactic(auto, unfolding(crate::specs::Reading::command_at))]
+pub fn command_of(alloc: Global, line: &[u8]) -> Result<Option<Command>, AllocError>
+    ensures { IfOk result (λ r. r ≡ command_at (words line.now)) }
+{
+    let (verb, rest) = cut_at(b' ', line);
+    if verb == b"begin".as_slice() {
+        Ok(alone(rest, Command::Begin))
+    } else if verb == b"insert".as_slice() {
+        insert_of(alloc, rest)
+    } else if verb == b"commit".as_slice() {
+        Ok(commit_of(rest))
+    } else if verb == b"flush".as_slice() {
+        Ok(alone(rest, Command::Flush))
+    } else if verb == b"crash".as_slice() {
+        Ok(crash_of(rest))
+    } else if verb == b"get".as_slice() {
+        Ok(get_of(rest))
+    } else if verb == b"dump".as_slice() {
+        Ok(alone(rest, Command::Dump))
+    } else {
+        Ok(None)
+    }
+}
