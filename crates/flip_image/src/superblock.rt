@@ -86,6 +86,13 @@ pub(crate) fn are_zeros(bytes: &[u8]) -> bool
     bytes.iter().all(|byte| *byte == 0)
 }
 
+// Whether it is this version, with nothing but zeros behind its numbers.
+fn is_supported(version: u32, rest: &[u8]) -> bool
+    ensures { IsTrue result ↔ ((version ≡ VERSION) × All (λ b. b ≡ 0) rest.now) }
+{
+    version == VERSION && are_zeros(rest)
+}
+
 /// The geometry of the store with this superblock. `NotFormatted` where the bytes have another title, and `Damaged`
 /// where they have the title but are no superblock.
 pub(crate) fn geometry_of(bytes: &[u8]) -> Result<Geometry, Error>
@@ -103,7 +110,7 @@ pub(crate) fn geometry_of(bytes: &[u8]) -> Result<Geometry, Error>
     let damaged = Error::Damaged {
         sector: SUPERBLOCK_SECTOR,
     };
-    if version != VERSION || !are_zeros(rest) {
+    if !is_supported(version, rest) {
         return Err(damaged);
     }
     let Ok(geometry) = Geometry::new(pages, entries, slots) else {

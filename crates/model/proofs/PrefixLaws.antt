@@ -1,5 +1,5 @@
 -- One record more of the history that records tell.
-use Rattle.std.proofs.Common.{◌≡◌, ◌≢◌, ℕ, ◌+◌, ◌<◌, ◌≤◌, Bool, true, false, cond, ◌||◌, List, [], ◌∷◌, ◌++◌, length, take, zero, suc, Option, unwrap_or, refl, sym, ap, subst, ◌∙◌, inl, inr, arith, length-append}
+use Rattle.std.proofs.Common.{◌≡◌, ◌≢◌, ℕ, ◌+◌, ◌<◌, ◌≤◌, true, false, cond, List, [], ◌∷◌, ◌++◌, length, take, zero, suc, Option, unwrap_or, refl, sym, ap, subst, ◌∙◌, inl, inr, arith, length-append}
 use Rattle.std.proofs.lemmas.Bool.{cases_eq, cases_lt}
 use Rattle.std.proofs.lemmas.List.{take-append-le, take_all}
 use Rattle.std.specs.Ordering.{eq_by_cmp, nat_cmp}
@@ -9,63 +9,23 @@ use Rattle.records.specs.ChangeValue.{ChangeValue}
 use Rattle.records.specs.RecordValue.{RecordValue}
 use Rattle.records.specs.Spelling.{old_row, new_row}
 use Rattle.records.specs.Orders.{rid_cmp}
-use Rattle.records.specs.Maps.{set_at, rid_exact, nat_exact, key_is, get-set_at, get-set_at_other}
+use Rattle.records.specs.Maps.{set_at, rid_exact, key_is, get-set_at}
 use Rattle.records.specs.declared.row.Row.{Row}
 use Rattle.records.specs.declared.record.Part.TheVariants.{Slot}
-use Rattle.records.specs.declared.record.TxnAction.TheVariants.{Forward, Commit}
+use Rattle.records.specs.declared.record.TxnAction.TheVariants.{Forward, Undo, Commit, End}
 use Rattle.records.specs.declared.record.Action.TheVariants.{OfTxn}
 use Rattle.model.specs.Table.{Table, applied, written_at}
-use Rattle.model.specs.Cells.{Cells, Pending, cells_after, set_by, list_of, some_list, with_list, noted, found_at}
+use Rattle.model.specs.Cells.{Cells, Pending, cells_after, set_by, list_of, with_list, noted, taken_off, found_at}
 use Rattle.model.specs.Committed.{touches, IsHeldByNoOther, IsCommitted, writes_of}
 use Rattle.model.specs.Recovery.{recovered_rows, IsExclusive}
 use Rattle.model.specs.History.{Item, Committed, table_after, up_to, AreRising, last_number}
-use Rattle.model.specs.Prefixes.{at_rest, IsCurrent, TellsHistory}
-use Rattle.model.proofs.CellsLaws.{cells_after_one_more, list_of-with_list, noted_first}
+use Rattle.model.specs.Prefixes.{at_rest, IsCurrent, AreLinked, TellsHistory}
+use Rattle.model.proofs.CellsLaws.{cells_after_one_more, list_of-with_list, noted_first, taken_off_last}
 use Rattle.model.proofs.CommittedLaws.{step_keeps, commit_applies}
 use Rattle.model.proofs.HistoryLaws.{table_after-append, up_to_all, up_to_later, last_number-append}
 use Rattle.model.proofs.RecoveryLaws.{recovered}
-
--- ---- lists of changes
-
-or_false : (b : Bool) → (b || false) ≡ b
-or_false true = refl
-or_false false = refl
-
--- whether one more change is of the place
-touches-append : (xs : List ChangeValue) (c : ChangeValue) (q : Place) → touches (xs ++ c ∷ []) q ≡ (touches xs q || eq_by_cmp rid_cmp q c.rid)
-touches-append [] c q = or_false (eq_by_cmp rid_cmp q c.rid)
-touches-append (d ∷ xs) c q =
-    elim (eq_by_cmp rid_cmp q d.rid) as (λ b. (b || touches (xs ++ c ∷ []) q) ≡ ((b || touches xs q) || eq_by_cmp rid_cmp q c.rid)) [
-      | true ↦ refl
-      | false ↦ touches-append xs c q
-    ]
-
-writes_of-append : (xs : List ChangeValue) (c : ChangeValue) → writes_of (xs ++ c ∷ []) ≡ writes_of xs ++ record { rid = c.rid; row = new_row c.rows } ∷ []
-writes_of-append [] c = refl
-writes_of-append (d ∷ xs) c = ap (λ ws. record { rid = d.rid; row = new_row d.rows } ∷ ws) (writes_of-append xs c)
-
-written_at_last : (xs : List ChangeValue) (c : ChangeValue) (q : Place) (v : Option Row) → written_at (writes_of (xs ++ c ∷ [])) q v ≡ cond (eq_by_cmp rid_cmp q c.rid) (new_row c.rows) (written_at (writes_of xs) q v)
-written_at_last [] c q v = refl
-written_at_last (d ∷ xs) c q v = written_at_last xs c q (cond (eq_by_cmp rid_cmp q d.rid) (new_row d.rows) v)
-
-list_of_other : (pending : Pending) (txn other : ℕ) (xs : List ChangeValue) → other ≢ txn → list_of (with_list pending txn xs) other ≡ list_of pending other
-list_of_other pending txn other xs apart = ap (λ o. unwrap_or o []) (get-set_at_other nat_exact pending txn (some_list xs) other apart)
-
-one_of : (a b : Bool) → (a || b) ≡ true → (P : Type 0) → (a ≡ true → P) → (b ≡ true → P) → P
-one_of true b h P f g = f refl
-one_of false b h P f g = g h
-
-neither : (a b : Bool) → a ≡ false → b ≡ false → (a || b) ≡ false
-neither true b p q = absurd cc
-neither false b p q = q
-
-not_both : {P : Type 0} (b : Bool) → b ≡ true → b ≡ false → P
-not_both true p q = absurd cc
-not_both false p q = absurd cc
-
-by_bool : (P : Type 0) (b : Bool) → (b ≡ true → P) → (b ≡ false → P) → P
-by_bool P true f g = f refl
-by_bool P false f g = g refl
+use Rattle.model.proofs.ListLaws.{touches-append, written_at_last, list_of_other, one_of, neither, not_both, by_bool, linked_one_more, linked_before, linked_last, linked_with}
+use Rattle.model.proofs.UndoLaws.{exclusive_shorter, committed_shorter, current_shorter}
 
 -- ---- a forward step on a row
 
@@ -191,13 +151,15 @@ module _ (table : Table) (base : ℕ) (records : List RecordValue) (items : List
   size = omega (arith, length-append {A = RecordValue} records (r ∷ []))
 
   tells_more : (later : List Item) → AreRising base later → last_number base later ≤ base + length all → ((n : ℕ) → n ≤ base + length records → up_to n later ≡ up_to n items)
-      → IsExclusive (set_by cells r.action).pending → IsCurrent (set_by cells r.action) → IsCommitted (set_by cells r.action).rows (set_by cells r.action).pending (table_after table later)
+      → IsExclusive (set_by cells r.action).pending → IsCurrent (set_by cells r.action) → ((t : ℕ) → AreLinked [] (list_of (set_by cells r.action).pending t))
+      → IsCommitted (set_by cells r.action).rows (set_by cells r.action).pending (table_after table later)
       → TellsHistory table base all later
-  tells_more later rising within before exclusive current committed = record {
+  tells_more later rising within before exclusive current linked committed = record {
     rising = rising;
     within = within;
     exclusive = subst (λ (x : Cells). IsExclusive x.pending) (sym more) exclusive;
     current = subst IsCurrent (sym more) current;
+    linked = subst (λ (x : Cells). (t : ℕ) → AreLinked [] (list_of x.pending t)) (sym more) linked;
     committed = subst (λ (x : Cells). IsCommitted x.rows x.pending (table_after table later)) (sym more) committed;
     prefixes = λ n le. elim (cases_lt (length records) n) [
       | inl whole ↦
@@ -222,6 +184,8 @@ module _ (table : Table) (base : ℕ) (records : List RecordValue) (items : List
       tells_more items tells.rising (omega (arith, tells.within, size)) (λ n le. refl)
       (subst (λ (x : Cells). IsExclusive x.pending) (sym next) (exclusive_later cells.rows cells.pending txn c tells.exclusive held))
       (subst IsCurrent (sym next) (current_later cells.rows cells.pending txn c tells.exclusive held tells.current))
+      (subst (λ (x : Cells). (t : ℕ) → AreLinked [] (list_of x.pending t)) (sym next)
+      (linked_with cells.pending txn (list_of cells.pending txn ++ c ∷ []) tells.linked (linked_one_more [] (list_of cells.pending txn) c (tells.linked txn) (λ v touched. tells.current txn c.rid v touched ∙ was))))
       (subst (λ (x : Cells). IsCommitted x.rows x.pending (table_after table items)) (sym next) (step_keeps cells.rows cells.pending (table_after table items) txn c tells.committed was held))
 
   -- a commit, whose writes are those of its transaction's changes
@@ -234,8 +198,34 @@ module _ (table : Table) (base : ℕ) (records : List RecordValue) (items : List
       tells_more (items ++ item ∷ []) (rising-append base items item tells.rising (omega (arith, tells.within, number))) (omega (arith, last_number-append base items item, number, size)) (λ n le. up_to_later n items item (omega (arith, le, number)))
       (subst (λ (x : Cells). IsExclusive x.pending) (sym next) (exclusive_without cells.rows cells.pending txn tells.exclusive))
       (subst IsCurrent (sym next) (current_without cells.rows cells.pending txn tells.current))
+      (subst (λ (x : Cells). (t : ℕ) → AreLinked [] (list_of x.pending t)) (sym next) (linked_with cells.pending txn [] tells.linked tt))
       (subst (λ (x : Cells). IsCommitted x.rows x.pending (table_after table (items ++ item ∷ []))) (sym next)
       (subst (IsCommitted cells.rows (with_list cells.pending txn [])) (sym later)
+      (commit_applies cells.rows cells.pending (table_after table items) txn tells.committed (tells.exclusive.one_holder txn) (λ q touched. tells.current txn q (map.get (table_after table items) q) touched))))
+
+  -- the last change of a transaction taken back
+  pub undo_step : (txn : ℕ) (xs : List ChangeValue) (c : ChangeValue) → r.action ≡ OfTxn txn (Undo Slot c true) → list_of cells.pending txn ≡ xs ++ c ∷ [] → TellsHistory table base all items
+  undo_step txn xs c is last =
+      let shorter : with_list cells.pending txn (taken_off (list_of cells.pending txn) true) ≡ with_list cells.pending txn xs = ap (with_list cells.pending txn) (ap (λ list. taken_off list true) last ∙ taken_off_last xs c) in
+      let next : set_by cells r.action ≡ record { rows = set_at cells.rows c.rid (old_row c.rows); entries = cells.entries; pending = with_list cells.pending txn xs; life = cells.life } =
+      ap (set_by cells) is ∙ ap (λ (p : Pending). record { rows = set_at cells.rows c.rid (old_row c.rows); entries = cells.entries; pending = p; life = cells.life }) shorter in
+      let linked : AreLinked [] (xs ++ c ∷ []) = subst (AreLinked []) last (tells.linked txn) in
+      tells_more items tells.rising (omega (arith, tells.within, size)) (λ n le. refl)
+      (subst (λ (x : Cells). IsExclusive x.pending) (sym next) (exclusive_shorter cells.rows cells.pending txn xs c tells.exclusive last))
+      (subst IsCurrent (sym next) (current_shorter cells.rows cells.pending txn xs c tells.exclusive last tells.current (linked_last [] xs c linked)))
+      (subst (λ (x : Cells). (t : ℕ) → AreLinked [] (list_of x.pending t)) (sym next) (linked_with cells.pending txn xs tells.linked (linked_before [] xs c linked)))
+      (subst (λ (x : Cells). IsCommitted x.rows x.pending (table_after table items)) (sym next) (committed_shorter cells.rows cells.pending txn xs c tells.exclusive last (table_after table items) tells.committed))
+
+  -- the end of a transaction that has nothing left to take back
+  pub end_step : (txn : ℕ) → r.action ≡ OfTxn txn End → list_of cells.pending txn ≡ [] → TellsHistory table base all items
+  end_step txn is none =
+      let next : set_by cells r.action ≡ record { rows = cells.rows; entries = cells.entries; pending = with_list cells.pending txn []; life = cells.life } = ap (set_by cells) is in
+      tells_more items tells.rising (omega (arith, tells.within, size)) (λ n le. refl)
+      (subst (λ (x : Cells). IsExclusive x.pending) (sym next) (exclusive_without cells.rows cells.pending txn tells.exclusive))
+      (subst IsCurrent (sym next) (current_without cells.rows cells.pending txn tells.current))
+      (subst (λ (x : Cells). (t : ℕ) → AreLinked [] (list_of x.pending t)) (sym next) (linked_with cells.pending txn [] tells.linked tt))
+      (subst (λ (x : Cells). IsCommitted x.rows x.pending (table_after table items)) (sym next)
+      (subst (λ list. IsCommitted cells.rows (with_list cells.pending txn []) (applied (table_after table items) (writes_of list))) none
       (commit_applies cells.rows cells.pending (table_after table items) txn tells.committed (tells.exclusive.one_holder txn) (λ q touched. tells.current txn q (map.get (table_after table items) q) touched))))
 
 -- ---- no record
@@ -253,6 +243,7 @@ at_first table base = record {
   within = omega arith;
   exclusive = record { one_holder = λ txn q touched. not_both (touches (list_of map.empty txn) q) touched (none_touched txn q) };
   current = λ txn q v touched. not_both (touches (list_of map.empty txn) q) touched (none_touched txn q);
+  linked = λ txn. subst (AreLinked []) (sym (no_list txn)) tt;
   committed = committed;
   prefixes = λ n le. ap (λ rs. recovered_rows (cells_after (at_rest table) rs)) (no_take n) ∙ recovered map.empty table table exclusive committed;
 }

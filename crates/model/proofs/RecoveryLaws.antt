@@ -77,6 +77,10 @@ module _ (pending : Pending) where
   named [] found = tt
   named (e ∷ part) found = (ap (λ o. unwrap_or o []) (map.get-entries pending e.0 ∙ found.0), named part found.1)
 
+  -- so is each entry, under its transaction's number
+  pub each_named : AllByRecursion (λ e. list_of pending e.0 ≡ e.1) (map.entries pending)
+  each_named = named (map.entries pending) (each_found (map.entries pending) (map.entries_sorted pending))
+
   others : (q : Place) (k : ℕ) (part : Lists) → T (below_all nat_cmp k part) → AreNamed part → IsHeldByNoOther pending k q → NoneTouches q part
   others q k [] below names alone = tt
   others q k (e ∷ part) below names alone = (

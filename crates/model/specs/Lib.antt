@@ -6,4 +6,5 @@ pub mod Committed
 pub mod Lists
 pub mod Recovery
 pub mod Prefixes
+pub mod Following
 pub mod Redo

@@ -1,14 +1,16 @@
 //! Redo, the plain slow way.
-ghost use Rattle.std.specs.Prelude.{◌≡◌, OnOk, IfOk};
+ghost use Rattle.std.specs.Prelude.{◌≡◌, ◌↔◌, IsTrue, OnOk, IfOk};
 ghost use Rattle.std.specs.FinMap as map;
-ghost use Rattle.model.specs.Redo.{cells_of};
+ghost use Rattle.model.specs.Redo.{cells_of, IsRedone};
 ghost use Rattle.model.specs.Cells.{set_by, cells_after};
+ghost use Rattle.model.specs.Following.{CanFollow, CanFollowBy, CanFollowTxn};
+ghost use Rattle.model.specs.Recovery.{recovered_rows};
 
 use crate::entry_map::EntryMap;
 use crate::life::Life;
 use crate::list_map::ListMap;
 use crate::row_map::RowMap;
-use records::{Action, Record};
+use records::{Action, Record, Txn, TxnAction};
 use std::alloc::{AllocError, Global};
 
 /// All cells.
@@ -18,6 +20,15 @@ pub struct CellMaps {
     pub entries: EntryMap,
     pub lists: ListMap,
     pub life: Life,
+}
+
+/// What became of records that were redone as long as each could follow the one before.
+#[derive(Drop)]
+pub enum Redone {
+    /// All of them: the cells that they left.
+    All(CellMaps),
+    /// The record at this index, from 0, is the first that can't follow.
+    Unfit(usize),
 }
 
 impl CellMaps {
@@ -51,5 +62,70 @@ impl CellMaps {
             self.redo_one(alloc, &record.action)?;
         }
         Ok(self)
+    }
+
+    fn allows_txn(&self, pages: u32, txn: Txn, action: &TxnAction) -> bool
+        ensures { IsTrue result ↔ CanFollowTxn pages (cells_of self.now) txn action.now }
+    {
+        match action {
+            TxnAction::Forward { part, change } => {
+                change.rid.page < pages
+                    && self.life.allows_part(*part)
+                    && self.lists.allows(txn, change)
+                    && self.lists.has_room(txn)
+            }
+            TxnAction::Undo { part, change, .. } => {
+                change.rid.page < pages
+                    && self.life.allows_part(*part)
+                    && self.lists.ends_with(txn, change)
+            }
+            TxnAction::Commit | TxnAction::End => true,
+        }
+    }
+
+    fn allows(&self, pages: u32, action: &Action) -> bool
+        ensures { IsTrue result ↔ CanFollowBy pages (cells_of self.now) action.now }
+    {
+        match action {
+            Action::OfTxn { txn, action } => self.allows_txn(pages, *txn, action),
+            Action::OfIndex { action } => self.life.allows(pages, action),
+        }
+    }
+
+    /// Whether, in a store of so many pages, this record can follow the record `last`, which left these cells.
+    pub fn can_follow(&self, pages: u32, last: u64, next: &Record) -> bool
+        ensures { IsTrue result ↔ CanFollow pages last (cells_of self.now) next.now }
+    {
+        next.number.get() - 1 == last && self.allows(pages, &next.action)
+    }
+
+    /// Redoes these records, the first of them first, as long as each can follow the one before, in a store of so many
+    /// pages. The record `last` left these cells.
+    pub fn follow(
+        mut self,
+        alloc: Global,
+        pages: u32,
+        last: u64,
+        records: &[Record],
+    ) -> Result<Redone, AllocError>
+        ensures { IfOk result (IsRedone pages last (cells_of self) records.now) }
+    {
+        let mut before = last;
+        for (index, record) in records.iter().enumerate() {
+            if !self.can_follow(pages, before, record) {
+                return Ok(Redone::Unfit(index));
+            }
+            self.redo_one(alloc, &record.action)?;
+            before = record.number.get();
+        }
+        Ok(Redone::All(self))
+    }
+
+    /// The rows with every unfinished transaction taken back, in the order of their numbers.
+    pub fn recover(self) -> Result<RowMap, AllocError>
+        ensures { IfOk result (λ rows. rows ≡ recovered_rows (cells_of self)) }
+    {
+        let CellMaps { rows, lists, .. } = self;
+        lists.take_back(rows)
     }
 }

@@ -14,9 +14,10 @@ ghost use Rattle.model.specs.Committed.{IsCommitted, IsHeldByNoOther, touches, w
 ghost use Rattle.model.specs.Recovery.{IsExclusive, recovered_rows};
 ghost use Rattle.model.specs.Prefixes.{TellsHistory, at_rest};
 ghost use Rattle.records.specs.declared.record.Action.TheVariants.{OfTxn};
-ghost use Rattle.records.specs.declared.record.TxnAction.TheVariants.{Forward, Commit};
+ghost use Rattle.records.specs.declared.record.TxnAction.TheVariants.{Forward, Undo, Commit, End};
 ghost use Rattle.records.specs.declared.record.Part.TheVariants.{Slot};
 ghost use Rattle.model.specs.Cells.{Cells, cells_after, rows_after, set_by, reverted, changed, AreChanges, Pending, list_of, with_list, noted, taken_off};
+ghost use Rattle.model.specs.Following.{CanFollow, AreFollowing, ArePlaced, IsFirstUnfit, IsWithin};
 ghost use Rattle.model.specs.History.{Item, Committed, Stage, table_after, table_with, stage_after, stage_with, up_to, AreRising, last_number};
 
 /// A record after others sets its cells last.
@@ -79,7 +80,8 @@ pub fn recovery()
 {}
 
 /// The history that records tell goes on by a forward step on a row, which
-/// found the row that was there, and by a commit.
+/// found the row that was there, by a commit, by the undo of a transaction's
+/// last change, and by the end of a transaction that has no change left.
 pub fn told_history()
     ensures first { (table : Table) (base : ℕ) → TellsHistory table base [] [] }
     ensures row { (table : Table) (base : ℕ) (records : List RecordValue) (items : List Item) (r : RecordValue) (txn : ℕ) (c : ChangeValue) → TellsHistory table base records items
@@ -88,4 +90,30 @@ pub fn told_history()
     ensures commit { (table : Table) (base : ℕ) (records : List RecordValue) (items : List Item) (r : RecordValue) (txn : ℕ) → TellsHistory table base records items
         → r.action ≡ OfTxn txn Commit → r.number ≡ base + length records + 1
         → TellsHistory table base (records ++ r ∷ []) (items ++ record { number = r.number; deed = Committed (writes_of (list_of (cells_after (at_rest table) records).pending txn)) } ∷ []) }
+    ensures undo { (table : Table) (base : ℕ) (records : List RecordValue) (items : List Item) (r : RecordValue) (txn : ℕ) (changes : List ChangeValue) (c : ChangeValue) → TellsHistory table base records items
+        → r.action ≡ OfTxn txn (Undo Slot c true) → list_of (cells_after (at_rest table) records).pending txn ≡ changes ++ c ∷ [] → TellsHistory table base (records ++ r ∷ []) items }
+    ensures end { (table : Table) (base : ℕ) (records : List RecordValue) (items : List Item) (r : RecordValue) (txn : ℕ) → TellsHistory table base records items
+        → r.action ≡ OfTxn txn End → list_of (cells_after (at_rest table) records).pending txn ≡ [] → TellsHistory table base (records ++ r ∷ []) items }
+{}
+
+/// Records follow one another where each part of them does, behind what the parts before it left, and not where one
+/// is the first that can't. The changes on the lists then have their positions, and pages of the store.
+pub fn following_records()
+    ensures last { (pages last : ℕ) (cells : Cells) (records : List RecordValue) (r : RecordValue) → AreFollowing pages last cells records
+        → CanFollow pages (last + length records) (cells_after cells records) r → AreFollowing pages last cells (records ++ r ∷ []) }
+    ensures prefix { (pages last : ℕ) (cells : Cells) (records : List RecordValue) (n : ℕ) → AreFollowing pages last cells records → AreFollowing pages last cells (take n records) }
+    ensures joined { (pages last : ℕ) (cells : Cells) (records later : List RecordValue) → AreFollowing pages last cells records
+        → AreFollowing pages (last + length records) (cells_after cells records) later → AreFollowing pages last cells (records ++ later) }
+    ensures earlier { (pages last : ℕ) (cells : Cells) (records later : List RecordValue) → AreFollowing pages last cells (records ++ later) → AreFollowing pages last cells records }
+    ensures later { (pages last : ℕ) (cells : Cells) (records later : List RecordValue) → AreFollowing pages last cells (records ++ later)
+        → AreFollowing pages (last + length records) (cells_after cells records) later }
+    ensures unfit { (pages last : ℕ) (cells : Cells) (records : List RecordValue) (n : ℕ) → IsFirstUnfit pages last cells records n → ¬ AreFollowing pages last cells records }
+    ensures placed { (pages last : ℕ) (cells : Cells) (records : List RecordValue) → AreFollowing pages last cells records
+        → ((txn : ℕ) → ArePlaced pages 0 (list_of cells.pending txn)) → (txn : ℕ) → ArePlaced pages 0 (list_of (cells_after cells records).pending txn) }
+    ensures first { (pages last : ℕ) (cells : Cells) (records : List RecordValue) (m n : ℕ) → IsFirstUnfit pages last cells records m → IsFirstUnfit pages last cells records n → m ≡ n }
+{}
+
+/// What a restart makes of records that follow one another over no rows is in the store's pages.
+pub fn recovered_places()
+    ensures { (pages last : ℕ) (records : List RecordValue) → AreFollowing pages last (at_rest map.empty) records → IsWithin pages (recovered_rows (cells_after (at_rest map.empty) records)) }
 {}

@@ -11,12 +11,13 @@ mod list_map;
 mod row_map;
 mod write;
 
-pub use cell_maps::CellMaps;
+pub use cell_maps::{CellMaps, Redone};
 pub use entry_map::EntryMap;
 pub use key_action::{KeyAction, after_action};
 pub use laws::{
-    commit_order, committed_table, listed_changes, one_more_change, one_more_item, one_more_record,
-    recovery, set_is_there, told_history, unfinished_changes,
+    commit_order, committed_table, following_records, listed_changes, one_more_change,
+    one_more_item, one_more_record, recovered_places, recovery, set_is_there, told_history,
+    unfinished_changes,
 };
 pub use life::Life;
 pub use list_map::ListMap;

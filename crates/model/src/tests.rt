@@ -84,6 +84,44 @@ fn an_update_taken_back(rt: HostRuntime) -> Result<(), Fail> {
     Ok(())
 }
 
+// Transaction 1 inserts this row, as record `n`.
+fn insertion(n: u64, new: Row) -> Result<Record, Fail> {
+    let rows = Rows::Inserted { new };
+    let change = Change {
+        position: 0,
+        rid: FIRST,
+        rows,
+    };
+    let part = Part::Slot;
+    Ok(Record {
+        number: number(n)?,
+        action: Action::OfTxn {
+            txn: Txn::new(1).ok_or("a transaction")?,
+            action: TxnAction::Forward { part, change },
+        },
+    })
+}
+
+// An insertion is taken back, unless the number behind it is left out.
+#[test]
+fn records_followed(rt: HostRuntime) -> Result<(), Fail> {
+    let there = row(b"p", b"1")?;
+    let records = [insertion(8, there)?, insertion(9, there)?];
+    match CellMaps::new(rt.alloc()).follow(rt.alloc(), 1, 7, &records)? {
+        Redone::All(cells) => {
+            assert_eq!(rt; cells.rows.get(FIRST), Some(there));
+            assert_eq!(rt; cells.recover()?.get(FIRST), None);
+        }
+        Redone::Unfit(_) => return Err("records that follow")?,
+    }
+    let records = [insertion(8, there)?, insertion(10, there)?];
+    match CellMaps::new(rt.alloc()).follow(rt.alloc(), 1, 7, &records)? {
+        Redone::Unfit(index) => assert_eq!(rt; index, 1),
+        Redone::All(_) => return Err("a record that can't follow")?,
+    }
+    Ok(())
+}
+
 #[test]
 fn a_commit_of_two_writes(rt: HostRuntime) -> Result<(), Fail> {
     let there = Some(row(b"p", b"1")?);

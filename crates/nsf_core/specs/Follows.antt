@@ -7,6 +7,7 @@ use Rattle.model.specs.Table.{Table}
 use Rattle.model.specs.Cells.{Cells, Pending, cells_after, with_list}
 use Rattle.model.specs.History.{Item}
 use Rattle.model.specs.Prefixes.{at_rest, TellsHistory}
+use Rattle.model.specs.Following.{AreFollowing}
 use Rattle.txn_table.specs.Table.{TxnState}
 use Rattle.nsf_core.specs.State.{State}
 
@@ -19,10 +20,11 @@ pending_of (txn ∷ txns) = with_list (pending_of txns) txn.0 txn.1.changes
 abbrev pub cells_of : State → Cells
 cells_of s = record { rows = s.heap.rows; entries = map.empty; pending = pending_of s.txns.active; life = Absent }
 
--- The core has made these records since the record `base`, over a table: they set what it holds.
+-- The core has made these records since the record `base`, over a table: they set what it holds, and each can follow the one before.
 pub record Follows (table : Table) (base : ℕ) (made : List RecordValue) (s : State) : Type 0 where
   pub last : s.last ≡ base + length made
   pub cells : cells_after (at_rest table) made ≡ cells_of s
+  pub in_order : AreFollowing s.heap.pages base (at_rest table) made
 
 -- The core has made these records, and they tell this history.
 pub record HasMade (table : Table) (base : ℕ) (made : List RecordValue) (items : List Item) (s : State) : Type 0 where

@@ -1,3 +1,4 @@
+pub mod Changes
 pub mod State
 pub mod Refusals
 pub mod Follows

@@ -7,7 +7,7 @@ mod laws;
 mod store;
 
 pub use laws::each_step;
-pub use store::{Core, Ticket};
+pub use store::{Core, Ticket, Undone};
 
 #[cfg(test)]
 mod tests;

@@ -1,13 +1,15 @@
 //! Rows, transactions, and the records of what they did.
-ghost use Rattle.std.specs.Prelude.{◌≡◌, ◌<◌, ◌≤◌, ◌+◌, [], length, false, Some, None, IfOk, IfErr, OnOk};
+ghost use Rattle.std.specs.Prelude.{◌≡◌, ◌<◌, ◌≤◌, ◌+◌, ◌↔◌, [], length, true, false, Some, None, IsTrue, IfOk, IfErr, OnOk, option_and_then};
+ghost use Rattle.std.specs.Option.{option_or};
 ghost use Rattle.std.specs.FinMap as map;
 ghost use Rattle.records.specs.declared.number.TheConstants.{LAST_NUMBER};
+ghost use Rattle.nsf_core.specs.Changes.{EachIsInside};
 
 use heap_pages::Heap;
 use model::Life;
 use records::{
-    Action, Body, CHANGES_MAX, Change, Error, Geometry, Key, LAST_NUMBER, Part, Record,
-    RecordNumber, Rid, Row, Rows, Sink, Txn, TxnAction,
+    Action, Body, Change, Error, Geometry, Key, LAST_NUMBER, Part, Record, RecordNumber, Rid, Row,
+    Rows, Sink, Txn, TxnAction,
 };
 use std::alloc::Allocator;
 use std::collections::VecDeque;
@@ -20,6 +22,13 @@ pub struct Ticket {
     pub record: RecordNumber,
 }
 
+/// What a step of an undo did: it took a change back, or there was none left.
+#[derive(Clone, Copy, Debug, PartialEq, Eq)]
+pub enum Undone {
+    Step,
+    Empty,
+}
+
 /// The rows and the active transactions. A record of each accepted step waits
 /// in the outbox until it is handed out.
 #[derive(Drop)]
@@ -29,13 +38,15 @@ pub struct Core<A: Allocator> {
     last: u64,
     outbox: VecDeque<Record, A>,
     ghost numbered: { last ≤ LAST_NUMBER },
+    ghost inside: { EachIsInside heap.pages txns.active },
 }
 
 impl<A: Allocator + Copy> Core<A> {
+    ghost use Rattle.heap_pages.specs.Pages.{IsInside};
     ghost use Rattle.txn_table.specs.Table as table;
     ghost use Rattle.txn_table.specs.Sound.{IsSound};
-    ghost use Rattle.nsf_core.specs.State.{state_of, fresh, with_row, changes_of, begun, inserted, committed, HandsOut};
-    ghost use Rattle.nsf_core.specs.Refusals.{IsRefusedBy, is_active, begin_refusal, commit_refusal, number_refusal, IsInsertRefusal, CanInsert};
+    ghost use Rattle.nsf_core.specs.State.{state_of, fresh, with_row, with_record, changes_of, next_change, begun, changed, inserted, deleted, updated, undone, without, committed, ended, IsUndone, HandsOut};
+    ghost use Rattle.nsf_core.specs.Refusals.{IsRefusedBy, is_active, is_rolling, is_ready, begin_refusal, commit_refusal, number_refusal, no_row_refusal, row_refusal, IsInsertRefusal, IsUndoRefusal, CanInsert, CanChange};
 
     /// No row and no transaction. The next record has the number after `base`.
     /// The memory of all pages is taken here; the one error is `NoMemory`.
@@ -73,11 +84,37 @@ impl<A: Allocator + Copy> Core<A> {
         self.txns.begin()
     }
 
-    /// Whether the transaction may begin a change or commit.
+    /// Whether the transaction may begin a change or commit: it is active, and
+    /// not rolling back.
     pub fn ready(&self, txn: Txn) -> bool
-        ensures { result ≡ is_active (state_of self.now) txn }
+        ensures { result ≡ is_ready (state_of self.now) txn }
     {
-        self.txns.is_active(txn)
+        self.txns.is_active(txn) && !self.txns.is_rolling_back(txn)
+    }
+
+    /// Whether the transaction is active and rolling back: an undo of it began.
+    pub fn is_rolling_back(&self, txn: Txn) -> bool
+        ensures { result ≡ is_rolling (state_of self.now) txn }
+    {
+        self.txns.is_rolling_back(txn)
+    }
+
+    /// Whether the transaction has begun a change whose steps are not all made.
+    /// While there is no index, a change is one step, so none has.
+    pub fn owes(&self, _txn: Txn) -> bool
+        ensures { result ≡ false }
+    {
+        false
+    }
+
+    /// Whether no change of the transaction is left to take back.
+    pub fn may_end(&self, txn: Txn) -> bool
+        ensures { IsTrue result ↔ (changes_of (state_of self.now) txn ≡ []) }
+    {
+        match self.txns.changes(txn) {
+            Some(changes) => changes.is_empty(),
+            None => true,
+        }
     }
 
     /// Inserts a row at the least place that is empty and held by nobody, the
@@ -87,6 +124,7 @@ impl<A: Allocator + Copy> Core<A> {
     /// where there is no such place, `Exhausted` where no number is left for a
     /// record, and `NoMemory`. After a refusal the core is as before.
     pub fn start_insert(&mut self, txn: Txn, key: Key, body: Body) -> Result<Rid, Error>
+        requires { is_rolling (state_of self.old) txn ≡ false }
         ensures ok { IfOk result (λ rid. CanInsert (state_of self.old) txn rid
             × (state_of self.new ≡ inserted (state_of self.old) txn rid (record { key = key; body = body }))) }
         ensures err { IfErr result (λ e. IsInsertRefusal (state_of self.old) txn e × (state_of self.new ≡ state_of self.old)) }
@@ -95,8 +133,65 @@ impl<A: Allocator + Copy> Core<A> {
         self.txns.check_change(txn)?;
         let rid = self.heap.least_free(self.txns.held_rows())?;
         let number = self.next_number()?;
-        self.make_change(number, txn, rid, &Row { key, body })?;
+        let new = Row { key, body };
+        let change = self.next_change(txn, rid, Rows::Inserted { new });
+        self.make_change(number, txn, change)?;
         Ok(rid)
+    }
+
+    /// Deletes the row at the place.
+    ///
+    /// `NoSuchTxn`, then `TooManyChanges` where 64 are on its list, `RowBusy`
+    /// where another active transaction holds the row, `NoSuchRow` where there is
+    /// none, `Exhausted` where no number is left for a record, and `NoMemory`.
+    /// After a refusal the core is as before.
+    pub fn start_delete(&mut self, txn: Txn, rid: Rid) -> Result<(), Error>
+        requires { is_rolling (state_of self.old) txn ≡ false }
+        ensures ok { OnOk result ((old : Row) × CanChange (state_of self.old) txn rid old × (state_of self.new ≡ deleted (state_of self.old) txn rid old)) }
+        ensures err { IfErr result (λ e. IsRefusedBy (row_refusal (state_of self.old) txn rid) e × (state_of self.new ≡ state_of self.old)) }
+        ensures sound { OnOk result (IsSound (state_of self.old).txns) }
+    {
+        let old = self.row_to_change(txn, rid)?;
+        let number = self.next_number()?;
+        let change = self.next_change(txn, rid, Rows::Deleted { old });
+        self.make_change(number, txn, change)
+    }
+
+    /// Puts another row in place of the row at the place.
+    ///
+    /// The refusals are those of `start_delete`.
+    pub fn start_update(&mut self, txn: Txn, rid: Rid, key: Key, body: Body) -> Result<(), Error>
+        requires { is_rolling (state_of self.old) txn ≡ false }
+        ensures ok { OnOk result ((old : Row) × CanChange (state_of self.old) txn rid old × (state_of self.new ≡ updated (state_of self.old) txn rid old (record { key = key; body = body }))) }
+        ensures err { IfErr result (λ e. IsRefusedBy (row_refusal (state_of self.old) txn rid) e × (state_of self.new ≡ state_of self.old)) }
+        ensures sound { OnOk result (IsSound (state_of self.old).txns) }
+    {
+        let old = self.row_to_change(txn, rid)?;
+        let number = self.next_number()?;
+        let new = Row { key, body };
+        let change = self.next_change(txn, rid, Rows::Updated { old, new });
+        self.make_change(number, txn, change)
+    }
+
+    /// Takes the transaction's last change back, or answers that none is left.
+    /// The row stays held. From the first call on the transaction is rolling
+    /// back: it makes no change and doesn't commit.
+    ///
+    /// `NoSuchTxn`, and where a change is left `Exhausted`, where no number is
+    /// left for a record, and `NoMemory`. After a refusal the core is as before.
+    pub fn undo_step(&mut self, txn: Txn) -> Result<Undone, Error>
+        ensures known { OnOk result (is_active (state_of self.old) txn ≡ true) }
+        ensures ok { IfOk result (λ undone. IsUndone (state_of self.old) txn undone (state_of self.new)) }
+        ensures err { IfErr result (λ e. IsUndoRefusal (state_of self.old) txn e × (state_of self.new ≡ state_of self.old)) }
+    {
+        self.check_active(txn)?;
+        let Some(change) = self.txns.newest(txn) else {
+            self.txns.pop_undo(txn);
+            return Ok(Undone::Empty);
+        };
+        let number = self.next_number()?;
+        self.take_back(number, txn, change)?;
+        Ok(Undone::Step)
     }
 
     /// Commits the transaction, which is then no longer active.
@@ -104,21 +199,31 @@ impl<A: Allocator + Copy> Core<A> {
     /// `NoSuchTxn`, then `Exhausted` where no number is left for a record, and
     /// `NoMemory`. After a refusal the core is as before.
     pub fn commit(&mut self, txn: Txn) -> Result<Ticket, Error>
+        requires { is_rolling (state_of self.old) txn ≡ false }
         ensures ticket { IfOk result (λ ticket. ticket.record ≡ (state_of self.old).last + 1) }
         ensures ok { OnOk result ((commit_refusal (state_of self.old) txn ≡ None) × (state_of self.new ≡ committed (state_of self.old) txn)) }
         ensures over { OnOk result (is_active (state_of self.new) txn ≡ false) }
         ensures err { IfErr result (λ e. IsRefusedBy (commit_refusal (state_of self.old) txn) e × (state_of self.new ≡ state_of self.old)) }
     {
-        if !self.txns.is_active(txn) {
-            return Err(Error::NoSuchTxn);
-        }
+        self.check_active(txn)?;
         let number = self.next_number()?;
-        self.outbox.push_back(commit_of(number, txn))?;
-        let Ok(()) = self.txns.end(txn) else {
-            unreachable!()
-        };
-        self.last += 1;
+        self.close(txn, commit_of(number, txn))?;
         Ok(Ticket { record: number })
+    }
+
+    /// Ends a transaction that has no change left, which is then no longer
+    /// active.
+    ///
+    /// The refusals are those of `commit`.
+    pub fn end(&mut self, txn: Txn) -> Result<(), Error>
+        requires { changes_of (state_of self.old) txn ≡ [] }
+        ensures ok { OnOk result ((commit_refusal (state_of self.old) txn ≡ None) × (state_of self.new ≡ ended (state_of self.old) txn)) }
+        ensures over { OnOk result (is_active (state_of self.new) txn ≡ false) }
+        ensures err { IfErr result (λ e. IsRefusedBy (commit_refusal (state_of self.old) txn) e × (state_of self.new ≡ state_of self.old)) }
+    {
+        self.check_active(txn)?;
+        let number = self.next_number()?;
+        self.close(txn, end_of(number, txn))
     }
 
     /// Hands the waiting records out, in order. A record that the sink refuses
@@ -158,27 +263,77 @@ impl<A: Allocator + Copy> Core<A> {
     }
 
     // Notes the change, sets its row, and makes the record of it.
-    fn make_change(
-        &mut self,
-        number: RecordNumber,
-        txn: Txn,
-        rid: Rid,
-        row: &Row,
-    ) -> Result<(), Error>
+    fn make_change(&mut self, number: RecordNumber, txn: Txn, change: Change) -> Result<(), Error>
         requires number { number ≡ (state_of self.old).last + 1 }
-        requires allowed { CanInsert (state_of self.old) txn rid }
-        ensures ok { OnOk result (state_of self.new ≡ inserted (state_of self.old) txn rid row.now) }
+        requires allowed { table.touch_refusal txn change.rid (state_of self.old).txns.active ≡ None }
+        requires position { change.position ≡ length (changes_of (state_of self.old) txn) }
+        requires inside { change.rid.page < (state_of self.old).heap.pages }
+        ensures ok { OnOk result (state_of self.new ≡ changed (state_of self.old) txn change) }
         ensures err { IfErr result (λ e. (e ≡ Error.NoMemory) × (state_of self.new ≡ state_of self.old)) }
         ensures sound { OnOk result (IsSound (state_of self.old).txns) }
     {
-        let change = insertion(self.next_position(txn), rid, row);
         self.outbox.push_back(forward_row(number, txn, change))?;
         if let Err(error) = self.txns.note(txn, change) {
             self.outbox.pop_back();
             return Err(error);
         }
-        self.heap.set(rid, Some(*row));
+        self.heap.set(change.rid, change.rows.new());
         self.last += 1;
+        Ok(())
+    }
+
+    // Takes the transaction's last change off its list, sets the row that it
+    // found, and makes the record of that.
+    fn take_back(&mut self, number: RecordNumber, txn: Txn, change: Change) -> Result<(), Error>
+        requires number { number ≡ (state_of self.old).last + 1 }
+        requires last { option_and_then table.last_change (table.state_of txn (state_of self.old).txns.active) ≡ Some change }
+        ensures ok { OnOk result (state_of self.new ≡ undone (state_of self.old) txn change) }
+        ensures err { IfErr result (λ e. (e ≡ Error.NoMemory) × (state_of self.new ≡ state_of self.old)) }
+    {
+        self.outbox.push_back(undo_row(number, txn, change))?;
+        self.txns.pop_undo(txn);
+        self.heap.set(change.rid, change.rows.old());
+        self.last += 1;
+        Ok(())
+    }
+
+    // Ends the transaction by this record.
+    fn close(&mut self, txn: Txn, by: Record) -> Result<(), Error>
+        requires active { is_active (state_of self.old) txn ≡ true }
+        requires number { by.number ≡ (state_of self.old).last + 1 }
+        ensures ok { OnOk result (state_of self.new ≡ with_record (without (state_of self.old) txn) by.action) }
+        ensures over { OnOk result (is_active (state_of self.new) txn ≡ false) }
+        ensures err { IfErr result (λ e. (e ≡ Error.NoMemory) × (state_of self.new ≡ state_of self.old)) }
+    {
+        self.outbox.push_back(by)?;
+        let Ok(()) = self.txns.end(txn) else {
+            unreachable!()
+        };
+        self.last += 1;
+        Ok(())
+    }
+
+    // The row at a place, which the transaction may change.
+    fn row_to_change(&self, txn: Txn, rid: Rid) -> Result<Row, Error>
+        ensures allowed { OnOk result (table.touch_refusal txn rid (state_of self.now).txns.active ≡ None) }
+        ensures inside { OnOk result (IsInside (state_of self.now).heap rid) }
+        ensures there { IfOk result (λ row. map.get (state_of self.now).heap.rows rid ≡ Some row) }
+        ensures err { IfErr result (λ e. option_or (table.touch_refusal txn rid (state_of self.now).txns.active) (no_row_refusal (map.get (state_of self.now).heap.rows rid)) ≡ Some e) }
+    {
+        self.txns.check_touch(txn, rid)?;
+        if rid.page >= self.heap.pages() {
+            return Err(Error::NoSuchRow);
+        }
+        self.get(rid).ok_or(Error::NoSuchRow)
+    }
+
+    fn check_active(&self, txn: Txn) -> Result<(), Error>
+        ensures ok { OnOk result (is_active (state_of self.now) txn ≡ true) }
+        ensures err { IfErr result (λ e. (e ≡ Error.NoSuchTxn) × (is_active (state_of self.now) txn ≡ false)) }
+    {
+        if !self.txns.is_active(txn) {
+            return Err(Error::NoSuchTxn);
+        }
         Ok(())
     }
 
@@ -193,28 +348,20 @@ impl<A: Allocator + Copy> Core<A> {
         RecordNumber::new(self.last + 1).ok_or(Error::Exhausted)
     }
 
-    // The position of the next change of a transaction that may make one.
-    fn next_position(&self, txn: Txn) -> u8
+    // The next change of a transaction that may make one.
+    fn next_change(&self, txn: Txn, rid: Rid, rows: Rows) -> Change
         requires { table.change_refusal txn (state_of self.now).txns.active ≡ None }
-        ensures value { result ≡ length (changes_of (state_of self.now) txn) }
-        ensures room { result < CHANGES_MAX }
+        ensures { result ≡ next_change (state_of self.now) txn rid rows }
     {
-        match self.txns.changes(txn) {
+        let position = match self.txns.changes(txn) {
             Some(changes) => changes.len() as u8,
             None => 0,
+        };
+        Change {
+            position,
+            rid,
+            rows,
         }
-    }
-}
-
-fn insertion(position: u8, rid: Rid, row: &Row) -> Change
-    requires { position < CHANGES_MAX }
-    ensures { result ≡ record { position = position; rid = rid; rows = Rows.Inserted row.now } }
-{
-    let rows = Rows::Inserted { new: *row };
-    Change {
-        position,
-        rid,
-        rows,
     }
 }
 
@@ -227,10 +374,28 @@ fn forward_row(number: RecordNumber, txn: Txn, change: Change) -> Record
     Record { number, action }
 }
 
+fn undo_row(number: RecordNumber, txn: Txn, change: Change) -> Record
+    ensures { result ≡ record { number = number; action = Action.OfTxn txn (TxnAction.Undo Part.Slot change true) } }
+{
+    let part = Part::Slot;
+    let last = true;
+    let action = TxnAction::Undo { part, change, last };
+    let action = Action::OfTxn { txn, action };
+    Record { number, action }
+}
+
 fn commit_of(number: RecordNumber, txn: Txn) -> Record
     ensures { result ≡ record { number = number; action = Action.OfTxn txn TxnAction.Commit } }
 {
     let action = TxnAction::Commit;
+    let action = Action::OfTxn { txn, action };
+    Record { number, action }
+}
+
+fn end_of(number: RecordNumber, txn: Txn) -> Record
+    ensures { result ≡ record { number = number; action = Action.OfTxn txn TxnAction.End } }
+{
+    let action = TxnAction::End;
     let action = Action::OfTxn { txn, action };
     Record { number, action }
 }

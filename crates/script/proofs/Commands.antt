@@ -3,6 +3,7 @@ use Rattle.std.specs.Prelude.{codes}
 use Rattle.std.proofs.Common.{◌≡◌, ℕ, ◌^◌, ◌<◌, ◌≤◌, true, false, cond, ltb, eqb, List, [], ◌∷◌, ◌++◌, Some, None, refl, sym, ap, subst, ◌∙◌, arith, inl, inr}
 use Rattle.std.specs.Fmt.{decimal}
 use Rattle.std.specs.List.{join_with_byte}
+use Rattle.std.specs.Option.{option_map}
 use Rattle.std.proofs.lemmas.List.Splits.{join_with_byte-slice_split, slice_split_at, slice_split_none}
 use Rattle.std.proofs.lemmas.Bool.{ltb-true, lt-ltb, both_ways}
 use Rattle.records.specs.Values.{Place}
@@ -10,10 +11,10 @@ use Rattle.records.specs.declared.rid.TheConstants.{SLOTS_PER_PAGE}
 use Rattle.script.specs.declared.fate.Fate.{Fate}
 use Rattle.script.specs.declared.fate.Fate.TheVariants.{Old, New, Zero, Gate, Junk}
 use Rattle.script.specs.declared.command.Command.{Command}
-use Rattle.script.specs.declared.command.Command.TheVariants.{Begin, Insert, Commit, Flush, Crash, Get, Dump}
+use Rattle.script.specs.declared.command.Command.TheVariants.{Begin, Insert, Delete, Update, Step, Undo, End, Commit, Flush, Crash, Get, Dump}
 use Rattle.script.specs.Grammar.{rid_text, parted_by, words, is_left_out, IsTxn, IsRid, fate_name, Spell, IsLineOf, IsGood}
-use Rattle.script.specs.Reading.{◌>>=◌, only, first_three, number_at, txn_at, place_at, rid_at, text_at, fate_at, alone_at, insert_at, commit_at, crash_at, get_at, command_at}
-use Rattle.script.proofs.Steps.{bind_some, passed, passed_not, some_is, by_name}
+use Rattle.script.specs.Reading.{◌>>=◌, only, first_two, first_three, first_four, number_at, txn_at, place_at, rid_at, text_at, fate_at, alone_at, insert_at, delete_at, update_at, only_txn_at, crash_at, get_at, command_at}
+use Rattle.script.proofs.Steps.{bind_some, mapped, passed, passed_not, some_is, by_name}
 use Rattle.script.proofs.Numbers.{number_takes, number_again, no_such_byte}
 use Rattle.script.proofs.Texts.{text_takes, text_again}
 
@@ -92,12 +93,25 @@ fate_again Junk = refl
 abbrev one_word : List ℕ → List (List ℕ)
 one_word w = w ∷ []
 
+two_take : (args : List (List ℕ)) (two : List ℕ × List ℕ) → first_two args ≡ Some two → args ≡ two.0 ∷ two.1 ∷ []
+two_take [] two e = absurd cc
+two_take (first ∷ rest) two e =
+    let second = bind_some (only rest) (λ second. Some (first, second)) two e in
+    ap (λ (t : List (List ℕ)). first ∷ t) (only_takes rest second.0 second.1) ∙ ap (λ (t : List ℕ × List ℕ). t.0 ∷ t.1 ∷ []) (some_is (first, second.0) two second.2)
+
 three_take : (args : List (List ℕ)) (three : List ℕ × List ℕ × List ℕ) → first_three args ≡ Some three → args ≡ three.0 ∷ three.1 ∷ three.2 ∷ []
 three_take [] three e = absurd cc
-three_take (a ∷ []) three e = absurd cc
-three_take (a ∷ b ∷ []) three e = absurd cc
-three_take (a ∷ b ∷ c ∷ []) three e = ap (λ (t : List ℕ × List ℕ × List ℕ). t.0 ∷ t.1 ∷ t.2 ∷ []) (some_is (a, b, c) three e)
-three_take (a ∷ b ∷ c ∷ d ∷ rest) three e = absurd cc
+three_take (first ∷ rest) three e =
+    let two = bind_some (first_two rest) (λ two. Some (first, two.0, two.1)) three e in
+    let pair = two.0 in
+    ap (λ (t : List (List ℕ)). first ∷ t) (two_take rest pair two.1) ∙ ap (λ (t : List ℕ × List ℕ × List ℕ). t.0 ∷ t.1 ∷ t.2 ∷ []) (some_is (first, pair.0, pair.1) three two.2)
+
+four_take : (args : List (List ℕ)) (four : List ℕ × List ℕ × List ℕ × List ℕ) → first_four args ≡ Some four → args ≡ four.0 ∷ four.1 ∷ four.2 ∷ four.3 ∷ []
+four_take [] four e = absurd cc
+four_take (first ∷ rest) four e =
+    let three = bind_some (first_three rest) (λ three. Some (first, three.0, three.1, three.2)) four e in
+    let triple = three.0 in
+    ap (λ (t : List (List ℕ)). first ∷ t) (three_take rest triple three.1) ∙ ap (λ (t : List ℕ × List ℕ × List ℕ × List ℕ). t.0 ∷ t.1 ∷ t.2 ∷ t.3 ∷ []) (some_is (first, triple.0, triple.1, triple.2) four three.2)
 
 alone_takes : (verb : List ℕ) (args : List (List ℕ)) (command c : Command) → Spell (verb ∷ []) command → alone_at command args ≡ Some c → Spell (verb ∷ args) c
 alone_takes verb [] command c spelled e = subst (Spell (verb ∷ [])) (some_is command c e) spelled
@@ -105,6 +119,9 @@ alone_takes verb (word ∷ more) command c spelled e = absurd cc
 
 spelled_so : (verb name : List ℕ) (args rest : List (List ℕ)) → verb ≡ name → args ≡ rest → verb ∷ args ≡ name ∷ rest
 spelled_so verb name args rest p q = cc
+
+two_are : (a b c d : List ℕ) (rest : List (List ℕ)) → a ≡ b → c ≡ d → a ∷ c ∷ rest ≡ b ∷ d ∷ rest
+two_are a b c d rest p q = cc
 
 insert_takes : (verb : List ℕ) (args : List (List ℕ)) (c : Command) → verb ≡ codes "insert" → insert_at args ≡ Some c → Spell (verb ∷ args) c
 unfolding insert_at
@@ -118,14 +135,46 @@ insert_takes verb args c is e =
     subst (Spell (verb ∷ args)) (some_is (Insert txn.0 key.0 body.0) c body.2)
     (words.1, words.2, spelled_so verb (codes "insert") args (decimal txn.0 ∷ words.1 ∷ words.2 ∷ []) is (three_take args words three.1 ∙ ap (λ (w : List ℕ). w ∷ words.1 ∷ words.2 ∷ []) number.0), number.1, text_takes words.1 key.0 key.1, text_takes words.2 body.0 body.1)
 
-commit_takes : (verb : List ℕ) (args : List (List ℕ)) (c : Command) → verb ≡ codes "commit" → commit_at args ≡ Some c → Spell (verb ∷ args) c
-unfolding commit_at
-commit_takes verb args c is e =
-    let word = bind_some (only args) (λ word. txn_at word >>= λ txn. Some (Commit txn)) c e in
-    let txn = bind_some (txn_at word.0) (λ txn. Some (Commit txn)) c word.2 in
-    let number = txn_takes word.0 txn.0 txn.1 in
-    subst (Spell (verb ∷ args)) (some_is (Commit txn.0) c txn.2)
-    (spelled_so verb (codes "commit") args (decimal txn.0 ∷ []) is (only_takes args word.0 word.1 ∙ ap one_word number.0), number.1)
+delete_takes : (verb : List ℕ) (args : List (List ℕ)) (c : Command) → verb ≡ codes "delete" → delete_at args ≡ Some c → Spell (verb ∷ args) c
+unfolding delete_at
+delete_takes verb args c is e =
+    let two = bind_some (first_two args) (λ two. txn_at two.0 >>= λ txn. rid_at two.1 >>= λ rid. Some (Delete txn rid)) c e in
+    let words = two.0 in
+    let txn = bind_some (txn_at words.0) (λ txn. rid_at words.1 >>= λ rid. Some (Delete txn rid)) c two.2 in
+    let rid = bind_some (rid_at words.1) (λ rid. Some (Delete txn.0 rid)) c txn.2 in
+    let number = txn_takes words.0 txn.0 txn.1 in
+    let place = rid_takes words.1 rid.0 rid.1 in
+    subst (Spell (verb ∷ args)) (some_is (Delete txn.0 rid.0) c rid.2)
+    (spelled_so verb (codes "delete") args (decimal txn.0 ∷ rid_text rid.0 ∷ []) is (two_take args words two.1 ∙ two_are words.0 (decimal txn.0) words.1 (rid_text rid.0) [] number.0 place.0), number.1, place.1)
+
+update_takes : (verb : List ℕ) (args : List (List ℕ)) (c : Command) → verb ≡ codes "update" → update_at args ≡ Some c → Spell (verb ∷ args) c
+unfolding update_at
+update_takes verb args c is e =
+    let four = bind_some (first_four args) (λ four. txn_at four.0 >>= λ txn. rid_at four.1 >>= λ rid. text_at four.2 >>= λ key. text_at four.3 >>= λ body. Some (Update txn rid key body)) c e in
+    let words = four.0 in
+    let txn = bind_some (txn_at words.0) (λ txn. rid_at words.1 >>= λ rid. text_at words.2 >>= λ key. text_at words.3 >>= λ body. Some (Update txn rid key body)) c four.2 in
+    let rid = bind_some (rid_at words.1) (λ rid. text_at words.2 >>= λ key. text_at words.3 >>= λ body. Some (Update txn.0 rid key body)) c txn.2 in
+    let key = bind_some (text_at words.2) (λ key. text_at words.3 >>= λ body. Some (Update txn.0 rid.0 key body)) c rid.2 in
+    let body = bind_some (text_at words.3) (λ body. Some (Update txn.0 rid.0 key.0 body)) c key.2 in
+    let number = txn_takes words.0 txn.0 txn.1 in
+    let place = rid_takes words.1 rid.0 rid.1 in
+    let same = two_are words.0 (decimal txn.0) words.1 (rid_text rid.0) (words.2 ∷ words.3 ∷ []) number.0 place.0 in
+    subst (Spell (verb ∷ args)) (some_is (Update txn.0 rid.0 key.0 body.0) c body.2)
+    (words.2, words.3, spelled_so verb (codes "update") args (decimal txn.0 ∷ rid_text rid.0 ∷ words.2 ∷ words.3 ∷ []) is (four_take args words four.1 ∙ same), number.1, place.1, text_takes words.2 key.0 key.1, text_takes words.3 body.0 body.1)
+
+only_txn_takes : (args : List (List ℕ)) (txn : ℕ) → only_txn_at args ≡ Some txn → (args ≡ decimal txn ∷ []) × IsTxn txn
+unfolding only_txn_at
+only_txn_takes args txn e =
+    let word = bind_some (only args) txn_at txn e in
+    let number = txn_takes word.0 txn word.2 in
+    (only_takes args word.0 word.1 ∙ ap one_word number.0, number.1)
+
+-- a command of a transaction alone: its name, and the transaction
+of_txn_takes : (verb name : List ℕ) (args : List (List ℕ)) (command : ℕ → Command) (c : Command) → verb ≡ name → ((words : List (List ℕ)) (txn : ℕ) → words ≡ name ∷ decimal txn ∷ [] → IsTxn txn → Spell words (command txn)) → option_map command (only_txn_at args) ≡ Some c → Spell (verb ∷ args) c
+of_txn_takes verb name args command c is spelled e =
+    let txn = mapped command (only_txn_at args) c e in
+    let number = only_txn_takes args txn.0 txn.1 in
+    subst (Spell (verb ∷ args)) txn.2 (spelled (verb ∷ args) txn.0 (spelled_so verb name args (decimal txn.0 ∷ []) is number.0) number.1)
 
 crash_takes : (verb : List ℕ) (args : List (List ℕ)) (c : Command) → verb ≡ codes "crash" → crash_at args ≡ Some c → Spell (verb ∷ args) c
 unfolding crash_at
@@ -151,17 +200,27 @@ command_takes [] c e = absurd cc
 command_takes (verb ∷ args) c e =
     by_name verb (codes "begin") (λ is h. alone_takes verb args Begin c (ap one_word is) h)
     (by_name verb (codes "insert") (insert_takes verb args c)
-    (by_name verb (codes "commit") (commit_takes verb args c)
+    (by_name verb (codes "delete") (delete_takes verb args c)
+    (by_name verb (codes "update") (update_takes verb args c)
+    (by_name verb (codes "step") (λ is h. of_txn_takes verb (codes "step") args Step c is (λ words txn p q. (p, q)) h)
+    (by_name verb (codes "undo") (λ is h. of_txn_takes verb (codes "undo") args Undo c is (λ words txn p q. (p, q)) h)
+    (by_name verb (codes "end") (λ is h. of_txn_takes verb (codes "end") args End c is (λ words txn p q. (p, q)) h)
+    (by_name verb (codes "commit") (λ is h. of_txn_takes verb (codes "commit") args Commit c is (λ words txn p q. (p, q)) h)
     (by_name verb (codes "flush") (λ is h. alone_takes verb args Flush c (ap one_word is) h)
     (by_name verb (codes "crash") (crash_takes verb args c)
     (by_name verb (codes "get") (get_takes verb args c)
-    (by_name verb (codes "dump") (λ is h. alone_takes verb args Dump c (ap one_word is) h) (λ h. absurd cc)))))))
+    (by_name verb (codes "dump") (λ is h. alone_takes verb args Dump c (ap one_word is) h) (λ h. absurd cc))))))))))))
     e
 
 pub command_again : (words : List (List ℕ)) (c : Command) → Spell words c → command_at words ≡ Some c
-unfolding command_at insert_at commit_at crash_at get_at
+unfolding command_at insert_at delete_at update_at only_txn_at crash_at get_at
 command_again words Begin h = ap command_at h
 command_again words (Insert txn key body) h = ap command_at h.2 ∙ rw (txn_again txn h.3, text_again h.0 key h.4, text_again h.1 body h.5) refl
+command_again words (Delete txn rid) h = ap command_at h.0 ∙ rw (txn_again txn h.1, rid_again rid h.2) refl
+command_again words (Update txn rid key body) h = ap command_at h.2 ∙ rw (txn_again txn h.3, rid_again rid h.4, text_again h.0 key h.5, text_again h.1 body h.6) refl
+command_again words (Step txn) h = ap command_at h.0 ∙ rw (txn_again txn h.1) refl
+command_again words (Undo txn) h = ap command_at h.0 ∙ rw (txn_again txn h.1) refl
+command_again words (End txn) h = ap command_at h.0 ∙ rw (txn_again txn h.1) refl
 command_again words (Commit txn) h = ap command_at h.0 ∙ rw (txn_again txn h.1) refl
 command_again words Flush h = ap command_at h
 command_again words (Crash fate) h = ap command_at h ∙ rw (fate_again fate) refl

@@ -12,7 +12,7 @@ use Rattle.records.specs.Values.{Place}
 use Rattle.script.specs.declared.fate.Fate.{Fate}
 use Rattle.script.specs.declared.fate.Fate.TheVariants.{Old, New, Zero, Gate, Junk}
 use Rattle.script.specs.declared.command.Command.{Command}
-use Rattle.script.specs.declared.command.Command.TheVariants.{Begin, Insert, Commit, Flush, Crash, Get, Dump}
+use Rattle.script.specs.declared.command.Command.TheVariants.{Begin, Insert, Delete, Update, Step, Undo, End, Commit, Flush, Crash, Get, Dump}
 use Rattle.script.specs.Grammar.{words, IsRid, rid_text, fate_name, IsLineOf, CanBeGiven}
 use Rattle.script.proofs.Numbers.{no_such_byte}
 
@@ -78,6 +78,19 @@ line_of (Insert txn key body) h =
     let b = 58 ∷ encode_lower body in
     let is = spaced (codes "insert") (decimal txn ∷ k ∷ b ∷ []) (by_test (codes "insert") refl, (number_has_no_space txn h.0.1, (text_has_no_space key h.1, (text_has_no_space body h.2, tt)))) in
     (join_with_byte 32 (codes "insert" ∷ decimal txn ∷ k ∷ b ∷ []), (k, b, is, h.0, inr (refl, h.1), inr (refl, h.2)))
+line_of (Delete txn rid) h =
+    (join_with_byte 32 (codes "delete" ∷ decimal txn ∷ rid_text rid ∷ []), (spaced (codes "delete") (decimal txn ∷ rid_text rid ∷ []) (by_test (codes "delete") refl, (number_has_no_space txn h.0.1, (rid_has_no_space rid h.1, tt))), h.0, h.1))
+line_of (Update txn rid key body) h =
+    let k = 58 ∷ encode_lower key in
+    let b = 58 ∷ encode_lower body in
+    let is = spaced (codes "update") (decimal txn ∷ rid_text rid ∷ k ∷ b ∷ []) (by_test (codes "update") refl, (number_has_no_space txn h.0.1, (rid_has_no_space rid h.1, (text_has_no_space key h.2, (text_has_no_space body h.3, tt))))) in
+    (join_with_byte 32 (codes "update" ∷ decimal txn ∷ rid_text rid ∷ k ∷ b ∷ []), (k, b, is, h.0, h.1, inr (refl, h.2), inr (refl, h.3)))
+line_of (Step txn) h =
+    (join_with_byte 32 (codes "step" ∷ decimal txn ∷ []), (spaced (codes "step") (decimal txn ∷ []) (by_test (codes "step") refl, (number_has_no_space txn h.1, tt)), h))
+line_of (Undo txn) h =
+    (join_with_byte 32 (codes "undo" ∷ decimal txn ∷ []), (spaced (codes "undo") (decimal txn ∷ []) (by_test (codes "undo") refl, (number_has_no_space txn h.1, tt)), h))
+line_of (End txn) h =
+    (join_with_byte 32 (codes "end" ∷ decimal txn ∷ []), (spaced (codes "end") (decimal txn ∷ []) (by_test (codes "end") refl, (number_has_no_space txn h.1, tt)), h))
 line_of (Commit txn) h =
     (join_with_byte 32 (codes "commit" ∷ decimal txn ∷ []), (spaced (codes "commit") (decimal txn ∷ []) (by_test (codes "commit") refl, (number_has_no_space txn h.1, tt)), h))
 line_of Flush h = (codes "flush", refl)

@@ -11,7 +11,7 @@ use Rattle.script.specs.declared.lines.TheConstants.{LINES_MAX}
 use Rattle.script.specs.declared.fate.Fate.{Fate}
 use Rattle.script.specs.declared.fate.Fate.TheVariants.{Old, New, Zero, Gate, Junk}
 use Rattle.script.specs.declared.command.Command.{Command}
-use Rattle.script.specs.declared.command.Command.TheVariants.{Begin, Insert, Commit, Flush, Crash, Get, Dump}
+use Rattle.script.specs.declared.command.Command.TheVariants.{Begin, Insert, Delete, Update, Step, Undo, End, Commit, Flush, Crash, Get, Dump}
 
 -- the parts of a text between its separators: with none, the text itself
 abbrev pub parted_by : ℕ → List ℕ → List (List ℕ)
@@ -57,6 +57,11 @@ fate_name Junk = codes "junk"
 abbrev pub Spell : List (List ℕ) → Command → Type 0
 Spell words Begin = words ≡ codes "begin" ∷ []
 Spell words (Insert txn key body) = (k b : List ℕ) × (words ≡ codes "insert" ∷ decimal txn ∷ k ∷ b ∷ []) × IsTxn txn × IsByteText k key × IsByteText b body
+Spell words (Delete txn rid) = (words ≡ codes "delete" ∷ decimal txn ∷ rid_text rid ∷ []) × IsTxn txn × IsRid rid
+Spell words (Update txn rid key body) = (k b : List ℕ) × (words ≡ codes "update" ∷ decimal txn ∷ rid_text rid ∷ k ∷ b ∷ []) × IsTxn txn × IsRid rid × IsByteText k key × IsByteText b body
+Spell words (Step txn) = (words ≡ codes "step" ∷ decimal txn ∷ []) × IsTxn txn
+Spell words (Undo txn) = (words ≡ codes "undo" ∷ decimal txn ∷ []) × IsTxn txn
+Spell words (End txn) = (words ≡ codes "end" ∷ decimal txn ∷ []) × IsTxn txn
 Spell words (Commit txn) = (words ≡ codes "commit" ∷ decimal txn ∷ []) × IsTxn txn
 Spell words Flush = words ≡ codes "flush" ∷ []
 Spell words (Crash fate) = words ≡ codes "crash" ∷ fate_name fate ∷ []
@@ -91,6 +96,11 @@ pub record IsFirstFault (lines : List (List ℕ)) (index : ℕ) : Type 0 where
 abbrev pub CanBeGiven : Command → Type 0
 CanBeGiven Begin = Unit {0}
 CanBeGiven (Insert txn key body) = IsTxn txn × IsBytes key × IsBytes body
+CanBeGiven (Delete txn rid) = IsTxn txn × IsRid rid
+CanBeGiven (Update txn rid key body) = IsTxn txn × IsRid rid × IsBytes key × IsBytes body
+CanBeGiven (Step txn) = IsTxn txn
+CanBeGiven (Undo txn) = IsTxn txn
+CanBeGiven (End txn) = IsTxn txn
 CanBeGiven (Commit txn) = IsTxn txn
 CanBeGiven Flush = Unit {0}
 CanBeGiven (Crash _) = Unit {0}

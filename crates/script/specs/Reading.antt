@@ -3,6 +3,7 @@ use Rattle.std.specs.Prelude.{◌≡◌, ◌⊎◌, ◌++◌, IsTrue, ℕ, ◌^�
 use Rattle.std.specs.List.{list_all, list_any}
 use Rattle.std.specs.Char.{is_ascii_graphic, is_ascii_uppercase}
 use Rattle.std.specs.Fmt.{decimal}
+use Rattle.std.specs.Option.{option_map}
 use Rattle.std.specs.Result.{result_ok}
 use Rattle.std.specs.Str.{bytes_eq}
 use Rattle.std.specs.Str.Parse.{digits_value}
@@ -12,7 +13,7 @@ use Rattle.records.specs.declared.rid.TheConstants.{SLOTS_PER_PAGE}
 use Rattle.script.specs.declared.fate.Fate.{Fate}
 use Rattle.script.specs.declared.fate.Fate.TheVariants.{Old, New, Zero, Gate, Junk}
 use Rattle.script.specs.declared.command.Command.{Command}
-use Rattle.script.specs.declared.command.Command.TheVariants.{Begin, Insert, Commit, Flush, Crash, Get, Dump}
+use Rattle.script.specs.declared.command.Command.TheVariants.{Begin, Insert, Delete, Update, Step, Undo, End, Commit, Flush, Crash, Get, Dump}
 use Rattle.script.specs.Grammar.{parted_by, is_left_out, IsLineOf}
 
 infixl 10 ◌>>=◌
@@ -30,12 +31,23 @@ only [] = None
 only (word ∷ []) = Some word
 only (word ∷ more ∷ rest) = None
 
+abbrev pub first_two : List (List ℕ) → Option (List ℕ × List ℕ)
+first_two [] = None
+first_two (first ∷ rest) = do
+  second ← only rest
+  Some (first, second)
+
 abbrev pub first_three : List (List ℕ) → Option (List ℕ × List ℕ × List ℕ)
 first_three [] = None
-first_three (a ∷ []) = None
-first_three (a ∷ b ∷ []) = None
-first_three (a ∷ b ∷ c ∷ []) = Some (a, b, c)
-first_three (a ∷ b ∷ c ∷ d ∷ rest) = None
+first_three (first ∷ rest) = do
+  two ← first_two rest
+  Some (first, two.0, two.1)
+
+abbrev pub first_four : List (List ℕ) → Option (List ℕ × List ℕ × List ℕ × List ℕ)
+first_four [] = None
+first_four (first ∷ rest) = do
+  three ← first_three rest
+  Some (first, three.0, three.1, three.2)
 
 -- a digit, or a digit from 1 and more
 abbrev pub begins_as_number : List ℕ → Bool
@@ -94,11 +106,26 @@ insert_at args = do
   body ← text_at three.2
   Some (Insert txn key body)
 
-unfoldable pub commit_at : List (List ℕ) → Option Command
-commit_at args = do
+unfoldable pub delete_at : List (List ℕ) → Option Command
+delete_at args = do
+  two ← first_two args
+  txn ← txn_at two.0
+  rid ← rid_at two.1
+  Some (Delete txn rid)
+
+unfoldable pub update_at : List (List ℕ) → Option Command
+update_at args = do
+  four ← first_four args
+  txn ← txn_at four.0
+  rid ← rid_at four.1
+  key ← text_at four.2
+  body ← text_at four.3
+  Some (Update txn rid key body)
+
+unfoldable pub only_txn_at : List (List ℕ) → Option ℕ
+only_txn_at args = do
   word ← only args
-  txn ← txn_at word
-  Some (Commit txn)
+  txn_at word
 
 unfoldable pub crash_at : List (List ℕ) → Option Command
 crash_at args = do
@@ -117,7 +144,12 @@ command_at [] = None
 command_at (verb ∷ args) =
     if bytes_eq verb (codes "begin") then alone_at Begin args
     else if bytes_eq verb (codes "insert") then insert_at args
-    else if bytes_eq verb (codes "commit") then commit_at args
+    else if bytes_eq verb (codes "delete") then delete_at args
+    else if bytes_eq verb (codes "update") then update_at args
+    else if bytes_eq verb (codes "step") then option_map Step (only_txn_at args)
+    else if bytes_eq verb (codes "undo") then option_map Undo (only_txn_at args)
+    else if bytes_eq verb (codes "end") then option_map End (only_txn_at args)
+    else if bytes_eq verb (codes "commit") then option_map Commit (only_txn_at args)
     else if bytes_eq verb (codes "flush") then alone_at Flush args
     else if bytes_eq verb (codes "crash") then crash_at args
     else if bytes_eq verb (codes "get") then get_at args

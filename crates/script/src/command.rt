@@ -3,7 +3,8 @@ use crate::byte_text::ByteText;
 use crate::fate::Fate;
 use records::{Rid, Txn};
 
-/// One command of a script.
+/// One command of a script. `insert`, `delete` and `update` make the first step of a change, and
+/// `step` makes each further one.
 #[derive(Debug, Drop, PartialEq, Eq)]
 pub enum Command {
     /// Begins a transaction: `begin`.
@@ -13,6 +14,30 @@ pub enum Command {
         txn: Txn,
         key: ByteText,
         body: ByteText,
+    },
+    /// Deletes the row at a place: `delete <t> <rid>`.
+    Delete {
+        txn: Txn,
+        rid: Rid,
+    },
+    /// Puts another row in the place of the one that is there: `update <t> <rid> <key> <body>`.
+    Update {
+        txn: Txn,
+        rid: Rid,
+        key: ByteText,
+        body: ByteText,
+    },
+    /// Makes the next step of the change that a transaction began: `step <t>`.
+    Step {
+        txn: Txn,
+    },
+    /// Makes one step that takes a transaction's last change back: `undo <t>`.
+    Undo {
+        txn: Txn,
+    },
+    /// Ends a transaction of which no change is left: `end <t>`.
+    End {
+        txn: Txn,
     },
     /// Commits a transaction: `commit <t>`.
     Commit {

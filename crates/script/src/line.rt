@@ -2,12 +2,13 @@
 ghost use Rattle.std.specs.Prelude.{◌≡◌, IfOk};
 ghost use Rattle.std.specs.Option.{option_map};
 ghost use Rattle.script.specs.Grammar.{words, is_left_out};
-ghost use Rattle.script.specs.Reading.{parts_left, alone_at, insert_at, commit_at, crash_at, get_at, command_at};
+ghost use Rattle.script.specs.Reading.{parts_left, alone_at, insert_at, delete_at, update_at, only_txn_at, crash_at, get_at, command_at};
 
 use crate::command::Command;
 use crate::fate::Fate;
-use crate::parts::{cut_at, only_part, three_parts};
+use crate::parts::{cut_at, four_parts, only_part, three_parts, two_parts};
 use crate::word::{rid_of, text_of, txn_of};
+use records::Txn;
 use std::alloc::{AllocError, Global};
 
 /// Whether a line is left out: it is empty, or a comment.
@@ -48,12 +49,48 @@ fn insert_of(alloc: Global, rest: Option<&[u8]>) -> Result<Option<Command>, Allo
     Ok(Some(Command::Insert { txn, key, body }))
 }
 
-#[tactic(auto, unfolding(crate::specs::Reading::commit_at))]
-fn commit_of(rest: Option<&[u8]>) -> Option<Command>
-    ensures { result ≡ commit_at (parts_left 32 (option_map (λ r. r.now) rest.entry)) }
+#[tactic(auto, unfolding(crate::specs::Reading::delete_at))]
+fn delete_of(rest: Option<&[u8]>) -> Option<Command>
+    ensures { result ≡ delete_at (parts_left 32 (option_map (λ r. r.now) rest.entry)) }
 {
-    let txn = txn_of(only_part(b' ', rest)?)?;
-    Some(Command::Commit { txn })
+    let (txn, rid) = two_parts(b' ', rest)?;
+    let txn = txn_of(txn)?;
+    let rid = rid_of(rid)?;
+    Some(Command::Delete { txn, rid })
+}
+
+#[tactic(auto, unfolding(crate::specs::Reading::update_at))]
+fn update_of(alloc: Global, rest: Option<&[u8]>) -> Result<Option<Command>, AllocError>
+    ensures { IfOk result (λ r. r ≡ update_at (parts_left 32 (option_map (λ r. r.now) rest.entry))) }
+{
+    let Some((txn, rid, key, body)) = four_parts(b' ', rest) else {
+        return Ok(None);
+    };
+    let Some(txn) = txn_of(txn) else {
+        return Ok(None);
+    };
+    let Some(rid) = rid_of(rid) else {
+        return Ok(None);
+    };
+    let Some(key) = text_of(alloc, key)? else {
+        return Ok(None);
+    };
+    let Some(body) = text_of(alloc, body)? else {
+        return Ok(None);
+    };
+    Ok(Some(Command::Update {
+        txn,
+        rid,
+        key,
+        body,
+    }))
+}
+
+#[tactic(auto, unfolding(crate::specs::Reading::only_txn_at))]
+fn only_txn(rest: Option<&[u8]>) -> Option<Txn>
+    ensures { result ≡ only_txn_at (parts_left 32 (option_map (λ r. r.now) rest.entry)) }
+{
+    txn_of(only_part(b' ', rest)?)
 }
 
 #[tactic(auto, unfolding(crate::specs::Reading::crash_at))]
@@ -82,8 +119,18 @@ pub fn command_of(alloc: Global, line: &[u8]) -> Result<Option<Command>, AllocEr
         Ok(alone(rest, Command::Begin))
     } else if verb == b"insert".as_slice() {
         insert_of(alloc, rest)
+    } else if verb == b"delete".as_slice() {
+        Ok(delete_of(rest))
+    } else if verb == b"update".as_slice() {
+        update_of(alloc, rest)
+    } else if verb == b"step".as_slice() {
+        Ok(only_txn(rest).map(|txn| Command::Step { txn }))
+    } else if verb == b"undo".as_slice() {
+        Ok(only_txn(rest).map(|txn| Command::Undo { txn }))
+    } else if verb == b"end".as_slice() {
+        Ok(only_txn(rest).map(|txn| Command::End { txn }))
     } else if verb == b"commit".as_slice() {
-        Ok(commit_of(rest))
+        Ok(only_txn(rest).map(|txn| Command::Commit { txn }))
     } else if verb == b"flush".as_slice() {
         Ok(alone(rest, Command::Flush))
     } else if verb == b"crash".as_slice() {

@@ -19,6 +19,15 @@ fn insert(alloc: Global, number: u64, key: &[u8], body: &[u8]) -> Result<Command
     })
 }
 
+fn update(alloc: Global, number: u64, rid: Rid, key: &[u8], body: &[u8]) -> Result<Command, Fail> {
+    Ok(Command::Update {
+        txn: txn(number)?,
+        rid,
+        key: text(alloc, key)?,
+        body: text(alloc, body)?,
+    })
+}
+
 #[test]
 fn each_command_is_read(rt: HostRuntime) -> Result<(), Fail> {
     let alloc = rt.alloc();
@@ -48,6 +57,32 @@ fn each_command_is_read(rt: HostRuntime) -> Result<(), Fail> {
                 b"01234567890123456789012345678901234567",
             )?,
         ),
+        (
+            b"delete 1 0.0",
+            Command::Delete {
+                txn: txn(1)?,
+                rid: low,
+            },
+        ),
+        (
+            b"delete 4294967295 4294967295.62",
+            Command::Delete {
+                txn: txn(4_294_967_295)?,
+                rid: high,
+            },
+        ),
+        (
+            b"update 1 0.0 =ant =x",
+            update(alloc, 1, low, b"ant", b"x")?,
+        ),
+        (b"update 1 0.0 : =", update(alloc, 1, low, b"", b"")?),
+        (
+            b"update 7 4294967295.62 :00ff =7.62",
+            update(alloc, 7, high, b"\x00\xff", b"7.62")?,
+        ),
+        (b"step 1", Command::Step { txn: txn(1)? }),
+        (b"undo 2", Command::Undo { txn: txn(2)? }),
+        (b"end 3", Command::End { txn: txn(3)? }),
         (b"commit 1", Command::Commit { txn: txn(1)? }),
         (
             b"commit 4294967295",
@@ -87,7 +122,6 @@ fn what_is_no_command_is_named(rt: HostRuntime) -> Result<(), Fail> {
         b"beginning",
         b"\xff",
         b"\xef\xbb\xbfbegin",
-        b"delete 1 0.0",
         b"find =a",
         b"insert",
         b"insert 1",
@@ -104,6 +138,43 @@ fn what_is_no_command_is_named(rt: HostRuntime) -> Result<(), Fail> {
         b"insert 1 a =",
         b"insert 1 =\x7f =",
         b"insert 1 =\x80 =",
+        b"delete",
+        b"delete 1",
+        b"delete 0.0",
+        b"delete 0 0.0",
+        b"delete 1 0.63",
+        b"delete 1 0",
+        b"delete 0.0 1",
+        b"delete 1 0.0 =a",
+        b"delete 1 0.0 ",
+        b"Delete 1 0.0",
+        b"update",
+        b"update 1",
+        b"update 1 0.0",
+        b"update 1 0.0 =a",
+        b"update 1 =a =",
+        b"update 1 =a = 0.0",
+        b"update 0.0 1 =a =",
+        b"update 1 0.0 =a = =b",
+        b"update 1 0.0 =a = ",
+        b"update 1  0.0 =a =",
+        b"update 0 0.0 =a =",
+        b"update 1 0.63 =a =",
+        b"update 1 0.0 a =",
+        b"update 1 0.0 =a :6",
+        b"step",
+        b"step 0",
+        b"step 1 1",
+        b"step 1 ",
+        b"steps 1",
+        b"undo",
+        b"undo 01",
+        b"undo 1 1",
+        b"undone 1",
+        b"end",
+        b"end +1",
+        b"end 1 1",
+        b"END 1",
         b"commit",
         b"commit 1 ",
         b"commit 4294967296",
@@ -174,8 +245,11 @@ fn too_many_lines_are_named(rt: HostRuntime) -> Result<(), Fail> {
 
 #[test]
 fn a_refused_allocation_is_no_memory(rt: HostRuntime) -> Result<(), Fail> {
-    match read(rt.alloc(), b"begin\ninsert 1 =ant :00\n") {
-        Ok(commands) => assert_eq!(rt; commands.len(), 2),
+    match read(
+        rt.alloc(),
+        b"begin\ninsert 1 =ant :00\nupdate 1 0.0 =bee :01\n",
+    ) {
+        Ok(commands) => assert_eq!(rt; commands.len(), 3),
         Err(error) => assert_eq!(rt; error, Error::NoMemory),
     }
     Ok(())

@@ -7,13 +7,10 @@ use Rattle.records.specs.Values.{Place}
 use Rattle.records.specs.ChangeValue.{ChangeValue}
 use Rattle.records.specs.declared.change.TheConstants.{CHANGES_MAX}
 use Rattle.records.specs.declared.txn.TheConstants.{TXNS_MAX}
-use Rattle.txn_table.specs.Table.{TxnState, TableValue, is_among, with_rid, holder_of, with_next, without, noted, without_last}
+use Rattle.txn_table.specs.Table.{TxnState, TableValue, new_txn, is_among, with_rid, holder_of, with_next, without, noted, without_last}
 use Rattle.txn_table.specs.Sound.{Rises, AllHeld, IsSoundTxn, EachSoundTxn, OneHolder, IsSound, IsKept}
 use Rattle.txn_table.proofs.Lookups.{holder_above, not_among, among_kept, among_new, among_more}
 use Rattle.txn_table.proofs.HeldRows.{AreHeldRows-noted, AreHeldRows-without}
-
-abbrev pub new_state : TxnState
-new_state = record { changes = []; rows = [] }
 
 -- ---- a new transaction
 
@@ -33,22 +30,22 @@ Rises-next : (low n : ℕ) (es : List (ℕ × TxnState)) (w : TxnState) → Rise
 Rises-next low n [] w rises = (omega arith, omega arith)
 Rises-next low n (e ∷ es) w rises = (rises.0, Rises-next e.0 n es w rises.1)
 
-EachSoundTxn-next : (k : ℕ) (es : List (ℕ × TxnState)) → EachSoundTxn es → EachSoundTxn (es ++ (k, new_state) ∷ [])
+EachSoundTxn-next : (k : ℕ) (es : List (ℕ × TxnState)) → EachSoundTxn es → EachSoundTxn (es ++ (k, new_txn) ∷ [])
 EachSoundTxn-next k [] txns = (record { few = omega arith; held = tt }, tt)
 EachSoundTxn-next k (e ∷ es) txns = (txns.0, EachSoundTxn-next k es txns.1)
 
-pub holder_of-next : (k : ℕ) (r : Place) (es : List (ℕ × TxnState)) → holder_of r (es ++ (k, new_state) ∷ []) ≡ holder_of r es
+pub holder_of-next : (k : ℕ) (r : Place) (es : List (ℕ × TxnState)) → holder_of r (es ++ (k, new_txn) ∷ []) ≡ holder_of r es
 holder_of-next k r [] = refl
 holder_of-next k r (e ∷ es) = ap (λ h. cond (is_among r e.1.rows) (Some e.0) h) (holder_of-next k r es)
 
-OneHolder-next : (k : ℕ) (es : List (ℕ × TxnState)) → OneHolder es → OneHolder (es ++ (k, new_state) ∷ [])
+OneHolder-next : (k : ℕ) (es : List (ℕ × TxnState)) → OneHolder es → OneHolder (es ++ (k, new_txn) ∷ [])
 OneHolder-next k [] one = (λ r among. refl, tt)
 OneHolder-next k (e ∷ es) one = (λ r among. holder_of-next k r es ∙ one.0 r among, OneHolder-next k es one.1)
 
 pub IsSound-next : (t : TableValue) → length t.active < TXNS_MAX → IsSound t → IsSound (with_next t)
 IsSound-next t room sound = record {
-  few = omega (arith, length-append t.active ((t.begun + 1, new_state) ∷ []));
-  rising = Rises-next 0 t.begun t.active new_state sound.rising;
+  few = omega (arith, length-append t.active ((t.begun + 1, new_txn) ∷ []));
+  rising = Rises-next 0 t.begun t.active new_txn sound.rising;
   txns = EachSoundTxn-next (t.begun + 1) t.active sound.txns;
   one_holder = OneHolder-next (t.begun + 1) t.active sound.one_holder;
 }

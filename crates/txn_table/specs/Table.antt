@@ -1,5 +1,5 @@
 -- What clauses see of the table: the active transactions in the order in which they began.
-use Rattle.std.specs.Prelude.{ℕ, ◌+◌, ◌-◌, List, [], ◌∷◌, ◌++◌, length, take, Option, Some, None, Bool, false, not, nat_eq, nat_le, ◌==◌, ◌&&◌, if◌then◌else◌, slice_get}
+use Rattle.std.specs.Prelude.{ℕ, ◌+◌, ◌-◌, List, [], ◌∷◌, ◌++◌, length, take, Option, Some, None, Bool, true, false, not, nat_eq, nat_le, ◌==◌, ◌&&◌, if◌then◌else◌, slice_get}
 use Rattle.std.specs.List.{list_any}
 use Rattle.std.specs.Option.{option_or}
 use Rattle.std.specs.Map.{lookup, remove_entry}
@@ -9,10 +9,15 @@ use Rattle.records.specs.declared.change.TheConstants.{CHANGES_MAX}
 use Rattle.records.specs.declared.error.Error.{Error}
 use Rattle.records.specs.declared.error.Error.TheVariants.{NoSuchTxn, TooManyChanges, RowBusy}
 
--- the changes that a transaction may still take back, oldest first, and the rows that it holds, in the order of its first touch
+-- the changes that a transaction may still take back, oldest first, the rows that it holds, in the order of its first touch, and whether it is rolling back
 pub record TxnState : Type 0 where
   pub changes : List ChangeValue
   pub rows : List Place
+  pub rolling : Bool
+
+-- a transaction as it begins
+abbrev pub new_txn : TxnState
+new_txn = record { changes = []; rows = []; rolling = false }
 
 -- the active transactions by their numbers, oldest first, and how many were begun at all
 pub record TableValue : Type 0 where
@@ -29,11 +34,11 @@ with_rid r rs = if is_among r rs then rs else rs ++ r ∷ []
 
 -- a transaction with one more change, whose row it holds from now on
 abbrev pub noted : ChangeValue → TxnState → TxnState
-noted c s = record { changes = s.changes ++ c ∷ []; rows = with_rid c.rid s.rows }
+noted c s = record { changes = s.changes ++ c ∷ []; rows = with_rid c.rid s.rows; rolling = s.rolling }
 
--- a transaction without its last change. It still holds the row
+-- a transaction without its last change, where it had one. It still holds the row, and is rolling back from now on
 abbrev pub without_last : TxnState → TxnState
-without_last s = record { changes = take (length s.changes - 1) s.changes; rows = s.rows }
+without_last s = record { changes = take (length s.changes - 1) s.changes; rows = s.rows; rolling = true }
 
 -- the change that is taken back first
 abbrev pub last_change : TxnState → Option ChangeValue
@@ -42,6 +47,11 @@ last_change s = slice_get s.changes (length s.changes - 1)
 -- the state of an active transaction
 abbrev pub state_of : ℕ → List (ℕ × TxnState) → Option TxnState
 state_of txn active = lookup (nat_eq txn) active
+
+-- whether a transaction in this state is rolling back
+abbrev pub is_rolling : Option TxnState → Bool
+is_rolling None = false
+is_rolling (Some s) = s.rolling
 
 -- the transactions, with the state of one changed
 abbrev pub with_state : (TxnState → TxnState) → ℕ → List (ℕ × TxnState) → List (ℕ × TxnState)
@@ -54,7 +64,7 @@ without txn active = remove_entry (nat_eq txn) active
 
 -- the table with the next transaction
 abbrev pub with_next : TableValue → TableValue
-with_next t = record { active = t.active ++ (t.begun + 1, record { changes = []; rows = [] }) ∷ []; begun = t.begun + 1 }
+with_next t = record { active = t.active ++ (t.begun + 1, new_txn) ∷ []; begun = t.begun + 1 }
 
 -- the transaction that holds the row
 abbrev pub holder_of : Place → List (ℕ × TxnState) → Option ℕ

@@ -1,16 +1,18 @@
 //! One active transaction.
 ghost use Rattle.std.specs.Prelude.{◌≡◌, ◌↔◌, ◌≤◌, [], IsTrue, IfErr, OnOk, OnErr, length};
-ghost use Rattle.txn_table.specs.Table.{is_among, noted, without_last, last_change};
+ghost use Rattle.txn_table.specs.Table.{is_among, new_txn, noted, without_last, last_change};
 
 use records::{CHANGES_MAX, Change, Error, Rid};
 use std::alloc::Allocator;
 use std::marker::Model;
 
-/// The changes that a transaction may still take back, and the rows that it holds.
+/// The changes that a transaction may still take back, the rows that it holds, and whether it is
+/// rolling back.
 #[derive(Drop)]
 pub(crate) struct ActiveTxn<A: Allocator> {
     changes: Vec<Change, A>,
     rows: Vec<Rid, A>,
+    rolling: bool,
 }
 
 impl<A: Allocator> Model for ActiveTxn<A> {
@@ -18,17 +20,18 @@ impl<A: Allocator> Model for ActiveTxn<A> {
 
     ghost Value = { TxnState };
 
-    ghost view = { λ t. record { changes = t.changes.items; rows = t.rows.items } };
+    ghost view = { λ t. record { changes = t.changes.items; rows = t.rows.items; rolling = t.rolling } };
 }
 
 impl<A: Allocator + Copy> ActiveTxn<A> {
     /// No change and no row.
     pub(crate) fn new(alloc: A) -> Self
-        ensures { result ≡ record { changes = []; rows = [] } }
+        ensures { result ≡ new_txn }
     {
         ActiveTxn {
             changes: Vec::new(alloc),
             rows: Vec::new(alloc),
+            rolling: false,
         }
     }
 
@@ -37,6 +40,13 @@ impl<A: Allocator + Copy> ActiveTxn<A> {
         ensures { result.now ≡ self.now.changes }
     {
         self.changes.as_slice()
+    }
+
+    /// The last change.
+    pub(crate) fn newest(&self) -> Option<Change>
+        ensures { result ≡ last_change self.now }
+    {
+        self.changes.last().copied()
     }
 
     /// Whether there is no place for another change.
@@ -67,11 +77,19 @@ impl<A: Allocator + Copy> ActiveTxn<A> {
         Ok(())
     }
 
-    /// Takes the last change off. Its row stays held.
+    /// Whether a change was taken off.
+    pub(crate) fn is_rolling(&self) -> bool
+        ensures { result ≡ self.now.rolling }
+    {
+        self.rolling
+    }
+
+    /// Takes the last change off. Its row stays held, and the transaction is rolling back.
     pub(crate) fn pop(&mut self) -> Option<Change>
         ensures last { result ≡ last_change self.old }
         ensures rest { self.new ≡ without_last self.old }
     {
+        self.rolling = true;
         self.changes.pop()
     }
 }

@@ -2,7 +2,7 @@
 ghost use Rattle.std.specs.Prelude.{◌≡◌, ◌≢◌, ◌+◌, ◌<◌, ◌≤◌, ◌↔◌, ℕ, [], length, not, filter, Contains, Some, None, is_some, slice_get, option_map, option_and_then, IsTrue, IsErr, IsSome, IfOk, IfErr, OnOk, OnErr, IsOkUnless};
 ghost use Rattle.std.specs.Result.{result_err};
 ghost use Rattle.records.specs.Values.{Place};
-ghost use Rattle.txn_table.specs.Table.{TxnState, is_among, with_rid, holder_of, state_of, with_state, with_next, without, noted, without_last, last_change, change_refusal, touch_refusal};
+ghost use Rattle.txn_table.specs.Table.{TxnState, is_among, with_rid, holder_of, state_of, is_rolling, with_state, with_next, without, noted, without_last, last_change, change_refusal, touch_refusal};
 ghost use Rattle.txn_table.specs.Sound.{IsSound};
 
 use crate::active::ActiveTxn;
@@ -16,7 +16,8 @@ use std::marker::Model;
 /// still take back and the rows that it holds.
 ///
 /// A transaction holds each row that it touched, from the change that touched it first to the
-/// transaction's end, also after its changes were taken back. No row is held by two.
+/// transaction's end, also after its changes were taken back. No row is held by two. A transaction
+/// is rolling back from the first time that a change of it is to be taken back.
 #[derive(Drop)]
 pub struct TxnTable<A: Allocator> {
     alloc: A,
@@ -108,6 +109,23 @@ impl<A: Allocator + Copy> TxnTable<A> {
         match self.active.get(&txn) {
             Some(active) => Some(active.changes()),
             None => None,
+        }
+    }
+
+    /// The change that an active transaction takes back first: its last one.
+    pub fn newest(&self, txn: Txn) -> Option<Change>
+        ensures { result ≡ option_and_then last_change (state_of txn self.now.active) }
+    {
+        self.active.get(&txn)?.newest()
+    }
+
+    /// Whether the transaction is active and rolling back: `pop_undo` was called for it.
+    pub fn is_rolling_back(&self, txn: Txn) -> bool
+        ensures { result ≡ is_rolling (state_of txn self.now.active) }
+    {
+        match self.active.get(&txn) {
+            Some(active) => active.is_rolling(),
+            None => false,
         }
     }
 
@@ -223,7 +241,8 @@ impl<A: Allocator + Copy> TxnTable<A> {
         Ok(())
     }
 
-    /// Takes the transaction's last change off its list, and answers it. Its row stays held.
+    /// Takes the transaction's last change off its list, and answers it. Its row stays held, and
+    /// the transaction is rolling back from now on, also where there was no change.
     ///
     /// It answers none where the list is empty, and where the transaction is not active.
     pub fn pop_undo(&mut self, txn: Txn) -> Option<Change>

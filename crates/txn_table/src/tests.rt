@@ -112,6 +112,19 @@ fn a_row_is_held_to_the_end_of_its_transaction(rt: HostRuntime) -> Result<(), Fa
     Ok(())
 }
 
+#[test]
+fn the_first_undo_begins_the_rollback(rt: HostRuntime) -> Result<(), Fail> {
+    let mut table = TxnTable::new(rt.alloc());
+    let txn = table.begin()?;
+    table.note(txn, change(0, rid(3))?)?;
+    assert_eq!(rt; table.newest(txn), Some(change(0, rid(3))?));
+    assert!(rt; !table.is_rolling_back(txn));
+    table.pop_undo(txn);
+    assert_eq!(rt; table.newest(txn), None);
+    assert!(rt; table.is_rolling_back(txn));
+    Ok(())
+}
+
 fn begun(rt: &impl Abort, table: &mut TxnTable<&LocalHeap>) -> Result<Txn, Error> {
     let before = (table.len(), table.held_rows().len());
     let begun = table.begin();

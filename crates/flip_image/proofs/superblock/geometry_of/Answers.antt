@@ -4,20 +4,16 @@ use Rattle.records.specs.GeometryValue.{GeometryValue, IsGeometry}
 use Rattle.flip_image.specs.Store.{IsSuperblock}
 use Rattle.flip_image.proofs.Spelled.{AreNumbers, title_there, title_told, numbers_told, same_limits, superblock_read}
 use Rattle.flip_image.proofs.superblock.geometry_of.Goals as goal
-use Rattle.flip_image.proofs.superblock.geometry_of.Goals.{then-version-ne-VERSION-via-then-version-ne-VERSION, then-version-ne-VERSION-via-else-version-ne-VERSION+then-not-are_zeros}
 
 pub returns-then-title-ne-TITLE-clause-err : goal.returns-then-title-ne-TITLE-clause-err
 returns-then-title-ne-TITLE-clause-err c = inl (refl, λ there. c.if-title-ne-TITLE.true (title_told c.args.bytes.now _ c.read_front-title.result.0 (omega arith) c.read_front-title.ensures there))
 
-pub returns-then-version-ne-VERSION-clause-err : goal.returns-then-version-ne-VERSION-clause-err
-returns-then-version-ne-VERSION-clause-err c =
+pub returns-then-not-is_supported-clause-err : goal.returns-then-not-is_supported-clause-err
+returns-then-not-is_supported-clause-err c =
     let f = c.read_front-title.result in
-    let told : (g : GeometryValue) → IsGeometry g → IsSuperblock g c.args.bytes.now → AreNumbers g f.1 f.2 f.3 f.4 =
-    (λ g limits is. numbers_told g c.args.bytes.now _ f.0 f.1 f.2 f.3 f.4 (omega arith) (omega arith) (omega arith) (omega arith) (omega arith) c.read_front-title.ensures limits is) in
-    let none : (g : GeometryValue) → IsGeometry g → ¬ IsSuperblock g c.args.bytes.now = (λ g limits is. elim c.then-version-ne-VERSION.branch [
-      | then-version-ne-VERSION-via-then-version-ne-VERSION w ↦ w.if-version-ne-VERSION.true ((told g limits is).version)
-      | then-version-ne-VERSION-via-else-version-ne-VERSION+then-not-are_zeros w ↦ false≢true (sym w.if-not-are_zeros.true ∙ w.are_zeros.ensures.1 (subst (All (λ b. b ≡ 0)) (sym c.split_at.ensures.back) is.rest))
-    ]) in
+    let none : (g : GeometryValue) → IsGeometry g → ¬ IsSuperblock g c.args.bytes.now = (λ g limits is.
+    let are = numbers_told g c.args.bytes.now _ f.0 f.1 f.2 f.3 f.4 (omega arith) (omega arith) (omega arith) (omega arith) (omega arith) c.read_front-title.ensures limits is in
+    false≢true (sym c.if-not-is_supported.true ∙ c.is_supported.ensures.1 (are.version, subst (All (λ b. b ≡ 0)) (sym c.split_at.ensures.back) is.rest))) in
     inr (refl, title_there c.args.bytes.now _ f.0 c.if-title-ne-TITLE.false c.read_front-title.ensures, none)
 
 pub returns-in_default-clause-err : goal.returns-in_default-clause-err
@@ -31,4 +27,4 @@ returns-in_default-clause-err c =
 pub returns-clause-ok : goal.returns-clause-ok
 returns-clause-ok c =
     let f = c.read_front-title.result in
-    superblock_read c.args.bytes.now f.0 f.1 f.2 f.3 f.4 c.in-Ok.geometry c.read_front-title.ensures c.if-title-ne-TITLE.false c.if-version-ne-VERSION.false c.in-Ok.ensures.ok (subst (All (λ b. b ≡ 0)) c.split_at.ensures.back (c.are_zeros.ensures.0 c.if-not-are_zeros.false))
+    superblock_read c.args.bytes.now f.0 f.1 f.2 f.3 f.4 c.in-Ok.geometry c.read_front-title.ensures c.if-title-ne-TITLE.false (c.is_supported.ensures.0 c.if-not-is_supported.false).0 c.in-Ok.ensures.ok (subst (All (λ b. b ≡ 0)) c.split_at.ensures.back (c.is_supported.ensures.0 c.if-not-is_supported.false).1)

@@ -1,0 +1,12 @@
+mod Groups
+mod Writing
+mod Told
+mod Lives
+mod Asked
+mod Stories
+mod Served
+mod Flushing
+mod Runs
+mod Loading
+mod Reopened
+mod Rehearsed

@@ -1,0 +1,97 @@
+-- A run goes on by one request more.
+use Rattle.std.proofs.lemmas.Bool.{false≢true}
+use Rattle.std.proofs.Common.{inr, ⊎_elim, Bool, ◌&&◌, not, true, false, ◌≡◌, ℕ, ◌+◌, ◌<◌, ◌≤◌, List, [], ◌∷◌, ◌++◌, length, take, refl, sym, ◌∙◌, ap, subst, arith, length-append, append_assoc, append-nil}
+use Rattle.std.proofs.lemmas.List.{take-append-le, take_all, take_at}
+use Rattle.sector_device.specs.Disk.{Image, Disk}
+use Rattle.sector_device.specs.History.{History, LeavesOnly, Spans}
+use Rattle.sector_device.proofs.Moments.{spans_kept, spans_push}
+use Rattle.gate_log.specs.Area.{Area}
+use Rattle.first.specs.declared.event.Event.{Event}
+use Rattle.first.specs.declared.event.Reply.{Reply}
+use Rattle.first.specs.declared.engine.Engine.{Engine}
+use Rattle.first.specs.Lawful.{is_read, IsLawful, AreLawful}
+use Rattle.first.specs.Parts.{is_read_only}
+use Rattle.first.specs.Store.{CanRun, Past, acknowledged_by, and_then, Survives, IsAt, Serves, SurvivesAt, GoesOn}
+
+spans_rise : (disk_at : ℕ → Disk) (P : ℕ → Image → Type 0) (j from : ℕ) (borders : List ℕ) (to : ℕ) → Spans disk_at P j from borders to → from ≤ to
+spans_rise disk_at P j from [] to is = omega (arith, is)
+spans_rise disk_at P j from (next ∷ borders) to spans = omega (arith, spans.0, spans_rise disk_at P (j + 1) next borders to spans.2)
+
+spans_map : (disk_at : ℕ → Disk) (P Q : ℕ → Image → Type 0) (j from : ℕ) (borders : List ℕ) (to : ℕ) → ((i : ℕ) → j ≤ i → i < j + length borders → (c : Image) → P i c → Q i c) → Spans disk_at P j from borders to → Spans disk_at Q j from borders to
+spans_map disk_at P Q j from [] to f spans = spans
+spans_map disk_at P Q j from (next ∷ borders) to f spans = (
+  spans.0,
+  (λ t c low high crash. f j (omega arith) (omega arith) c (spans.1 t c low high crash)),
+  spans_map disk_at P Q (j + 1) next borders to (λ i low high. f i (omega (arith, low)) (omega (arith, high))) spans.2,
+)
+
+and_then_none : (past : Past) → and_then past [] [] ≡ past
+and_then_none past = λ i. record { pages = past.pages; table = past.table; last = past.last; events = append-nil past.events i; replies = append-nil past.replies i }
+
+and_then_both : (past : Past) (es more : List Event) (rs others : List Reply) → and_then (and_then past es rs) more others ≡ and_then past (es ++ more) (rs ++ others)
+and_then_both past es more rs others = λ i. record { pages = past.pages; table = past.table; last = past.last; events = append_assoc past.events es more i; replies = append_assoc past.replies rs others i }
+
+-- what has been answered earlier stays so
+survives_earlier : (area : Area) (frame : Image) (past : Past) (es : List Event) (rs : List Reply) (event : Event) (reply : Reply) (j : ℕ) (c : Image) → length rs ≡ length es → j < length es → SurvivesAt area frame past es rs j c → SurvivesAt area frame past (es ++ event ∷ []) (rs ++ reply ∷ []) j c
+survives_earlier area frame past es rs event reply j c even below was =
+    subst (λ (xs : List Event). Survives area frame (and_then past xs (take (j + 1) (rs ++ reply ∷ []))) (acknowledged_by (and_then past (take j (es ++ event ∷ [])) (take j (rs ++ reply ∷ [])))) c) (sym (take-append-le (j + 1) es (event ∷ []) (omega (arith, below))))
+    (subst (λ (xs : List Reply). Survives area frame (and_then past (take (j + 1) es) xs) (acknowledged_by (and_then past (take j (es ++ event ∷ [])) (take j (rs ++ reply ∷ [])))) c) (sym (take-append-le (j + 1) rs (reply ∷ []) (omega (arith, below, even))))
+    (subst (λ (xs : List Reply). Survives area frame (and_then past (take (j + 1) es) (take (j + 1) rs)) (acknowledged_by (and_then past (take j (es ++ event ∷ [])) xs)) c) (sym (take-append-le j rs (reply ∷ []) (omega (arith, below, even)))) was))
+
+-- and what is answered now
+survives_last : (area : Area) (frame : Image) (past : Past) (es : List Event) (rs : List Reply) (event : Event) (reply : Reply) (j : ℕ) (c : Image) → length rs ≡ length es → j ≡ length es → Survives area frame (and_then (and_then past es rs) (event ∷ []) (reply ∷ [])) (acknowledged_by (and_then past es rs)) c → SurvivesAt area frame past (es ++ event ∷ []) (rs ++ reply ∷ []) j c
+survives_last area frame past es rs event reply j c even last was =
+    subst (λ (xs : List Event). Survives area frame (and_then past xs (take (j + 1) (rs ++ reply ∷ []))) (acknowledged_by (and_then past (take j (es ++ event ∷ [])) (take j (rs ++ reply ∷ [])))) c) (sym (take_all (j + 1) (es ++ event ∷ []) (omega (arith, last, length-append es (event ∷ [])))))
+    (subst (λ (xs : List Reply). Survives area frame (and_then past (es ++ event ∷ []) xs) (acknowledged_by (and_then past (take j (es ++ event ∷ [])) (take j (rs ++ reply ∷ [])))) c) (sym (take_all (j + 1) (rs ++ reply ∷ []) (omega (arith, last, even, length-append rs (reply ∷ [])))))
+    (subst (λ (xs : List Reply). Survives area frame (and_then past (es ++ event ∷ []) (rs ++ reply ∷ [])) (acknowledged_by (and_then past (take j (es ++ event ∷ [])) xs)) c) (sym (take_at rs (reply ∷ []) j (omega (arith, last, even))))
+    (subst (λ (p : Past). Survives area frame p (acknowledged_by (and_then past es rs)) c) (and_then_both past es (event ∷ []) rs (reply ∷ [])) was)))
+
+module _ {D : Type 0} (history : D → History) (area : Area) (frame : Image) (past : Past) where
+  pub goes_nowhere : (old : Engine D) → IsAt history area frame past old → GoesOn history area frame past [] [] old old
+  goes_nowhere old is = record {
+    at = subst (λ (p : Past). IsAt history area frame p old) (sym (and_then_none past)) is;
+    kept = λ t le. refl;
+    borders = [];
+    one_each = refl;
+    spans = refl;
+  }
+
+  pub goes_further : (es : List Event) (rs : List Reply) (old mid new : Engine D) (event : Event) (reply : Reply) → length rs ≡ length es → GoesOn history area frame past es rs old mid → Serves history event reply mid new → GoesOn history area frame past (es ++ event ∷ []) (rs ++ reply ∷ []) old new
+  goes_further es rs old mid new event reply even ran serves = record {
+    at = subst (λ (p : Past). IsAt history area frame p new) (and_then_both past es (event ∷ []) rs (reply ∷ [])) served.0;
+    kept = λ t le. served.1.kept t (omega (arith, le, spans_rise (history mid.writer.device).disk_at (SurvivesAt area frame past es rs) 0 (history old.writer.device).moment ran.borders (history mid.writer.device).moment ran.spans)) ∙ ran.kept t le;
+    borders = ran.borders ++ (history new.writer.device).moment ∷ [];
+    one_each = omega (arith, ran.one_each, length-append ran.borders ((history new.writer.device).moment ∷ []), length-append es (event ∷ []));
+    spans = spans_push (history new.writer.device).disk_at after 0 (history old.writer.device).moment ran.borders (history mid.writer.device).moment (history new.writer.device).moment
+        (spans_kept (history mid.writer.device).disk_at (history new.writer.device).disk_at after 0 (history old.writer.device).moment ran.borders (history mid.writer.device).moment served.1.kept
+        (spans_map (history mid.writer.device).disk_at (SurvivesAt area frame past es rs) after 0 (history old.writer.device).moment ran.borders (history mid.writer.device).moment
+        (λ i low high c was. survives_earlier area frame past es rs event reply i c even (omega (arith, high, ran.one_each)) was) ran.spans))
+        served.1.later
+        (λ t c low high crash. survives_last area frame past es rs event reply (0 + length ran.borders) c even (omega (arith, ran.one_each)) (served.1.each t c low high crash));
+  }
+    where
+      after : ℕ → Image → Type 0
+      after = SurvivesAt area frame past (es ++ event ∷ []) (rs ++ reply ∷ [])
+
+      served : IsAt history area frame (and_then (and_then past es rs) (event ∷ []) (reply ∷ [])) new × LeavesOnly (history mid.writer.device) (history new.writer.device) (Survives area frame (and_then (and_then past es rs) (event ∷ []) (reply ∷ [])) (acknowledged_by (and_then past es rs)))
+      served = serves area frame (and_then past es rs) ran.at
+
+-- a request that was served leaves an engine that can be run
+pub can_run_after : {D : Type 0} (history : D → History) (x : Event) (r : Reply) (old new : Engine D) → is_read_only old ≡ false → CanRun history old → Serves history x r old new → CanRun history new
+can_run_after history x r old new serving can serves = ⊎_elim
+    (λ only. absurd (false≢true (sym serving ∙ only)))
+    (λ at. inr (at.0, at.1, and_then at.2 (x ∷ []) (r ∷ []), (serves at.0 at.1 at.2 at.3).0))
+    can
+
+pub is_serving : (only : Bool) (x : Event) → (only && not (is_read x)) ≡ false → is_read x ≡ false → only ≡ false
+is_serving only x serves changes = and_true only ∙ sym (ap (λ b. only && not b) changes) ∙ serves
+  where
+    and_true : (b : Bool) → b ≡ (b && true)
+    and_true true = refl
+    and_true false = refl
+
+pub lawful_last : {D : Type 0} (failures : D → ℕ) (es : List Event) (rs : List Reply) (event : Event) (reply : Reply) (old mid new : Engine D) → AreLawful failures es rs old mid → IsLawful failures event reply mid new → AreLawful failures (es ++ event ∷ []) (rs ++ reply ∷ []) old new
+lawful_last failures [] [] event reply old mid new so_far lawful = (new, subst (λ e. IsLawful failures event reply e new) so_far lawful, refl)
+lawful_last failures [] (r ∷ rs) event reply old mid new so_far lawful = absurd so_far
+lawful_last failures (e ∷ es) [] event reply old mid new so_far lawful = absurd so_far
+lawful_last failures (e ∷ es) (r ∷ rs) event reply old mid new so_far lawful = (so_far.0, so_far.1, lawful_last failures es rs event reply so_far.0 mid new so_far.2 lawful)

@@ -1,0 +1,48 @@
+use Rattle.std.proofs.Common.{◌≡◌, length, take, List, [], ◌∷◌, ◌++◌, get_or, refl, sym, ap, subst, arith, length-append, length-take}
+use Rattle.std.proofs.lemmas.List.{take_more, take_all}
+use Rattle.first.specs.declared.event.Event.{Event}
+use Rattle.first.specs.declared.event.Reply.{Reply}
+use Rattle.first.specs.Lawful.{IsLawful, AreLawful}
+use Rattle.first.specs.Store.{Serves, GoesOn}
+use Rattle.first.proofs.Runs.{goes_nowhere, goes_further, lawful_last}
+use Rattle.first.proofs.engine.Engine.run.Goals as goal
+
+pub loop-event-init : goal.loop-event-init
+loop-event-init g c = record {
+  even = ap length c.in_ok-replies.ensures.items;
+  room = omega (arith, c.in_ok-replies.ensures.exact);
+  lawful = subst (λ (rs : List Reply). AreLawful g.D.Device.failures [] rs c.args.self.now c.args.self.now) (sym c.in_ok-replies.ensures.items) refl;
+  can_run = c.requires;
+  ran = λ area frame past is. subst (λ (rs : List Reply). GoesOn g.D.Device.history area frame past [] rs c.args.self.now c.args.self.now) (sym c.in_ok-replies.ensures.items) (goes_nowhere g.D.Device.history area frame past c.args.self.now is);
+}
+
+pub loop-event-preserved : goal.loop-event-preserved
+loop-event-preserved g c =
+    let inv = c.loop-event.invariant in
+    let history = g.D.Device.history in
+    let i = c.loop-event.event-index in
+    let events = c.args.events.now in
+    let item : c.event-item.result ≡ get_or events i c.event-item.result = c.event-item.is in
+    let even : length c.loop-event.replies.items ≡ length (take i events) = omega (arith, inv.even, length-take i events, c.loop-event-test.true) in
+    record {
+      even = omega (arith, inv.even, ap length c.in-Ok.ensures.items, length-append c.loop-event.replies.items (c.step-reply.result ∷ []));
+      room = omega (arith, inv.room, c.push.ensures.capacity);
+      lawful =
+          subst (λ (es : List Event). AreLawful g.D.Device.failures es c.push.new.self.items c.args.self.now c.step-reply.new.self) (sym (take_more events i c.event-item.result c.loop-event-test.true))
+          (subst (λ (rs : List Reply). AreLawful g.D.Device.failures (take i events ++ get_or events i c.event-item.result ∷ []) rs c.args.self.now c.step-reply.new.self) (sym c.in-Ok.ensures.items)
+          (lawful_last g.D.Device.failures (take i events) c.loop-event.replies.items (get_or events i c.event-item.result) c.step-reply.result c.args.self.now c.loop-event.self c.step-reply.new.self inv.lawful (subst (λ e. IsLawful g.D.Device.failures e c.step-reply.result c.loop-event.self c.step-reply.new.self) item c.step-reply.ensures.lawful)));
+      can_run = c.step-reply.ensures.can_run;
+      ran = λ area frame past is.
+          subst (λ (es : List Event). GoesOn history area frame past es c.push.new.self.items c.args.self.now c.step-reply.new.self) (sym (take_more events i c.event-item.result c.loop-event-test.true))
+          (subst (λ (rs : List Reply). GoesOn history area frame past (take i events ++ get_or events i c.event-item.result ∷ []) rs c.args.self.now c.step-reply.new.self) (sym c.in-Ok.ensures.items)
+          (goes_further history area frame past (take i events) c.loop-event.replies.items c.args.self.now c.loop-event.self c.step-reply.new.self (get_or events i c.event-item.result) c.step-reply.result even (inv.ran area frame past is) (subst (λ e. Serves history e c.step-reply.result c.loop-event.self c.step-reply.new.self) item c.step-reply.ensures.serves)));
+    }
+
+pub returns : goal.returns
+returns g c = record {
+  ran = λ area frame past is. subst (λ (es : List Event). GoesOn g.D.Device.history area frame past es c.loop-event.replies.items c.args.self.now c.loop-event.self) (take_all c.loop-event.event-index c.args.events.now c.loop-event-test.false) (c.loop-event.invariant.ran area frame past is);
+  lawful = subst (λ (es : List Event). AreLawful g.D.Device.failures es c.loop-event.replies.items c.args.self.now c.loop-event.self) (take_all c.loop-event.event-index c.args.events.now c.loop-event-test.false) c.loop-event.invariant.lawful;
+  refused = tt;
+  no_memory = tt;
+  can_run = c.loop-event.invariant.can_run;
+}

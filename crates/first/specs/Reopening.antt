@@ -1,0 +1,81 @@
+-- What a restart makes of what a device holds.
+use Rattle.std.specs.Prelude.{◌≡◌, ◌⊎◌, ℕ, ◌≤◌, Bool, true, false, List, [], ◌∷◌, length}
+use Rattle.std.specs.FinMap as map
+use Rattle.records.specs.RecordValue.{RecordValue}
+use Rattle.records.specs.GeometryValue.{GeometryValue}
+use Rattle.records.specs.declared.error.Error.{Error}
+use Rattle.model.specs.Table.{Table}
+use Rattle.model.specs.History.{table_after, up_to}
+use Rattle.sector_device.specs.Disk.{Image, IsSynced, IsCrashImage}
+use Rattle.sector_device.specs.History.{History, LeavesOnly}
+use Rattle.gate_log.specs.Area.{Refuses}
+use Rattle.flip_image.specs.declared.half.Half.{Half}
+use Rattle.flip_image.specs.declared.half.Half.TheVariants.{A}
+use Rattle.flip_image.specs.Store.{IsFormatted}
+use Rattle.store_reader.specs.Contents.{rows_of, log_area, Gives, IsUnreadable}
+use Rattle.nsf_core.specs.State.{State, fresh}
+use Rattle.first.specs.declared.event.Event.{Event}
+use Rattle.first.specs.declared.event.Reply.{Reply}
+use Rattle.first.specs.declared.engine.Engine.{Engine}
+use Rattle.first.specs.Parts.{core_of, device_of, horizon_of, has_failed, is_read_only}
+use Rattle.first.specs.Lawful.{AreLawful}
+use Rattle.first.specs.Store.{Past, items_of, and_then, Survives, IsAt}
+
+-- a core over these rows, with no transaction, of which the last record has this number
+abbrev pub holding : ℕ → ℕ → Table → State
+holding pages last rows = record (fresh pages last) { heap = record { pages = pages; rows = rows } }
+
+abbrev pub is_some_record : List RecordValue → Bool
+is_some_record [] = false
+is_some_record (r ∷ records) = true
+
+-- Nothing was done to the device but to sync it: it holds what it held, and a crash at any moment leaves what a crash
+-- before could.
+pub record OnlySyncs {D : Type 0} (history : D → History) (before after : D) : Type 0 where
+  pub content : (history after).disk.content ≡ (history before).disk.content
+  pub images : LeavesOnly (history before) (history after) (IsCrashImage (history before).disk)
+
+-- a run that has not begun, over a store with no row and no record
+abbrev pub opening : ℕ → Past
+opening pages = record { pages = pages; table = map.empty; last = 0; events = []; replies = [] }
+
+-- The engine holds what its device gave: the rows of the records in the log, with every unfinished transaction taken
+-- back, and no transaction. It serves every request where there was no record, and else only reads.
+pub record IsOpened {D : Type 0} (history : D → History) (before : D) (engine : Engine D) : Type 0 where
+  pub geometry : GeometryValue
+  pub half : Half
+  pub records : List RecordValue
+  pub gives : Gives (history before).disk.content geometry half records
+  pub core : core_of engine ≡ holding geometry.pages (length records) (rows_of records)
+  pub horizon : horizon_of engine ≡ length records
+  pub mode : is_read_only engine ≡ is_some_record records
+  pub sound : has_failed engine ≡ false
+  pub device : OnlySyncs history before (device_of engine)
+  pub synced : IsSynced (history (device_of engine)).disk
+  pub begins : records ≡ [] → IsAt history (log_area geometry half) (history before).disk.content (opening geometry.pages) engine
+
+-- Why nothing was opened: there was no memory, the device failed in the call, or it gives nothing.
+pub record IsNotOpened {D : Type 0} (history : D → History) (failures : D → ℕ) (before after : D) (e : Error) : Type 0 where
+  pub device : OnlySyncs history before after
+  pub why : Refuses (failures before) (failures after) e ⊎ IsUnreadable (history before).disk.content e
+
+-- The rows are the table of a prefix of the run's history, which has every item up to the floor, and no transaction is
+-- active.
+pub record Recovers {D : Type 0} (past : Past) (floor : ℕ) (engine : Engine D) : Type 0 where
+  pub last : ℕ
+  pub floor_is : floor ≤ last
+  pub rows : (core_of engine).heap.rows ≡ table_after past.table (up_to last (items_of past))
+  pub no_txn : (core_of engine).txns.active ≡ []
+
+-- A run over a store that was formatted, and a crash that left it so.
+pub record IsLeftByRun (geometry : GeometryValue) (frame : Image) (events : List Event) (replies : List Reply) (floor : ℕ) (image : Image) : Type 0 where
+  pub formatted : IsFormatted geometry frame
+  pub survives : Survives (log_area geometry A) frame (and_then (opening geometry.pages) events replies) floor image
+
+-- These requests were answered so, each lawfully, over a store that was just formatted.
+pub record IsAnswered {D : Type 0} (history : D → History) (failures : D → ℕ) (geometry : GeometryValue) (events : List Event) (replies : List Reply) : Type 0 where
+  pub frame : Image
+  pub opened : Engine D
+  pub served : Engine D
+  pub begins : IsAt history (log_area geometry A) frame (opening geometry.pages) opened
+  pub lawful : AreLawful failures events replies opened served

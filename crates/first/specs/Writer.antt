@@ -1,0 +1,55 @@
+-- What the writer keeps of the records that were handed to it.
+use Rattle.std.specs.Prelude.{◌≡◌, ◌≢◌, ◌⊎◌, ℕ, ◌≤◌, ◌<◌, ◌^◌, true, false, List, [], length, take, drop}
+use Rattle.records.specs.RecordValue.{RecordValue}
+use Rattle.sector_device.specs.Disk.{Image, IsCrashImage, IsSynced, SameOutside}
+use Rattle.sector_device.specs.History.{History, Rises}
+use Rattle.records.specs.declared.error.Error.{Error}
+use Rattle.records.specs.declared.error.Error.TheVariants.{NoMemory, DeviceFailed}
+use Rattle.gate_log.specs.Area.{Area, InArea, IsInside, HoldsGroups, Stands, records_of}
+use Rattle.first.specs.declared.writer.Writer.{Writer}
+use Rattle.first.specs.declared.writer.Flushed.{Flushed}
+use Rattle.first.specs.declared.writer.Flushed.TheVariants.{Group, Nothing, Full}
+
+-- an image that is the first one outside the area, and whose area holds these records
+pub record HoldsRecords (area : Area) (frame : Image) (records : List RecordValue) (image : Image) : Type 0 where
+  pub outside : SameOutside (InArea area) frame image
+  pub groups : List (List RecordValue)
+  pub held : HoldsGroups area image groups
+  pub records_are : records_of groups ≡ records
+
+-- an image that holds a prefix of the records, with the first n of them at least
+pub record LeftBy (area : Area) (frame : Image) (handed : List RecordValue) (n : ℕ) (image : Image) : Type 0 where
+  pub count : ℕ
+  pub floor : n ≤ count
+  pub within : count ≤ length handed
+  pub holds : HoldsRecords area frame (take count handed) image
+
+-- the log stands for these records, and the disk is synced
+pub record StandsFor {D : Type 0} (history : D → History) (frame : Image) (records : List RecordValue) (w : Writer D) : Type 0 where
+  pub groups : List (List RecordValue)
+  pub stands : Stands w.log (history w.device).disk.content groups
+  pub records_are : records_of groups ≡ records
+  pub outside : SameOutside (InArea w.log.area) frame (history w.device).disk.content
+  pub synced : IsSynced (history w.device).disk
+
+-- The records that were handed in are those in the log and those that wait; a crash now leaves a prefix of them that has the synced ones.
+pub record IsWriter {D : Type 0} (history : D → History) (area : Area) (frame : Image) (handed : List RecordValue) (w : Writer D) : Type 0 where
+  pub area_is : w.log.area ≡ area
+  pub inside : IsInside area (history w.device).disk.content
+  pub small : length handed < 2 ^ 63
+  pub reached : w.synced ≤ length handed
+  pub waits : w.waiting.items ≡ drop w.synced handed
+  pub holds : w.failed ≡ false → StandsFor history frame (take w.synced handed) w
+  pub images : (image : Image) → IsCrashImage (history w.device).disk image → LeftBy area frame handed w.synced image
+
+-- what became of a flush: more records are synced, or none waited, or every slot is open
+abbrev pub IsFlushed : {D : Type 0} → Flushed → Writer D → Writer D → Type 0
+IsFlushed Group old new = (old.synced < new.synced) × (old.waiting.items ≢ [])
+IsFlushed Nothing old new = (new ≡ old) × (old.waiting.items ≡ [])
+IsFlushed Full old new = (new ≡ old) × (old.log.open_slots ≡ old.log.area.slots) × (old.waiting.items ≢ [])
+
+-- why nothing was written: there was no memory, or the device failed, now or earlier
+abbrev pub IsNotFlushed : {D : Type 0} → (D → ℕ) → Error → Writer D → Writer D → Type 0
+IsNotFlushed failures e old new =
+    ((e ≡ NoMemory) × (old.failed ≡ false) × (new ≡ old))
+    ⊎ ((e ≡ DeviceFailed) × (new.failed ≡ true) × (old.failed ≡ false → Rises (failures old.device) (failures new.device)))

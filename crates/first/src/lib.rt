@@ -1,0 +1,17 @@
+//! A store without an index, on one log that is never emptied: it is opened, serves requests in order, and survives a
+//! crash at any moment.
+#![tactic(auto)]
+
+mod engine;
+mod event;
+mod rehearsal;
+mod reopen;
+mod writer;
+
+pub use engine::Engine;
+pub use event::{Event, Reply};
+pub use rehearsal::rehearse;
+pub use reopen::restart;
+
+#[cfg(test)]
+mod tests;

@@ -1,0 +1,135 @@
+//! The writer: what was handed to it, in the log or waiting for it.
+ghost use Rattle.std.specs.Prelude.{◌≡◌, ◌⊎◌, ◌+◌, ◌<◌, ◌≤◌, ◌^◌, List, [], ℕ, length, take, true, false, OnOk, OnErr, IfOk, IfErr};
+ghost use Rattle.records.specs.RecordValue.{RecordValue};
+ghost use Rattle.sector_device.specs.Disk.{Image};
+ghost use Rattle.sector_device.specs.History.{LeavesOnly};
+ghost use Rattle.gate_log.specs.declared.group.TheConstants.{GROUP_MAX};
+ghost use Rattle.gate_log.specs.Group.{spellings};
+ghost use Rattle.gate_log.specs.Area.{Area};
+
+use gate_log::{Appended, GROUP_MAX, LogArea};
+use records::{Error, Record};
+use sector_device::Device;
+use std::alloc::Global;
+
+/// What became of a flush.
+#[derive(Clone, Copy, Debug, PartialEq, Eq)]
+pub(crate) enum Flushed {
+    /// The next group is in the log, and synced.
+    Group,
+    /// No record waited.
+    Nothing,
+    /// Every slot of the log is open.
+    Full,
+}
+
+/// A device with its log, and the records that wait for it.
+#[derive(Drop)]
+pub(crate) struct Writer<D> {
+    pub(crate) device: D,
+    pub(crate) log: LogArea,
+    // The number of the last record that the log held as it was opened.
+    pub(crate) base: u64,
+    // The records that were handed in and are not in the log yet, in order.
+    pub(crate) waiting: Vec<Record>,
+    // How many of those handed in are in the log, and synced.
+    pub(crate) synced: u64,
+    // Whether the device has failed.
+    pub(crate) failed: bool,
+}
+
+// How many of the records fit one group, taken from the front.
+fn group_len(records: &[Record]) -> usize
+    ensures within { result ≤ length records.now }
+    ensures some { 0 < length records.now → 0 < result }
+    ensures short { length (spellings (take result records.now)) ≤ GROUP_MAX }
+    ensures most { result < length records.now → GROUP_MAX < length (spellings (take (result + 1) records.now)) }
+{
+    let mut len = 0;
+    let mut count = 0;
+    for record in records {
+        len += record.size();
+        if GROUP_MAX < len {
+            return count;
+        }
+        count += 1;
+    }
+    count
+}
+
+impl<D: Device> Writer<D> {
+    /// A writer to which nothing was handed.
+    pub(crate) fn new(alloc: Global, device: D, log: LogArea, base: u64) -> Self
+        ensures device { result.device ≡ device }
+        ensures log { result.log ≡ log }
+        ensures base { result.base ≡ base }
+        ensures waiting { result.waiting.items ≡ [] }
+        ensures synced { result.synced ≡ 0 }
+        ensures failed { result.failed ≡ false }
+    {
+        Writer {
+            device,
+            log,
+            base,
+            waiting: Vec::new(alloc),
+            synced: 0,
+            failed: false,
+        }
+    }
+
+    /// The device as it is now.
+    pub(crate) fn into_device(self) -> D
+        ensures { result ≡ self.device }
+    {
+        self.device
+    }
+
+    ghost use Rattle.first.specs.Writer.{IsWriter, LeftBy, IsFlushed, IsNotFlushed};
+
+    /// Writes the next group of the records that wait, as many as fit one. A
+    /// writer that failed once answers `DeviceFailed` from then on.
+    pub(crate) fn flush_group(&mut self, alloc: Global) -> Result<Flushed, Error>
+        requires { (area : Area) × (frame : Image) × (handed : List RecordValue) × IsWriter D.history area frame handed self.old }
+        ensures writer { (area : Area) (frame : Image) (handed : List RecordValue) → IsWriter D.history area frame handed self.old → IsWriter D.history area frame handed self.new }
+        ensures images { (area : Area) (frame : Image) (handed : List RecordValue) → IsWriter D.history area frame handed self.old
+            → LeavesOnly (D.history self.old.device) (D.history self.new.device) (LeftBy area frame handed self.old.synced) }
+        ensures flushed { IfOk result (λ flushed. IsFlushed flushed self.old self.new) }
+        ensures sound { OnOk result ((self.old.failed ≡ false) × (self.new.failed ≡ false)) }
+        ensures base { self.new.base ≡ self.old.base }
+        ensures grows { self.old.synced ≤ self.new.synced }
+        ensures err { IfErr result (λ e. IsNotFlushed D.failures e self.old self.new) }
+        ensures nothing { OnErr result (self.new.synced ≡ self.old.synced) }
+    {
+        if self.failed {
+            return Err(Error::DeviceFailed);
+        }
+        let count = group_len(&self.waiting);
+        if count == 0 {
+            return Ok(Flushed::Nothing);
+        }
+        match self
+            .log
+            .append(alloc, &mut self.device, &self.waiting[..count])
+        {
+            Ok(Appended::Done) => {
+                self.synced += count as u64;
+                self.waiting.drain(..count);
+                Ok(Flushed::Group)
+            }
+            Ok(Appended::Full) => Ok(Flushed::Full),
+            Err(Error::NoMemory) => Err(Error::NoMemory),
+            Err(error) => {
+                self.failed = true;
+                Err(error)
+            }
+        }
+    }
+
+    /// The number of the last record that is in the log, and synced.
+    pub(crate) fn horizon(&self) -> u64
+        requires { self.now.base + self.now.synced < 2 ^ 64 }
+        ensures { result ≡ self.now.base + self.now.synced }
+    {
+        self.base + self.synced
+    }
+}

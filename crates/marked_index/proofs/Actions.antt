@@ -1,0 +1,77 @@
+-- What the actions leave as it was, and how many entries there are after one.
+use Rattle.std.proofs.Common.{Result, Ok, Err, OnOk, OnErr, ◌<◌, ◌≡◌, ℕ, ◌+◌, ◌-◌, ◌≤◌, Bool, true, false, cond, Option, Some, None, is_some, refl, sym, ap, subst, ◌∙◌, arith}
+use Rattle.std.specs.FinMap as map
+use Rattle.records.specs.Maps.{set_at, set_at-get, pair_exact}
+use Rattle.records.specs.Orders.{pair_cmp_total}
+use Rattle.records.specs.declared.pair.Pair.{Pair}
+use Rattle.records.specs.declared.pair.Mark.{Mark}
+use Rattle.records.specs.declared.pair.Mark.TheVariants.{Live, Marked}
+use Rattle.model.specs.declared.key_action.KeyAction.TheVariants.{BuildPut, Clean}
+use Rattle.model.specs.KeyActions.{after_action}
+use Rattle.model.specs.Table.{Index}
+use Rattle.records.specs.declared.geometry.TheConstants.{ENTRIES_MAX}
+use Rattle.records.specs.declared.error.Error.{Error}
+use Rattle.marked_index.specs.Index.{IndexValue, HasRoom, entries_after}
+
+-- to set what is there changes nothing
+as_it_was : (m : Index) (p : Pair) (o : Option Mark) → map.get m p ≡ o → set_at m p o ≡ m
+as_it_was m p o e = ap (set_at m p) (sym e) ∙ set_at-get pair_exact m p
+
+same_value : (v : IndexValue) (m : Index) → m ≡ v.entries → v ≡ record v { entries = m }
+same_value v m e = λ i. record { entries = sym e i; pledged = v.pledged; capacity = v.capacity }
+
+pub none_of : (o : Option Mark) → is_some o ≡ false → o ≡ None
+none_of None e = refl
+none_of (Some x) e = cc
+
+build_leaves_there : (o : Option Mark) → is_some o ≡ true → after_action BuildPut o ≡ o
+build_leaves_there None e = cc
+build_leaves_there (Some Live) e = refl
+build_leaves_there (Some Marked) e = refl
+
+-- what is there stays as it is when the builder comes to it
+pub after_build_there : (v : IndexValue) (p : Pair) → is_some (map.get v.entries p) ≡ true → v ≡ record v { entries = entries_after v.entries BuildPut p }
+after_build_there v p e = same_value v _ (as_it_was v.entries p _ (sym (build_leaves_there (map.get v.entries p) e)))
+
+stays : (o : Option Mark) (allowed : Bool) → (allowed ≡ true → o ≡ Some Marked → ⊥) → after_action (Clean allowed) o ≡ o
+stays None allowed h = refl
+stays (Some Live) allowed h = refl
+stays (Some Marked) true h = absurd (h refl refl)
+stays (Some Marked) false h = refl
+
+pub after_no_clean : (v : IndexValue) (p : Pair) (allowed : Bool) → (allowed ≡ true → map.get v.entries p ≡ Some Marked → ⊥) → v ≡ record v { entries = entries_after v.entries (Clean allowed) p }
+after_no_clean v p allowed h = same_value v _ (as_it_was v.entries p _ (sym (stays (map.get v.entries p) allowed h)))
+
+pub after_none : (v : IndexValue) (p : Pair) (o : Option Mark) → o ≡ None → is_some (map.get v.entries p) ≡ false → v ≡ record v { entries = set_at v.entries p o }
+after_none v p o is e = same_value v _ (as_it_was v.entries p o (none_of _ e ∙ sym is))
+
+-- ---- how many entries there are after a change of one
+
+len_added : (m : Index) (p : Pair) (x : Mark) → map.get m p ≡ None → map.len (map.insert m p x) ≡ map.len m + 1
+len_added m p x e = map.len-insert pair_cmp_total m p x ∙ ap (λ o. cond (is_some o) (map.len m) (map.len m + 1)) e
+
+len_changed : (m : Index) (p : Pair) (x : Mark) → is_some (map.get m p) ≡ true → map.len (map.insert m p x) ≡ map.len m
+len_changed m p x e = map.len-insert pair_cmp_total m p x ∙ ap (λ b. cond b (map.len m) (map.len m + 1)) e
+
+at_most : (b : Bool) (n : ℕ) → cond b (n - 1) n ≤ n
+at_most true n = omega arith
+at_most false n = omega arith
+
+len_removed : (m : Index) (p : Pair) → map.len (map.remove m p) ≤ map.len m
+len_removed m p = subst (λ n. n ≤ map.len m) (sym (map.len-remove pair_cmp_total m p)) (at_most (is_some (map.get m p)) (map.len m))
+
+-- ---- room for what a change leaves
+
+pub room_removed : (m n : Index) (p : Pair) (k c : ℕ) → HasRoom (record { entries = m; pledged = k; capacity = c }) → n ≡ map.remove m p → HasRoom (record { entries = n; pledged = k; capacity = c })
+room_removed m n p k c room e = record { within = omega (arith, len_removed m p, ap map.len e, room.within); most = room.most }
+
+pub room_changed : (m n : Index) (p : Pair) (x : Mark) (k c : ℕ) → HasRoom (record { entries = m; pledged = k; capacity = c }) → is_some (map.get m p) ≡ true → n ≡ map.insert m p x → HasRoom (record { entries = n; pledged = k; capacity = c })
+room_changed m n p x k c room there e = record { within = omega (arith, len_changed m p x there, ap map.len e, room.within); most = room.most }
+
+-- one more entry, and j places pledged
+pub room_added : (m n : Index) (p : Pair) (x : Mark) (j c : ℕ) → map.len m + 1 + j ≤ c → c ≤ ENTRIES_MAX → map.get m p ≡ None → n ≡ map.insert m p x → HasRoom (record { entries = n; pledged = j; capacity = c })
+room_added m n p x j c fits most absent e = record { within = omega (arith, len_added m p x absent, ap map.len e, fits); most = most }
+
+pub room_tried : (m n : Index) (p : Pair) (x : Mark) (k c : ℕ) (r : Result (Unit {0}) Error) → HasRoom (record { entries = m; pledged = k; capacity = c }) → map.len m + k < c → map.get m p ≡ None → OnOk r (n ≡ map.insert m p x) → OnErr r (n ≡ m) → HasRoom (record { entries = n; pledged = k; capacity = c })
+room_tried m n p x k c (Ok u) room fits absent done left = room_added m n p x k c (omega arith) room.most absent done
+room_tried m n p x k c (Err e) room fits absent done left = record { within = omega (arith, ap map.len left, room.within); most = room.most }

@@ -1,0 +1,3 @@
+mod Actions
+mod Places
+mod Listing

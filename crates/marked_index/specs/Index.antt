@@ -1,0 +1,49 @@
+-- What clauses see of the index.
+use Rattle.std.specs.Prelude.{◌≡◌, ℕ, ◌+◌, ◌-◌, ◌≤◌, Option, Some, None, refl}
+use Rattle.std.specs.Coded.{Coded, code_by, coded×, coded_ℕ}
+use Rattle.std.specs.FinMap as map
+use Rattle.records.specs.Codes.{coded_pair, coded_mark}
+use Rattle.records.specs.Maps.{set_at}
+use Rattle.records.specs.declared.geometry.TheConstants.{ENTRIES_MAX}
+use Rattle.records.specs.declared.pair.Pair.{Pair}
+use Rattle.records.specs.declared.pair.Mark.{Mark}
+use Rattle.model.specs.declared.key_action.KeyAction.{KeyAction}
+use Rattle.model.specs.KeyActions.{after_action}
+use Rattle.model.specs.Table.{Index}
+
+-- the entries, how many places are pledged to changes and not used yet, and how many entries there is room for
+pub record IndexValue : Type 0 where
+  pub entries : Index
+  pub pledged : ℕ
+  pub capacity : ℕ
+
+abbrev pub coded_index : Coded IndexValue
+coded_index = code_by (Index × (ℕ × ℕ)) (coded× (map.code coded_pair coded_mark) (coded× coded_ℕ coded_ℕ)) (λ v. (v.entries, (v.pledged, v.capacity))) (λ p. record { entries = p.0; pledged = p.1.0; capacity = p.1.1 }) (λ _. refl)
+
+-- the entries and the pledged places are within the capacity, and that is what a tree can hold
+pub record HasRoom (v : IndexValue) : Type 0 where
+  pub within : map.len v.entries + v.pledged ≤ v.capacity
+  pub most : v.capacity ≤ ENTRIES_MAX
+
+-- every place is taken or pledged
+abbrev pub IsFull : IndexValue → Type 0
+IsFull v = v.capacity ≤ map.len v.entries + v.pledged
+
+abbrev pub IsAbsent : Index → Pair → Type 0
+IsAbsent entries pair = map.get entries pair ≡ None
+
+-- the entries after an action on one of them
+abbrev pub entries_after : Index → KeyAction → Pair → Index
+entries_after entries action pair = set_at entries pair (after_action action (map.get entries pair))
+
+-- how many pledged places a transaction's action uses: one where there was no entry
+abbrev pub places_used : Option Mark → ℕ
+places_used None = 1
+places_used (Some mark) = 0
+
+-- the index after a transaction's action
+abbrev pub after_txn_action : IndexValue → KeyAction → Pair → IndexValue
+after_txn_action v action pair = record v {
+  entries = entries_after v.entries action pair;
+  pledged = v.pledged - places_used (map.get v.entries pair);
+}

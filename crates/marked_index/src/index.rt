@@ -1,0 +1,331 @@
+//! The index.
+ghost use Rattle.std.specs.Prelude.{◌≡◌, ◌⊎◌, ◌+◌, ◌-◌, ◌<◌, ◌≤◌, ◌↔◌, None, Some, Contains, IfOk, IfErr, IsErr, IsOk, IsSome, IsTrue, OnErr, OnOk};
+ghost use Rattle.std.specs.FinMap as map;
+ghost use Rattle.std.specs.List.{AllPairs};
+ghost use Rattle.std.specs.Option.{option_copied};
+ghost use Rattle.std.specs.declared.cmp.Ordering.{Ordering};
+ghost use Rattle.records.specs.Maps.{set_at};
+ghost use Rattle.records.specs.Orders.{rid_cmp};
+ghost use Rattle.records.specs.Values.{Place};
+ghost use Rattle.model.specs.declared.key_action.KeyAction.{KeyAction};
+ghost use Rattle.btree_node.specs.Above.{IsLeastAbove};
+ghost use Rattle.btree_node.specs.Contents.{contents};
+ghost use Rattle.marked_index.specs.Index.{HasRoom, IsFull, IsAbsent, entries_after, places_used, after_txn_action};
+ghost use Rattle.marked_index.specs.Shown.{IsNextOf, mark_at};
+
+use btree_node::{BTree, ENTRIES_MAX};
+use records::{Error, Geometry, Key, Mark, PLACES_PER_CHANGE, Pair, Rid};
+use std::alloc::Allocator;
+use std::marker::Model;
+
+/// The place before all others.
+const FIRST: Rid = Rid { page: 0, slot: 0 };
+
+/// What a step of a transaction met.
+#[derive(Clone, Copy, Debug, PartialEq, Eq)]
+pub enum Stepped {
+    /// There was no entry. One was added, in a pledged place.
+    Added,
+    /// There was an entry.
+    Found,
+}
+
+/// What became of the builder's pair.
+#[derive(Clone, Copy, Debug, PartialEq, Eq)]
+pub enum Built {
+    /// It has a live entry now.
+    Placed,
+    /// It had an entry already, live or marked, which stays as it was.
+    Rejected,
+}
+
+/// The entries of the index, and the places that are pledged to changes under way.
+///
+/// Entries and pledged places together are never more than the index has room for: a change that
+/// has pledged its places is never refused for want of room, and neither is its undoing.
+#[derive(Drop)]
+pub struct MarkedIndex<A: Allocator> {
+    tree: BTree<A>,
+    // how many places are pledged and not used yet
+    pledged: usize,
+    // how many entries there is room for
+    capacity: usize,
+}
+
+impl<A: Allocator> Model for MarkedIndex<A> {
+    ghost use Rattle.btree_node.specs.Contents.{contents};
+    ghost use Rattle.marked_index.specs.Index.{IndexValue, coded_index, HasRoom};
+
+    ghost Value = { IndexValue };
+
+    ghost coded = { coded_index };
+
+    ghost view = { λ i. record { entries = contents i.tree; pledged = i.pledged; capacity = i.capacity } };
+
+    ghost invariant = { λ i. HasRoom (record { entries = contents i.tree; pledged = i.pledged; capacity = i.capacity }) };
+}
+
+/// Puts an absent pair into a tree with a mark. The one error is `NoMemory`.
+fn plant<A: Allocator + Clone>(tree: &mut BTree<A>, pair: &Pair, mark: Mark) -> Result<(), Error>
+    requires room { map.len (contents tree.old) < ENTRIES_MAX }
+    requires absent { IsAbsent (contents tree.old) pair.now }
+    ensures planted { OnOk result (contents tree.new ≡ map.insert (contents tree.old) pair.now mark) }
+    ensures no_memory { IfErr result (λ e. e ≡ Error.NoMemory) }
+    ensures unchanged { OnErr result (contents tree.new ≡ contents tree.old) }
+{
+    let plan = tree.plan_insert(pair)?;
+    tree.insert(plan, mark);
+    Ok(())
+}
+
+impl<A: Allocator + Clone> MarkedIndex<A> {
+    /// An index without entries, with room for as many as the geometry says.
+    ///
+    /// It takes no memory.
+    pub fn new(alloc: A, geometry: Geometry) -> Self
+        ensures { result ≡ record { entries = map.empty; pledged = 0; capacity = geometry.entries } }
+    {
+        MarkedIndex {
+            tree: BTree::new(alloc),
+            pledged: 0,
+            capacity: geometry.entries as usize,
+        }
+    }
+
+    /// How many entries there are.
+    pub fn len(&self) -> usize
+        ensures len { result ≡ map.len self.now.entries }
+        ensures room { HasRoom self.now }
+    {
+        self.tree.len()
+    }
+
+    /// Whether there is no entry.
+    pub fn is_empty(&self) -> bool
+        ensures { IsTrue result ↔ (self.now.entries ≡ map.empty) }
+    {
+        self.tree.is_empty()
+    }
+
+    /// How many places are pledged and not used yet.
+    pub fn pledged(&self) -> usize
+        ensures pledged { result ≡ self.now.pledged }
+        ensures room { HasRoom self.now }
+    {
+        self.pledged
+    }
+
+    /// The mark of a pair, if it has an entry.
+    pub fn get(&self, pair: &Pair) -> Option<Mark>
+        ensures { result ≡ map.get self.now.entries pair.now }
+    {
+        self.tree.get(pair).0
+    }
+
+    /// The least entry whose pair comes after the given one, or the least of all.
+    pub fn above(&self, pair: Option<&Pair>) -> Option<(Pair, Mark)>
+        ensures { IsLeastAbove self.now.entries (option_copied pair.entry) result }
+    {
+        self.tree.above(pair)
+    }
+
+    /// Sets the entry of a pair, or takes it out, as a restart does with what it reads.
+    ///
+    /// `IndexFull` where it would add an entry and every place is taken or pledged, else
+    /// `NoMemory`, which too comes only where an entry is to be added.
+    pub fn load(&mut self, pair: &Pair, mark: Option<Mark>) -> Result<(), Error>
+        ensures ok { OnOk result (self.new ≡
+            record self.old { entries = set_at self.old.entries pair.now mark }) }
+        ensures full { (result ≡ Err Error.IndexFull) ↔
+            (IsSome mark × IsAbsent self.old.entries pair.now × IsFull self.old) }
+        ensures refused { IfErr result (λ e. IsSome mark × IsAbsent self.old.entries pair.now
+            × ((e ≡ Error.IndexFull) ⊎ (e ≡ Error.NoMemory))) }
+        ensures unchanged { OnErr result (self.new ≡ self.old) }
+    {
+        let is_there = self.get(pair).is_some();
+        match mark {
+            None if is_there => self.tree.remove(pair),
+            None => {}
+            Some(mark) if is_there => self.tree.set_mark(pair, mark),
+            Some(mark) => self.add(pair, mark)?,
+        }
+        Ok(())
+    }
+
+    /// Makes the entry of a pair live, as a transaction does; a pair that has none gets one, in a
+    /// pledged place, which `get` and `pledged` can tell of before.
+    ///
+    /// The one error is `NoMemory`, and it comes only where an entry is to be added.
+    pub fn txn_put(&mut self, pair: &Pair) -> Result<Stepped, Error>
+        requires place { IsAbsent self.old.entries pair.now → 0 < self.old.pledged }
+        ensures ok { OnOk result (self.new ≡ after_txn_action self.old KeyAction.TxnPut pair.now) }
+        ensures added { IfOk result (λ s. (s ≡ Stepped.Added) ↔ IsAbsent self.old.entries pair.now) }
+        ensures no_memory { IfErr result (λ e. (e ≡ Error.NoMemory) × IsAbsent self.old.entries pair.now) }
+        ensures unchanged { OnErr result (self.new ≡ self.old) }
+    {
+        self.step(pair, Mark::Live)
+    }
+
+    /// Marks the entry of a pair, as a transaction does; a pair that has none gets a marked one, in a
+    /// pledged place, which `get` and `pledged` can tell of before.
+    ///
+    /// The one error is `NoMemory`, and it comes only where an entry is to be added.
+    pub fn txn_mark(&mut self, pair: &Pair) -> Result<Stepped, Error>
+        requires place { IsAbsent self.old.entries pair.now → 0 < self.old.pledged }
+        ensures ok { OnOk result (self.new ≡ after_txn_action self.old KeyAction.TxnMark pair.now) }
+        ensures added { IfOk result (λ s. (s ≡ Stepped.Added) ↔ IsAbsent self.old.entries pair.now) }
+        ensures no_memory { IfErr result (λ e. (e ≡ Error.NoMemory) × IsAbsent self.old.entries pair.now) }
+        ensures unchanged { OnErr result (self.new ≡ self.old) }
+    {
+        self.step(pair, Mark::Marked)
+    }
+
+    // Gives the entry of a pair this mark; one that is absent is added in a pledged place.
+    fn step(&mut self, pair: &Pair, mark: Mark) -> Result<Stepped, Error>
+        requires place { IsAbsent self.old.entries pair.now → 0 < self.old.pledged }
+        ensures ok { OnOk result (self.new ≡ record self.old {
+          entries = map.insert self.old.entries pair.now mark;
+          pledged = self.old.pledged - places_used (map.get self.old.entries pair.now);
+        }) }
+        ensures added { IfOk result (λ s. (s ≡ Stepped.Added) ↔ IsAbsent self.old.entries pair.now) }
+        ensures no_memory { IfErr result (λ e. (e ≡ Error.NoMemory) × IsAbsent self.old.entries pair.now) }
+        ensures unchanged { OnErr result (self.new ≡ self.old) }
+    {
+        if self.get(pair).is_some() {
+            self.tree.set_mark(pair, mark);
+            return Ok(Stepped::Found);
+        }
+        plant(&mut self.tree, pair, mark)?;
+        self.pledged -= 1;
+        Ok(Stepped::Added)
+    }
+
+    /// Puts a pair in, live, as the builder does: one that has an entry is rejected.
+    ///
+    /// `IndexFull` where the pair has no entry and every place is taken or pledged, else
+    /// `NoMemory`, which too comes only where an entry is to be added.
+    pub fn build_put(&mut self, pair: &Pair) -> Result<Built, Error>
+        ensures ok { OnOk result (self.new ≡
+            record self.old { entries = entries_after self.old.entries KeyAction.BuildPut pair.now }) }
+        ensures placed { IfOk result (λ b. (b ≡ Built.Placed) ↔ IsAbsent self.old.entries pair.now) }
+        ensures full { (result ≡ Err Error.IndexFull) ↔
+            (IsAbsent self.old.entries pair.now × IsFull self.old) }
+        ensures refused { IfErr result (λ e. IsAbsent self.old.entries pair.now
+            × ((e ≡ Error.IndexFull) ⊎ (e ≡ Error.NoMemory))) }
+        ensures unchanged { OnErr result (self.new ≡ self.old) }
+    {
+        if self.get(pair).is_some() {
+            return Ok(Built::Rejected);
+        }
+        self.add(pair, Mark::Live)?;
+        Ok(Built::Placed)
+    }
+
+    // How many places are taken or pledged.
+    fn taken(&self) -> usize
+        ensures taken { result ≡ map.len self.now.entries + self.now.pledged }
+        ensures room { HasRoom self.now }
+    {
+        self.len() + self.pledged
+    }
+
+    // Adds the entry of an absent pair, in a place that is not pledged.
+    fn add(&mut self, pair: &Pair, mark: Mark) -> Result<(), Error>
+        requires absent { IsAbsent self.old.entries pair.now }
+        ensures ok { OnOk result (self.new ≡
+            record self.old { entries = map.insert self.old.entries pair.now mark }) }
+        ensures full { (result ≡ Err Error.IndexFull) ↔ IsFull self.old }
+        ensures refused { IfErr result (λ e. (e ≡ Error.IndexFull) ⊎ (e ≡ Error.NoMemory)) }
+        ensures unchanged { OnErr result (self.new ≡ self.old) }
+    {
+        if self.taken() >= self.capacity {
+            return Err(Error::IndexFull);
+        }
+        plant(&mut self.tree, pair, mark)
+    }
+
+    /// Takes the entry of a pair out where it is marked and that is allowed, as the cleaner does,
+    /// and says whether it did.
+    ///
+    /// It takes no memory.
+    pub fn clean(&mut self, pair: &Pair, allowed: bool) -> bool
+        ensures entries { self.new ≡
+            record self.old { entries = entries_after self.old.entries (KeyAction.Clean allowed) pair.now } }
+        ensures taken_out { IsTrue result ↔
+            (IsTrue allowed × (map.get self.old.entries pair.now ≡ Some Mark.Marked)) }
+    {
+        let takes_out = allowed && self.get(pair) == Some(Mark::Marked);
+        if takes_out {
+            self.tree.remove(pair);
+        }
+        takes_out
+    }
+
+    /// Pledges the places of one more change.
+    ///
+    /// `IndexFull` where there are not so many beside the entries and the places pledged before.
+    pub fn pledge(&mut self) -> Result<(), Error>
+        ensures ok { OnOk result (self.new ≡
+            record self.old { pledged = self.old.pledged + PLACES_PER_CHANGE }) }
+        ensures full { IsErr result ↔
+            (self.old.capacity < map.len self.old.entries + self.old.pledged + PLACES_PER_CHANGE) }
+        ensures index_full { IfErr result (λ e. e ≡ Error.IndexFull) }
+        ensures unchanged { OnErr result (self.new ≡ self.old) }
+    {
+        let places = PLACES_PER_CHANGE as usize;
+        if self.taken() + places > self.capacity {
+            return Err(Error::IndexFull);
+        }
+        self.pledged += places;
+        Ok(())
+    }
+
+    /// Gives so many pledged places back, which were not used.
+    pub fn release(&mut self, places: usize)
+        requires { places ≤ self.old.pledged }
+        ensures { self.new ≡ record self.old { pledged = self.old.pledged - places } }
+    {
+        self.pledged -= places;
+    }
+
+    /// The places of the live entries of a key, ascending.
+    ///
+    /// The one error is `NoMemory`.
+    pub fn shown_of<B: Allocator>(&self, alloc: B, key: Key) -> Result<Vec<Rid, B>, Error>
+        ensures ascending { IfOk result (λ rids.
+            AllPairs (λ r s. rid_cmp r s ≡ Ordering.Less) rids.items) }
+        ensures each { IfOk result (λ rids. (r : Place) →
+            Contains rids.items r ↔ (mark_at self.now.entries key r ≡ Some Mark.Live)) }
+        ensures no_memory { IfErr result (λ e. e ≡ Error.NoMemory) }
+    {
+        let mut shown = Vec::new(alloc);
+        let mut next = self.first_of(key);
+        while let Some(entry) = next {
+            let (rid, mark) = entry;
+            if mark == Mark::Live {
+                shown.push(rid)?;
+            }
+            next = self.next_of(key, rid);
+        }
+        Ok(shown)
+    }
+
+    // The first entry of a key, and its mark.
+    fn first_of(&self, key: Key) -> Option<(Rid, Mark)>
+        ensures { IsNextOf self.now.entries key None result }
+    {
+        let first = Pair { key, rid: FIRST };
+        match self.get(&first) {
+            Some(mark) => Some((FIRST, mark)),
+            None => self.next_of(key, FIRST),
+        }
+    }
+
+    // The first entry of a key after a place, and its mark.
+    fn next_of(&self, key: Key, rid: Rid) -> Option<(Rid, Mark)>
+        ensures { IsNextOf self.now.entries key (Some rid) result }
+    {
+        let (pair, mark) = self.above(Some(&Pair { key, rid }))?;
+        (pair.key == key).then_some((pair.rid, mark))
+    }
+}

@@ -1,0 +1,5 @@
+pub mod Disk
+pub mod Session
+pub mod Requests
+pub mod Answers
+pub mod Texts

@@ -1,0 +1,253 @@
+//! The program over what it reads and writes.
+ghost use Rattle.std.specs.Prelude.{◌≤◌, IfOk};
+ghost use Rattle.replay.specs.Session.{IsOpen};
+
+use crate::answer::Answer;
+use crate::arguments::Arguments;
+use crate::request::Request;
+use crate::session::{Disk, End, Session, Stopped};
+use flip_image::Halves;
+use records::{Error, Geometry};
+use script::Command;
+use sector_device::{Fate, FaultDisk, MemDisk, Which};
+use std::alloc::Global;
+use std::convert::AsStr;
+use std::io;
+use std::io::{ErrorKind, Read, Write};
+
+/// How many writes and syncs the disk has room to record.
+const CALLS: usize = 16_384;
+
+fn print(output: &mut impl Write, answer: Answer) -> io::Result<()> {
+    writeln!(output, "{answer}")
+}
+
+// Prints the answer, and goes on with the session unless it was stopped.
+fn go_on(
+    session: Session,
+    answer: Result<Answer, Stopped>,
+    output: &mut impl Write,
+) -> io::Result<Result<Session, End>>
+    requires { IsOpen session }
+    ensures { IfOk result (λ next. IfOk next IsOpen) }
+{
+    match answer {
+        Ok(answer) => {
+            print(output, answer)?;
+            Ok(Ok(session))
+        }
+        Err(Stopped) => Ok(Err(End::Stopped(session.into_disk()))),
+    }
+}
+
+fn crash(session: Session, fate: Fate, output: &mut impl Write) -> io::Result<Result<Session, End>>
+    ensures { IfOk result (λ next. IfOk next IsOpen) }
+{
+    match session.crash(fate) {
+        Ok(session) => {
+            print(output, Answer::Restart(session.life()))?;
+            Ok(Ok(session))
+        }
+        Err(end) => Ok(Err(end)),
+    }
+}
+
+// Serves a request, and prints the answer.
+fn run_request(
+    mut session: Session,
+    request: Request,
+    output: &mut impl Write,
+) -> io::Result<Result<Session, End>>
+    requires { IsOpen session }
+    ensures { IfOk result (λ next. IfOk next IsOpen) }
+{
+    if session.has_crashed() && !request.only_reads() {
+        return go_on(session, Ok(Answer::Skipped), output);
+    }
+    match request {
+        Request::Event(event) => {
+            let answer = session.serve(event);
+            go_on(session, answer, output)
+        }
+        Request::Flush => {
+            let answer = session.flush();
+            go_on(session, answer, output)
+        }
+        Request::Crash(fate) => crash(session, fate, output),
+        Request::Dump => {
+            session.dump(output)?;
+            Ok(Ok(session))
+        }
+    }
+}
+
+// Runs a command, and prints the answer.
+fn run_command(
+    session: Session,
+    command: &Command,
+    output: &mut impl Write,
+) -> io::Result<Result<Session, End>>
+    requires { IsOpen session }
+    ensures { IfOk result (λ next. IfOk next IsOpen) }
+{
+    match Request::of(command) {
+        Ok(request) => run_request(session, request, output),
+        Err(error) => go_on(session, Ok(Answer::Refused(error)), output),
+    }
+}
+
+// Runs the commands in turn.
+fn run_commands(
+    session: Session,
+    commands: &[Command],
+    output: &mut impl Write,
+) -> io::Result<Result<(), End>>
+    requires { IsOpen session }
+{
+    let mut session = session;
+    for command in commands {
+        match run_command(session, command, output)? {
+            Ok(next) => session = next,
+            Err(end) => return Ok(Err(end)),
+        }
+    }
+    Ok(Ok(()))
+}
+
+// A store of this geometry on a new disk, opened. The write or sync of this number is cut short,
+// or none at 0.
+fn start(alloc: Global, sectors: u64, geometry: Geometry, fails_at: u64) -> Result<Session, Error>
+    ensures { IfOk result IsOpen }
+{
+    let memory = MemDisk::new(alloc, sectors, CALLS)?;
+    let mut disk = FaultDisk::new(memory, Which::WritesAndSyncs, fails_at);
+    Halves::format(&mut disk, geometry)?;
+    Session::open(alloc, disk, geometry, fails_at).map_err(|(error, _)| error)
+}
+
+// The store that the arguments ask for, opened.
+fn start_for(alloc: Global, arguments: &Arguments, geometry: Geometry) -> Result<Session, Error>
+    ensures { IfOk result IsOpen }
+{
+    let sectors = match arguments.sectors {
+        Some(sectors) => u64::from(sectors),
+        None => geometry.sectors(),
+    };
+    let fails_at = match arguments.stop {
+        Some(stop) => {
+            let made = start(alloc, sectors, geometry, 0)?.into_disk().made();
+            made.saturating_add(u64::from(stop))
+        }
+        None => 0,
+    };
+    start(alloc, sectors, geometry, fails_at)
+}
+
+// What is printed after a stop: the device crashes, and the store is opened again.
+fn after_stop(
+    alloc: Global,
+    disk: Disk,
+    geometry: Geometry,
+    fate: Fate,
+    output: &mut impl Write,
+) -> io::Result<u8>
+    ensures { IfOk result (λ status. status ≤ 1) }
+{
+    print(output, Answer::Stopped)?;
+    match Session::reopen(alloc, disk, geometry, fate) {
+        Ok(session) => {
+            print(output, Answer::Restart(session.life()))?;
+            session.dump(output)?;
+            Ok(0)
+        }
+        Err((error, _)) => refused(output, error),
+    }
+}
+
+fn refused(output: &mut impl Write, error: Error) -> io::Result<u8>
+    ensures { IfOk result (λ status. status ≤ 1) }
+{
+    print(output, Answer::Refused(error))?;
+    Ok(1)
+}
+
+// Runs the script, and answers the exit status.
+fn run_script(
+    alloc: Global,
+    arguments: &Arguments,
+    text: &[u8],
+    output: &mut impl Write,
+) -> io::Result<u8>
+    ensures { IfOk result (λ status. status ≤ 1) }
+{
+    let commands = match script::read(alloc, text) {
+        Ok(commands) => commands,
+        Err(error) => return refused(output, error),
+    };
+    let geometry = match Geometry::new(arguments.pages, arguments.entries, arguments.slots) {
+        Ok(geometry) => geometry,
+        Err(error) => return refused(output, error),
+    };
+    let session = match start_for(alloc, arguments, geometry) {
+        Ok(session) => session,
+        Err(error) => return refused(output, error),
+    };
+    match run_commands(session, &commands, output)? {
+        Ok(()) => Ok(0),
+        Err(End::Refused(error)) => refused(output, error),
+        Err(End::Stopped(disk)) => after_stop(alloc, disk, geometry, arguments.fate, output),
+    }
+}
+
+// The whole of the input.
+fn all_of(alloc: Global, input: &mut impl Read) -> io::Result<Vec<u8>> {
+    let mut bytes = Vec::new(alloc);
+    input.read_to_end(&mut bytes)?;
+    Ok(bytes)
+}
+
+// Prints what clap has to say, and answers the exit status.
+fn usage(error: &clap::Error, output: &mut impl Write, errors: &mut impl Write) -> u8
+    ensures { result ≤ 2 }
+{
+    if error.use_stderr() {
+        let _ = write!(errors, "{error}");
+        return 2;
+    }
+    match write!(output, "{error}") {
+        Ok(()) => 0,
+        Err(_) => 1,
+    }
+}
+
+/// Runs the program on these words, the first of them its own name, and answers its exit status:
+/// 0 where the script ran, 1 where input, output, script or device failed or was refused, 2 for bad
+/// arguments.
+pub fn run<S: AsStr>(
+    alloc: Global,
+    words: &[S],
+    input: &mut impl Read,
+    output: &mut impl Write,
+    errors: &mut impl Write,
+) -> u8
+    ensures { result ≤ 2 }
+{
+    let arguments = match Arguments::read(alloc, words) {
+        Ok(arguments) => arguments,
+        Err(error) if error.kind() == clap::error::ErrorKind::OutOfMemory => {
+            return refused(output, Error::NoMemory).unwrap_or(1);
+        }
+        Err(error) => return usage(&error, output, errors),
+    };
+    let text = match all_of(alloc, input) {
+        Ok(text) => text,
+        Err(error) if error.kind() == ErrorKind::OutOfMemory => {
+            return refused(output, Error::NoMemory).unwrap_or(1);
+        }
+        Err(_) => {
+            let _ = writeln!(errors, "nsf: cannot read standard input");
+            return 1;
+        }
+    };
+    run_script(alloc, &arguments, &text, output).unwrap_or(1)
+}

@@ -1,0 +1,98 @@
+//! Allocations that are refused: the tests of this file hold whichever one is.
+use super::{play, text_of};
+use std::alloc::{AllocError, Global};
+use std::process::Abort;
+
+// Each command stands twice, so that the second does what the first could not.
+const COMMIT: [&str; 10] = [
+    "begin",
+    "begin",
+    "insert 1 =ant =x",
+    "insert 1 =ant =x",
+    "commit 1",
+    "commit 1",
+    "flush",
+    "flush",
+    "crash junk",
+    "get 0.0",
+];
+
+const ROLLBACK: [&str; 18] = [
+    "begin",
+    "insert 1 =p =1",
+    "commit 1",
+    "begin",
+    "update 2 0.0 =q =2",
+    "update 2 0.0 =q =2",
+    "begin",
+    "delete 3 0.0",
+    "step 2",
+    "undo 2",
+    "undo 2",
+    "undo 2",
+    "end 2",
+    "end 2",
+    "delete 3 0.0",
+    "delete 3 0.0",
+    "flush",
+    "get 0.0",
+];
+
+// The lines that the program prints for the commands but for one, and its status.
+fn lines_without(
+    alloc: Global,
+    commands: &[&str],
+    skipped: Option<usize>,
+) -> Result<(Vec<String>, u8), AllocError> {
+    let mut script = Vec::new(alloc);
+    for (i, command) in commands.iter().enumerate() {
+        if Some(i) != skipped {
+            script.extend_from_slice(command.as_bytes())?;
+            script.push(b'\n')?;
+        }
+    }
+    let mut input = script.as_slice();
+    let outcome = play(alloc, &[], &mut input)?;
+    let mut lines = Vec::new(alloc);
+    for line in text_of(&outcome.output).lines() {
+        lines.push(String::from_str(alloc, line)?)?;
+    }
+    Ok((lines, outcome.status))
+}
+
+// Expects that a refused command changed nothing: the other answers are those of the script
+// without it. An allocation of its own that is refused is its error.
+fn compare(rt: &(impl Abort + AllocGlobal), commands: &[&str]) -> Result<(), AllocError> {
+    let (lines, status) = lines_without(rt.alloc(), commands, None)?;
+    let refused = lines
+        .iter()
+        .position(|line| line.as_str() == "refused 1 NoMemory");
+    match refused {
+        None => {
+            assert_eq!(rt; status, 0);
+            assert_eq!(rt; lines.len(), commands.len());
+        }
+        Some(at) if status == 1 => assert_eq!(rt; lines.len(), at + 1),
+        Some(at) => {
+            let (others, status) = lines_without(rt.alloc(), commands, Some(at))?;
+            assert_eq!(rt; status, 0);
+            assert_eq!(rt; lines.len(), commands.len());
+            assert_eq!(rt; others.len() + 1, commands.len());
+            for (i, line) in others.iter().enumerate() {
+                let j = if i < at { i } else { i + 1 };
+                assert!(rt; Some(line) == lines.get(j));
+            }
+        }
+    }
+    Ok(())
+}
+
+#[test]
+fn a_refused_command_changes_nothing(rt: HostRuntime) {
+    let _ = compare(&rt, &COMMIT);
+}
+
+#[test]
+fn a_refused_step_of_a_rollback_changes_nothing(rt: HostRuntime) {
+    let _ = compare(&rt, &ROLLBACK);
+}

@@ -1,0 +1,3 @@
+mod Misplaced
+mod Refusals
+pub mod Readings

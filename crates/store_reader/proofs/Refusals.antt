@@ -1,0 +1,54 @@
+-- Why a reader of a store refuses it.
+use Rattle.std.proofs.Common.{◌≡◌, ◌⊎◌, inl, inr, ℕ, List, Result, Ok, Err, IfErr, ap, subst, ◌∙◌}
+use Rattle.sector_device.specs.Disk.{Image}
+use Rattle.records.specs.RecordValue.{RecordValue}
+use Rattle.records.specs.GeometryValue.{GeometryValue}
+use Rattle.records.specs.declared.error.Error.{Error}
+use Rattle.records.specs.declared.error.Error.TheVariants.{Damaged}
+use Rattle.gate_log.specs.Area.{Area, Log, HoldsGroups, Stands, records_of, IsGateOf, IsFirstDamaged, Refuses}
+use Rattle.flip_image.specs.declared.half.Half.{Half}
+use Rattle.flip_image.specs.Layout.{log_first}
+use Rattle.flip_image.specs.Store.{IsStore, IsFresh, IsFirstUsed, IsDeviceFailure}
+use Rattle.store_reader.specs.Contents.{log_area, Gives, IsFirstMisplaced, IsMisplacedAt, IsUnreadable}
+use Rattle.store_reader.proofs.Readings as readings
+
+-- the refusals of a reader of this image
+abbrev pub Why : Image → ℕ → ℕ → Error → Type 0
+Why image before now e = Refuses before now e ⊎ IsUnreadable image e
+
+pub accepted : {T : Type 0} (r : Result T Error) (image : Image) (g : GeometryValue) (half : Half) (records : List RecordValue) (before now : ℕ) → Gives image g half records
+    → IfErr r (Why image before now) → IfErr r (Refuses before now)
+accepted (Ok x) image g half records before now gives why = tt
+accepted (Err e) image g half records before now gives why = readings.accepted_one image g half records before now e gives why
+
+refused_later : (a b c : ℕ) (e : Error) → b ≡ a → Refuses b c e → Refuses a c e
+refused_later a b c e same refused = subst (λ n. Refuses n c e) same refused
+
+module _ (image now : Image) (g : GeometryValue) (half : Half) (a b c : ℕ) (e : Error) (store : IsStore g half image) (same : now ≡ image) (quiet : b ≡ a) where
+  pub part_used : IsDeviceFailure b c e ⊎ ((n : ℕ) × (e ≡ Damaged n) × IsFirstUsed g half now n) → Why image a c e
+  part_used (inl failed) = inl (refused_later a b c e quiet (inr failed))
+  part_used (inr (n, is, used)) =
+      inr (inr (n, is, record { geometry = g; half = half; store = store; damaged = inl (subst (λ (i : Image). IsFirstUsed g half i n) same used) }))
+
+  module _ (fresh : IsFresh g half image) where
+    pub slot_damaged : (area : Area) → area ≡ log_area g half → Refuses b c e ⊎ ((n : ℕ) × (e ≡ Damaged n) × IsFirstDamaged area now n) → Why image a c e
+    slot_damaged area is (inl refused) = inl (refused_later a b c e quiet refused)
+    slot_damaged area is (inr (n, named, damaged)) =
+        let first = subst (λ (i : Image). IsFirstDamaged (log_area g half) i n) same (subst (λ (x : Area). IsFirstDamaged x now n) is damaged) in
+        inr (inr (n, named, record { geometry = g; half = half; store = store; damaged = inr (fresh, inl first) }))
+
+    pub record_misplaced : (log : Log) (groups : List (List RecordValue)) (index : ℕ) → log.area ≡ log_area g half → Stands log now groups → IsFirstMisplaced g.pages (records_of groups) index
+        → Refuses b c e ⊎ ((n : ℕ) × (e ≡ Damaged n) × ((held : List (List RecordValue)) → Stands log now held → IsGateOf log.area held index n)) → Why image a c e
+    record_misplaced log groups index is stands first (inl refused) = inl (refused_later a b c e quiet refused)
+    record_misplaced log groups index is stands first (inr (n, named, at)) =
+        let misplaced : IsMisplacedAt g half image n = record {
+          groups = groups;
+          held = subst (λ (i : Image). HoldsGroups (log_area g half) i groups) same (subst (λ (x : Area). HoldsGroups x now groups) is stands.held);
+          index = index;
+          first = first;
+          gate-is = subst (λ (x : Area). IsGateOf x groups index n) is (at groups stands);
+        } in
+        inr (inr (n, named, record { geometry = g; half = half; store = store; damaged = inr (fresh, inr misplaced) }))
+
+pub area_is : (first slots : ℕ) (g : GeometryValue) (half : Half) → first ≡ log_first g half → slots ≡ g.slots → record { first = first; slots = slots } ≡ log_area g half
+area_is first slots g half p q = ap (λ (n : ℕ). let area : Area = record { first = n; slots = slots } in area) p ∙ ap (λ (n : ℕ). let area : Area = record { first = log_first g half; slots = n } in area) q
