@@ -210,6 +210,3 @@ impl<A: Allocator + Clone> BTree<A> {
         self.len -= 1;
     }
 }
-
-#[cfg(test)]
-mod tests;

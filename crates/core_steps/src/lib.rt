@@ -6,6 +6,3 @@ mod step;
 
 pub use laws::one_step_without_an_index;
 pub use step::{Cell, Step, forward, undo};
-
-#[cfg(test)]
-mod tests;

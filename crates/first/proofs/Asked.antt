@@ -2,7 +2,7 @@
 use Rattle.std.proofs.Common.{◌&&◌, length, drop, get_or, length-append, ◌≡◌, ◌≢◌, ℕ, true, false, not, cond, List, [], ◌∷◌, ◌++◌, filter, map, eqb, append-nil, refl, sym, ap, ◌∙◌, inl, inr, arith}
 use Rattle.std.proofs.lemmas.Bool.{false≢true, cases_eq, eqb-true}
 use Rattle.std.proofs.lemmas.Bool.Decides.{nat_tests}
-use Rattle.std.proofs.lemmas.List.{map-append}
+use Rattle.std.proofs.lemmas.List.{map-append, nil_from_length}
 use Rattle.std.proofs.lemmas.List.Elements.{filter-append}
 use Rattle.records.specs.ChangeValue.{ChangeValue}
 use Rattle.records.specs.Spelling.{new_row}
@@ -62,10 +62,6 @@ no_writes : (xs : List Write) (w : Write) → length (xs ++ w ∷ []) ≡ 1 → 
 no_writes [] w one = refl
 no_writes (x ∷ xs) w one = absurd (omega (arith, one, length-append xs (w ∷ [])))
 
-no_length : (xs : List Write) → length xs ≡ 0 → xs ≡ []
-no_length [] none = refl
-no_length (x ∷ xs) none = absurd (omega arith)
-
 tail_is : (x w : Write) (ts xs : List Write) → ts ≢ [] → x ∷ ts ≡ xs ++ w ∷ [] → (ys : List Write) × (xs ≡ x ∷ ys) × (ts ≡ ys ++ w ∷ [])
 tail_is x w ts [] some is = absurd (some (ap (drop 1) is))
 tail_is x w ts (y ∷ ys) some is = (ys, ap (λ (z : Write). z ∷ ys) (sym (ap (λ (l : List Write). get_or l 0 w) is)), ap (drop 1) is)
@@ -82,7 +78,7 @@ last_gone txn (a ∷ writes) xs w is =
           elim (eqb (length (written_by txn writes)) 0) as (λ b. eqb (length (written_by txn writes)) 0 ≡ b → written_by txn (cond b writes (a ∷ without_last txn writes)) ≡ xs) [
             | true ↦ λ none.
                 let zero_left : length (written_by txn writes) ≡ 0 = eqb-true (length (written_by txn writes)) 0 none in
-                no_length (written_by txn writes) zero_left ∙ sym (no_writes xs w (omega (arith, ap length whole, zero_left)))
+                nil_from_length (written_by txn writes) zero_left ∙ sym (no_writes xs w (omega (arith, ap length whole, zero_left)))
             | false ↦ λ some.
                 let more : written_by txn writes ≢ [] = λ none. false≢true (sym some ∙ ap (λ (l : List Write). eqb (length l) 0) none) in
                 let rest = tail_is a.1 w (written_by txn writes) xs more whole in

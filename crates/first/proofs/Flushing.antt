@@ -1,6 +1,6 @@
 -- A flush leaves the engine where the run says.
-use Rattle.std.proofs.Common.{◌≡◌, ◌≢◌, ℕ, ◌+◌, ◌≤◌, ◌<◌, List, [], ◌∷◌, ◌++◌, length, take, drop, refl, sym, ◌∙◌, ap, subst, arith, append_assoc, length-append, length-drop}
-use Rattle.std.proofs.lemmas.List.{take-append-le, drop-append-le, drop-drop}
+use Rattle.std.proofs.Common.{◌≡◌, ◌≢◌, ℕ, ◌+◌, ◌≤◌, ◌<◌, List, [], ◌∷◌, ◌++◌, length, take, drop, sym, ◌∙◌, ap, subst, arith, append_assoc, length-append, length-drop}
+use Rattle.std.proofs.lemmas.List.{nil_from_length, take-append-le, drop-append-le, drop-drop}
 use Rattle.records.specs.RecordValue.{RecordValue}
 use Rattle.sector_device.specs.Disk.{Image}
 use Rattle.sector_device.specs.History.{History, LeavesOnly}
@@ -52,10 +52,6 @@ writer_handed history area frame handed more old mid small is same waits = subst
       };
   images = λ image crash. left_handed area frame handed more old.synced image (is.images image crash);
 })
-
-pub no_items : {X : Type 0} (xs : List X) → length xs ≡ 0 → xs ≡ []
-no_items [] none = refl
-no_items (x ∷ xs) none = absurd (omega arith)
 
 same_made : (t : Past) (made : List RecordValue) (s : State) (kept : List RecordValue) → HasMade t.table t.last made (items_of t) s → HasMade t.table t.last made (items_of t) (record s { outbox = kept })
 same_made t made s kept has = record { follows = record { last = has.follows.last; cells = has.follows.cells; in_order = has.follows.in_order }; tells = has.tells }
@@ -130,7 +126,7 @@ module _ {D : Type 0} (history : D → History) (old : Engine D) (new_core : Sta
   unwritten_size = omega (arith, length-append old.writer.waiting.items (state_of old.core).outbox, ap length hands.split, length-append hands.handed hands.kept, ap length hands.taken, length-append old.writer.waiting.items hands.handed)
 
   nothing_waits : unwritten old ≡ [] → mid.waiting.items ≡ []
-  nothing_waits none = no_items mid.waiting.items (omega (arith, unwritten_size, ap length none))
+  nothing_waits none = nil_from_length mid.waiting.items (omega (arith, unwritten_size, ap length none))
 
   -- what was written is the first of what was not
   module _ (new : Engine D) (core : state_of new.core ≡ new_core) (area : Area) (frame : Image) (past : Past) (is : IsAt history area frame past old) (after : IsWriter history area frame (handed_now area frame past is) new.writer) (count : ℕ)
@@ -160,7 +156,7 @@ module _ {D : Type 0} (history : D → History) (old : Engine D) (new_core : Sta
     }
 
   pub all_written : (new : Engine D) (area : Area) (frame : Image) (past : Past) → IsAt history area frame past old → new.writer ≡ mid → mid.waiting.items ≡ [] → (state_of old.core).last ≤ new.writer.base + new.writer.synced → unwritten old ≡ []
-  all_written new area frame past is writer_is none reached = no_items (unwritten old) (omega (arith, unwritten_size, kept_none, ap length none))
+  all_written new area frame past is writer_is none reached = nil_from_length (unwritten old) (omega (arith, unwritten_size, kept_none, ap length none))
     where
       in_hand : IsWriter history area frame (handed_now area frame past is) mid
       in_hand = taken area frame past is

@@ -12,6 +12,3 @@ pub use engine::Engine;
 pub use event::{Event, Reply};
 pub use rehearsal::rehearse;
 pub use reopen::restart;
-
-#[cfg(test)]
-mod tests;

@@ -11,6 +11,3 @@ pub use half::{FLIP_SECTOR, Half, MARK};
 pub use halves::Halves;
 pub use laws::{log_apart, one_store, one_used_part};
 pub use superblock::{SUPERBLOCK_SECTOR, VERSION};
-
-#[cfg(test)]
-mod tests;

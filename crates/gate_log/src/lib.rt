@@ -11,6 +11,3 @@ pub use area::{Appended, LogArea};
 pub use group::{GROUP_MAX, fits};
 pub use laws::one_reading;
 pub use slot::OPEN;
-
-#[cfg(test)]
-mod tests;

@@ -6,6 +6,3 @@ mod page;
 
 pub use heap::Heap;
 pub use page::HeapPage;
-
-#[cfg(test)]
-mod tests;

@@ -4,6 +4,3 @@
 mod index;
 
 pub use index::{Built, MarkedIndex, Stepped};
-
-#[cfg(test)]
-mod tests;

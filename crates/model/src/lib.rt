@@ -23,6 +23,3 @@ pub use life::Life;
 pub use list_map::ListMap;
 pub use row_map::RowMap;
 pub use write::Write;
-
-#[cfg(test)]
-mod tests;

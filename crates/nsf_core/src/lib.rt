@@ -8,6 +8,3 @@ mod store;
 
 pub use laws::each_step;
 pub use store::{Core, Ticket, Undone};
-
-#[cfg(test)]
-mod tests;

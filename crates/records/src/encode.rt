@@ -42,12 +42,19 @@ fn put_u64<A: Allocator>(out: &mut Vec<u8, A>, n: u64) -> Result<(), AllocError>
     out.extend_from_slice(&bytes)
 }
 
+fn put_byte<A: Allocator>(out: &mut Vec<u8, A>, byte: u8) -> Result<(), AllocError>
+    ensures ok { OnOk result (out.new.items ≡ out.old.items ++ byte ∷ []) }
+    ensures kept { take (length out.old.items) out.new.items ≡ out.old.items }
+{
+    Ok(out.push(byte)?)
+}
+
 fn put_short<A: Allocator>(out: &mut Vec<u8, A>, bytes: &[u8]) -> Result<(), AllocError>
     requires { length bytes.now < 256 }
     ensures ok { OnOk result (out.new.items ≡ out.old.items ++ as_bytes.short bytes.now) }
     ensures kept { take (length out.old.items) out.new.items ≡ out.old.items }
 {
-    out.push(bytes.len() as u8)?;
+    put_byte(out, bytes.len() as u8)?;
     out.extend_from_slice(bytes)
 }
 
@@ -64,14 +71,13 @@ fn put_row<A: Allocator>(out: &mut Vec<u8, A>, row: &Option<Row>) -> Result<(), 
     ensures kept { take (length out.old.items) out.new.items ≡ out.old.items }
 {
     match row {
-        None => out.push(0)?,
+        None => put_byte(out, 0),
         Some(row) => {
-            out.push(1)?;
+            put_byte(out, 1)?;
             put_short(out, row.key.as_slice())?;
-            put_short(out, row.body.as_slice())?;
+            put_short(out, row.body.as_slice())
         }
     }
-    Ok(())
 }
 
 fn put_rows<A: Allocator>(out: &mut Vec<u8, A>, rows: &Rows) -> Result<(), AllocError>
@@ -86,7 +92,7 @@ fn put_change<A: Allocator>(out: &mut Vec<u8, A>, change: &Change) -> Result<(),
     ensures ok { OnOk result (out.new.items ≡ out.old.items ++ as_bytes.change change.now) }
     ensures kept { take (length out.old.items) out.new.items ≡ out.old.items }
 {
-    out.push(change.position)?;
+    put_byte(out, change.position)?;
     put_rid(out, &change.rid)?;
     put_rows(out, &change.rows)
 }
@@ -103,7 +109,19 @@ fn put_flag<A: Allocator>(out: &mut Vec<u8, A>, flag: bool) -> Result<(), AllocE
     ensures ok { OnOk result (out.new.items ≡ out.old.items ++ as_bytes.flag flag) }
     ensures kept { take (length out.old.items) out.new.items ≡ out.old.items }
 {
-    Ok(out.push(u8::from(flag))?)
+    put_byte(out, u8::from(flag))
+}
+
+fn put_change_of_kind<A: Allocator>(
+    out: &mut Vec<u8, A>,
+    kind: u8,
+    change: &Change,
+) -> Result<(), AllocError>
+    ensures ok { OnOk result (out.new.items ≡ out.old.items ++ kind ∷ as_bytes.change change.now) }
+    ensures kept { take (length out.old.items) out.new.items ≡ out.old.items }
+{
+    put_byte(out, kind)?;
+    put_change(out, change)
 }
 
 fn put_txn_action<A: Allocator>(out: &mut Vec<u8, A>, action: &TxnAction) -> Result<(), AllocError>
@@ -111,18 +129,26 @@ fn put_txn_action<A: Allocator>(out: &mut Vec<u8, A>, action: &TxnAction) -> Res
     ensures kept { take (length out.old.items) out.new.items ≡ out.old.items }
 {
     match action {
-        TxnAction::Forward { part, change } => {
-            out.push(part.forward_kind())?;
-            put_change(out, change)
-        }
+        TxnAction::Forward { part, change } => put_change_of_kind(out, part.forward_kind(), change),
         TxnAction::Undo { part, change, last } => {
-            out.push(part.undo_kind())?;
-            put_change(out, change)?;
+            put_change_of_kind(out, part.undo_kind(), change)?;
             put_flag(out, *last)
         }
-        TxnAction::Commit => Ok(out.push(7)?),
-        TxnAction::End => Ok(out.push(8)?),
+        TxnAction::Commit => put_byte(out, 7),
+        TxnAction::End => put_byte(out, 8),
     }
+}
+
+fn put_pair_of_kind<A: Allocator>(
+    out: &mut Vec<u8, A>,
+    kind: u8,
+    pair: &Pair,
+) -> Result<(), AllocError>
+    ensures ok { OnOk result (out.new.items ≡ out.old.items ++ kind ∷ as_bytes.pair pair.now) }
+    ensures kept { take (length out.old.items) out.new.items ≡ out.old.items }
+{
+    put_byte(out, kind)?;
+    put_pair(out, pair)
 }
 
 fn put_index_action<A: Allocator>(
@@ -133,20 +159,11 @@ fn put_index_action<A: Allocator>(
     ensures kept { take (length out.old.items) out.new.items ≡ out.old.items }
 {
     match action {
-        IndexAction::Create => Ok(out.push(9)?),
-        IndexAction::BuildPlace { pair } => {
-            out.push(10)?;
-            put_pair(out, pair)
-        }
-        IndexAction::BuildCheckpoint { pair } => {
-            out.push(11)?;
-            put_pair(out, pair)
-        }
-        IndexAction::BuildDone => Ok(out.push(12)?),
-        IndexAction::Clean { pair } => {
-            out.push(13)?;
-            put_pair(out, pair)
-        }
+        IndexAction::Create => put_byte(out, 9),
+        IndexAction::BuildPlace { pair } => put_pair_of_kind(out, 10, pair),
+        IndexAction::BuildCheckpoint { pair } => put_pair_of_kind(out, 11, pair),
+        IndexAction::BuildDone => put_byte(out, 12),
+        IndexAction::Clean { pair } => put_pair_of_kind(out, 13, pair),
     }
 }
 

@@ -39,6 +39,3 @@ pub use rid::{Rid, SLOTS_PER_PAGE, compare_rids};
 pub use row::Row;
 pub use sink::Sink;
 pub use txn::{TXNS_MAX, Txn};
-
-#[cfg(test)]
-mod tests;

@@ -3,3 +3,5 @@ pub mod Session
 pub mod Requests
 pub mod Answers
 pub mod Texts
+pub mod Dump
+pub mod Runs

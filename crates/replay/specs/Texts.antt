@@ -57,3 +57,7 @@ answer_text (answer.Restart life) = codes "restart " ++ life_text life
 answer_text answer.Stopped = codes "stopped"
 answer_text answer.Skipped = codes "skipped"
 answer_text (answer.Refused error) = codes "refused " ++ refusal_text error
+
+-- the answer, as a line of the output
+abbrev pub line_of : Answer → List ℕ
+line_of answer = answer_text answer ++ 10 ∷ []

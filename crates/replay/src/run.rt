@@ -1,6 +1,7 @@
 //! The program over what it reads and writes.
-ghost use Rattle.std.specs.Prelude.{◌≤◌, IfOk};
+ghost use Rattle.std.specs.Prelude.{◌≤◌, IfOk, OnOk};
 ghost use Rattle.replay.specs.Session.{IsOpen};
+ghost use Rattle.replay.specs.Runs.{Prints, GoesOn, Restarts, Runs, RunsRequest, RunsCommand, RunsCommands};
 
 use crate::answer::Answer;
 use crate::arguments::Arguments;
@@ -18,18 +19,21 @@ use std::io::{ErrorKind, Read, Write};
 /// How many writes and syncs the disk has room to record.
 const CALLS: usize = 16_384;
 
-fn print(output: &mut impl Write, answer: Answer) -> io::Result<()> {
+fn print<W: Write>(output: &mut W, answer: Answer) -> io::Result<()>
+    ensures { OnOk result (Prints W.contents answer output.old output.new) }
+{
     writeln!(output, "{answer}")
 }
 
 // Prints the answer, and goes on with the session unless it was stopped.
-fn go_on(
+fn go_on<W: Write>(
     session: Session,
     answer: Result<Answer, Stopped>,
-    output: &mut impl Write,
+    output: &mut W,
 ) -> io::Result<Result<Session, End>>
     requires { IsOpen session }
-    ensures { IfOk result (λ next. IfOk next IsOpen) }
+    ensures goes_on { IfOk result (λ next. GoesOn W.contents answer session next output.old output.new) }
+    ensures open { IfOk result (λ next. IfOk next IsOpen) }
 {
     match answer {
         Ok(answer) => {
@@ -40,8 +44,10 @@ fn go_on(
     }
 }
 
-fn crash(session: Session, fate: Fate, output: &mut impl Write) -> io::Result<Result<Session, End>>
-    ensures { IfOk result (λ next. IfOk next IsOpen) }
+// Crashes the device, and prints that the store was opened again.
+fn crash<W: Write>(session: Session, fate: Fate, output: &mut W) -> io::Result<Result<Session, End>>
+    ensures restarts { IfOk result (λ next. Restarts W.contents fate session next output.old output.new) }
+    ensures open { IfOk result (λ next. IfOk next IsOpen) }
 {
     match session.crash(fate) {
         Ok(session) => {
@@ -53,17 +59,15 @@ fn crash(session: Session, fate: Fate, output: &mut impl Write) -> io::Result<Re
 }
 
 // Serves a request, and prints the answer.
-fn run_request(
+fn serve<W: Write>(
     mut session: Session,
     request: Request,
-    output: &mut impl Write,
+    output: &mut W,
 ) -> io::Result<Result<Session, End>>
     requires { IsOpen session }
-    ensures { IfOk result (λ next. IfOk next IsOpen) }
+    ensures runs { IfOk result (λ next. Runs W.contents request session next output.old output.new) }
+    ensures open { IfOk result (λ next. IfOk next IsOpen) }
 {
-    if session.has_crashed() && !request.only_reads() {
-        return go_on(session, Ok(Answer::Skipped), output);
-    }
     match request {
         Request::Event(event) => {
             let answer = session.serve(event);
@@ -81,14 +85,31 @@ fn run_request(
     }
 }
 
-// Runs a command, and prints the answer.
-fn run_command(
+// Serves a request, or skips it after a crash, and prints the answer.
+fn run_request<W: Write>(
     session: Session,
-    command: &Command,
-    output: &mut impl Write,
+    request: Request,
+    output: &mut W,
 ) -> io::Result<Result<Session, End>>
     requires { IsOpen session }
-    ensures { IfOk result (λ next. IfOk next IsOpen) }
+    ensures runs { IfOk result (λ next. RunsRequest W.contents request session next output.old output.new) }
+    ensures open { IfOk result (λ next. IfOk next IsOpen) }
+{
+    if session.has_crashed() && !request.only_reads() {
+        return go_on(session, Ok(Answer::Skipped), output);
+    }
+    serve(session, request, output)
+}
+
+// Runs a command, and prints the answer.
+fn run_command<W: Write>(
+    session: Session,
+    command: &Command,
+    output: &mut W,
+) -> io::Result<Result<Session, End>>
+    requires { IsOpen session }
+    ensures runs { IfOk result (λ next. RunsCommand W.contents command.now session next output.old output.new) }
+    ensures open { IfOk result (λ next. IfOk next IsOpen) }
 {
     match Request::of(command) {
         Ok(request) => run_request(session, request, output),
@@ -97,12 +118,13 @@ fn run_command(
 }
 
 // Runs the commands in turn.
-fn run_commands(
+fn run_commands<W: Write>(
     session: Session,
     commands: &[Command],
-    output: &mut impl Write,
+    output: &mut W,
 ) -> io::Result<Result<(), End>>
     requires { IsOpen session }
+    ensures { IfOk result (λ last. RunsCommands W.contents commands.now session last output.old output.new) }
 {
     let mut session = session;
     for command in commands {

@@ -10,6 +10,3 @@ mod scan;
 
 pub use laws::each_run;
 pub use scan::Scan;
-
-#[cfg(test)]
-mod tests;

@@ -8,6 +8,3 @@ mod redo;
 
 pub use laws::{format_gives_nothing, log_alone, one_answer};
 pub use reader::{Found, read_store};
-
-#[cfg(test)]
-mod tests;

@@ -5,6 +5,3 @@ mod active;
 mod table;
 
 pub use table::TxnTable;
-
-#[cfg(test)]
-mod tests;

@@ -1,6 +1,6 @@
 use Rattle.std.proofs.Common.{arith, [], sym, ap, subst, ◌∙◌, append-nil}
 use Rattle.nsf_core.specs.State.{state_of}
-use Rattle.first.proofs.Flushing.{no_items}
+use Rattle.std.proofs.lemmas.List.{nil_from_length}
 use Rattle.first.proofs.Loading.{Rows, made, IsLoaded, page_within, one_more_row, all_loaded}
 use Rattle.first.proofs.reopen.loaded.Goals as goal
 
@@ -21,4 +21,4 @@ loop-entry-preserved c =
     (one_more_row c.args.geometry.pages c.args.last c.args.rows.now c.loop-entry.entries.items c.pop.new.self.items c.in-Some.entry.0 c.in-Some.entry.1 (state_of c.loop-entry.core) c.loop-entry.invariant c.in-Some.ensures.items)
 
 pub returns-clause-made : goal.returns-clause-made
-returns-clause-made c = all_loaded c.args.geometry.pages c.args.last c.args.rows.now (state_of c.loop-entry.core) (subst (λ (es : Rows). IsLoaded c.args.geometry.pages c.args.last c.args.rows.now es (state_of c.loop-entry.core)) (no_items c.loop-entry.entries.items (omega (arith, c.in_default.ensures.cases.0))) c.loop-entry.invariant)
+returns-clause-made c = all_loaded c.args.geometry.pages c.args.last c.args.rows.now (state_of c.loop-entry.core) (subst (λ (es : Rows). IsLoaded c.args.geometry.pages c.args.last c.args.rows.now es (state_of c.loop-entry.core)) (nil_from_length c.loop-entry.entries.items (omega (arith, c.in_default.ensures.cases.0))) c.loop-entry.invariant)

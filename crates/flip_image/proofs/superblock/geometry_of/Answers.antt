@@ -2,7 +2,7 @@ use Rattle.std.proofs.Common.{◌≡◌, inl, inr, refl, arith, sym, ◌∙◌, 
 use Rattle.std.proofs.lemmas.Bool.{false≢true}
 use Rattle.records.specs.GeometryValue.{GeometryValue, IsGeometry}
 use Rattle.flip_image.specs.Store.{IsSuperblock}
-use Rattle.flip_image.proofs.Spelled.{AreNumbers, title_there, title_told, numbers_told, same_limits, superblock_read}
+use Rattle.flip_image.proofs.Spelled.{title_there, title_told, numbers_told, same_limits, superblock_read}
 use Rattle.flip_image.proofs.superblock.geometry_of.Goals as goal
 
 pub returns-then-title-ne-TITLE-clause-err : goal.returns-then-title-ne-TITLE-clause-err

@@ -1,0 +1,11 @@
+//! Tests of the crates that lie on a device: `sector_device`, `gate_log` and `flip_image`.
+#![tactic(auto)]
+
+#[cfg(test)]
+mod disk_tests;
+#[cfg(test)]
+mod format_tests;
+#[cfg(test)]
+mod log_tests;
+#[cfg(test)]
+mod sectors;

@@ -1,0 +1,9 @@
+//! Tests of the crates that open a store and serve it: `store_reader` and `first`.
+#![tactic(auto)]
+
+#[cfg(test)]
+mod disks;
+#[cfg(test)]
+mod engine_tests;
+#[cfg(test)]
+mod reader_tests;

@@ -1,0 +1,11 @@
+//! Tests of the crates `records`, `model`, `core_steps` and `script`.
+#![tactic(auto)]
+
+#[cfg(test)]
+mod model_tests;
+#[cfg(test)]
+mod record_tests;
+#[cfg(test)]
+mod script_tests;
+#[cfg(test)]
+mod step_tests;

@@ -1,0 +1,357 @@
+//! Tests of the crate `records`.
+use linked_list_allocator::LocalHeap;
+use records::{
+    Action, Body, Change, Error, Geometry, IndexAction, Key, Pair, Part, Record, RecordNumber, Rid,
+    Row, Rows, Sink, Txn, TxnAction, compare_pairs, compare_rids,
+};
+use std::alloc::Global;
+use std::process::Abort;
+use std::test::Fail;
+
+const FIRST: Rid = Rid { page: 0, slot: 0 };
+
+// Record 1: transaction 1 inserts the row `ant`, `x` at the first place.
+const FIRST_RECORD: &[u8] =
+    b"\0\0\0\0\0\0\0\x01\0\0\0\0\0\0\0\x01\x01\0\0\0\0\0\0\0\0\x01\x03\x61\x6e\x74\x01\x78";
+
+fn number(number: u64) -> Result<RecordNumber, Fail> {
+    Ok(RecordNumber::new(number).ok_or("a number")?)
+}
+
+fn txn(number: u64) -> Result<Txn, Fail> {
+    Ok(Txn::new(number).ok_or("a transaction")?)
+}
+
+// Record 1: transaction 1 inserts a row at the first place.
+fn insertion(key: &[u8], body: &[u8]) -> Result<Record, Fail> {
+    let new = Row {
+        key: Key::new(key)?,
+        body: Body::new(body)?,
+    };
+    let change = Change {
+        position: 0,
+        rid: FIRST,
+        rows: Rows::Inserted { new },
+    };
+    let part = Part::Slot;
+    let action = Action::OfTxn {
+        txn: txn(1)?,
+        action: TxnAction::Forward { part, change },
+    };
+    Ok(Record {
+        number: number(1)?,
+        action,
+    })
+}
+
+// Record 2: transaction 1 commits.
+fn commit() -> Result<Record, Fail> {
+    let action = Action::OfTxn {
+        txn: txn(1)?,
+        action: TxnAction::Commit,
+    };
+    Ok(Record {
+        number: number(2)?,
+        action,
+    })
+}
+
+// The record that this was done to the index.
+fn by_index(at: u64, action: IndexAction) -> Result<Record, Fail> {
+    Ok(Record {
+        number: number(at)?,
+        action: Action::OfIndex { action },
+    })
+}
+
+fn encoded(alloc: Global, record: &Record) -> Result<Vec<u8>, Fail> {
+    let mut bytes = Vec::new(alloc);
+    record.encode_into(&mut bytes)?;
+    Ok(bytes)
+}
+
+fn decoded(bytes: &[u8]) -> Option<(Record, usize)> {
+    Record::decode(bytes)
+}
+
+fn size(record: &Record) -> usize {
+    record.size()
+}
+
+// No prefix of the spelling is a record's.
+fn check_prefixes(rt: &impl Abort, spelled: &[u8]) {
+    for len in 0..spelled.len() {
+        assert_eq!(rt; decoded(&spelled[..len]), None, "of {len} bytes");
+    }
+}
+
+// The spelling with a byte behind it.
+fn longer(alloc: Global, spelled: &[u8]) -> Result<Vec<u8>, Fail> {
+    let mut bytes = spelled.to_vec(alloc)?;
+    bytes.push(1)?;
+    Ok(bytes)
+}
+
+// The record has this spelling, which is read back to it, and each prefix of
+// the spelling is of no record.
+fn check_spelling(
+    rt: &impl Abort,
+    alloc: Global,
+    record: Record,
+    spelled: &[u8],
+) -> Result<(), Fail> {
+    assert_eq!(rt; encoded(alloc, &record)?.as_slice(), spelled);
+    assert_eq!(rt; size(&record), spelled.len());
+    let found = decoded(&longer(alloc, spelled)?);
+    assert_eq!(rt; found, Some((record, spelled.len())));
+    check_prefixes(rt, spelled);
+    Ok(())
+}
+
+// The vectors of the format document, both ways, and each prefix of them.
+#[test]
+fn records_of_transactions(rt: HostRuntime) -> Result<(), Fail> {
+    let inserted = insertion(b"ant", b"x")?;
+    check_spelling(&rt, rt.alloc(), inserted, FIRST_RECORD)?;
+    let spelled = b"\0\0\0\0\0\0\0\x02\0\0\0\0\0\0\0\x01\x07";
+    check_spelling(&rt, rt.alloc(), commit()?, spelled)
+}
+
+#[test]
+fn records_of_the_index(rt: HostRuntime) -> Result<(), Fail> {
+    let create = by_index(1, IndexAction::Create)?;
+    let spelled = b"\0\0\0\0\0\0\0\x01\0\0\0\0\0\0\0\0\x09";
+    check_spelling(&rt, rt.alloc(), create, spelled)?;
+    let key = Key::new(b"a")?;
+    let pair = Pair { key, rid: FIRST };
+    let place = by_index(7, IndexAction::BuildPlace { pair })?;
+    let spelled = b"\0\0\0\0\0\0\0\x07\0\0\0\0\0\0\0\0\x0a\x01\x61\0\0\0\0\0\0";
+    check_spelling(&rt, rt.alloc(), place, spelled)
+}
+
+// The first record's spelling with one byte changed.
+fn changed(alloc: Global, at: usize, byte: u8) -> Result<Vec<u8>, Fail> {
+    let mut changed = FIRST_RECORD.to_vec(alloc)?;
+    match changed.get_mut(at) {
+        Some(place) => *place = byte,
+        None => return Err("a byte of the record")?,
+    }
+    Ok(changed)
+}
+
+// Numbers, kinds, flags and lengths that no record has.
+#[test]
+fn spellings_of_no_record(rt: HostRuntime) -> Result<(), Fail> {
+    let places: [(usize, u8); 10] = [
+        (7, 0),
+        (0, 0x40),
+        (15, 0),
+        (16, 0),
+        (16, 14),
+        (17, 64),
+        (23, 63),
+        (24, 2),
+        (25, 2),
+        (26, 25),
+    ];
+    for (at, byte) in places {
+        let changed = changed(rt.alloc(), at, byte)?;
+        assert_eq!(rt; decoded(&changed), None, "byte {at} is {byte}");
+    }
+    Ok(())
+}
+
+// These bytes are those of a key.
+fn check_key(rt: &impl Abort, bytes: &[u8]) -> Result<(), Fail> {
+    assert_eq!(rt; Key::new(bytes)?.as_slice(), bytes);
+    Ok(())
+}
+
+#[test]
+fn lengths_of_keys(rt: HostRuntime) -> Result<(), Fail> {
+    check_key(&rt, b"")?;
+    check_key(&rt, &[7; 24])?;
+    assert_eq!(rt; Key::new(&[7; 25]), Err(Error::KeyTooLong));
+    Ok(())
+}
+
+// These bytes are those of a body.
+fn check_body(rt: &impl Abort, bytes: &[u8]) -> Result<(), Fail> {
+    assert_eq!(rt; Body::new(bytes)?.as_slice(), bytes);
+    Ok(())
+}
+
+#[test]
+fn lengths_of_bodies(rt: HostRuntime) -> Result<(), Fail> {
+    check_body(&rt, b"")?;
+    check_body(&rt, &[7; 37])?;
+    assert_eq!(rt; Body::new(&[7; 38]), Err(Error::BodyTooLong));
+    Ok(())
+}
+
+// Whether the keys of these bytes stand in this order.
+fn are_in_order(low: &[u8], high: &[u8]) -> Result<bool, Fail> {
+    Ok(Key::new(low)? < Key::new(high)?)
+}
+
+#[test]
+fn keys_in_order(rt: HostRuntime) -> Result<(), Fail> {
+    assert!(rt; are_in_order(b"", b"\0")?);
+    assert!(rt; are_in_order(b"\0", b"a")?);
+    assert!(rt; are_in_order(b"a", b"a\0")?);
+    assert!(rt; are_in_order(b"a\0", b"b")?);
+    Ok(())
+}
+
+#[test]
+fn places_in_order(rt: HostRuntime) -> Result<(), Fail> {
+    let last = Rid { page: 0, slot: 62 };
+    let next = Rid { page: 1, slot: 0 };
+    assert!(rt; compare_rids(&last, &next).is_lt());
+    let key = Key::new(b"a")?;
+    let high = Pair {
+        key: Key::new(b"a\0")?,
+        rid: last,
+    };
+    assert!(rt; compare_pairs(&Pair { key, rid: next }, &high).is_lt());
+    assert!(rt; compare_pairs(&Pair { key, rid: last }, &Pair { key, rid: next }).is_lt());
+    Ok(())
+}
+
+fn printed(alloc: Global, error: Error) -> Result<String, Fail> {
+    Ok(format!(in alloc; "{error}")?)
+}
+
+fn number_and_name(alloc: Global, error: Error) -> Result<String, Fail> {
+    let number = error.number();
+    let name = error.name();
+    Ok(format!(in alloc; "{number} {name}")?)
+}
+
+// The refusal is printed so, and that begins with its number and its name.
+fn check_text(rt: &impl Abort, alloc: Global, error: Error, text: &str) -> Result<(), Fail> {
+    assert_eq!(rt; printed(alloc, error)?.as_str(), text);
+    let head = number_and_name(alloc, error)?;
+    assert!(rt; text.starts_with(head.as_str()), "{text}");
+    Ok(())
+}
+
+#[test]
+fn refusals_printed(rt: HostRuntime) -> Result<(), Fail> {
+    let texts = [
+        (Error::NoMemory, "1 NoMemory"),
+        (Error::DeviceFailed, "2 DeviceFailed"),
+        (Error::NotFormatted, "3 NotFormatted"),
+        (Error::Damaged { sector: 516 }, "4 Damaged 516"),
+        (Error::DeviceTooSmall, "5 DeviceTooSmall"),
+        (Error::BadGeometry, "6 BadGeometry"),
+        (Error::TooManyTxns, "7 TooManyTxns"),
+        (Error::TooManyChanges, "8 TooManyChanges"),
+        (Error::NoSuchTxn, "9 NoSuchTxn"),
+        (Error::NoSuchRow, "10 NoSuchRow"),
+        (Error::RowBusy, "11 RowBusy"),
+    ];
+    for (error, text) in texts {
+        check_text(&rt, rt.alloc(), error, text)?;
+    }
+    Ok(())
+}
+
+#[test]
+fn later_refusals_printed(rt: HostRuntime) -> Result<(), Fail> {
+    let texts = [
+        (Error::HeapFull, "12 HeapFull"),
+        (Error::IndexFull, "13 IndexFull"),
+        (Error::KeyTooLong, "14 KeyTooLong"),
+        (Error::BodyTooLong, "15 BodyTooLong"),
+        (Error::TxnsActive, "16 TxnsActive"),
+        (Error::IndexExists, "17 IndexExists"),
+        (Error::NoIndex, "18 NoIndex"),
+        (Error::NotBuilt, "19 NotBuilt"),
+        (Error::Stopped, "20 Stopped"),
+        (Error::Exhausted, "21 Exhausted"),
+        (Error::BadScript { line: 2 }, "22 BadScript 2"),
+    ];
+    for (error, text) in texts {
+        check_text(&rt, rt.alloc(), error, text)?;
+    }
+    Ok(())
+}
+
+fn sectors(pages: u32, entries: u32, slots: u32) -> Result<u64, Error> {
+    Ok(Geometry::new(pages, entries, slots)?.sectors())
+}
+
+#[test]
+fn sizes_of_a_store(rt: HostRuntime) {
+    assert_eq!(rt; sectors(1, 64, 4), Ok(1118));
+    assert_eq!(rt; sectors(256, 65_536, 256), Ok(17_414));
+    let outside = [
+        (0, 64, 4),
+        (257, 64, 4),
+        (1, 63, 4),
+        (1, 65_537, 4),
+        (1, 64, 3),
+        (1, 64, 257),
+    ];
+    for (pages, entries, slots) in outside {
+        assert_eq!(rt; sectors(pages, entries, slots), Err(Error::BadGeometry));
+    }
+}
+
+// Whether a long record's spelling had room behind a byte that was there, in a
+// heap of so many bytes. Where it had none, that byte alone is there.
+fn is_encoded_in(rt: &impl Abort, heap: &LocalHeap) -> Result<bool, Fail> {
+    let record = insertion(&[1; 24], &[2; 37])?;
+    let mut bytes = Vec::new(heap);
+    bytes.push(9)?;
+    match record.encode_into(&mut bytes) {
+        Ok(()) => {
+            assert_eq!(rt; bytes.len(), 1 + record.size());
+            Ok(true)
+        }
+        Err(error) => {
+            assert_eq!(rt; error, Error::NoMemory);
+            assert_eq!(rt; bytes.as_slice(), [9].as_slice());
+            Ok(false)
+        }
+    }
+}
+
+// In ever larger memory each growth of the bytes is the one that is refused in
+// its turn, until there is room for all.
+#[test]
+fn an_encoding_without_memory(rt: HostRuntime) -> Result<(), Fail> {
+    let mut was_refused = false;
+    let mut was_done = false;
+    for room in 1..40 {
+        let heap = LocalHeap::new(rt.alloc(), 16 * room)?;
+        if is_encoded_in(&rt, &heap)? {
+            was_done = true;
+        } else {
+            was_refused = true;
+        }
+    }
+    assert!(rt; was_refused && was_done);
+    Ok(())
+}
+
+#[test]
+fn a_record_taken(rt: HostRuntime) -> Result<(), Fail> {
+    let record = insertion(b"a", b"")?;
+    let mut records = Vec::new(rt.alloc());
+    assert_eq!(rt; records.take(record), Ok(()));
+    assert_eq!(rt; records.as_slice(), [record].as_slice());
+    Ok(())
+}
+
+// A vector of no memory gives a record back.
+#[test]
+fn a_record_given_back(rt: HostRuntime) -> Result<(), Fail> {
+    let record = insertion(b"a", b"")?;
+    let heap = LocalHeap::new(rt.alloc(), 64)?;
+    let mut records = Vec::new(&heap);
+    assert_eq!(rt; records.take(record), Err(record));
+    assert_eq!(rt; records.len(), 0);
+    Ok(())
+}

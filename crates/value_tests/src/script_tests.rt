@@ -1,0 +1,355 @@
+//! Tests of the crate `script`.
+use records::{Error, Rid, Txn};
+use script::{ByteText, Command, Fate, LINES_MAX, read};
+use std::alloc::Global;
+use std::process::Abort;
+use std::test::Fail;
+
+const LOW: Rid = Rid { page: 0, slot: 0 };
+
+const HIGH: Rid = Rid {
+    page: 4_294_967_295,
+    slot: 62,
+};
+
+fn text(alloc: Global, bytes: &[u8]) -> Result<ByteText, Fail> {
+    Ok(ByteText::new(Vec::from_slice(alloc, bytes)?))
+}
+
+fn txn(number: u64) -> Result<Txn, Fail> {
+    Ok(Txn::new(number).ok_or("no transaction")?)
+}
+
+// The line is this command.
+fn check_line(rt: &impl Abort, alloc: Global, line: &[u8], command: &Command) -> Result<(), Fail> {
+    let commands = read(alloc, line)?;
+    assert_eq!(rt; commands.len(), 1);
+    assert!(rt; commands[0] == *command, "{line:?}");
+    Ok(())
+}
+
+#[test]
+fn commands_of_one_word(rt: HostRuntime) -> Result<(), Fail> {
+    check_line(&rt, rt.alloc(), b"begin", &Command::Begin)?;
+    check_line(&rt, rt.alloc(), b"flush", &Command::Flush)?;
+    check_line(&rt, rt.alloc(), b"dump", &Command::Dump)
+}
+
+// The line is an insertion.
+fn check_insertion(
+    rt: &impl Abort,
+    alloc: Global,
+    line: &[u8],
+    number: u64,
+    key: &[u8],
+    body: &[u8],
+) -> Result<(), Fail> {
+    let insertion = Command::Insert {
+        txn: txn(number)?,
+        key: text(alloc, key)?,
+        body: text(alloc, body)?,
+    };
+    check_line(rt, alloc, line, &insertion)
+}
+
+#[test]
+fn insertions(rt: HostRuntime) -> Result<(), Fail> {
+    let alloc = rt.alloc();
+    check_insertion(&rt, alloc, b"insert 1 =ant =x", 1, b"ant", b"x")?;
+    check_insertion(&rt, alloc, b"insert 1 = :", 1, b"", b"")?;
+    check_insertion(&rt, alloc, b"insert 7 :616e74 ==:~!", 7, b"ant", b"=:~!")?;
+    check_insertion(&rt, alloc, b"insert 7 :00ff0a20 =", 7, b"\x00\xff\n ", b"")?;
+    check_insertion(
+        &rt,
+        alloc,
+        b"insert 4294967295 =0123456789012345678901234 =01234567890123456789012345678901234567",
+        4_294_967_295,
+        b"0123456789012345678901234",
+        b"01234567890123456789012345678901234567",
+    )
+}
+
+#[test]
+fn deletions(rt: HostRuntime) -> Result<(), Fail> {
+    let deletion = Command::Delete {
+        txn: txn(1)?,
+        rid: LOW,
+    };
+    check_line(&rt, rt.alloc(), b"delete 1 0.0", &deletion)?;
+    let deletion = Command::Delete {
+        txn: txn(4_294_967_295)?,
+        rid: HIGH,
+    };
+    check_line(
+        &rt,
+        rt.alloc(),
+        b"delete 4294967295 4294967295.62",
+        &deletion,
+    )
+}
+
+// The line is an update.
+fn check_update(
+    rt: &impl Abort,
+    alloc: Global,
+    line: &[u8],
+    number: u64,
+    rid: Rid,
+    key: &[u8],
+    body: &[u8],
+) -> Result<(), Fail> {
+    let update = Command::Update {
+        txn: txn(number)?,
+        rid,
+        key: text(alloc, key)?,
+        body: text(alloc, body)?,
+    };
+    check_line(rt, alloc, line, &update)
+}
+
+#[test]
+fn updates(rt: HostRuntime) -> Result<(), Fail> {
+    let alloc = rt.alloc();
+    check_update(&rt, alloc, b"update 1 0.0 =ant =x", 1, LOW, b"ant", b"x")?;
+    check_update(&rt, alloc, b"update 1 0.0 : =", 1, LOW, b"", b"")?;
+    let line = b"update 7 4294967295.62 :00ff =7.62";
+    check_update(&rt, alloc, line, 7, HIGH, b"\x00\xff", b"7.62")
+}
+
+#[test]
+fn steps_and_ends(rt: HostRuntime) -> Result<(), Fail> {
+    let first = txn(1)?;
+    let alloc = rt.alloc();
+    check_line(&rt, alloc, b"step 1", &Command::Step { txn: first })?;
+    check_line(&rt, alloc, b"undo 2", &Command::Undo { txn: txn(2)? })?;
+    check_line(&rt, alloc, b"end 3", &Command::End { txn: txn(3)? })
+}
+
+#[test]
+fn commits(rt: HostRuntime) -> Result<(), Fail> {
+    let commit = Command::Commit { txn: txn(1)? };
+    check_line(&rt, rt.alloc(), b"commit 1", &commit)?;
+    let commit = Command::Commit {
+        txn: txn(4_294_967_295)?,
+    };
+    check_line(&rt, rt.alloc(), b"commit 4294967295", &commit)
+}
+
+#[test]
+fn crashes(rt: HostRuntime) -> Result<(), Fail> {
+    let lines = [
+        (b"crash old".as_slice(), Fate::Old),
+        (b"crash new", Fate::New),
+        (b"crash zero", Fate::Zero),
+        (b"crash a5", Fate::Gate),
+        (b"crash junk", Fate::Junk),
+    ];
+    for (line, fate) in lines {
+        check_line(&rt, rt.alloc(), line, &Command::Crash { fate })?;
+    }
+    Ok(())
+}
+
+#[test]
+fn gets(rt: HostRuntime) -> Result<(), Fail> {
+    check_line(&rt, rt.alloc(), b"get 0.0", &Command::Get { rid: LOW })?;
+    check_line(
+        &rt,
+        rt.alloc(),
+        b"get 4294967295.62",
+        &Command::Get { rid: HIGH },
+    )
+}
+
+// None of the lines is a command, and each is named.
+fn check_bad_lines(rt: &impl Abort, alloc: Global, lines: &[&[u8]]) {
+    for line in lines {
+        let bad = Err(Error::BadScript { line: 1 });
+        assert!(rt; read(alloc, line) == bad, "{line:?}");
+    }
+}
+
+#[test]
+fn words_of_no_command(rt: HostRuntime) {
+    let lines = [
+        b" ".as_slice(),
+        b" #",
+        b" begin",
+        b"begin ",
+        b"begin\r",
+        b"Begin",
+        b"begin 1",
+        b"begin\tx",
+        b"beginning",
+        b"\xff",
+        b"\xef\xbb\xbfbegin",
+        b"find =a",
+    ];
+    check_bad_lines(&rt, rt.alloc(), &lines);
+}
+
+#[test]
+fn bad_insertions(rt: HostRuntime) {
+    let lines = [
+        b"insert".as_slice(),
+        b"insert 1",
+        b"insert 1 =a",
+        b"insert 1 =a =b =c",
+        b"insert  1 =a =",
+        b"insert 1 =a = ",
+        b"insert 01 =a =",
+        b"insert +1 =a =",
+        b"insert 0 =a =",
+        b"insert 1 :6 =",
+        b"insert 1 :6A =",
+        b"insert 1 :6g =",
+        b"insert 1 a =",
+        b"insert 1 =\x7f =",
+        b"insert 1 =\x80 =",
+    ];
+    check_bad_lines(&rt, rt.alloc(), &lines);
+}
+
+#[test]
+fn bad_deletions(rt: HostRuntime) {
+    let lines = [
+        b"delete".as_slice(),
+        b"delete 1",
+        b"delete 0.0",
+        b"delete 0 0.0",
+        b"delete 1 0.63",
+        b"delete 1 0",
+        b"delete 0.0 1",
+        b"delete 1 0.0 =a",
+        b"delete 1 0.0 ",
+        b"Delete 1 0.0",
+    ];
+    check_bad_lines(&rt, rt.alloc(), &lines);
+}
+
+#[test]
+fn bad_updates(rt: HostRuntime) {
+    let lines = [
+        b"update".as_slice(),
+        b"update 1",
+        b"update 1 0.0",
+        b"update 1 0.0 =a",
+        b"update 1 =a =",
+        b"update 1 =a = 0.0",
+        b"update 0.0 1 =a =",
+        b"update 1 0.0 =a = =b",
+        b"update 1 0.0 =a = ",
+        b"update 1  0.0 =a =",
+        b"update 0 0.0 =a =",
+        b"update 1 0.63 =a =",
+        b"update 1 0.0 a =",
+        b"update 1 0.0 =a :6",
+    ];
+    check_bad_lines(&rt, rt.alloc(), &lines);
+}
+
+#[test]
+fn bad_steps_and_ends(rt: HostRuntime) {
+    let lines = [
+        b"step".as_slice(),
+        b"step 0",
+        b"step 1 1",
+        b"step 1 ",
+        b"steps 1",
+        b"undo",
+        b"undo 01",
+        b"undo 1 1",
+        b"undone 1",
+        b"end",
+        b"end +1",
+        b"end 1 1",
+        b"END 1",
+    ];
+    check_bad_lines(&rt, rt.alloc(), &lines);
+}
+
+#[test]
+fn bad_commits_and_crashes(rt: HostRuntime) {
+    let lines = [
+        b"commit".as_slice(),
+        b"commit 1 ",
+        b"commit 4294967296",
+        b"commit 18446744073709551617",
+        b"commit 1a",
+        b"commit -1",
+        b"crash",
+        b"crash OLD",
+        b"crash a5 a5",
+    ];
+    check_bad_lines(&rt, rt.alloc(), &lines);
+}
+
+#[test]
+fn bad_gets(rt: HostRuntime) {
+    let lines = [
+        b"get 0".as_slice(),
+        b"get 0.63",
+        b"get 0.00",
+        b"get 00.0",
+        b"get 0.0.0",
+        b"get .0",
+        b"get 0.",
+        b"get 4294967296.0",
+        b"get 0.4294967296",
+        b"get 0.65536",
+    ];
+    check_bad_lines(&rt, rt.alloc(), &lines);
+}
+
+#[test]
+fn lines_are_counted_from_one(rt: HostRuntime) -> Result<(), Fail> {
+    let scripts = [
+        (b"".as_slice(), Ok(0)),
+        (b"\n", Ok(0)),
+        (b"\n\n#\n", Ok(0)),
+        (b"#\xff\r begin", Ok(0)),
+        (b"begin", Ok(1)),
+        (b"begin\n", Ok(1)),
+        (b"begin\n\n", Ok(1)),
+        (b"\n# a comment\nbegin\n\ndump", Ok(2)),
+        (b"begin\nflush\n\xff\n", Err(3)),
+        (b"begin\n\n#\nbad\nbad\n", Err(4)),
+        (b"begin\n ", Err(2)),
+    ];
+    for (script, answer) in scripts {
+        match (read(rt.alloc(), script), answer) {
+            (Ok(commands), Ok(len)) => assert_eq!(rt; commands.len(), len),
+            (Err(error), Err(line)) => assert_eq!(rt; error, Error::BadScript { line }),
+            _ => assert!(rt; false, "{script:?}"),
+        }
+    }
+    Ok(())
+}
+
+#[test]
+fn too_many_lines_are_named(rt: HostRuntime) -> Result<(), Fail> {
+    let mut script = Vec::new(rt.alloc());
+    for _ in 0..LINES_MAX {
+        script.extend_from_slice(b"dump\n")?;
+    }
+    assert_eq!(rt; read(rt.alloc(), &script)?.len(), 10_000);
+    let full = script.len();
+    for line in [b"\n".as_slice(), b"#", b"dump", b"bad"] {
+        script.truncate(full);
+        script.extend_from_slice(line)?;
+        assert!(rt; read(rt.alloc(), &script) == Err(Error::BadScript { line: 10_001 }));
+    }
+    Ok(())
+}
+
+#[test]
+fn a_refused_allocation_is_no_memory(rt: HostRuntime) -> Result<(), Fail> {
+    match read(
+        rt.alloc(),
+        b"begin\ninsert 1 =ant :00\nupdate 1 0.0 =bee :01\n",
+    ) {
+        Ok(commands) => assert_eq!(rt; commands.len(), 3),
+        Err(error) => assert_eq!(rt; error, Error::NoMemory),
+    }
+    Ok(())
+}

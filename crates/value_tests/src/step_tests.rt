@@ -1,0 +1,148 @@
+//! Tests of the crate `core_steps`.
+use core_steps::{Cell, Step, forward, undo};
+use records::{Body, Change, Error, Key, Mark, Pair, Part, Rid, Row, Rows, TxnAction};
+use std::process::Abort;
+use std::test::Fail;
+
+const PLACE: Rid = Rid { page: 0, slot: 7 };
+
+fn row(key: &[u8]) -> Result<Row, Error> {
+    Ok(Row {
+        key: Key::new(key)?,
+        body: Body::new(b"x")?,
+    })
+}
+
+// The fourth change of its transaction.
+fn change(rows: Rows) -> Change {
+    Change {
+        position: 3,
+        rid: PLACE,
+        rows,
+    }
+}
+
+// The entry of the row with this key.
+fn entry(key: &[u8], mark: Mark) -> Result<Cell, Error> {
+    let pair = Pair {
+        key: Key::new(key)?,
+        rid: PLACE,
+    };
+    Ok(Cell::Entry { pair, mark })
+}
+
+// The row with this key, in its place.
+fn there(key: &[u8]) -> Result<Cell, Error> {
+    Ok(slot(Some(row(key)?)))
+}
+
+fn slot(row: Option<Row>) -> Cell {
+    Cell::Slot { rid: PLACE, row }
+}
+
+// The change has these steps.
+fn check_steps(rt: &impl Abort, change: Change, indexed: bool, steps: &[(Part, Cell)]) {
+    for (made, (part, cell)) in steps.iter().enumerate() {
+        let part = *part;
+        let cell = *cell;
+        let action = TxnAction::Forward { part, change };
+        assert_eq!(rt;
+            forward(&change, indexed, made),
+            Some(Step { cell, action })
+        );
+    }
+    assert_eq!(rt; forward(&change, indexed, steps.len()), None);
+}
+
+// The undo of the change has these steps.
+fn check_undo(rt: &impl Abort, change: Change, steps: &[(Part, Cell)]) {
+    for (made, (part, cell)) in steps.iter().enumerate() {
+        let part = *part;
+        let cell = *cell;
+        let last = made + 1 == steps.len();
+        let action = TxnAction::Undo { part, change, last };
+        assert_eq!(rt; undo(&change, true, made), Some(Step { cell, action }));
+    }
+    assert_eq!(rt; undo(&change, true, steps.len()), None);
+}
+
+// Without an index the change has one step, on the row, and so has its undo.
+fn check_one_step(rt: &impl Abort, change: Change) {
+    let row = slot(change.rows.new());
+    check_steps(rt, change, false, &[(Part::Slot, row)]);
+    assert!(rt; undo(&change, false, 0).is_some());
+    assert!(rt; undo(&change, false, 1).is_none());
+}
+
+#[test]
+fn an_insertion(rt: HostRuntime) -> Result<(), Fail> {
+    let new = row(b"q")?;
+    let inserted = change(Rows::Inserted { new });
+    let put = entry(b"q", Mark::Live)?;
+    let marked = entry(b"q", Mark::Marked)?;
+    let there = there(b"q")?;
+    let steps = [(Part::Slot, there), (Part::NewEntry, put)];
+    check_steps(&rt, inserted, true, &steps);
+    let steps = [(Part::NewEntry, marked), (Part::Slot, slot(None))];
+    check_undo(&rt, inserted, &steps);
+    check_one_step(&rt, inserted);
+    Ok(())
+}
+
+#[test]
+fn a_deletion(rt: HostRuntime) -> Result<(), Fail> {
+    let old = row(b"p")?;
+    let deleted = change(Rows::Deleted { old });
+    let put = entry(b"p", Mark::Live)?;
+    let marked = entry(b"p", Mark::Marked)?;
+    let there = there(b"p")?;
+    let steps = [(Part::OldEntry, marked), (Part::Slot, slot(None))];
+    check_steps(&rt, deleted, true, &steps);
+    let steps = [(Part::Slot, there), (Part::OldEntry, put)];
+    check_undo(&rt, deleted, &steps);
+    check_one_step(&rt, deleted);
+    Ok(())
+}
+
+#[test]
+fn an_update(rt: HostRuntime) -> Result<(), Fail> {
+    let old = row(b"p")?;
+    let new = row(b"q")?;
+    let updated = change(Rows::Updated { old, new });
+    let steps = [
+        (Part::OldEntry, entry(b"p", Mark::Marked)?),
+        (Part::Slot, there(b"q")?),
+        (Part::NewEntry, entry(b"q", Mark::Live)?),
+    ];
+    check_steps(&rt, updated, true, &steps);
+    check_one_step(&rt, updated);
+    Ok(())
+}
+
+#[test]
+fn an_update_undone(rt: HostRuntime) -> Result<(), Fail> {
+    let old = row(b"p")?;
+    let new = row(b"q")?;
+    let updated = change(Rows::Updated { old, new });
+    let steps = [
+        (Part::NewEntry, entry(b"q", Mark::Marked)?),
+        (Part::Slot, there(b"p")?),
+        (Part::OldEntry, entry(b"p", Mark::Live)?),
+    ];
+    check_undo(&rt, updated, &steps);
+    Ok(())
+}
+
+#[test]
+fn an_update_that_keeps_the_key(rt: HostRuntime) -> Result<(), Fail> {
+    let old = row(b"p")?;
+    let new = Row {
+        key: old.key,
+        body: Body::new(b"y")?,
+    };
+    let updated = change(Rows::Updated { old, new });
+    check_steps(&rt, updated, true, &[(Part::Slot, slot(Some(new)))]);
+    check_undo(&rt, updated, &[(Part::Slot, there(b"p")?)]);
+    check_one_step(&rt, updated);
+    Ok(())
+}
