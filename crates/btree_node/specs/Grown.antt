@@ -16,6 +16,10 @@ pub record Nodes : Type 0 where
 abbrev pub AreEnough : ℕ → Nodes → Type 0
 AreEnough n s = (0 < n → 0 < s.leaves) × (n ≤ s.inners + 1)
 
+-- n nodes in all, the first of them a leaf
+abbrev pub AreExactly : ℕ → Nodes → Type 0
+AreExactly n s = (s.leaves + s.inners ≡ n) × (0 < n → s.leaves ≡ 1)
+
 abbrev pub upper_entries : {A : Type 0} → Option (Child A) → List Entry
 upper_entries None = []
 upper_entries (Some c) = entries c.node.value

@@ -5,8 +5,9 @@ ghost use Rattle.std.specs.Prelude.{◌≡◌, ◌<◌, ◌≤◌, ◌↔◌, No
 ghost use Rattle.std.specs.Option.{option_copied};
 ghost use Rattle.std.specs.FinMap as map;
 ghost use Rattle.btree_node.specs.Contents.{contents};
-ghost use Rattle.btree_node.specs.Top.{height_of};
+ghost use Rattle.btree_node.specs.Top.{height_of, nodes_for};
 ghost use Rattle.btree_node.specs.Plans.{IsPlanFor};
+ghost use Rattle.btree_node.specs.Grown.{AreExactly};
 ghost use Rattle.btree_node.specs.Above.{IsLeastAbove};
 
 mod inline;
@@ -120,7 +121,7 @@ impl<A: Allocator + Clone> BTree<A> {
     /// The mark of a pair, if it has an entry, and how many nodes were visited.
     pub fn get(&self, pair: &Pair) -> (Option<Mark>, u32)
         ensures found { result.0 ≡ map.get (contents self.now) pair.now }
-        ensures visited { result.1 ≤ height_of self.now }
+        ensures visited { result.1 ≡ height_of self.now }
         ensures few_visited { result.1 ≤ LEVELS_MAX }
     {
         match &self.root {
@@ -149,6 +150,7 @@ impl<A: Allocator + Clone> BTree<A> {
         requires room { map.len (contents self.now) < ENTRIES_MAX }
         ensures pair { IfOk result (λ plan. plan.pair ≡ pair.now) }
         ensures plan { IfOk result (IsPlanFor self.now) }
+        ensures nodes { IfOk result (λ plan. AreExactly (nodes_for self.now pair.now) plan.spares) }
         ensures no_memory { IfErr result (λ e. e ≡ Error.NoMemory) }
     {
         let mut path = SmallVec::new(Inline);

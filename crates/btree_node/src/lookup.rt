@@ -36,7 +36,7 @@ pub fn get_in<A: Allocator>(node: &Node<A>, pair: &Pair) -> (Option<Mark>, u32)
     requires some { 0 < length (entries node.now) }
     requires low { depth node.now ≤ LEVELS_MAX }
     ensures found { result.0 ≡ mark_in (entries node.now) pair.now }
-    ensures visited { result.1 ≤ depth node.now }
+    ensures visited { result.1 ≡ depth node.now }
 {
     let at = node.place(pair);
     match &node.parts {

@@ -1,7 +1,7 @@
 //! Nodes made before an insertion.
 ghost use Rattle.std.specs.Prelude.{◌≡◌, ◌+◌, ◌<◌, IfOk, IfErr, vec_len};
 ghost use Rattle.std.specs.List.{All};
-ghost use Rattle.btree_node.specs.Grown.{AreEnough};
+ghost use Rattle.btree_node.specs.Grown.{AreEnough, AreExactly};
 ghost use Rattle.node_parts.specs.Tree.{an_empty_inner, an_empty_leaf};
 
 use node_parts::Node;
@@ -34,6 +34,7 @@ impl<A: Allocator> Spares<A> {
     pub fn take_leaf(&mut self) -> Box<Node<A>, A>
         requires some { 0 < self.old.leaves }
         ensures leaf { result.value ≡ an_empty_leaf }
+        ensures leaves { self.new.leaves + 1 ≡ self.old.leaves }
         ensures inners { self.new.inners ≡ self.old.inners }
     {
         self.leaf.take().unwrap()
@@ -44,15 +45,17 @@ impl<A: Allocator> Spares<A> {
         requires some { 0 < self.old.inners }
         ensures inner { result.value ≡ an_empty_inner }
         ensures inners { self.new.inners + 1 ≡ self.old.inners }
+        ensures leaves { self.new.leaves ≡ self.old.leaves }
     {
         self.inner.pop().unwrap()
     }
 }
 
 impl<A: Allocator + Clone> Spares<A> {
-    /// Enough for so many nodes, the first of them a leaf.
+    /// So many nodes, the first of them a leaf.
     pub fn new(alloc: &A, count: usize) -> Result<Self, Error>
         ensures enough { IfOk result (AreEnough count) }
+        ensures exactly { IfOk result (AreExactly count) }
         ensures no_memory { IfErr result (λ e. e ≡ Error.NoMemory) }
     {
         if count == 0 {

@@ -29,11 +29,11 @@ left_handed area frame handed more n image left = record {
 }
 
 -- the writer with more records that wait
-abbrev with_waiting : {D : Type 0} → Writer D → Writer D → Type 0
+abbrev with_waiting : {D M : Type 0} → Writer D M → Writer D M → Type 0
 with_waiting old mid = mid ≡ record old { waiting = mid.waiting }
 
 -- what was handed in waits
-pub writer_handed : {D : Type 0} (history : D → History) (area : Area) (frame : Image) (handed more : List RecordValue) (old mid : Writer D) → length (handed ++ more) < 9223372036854775808 → IsWriter history area frame handed old → with_waiting old mid → mid.waiting.items ≡ old.waiting.items ++ more
+pub writer_handed : {D M : Type 0} (history : D → History) (area : Area) (frame : Image) (handed more : List RecordValue) (old mid : Writer D M) → length (handed ++ more) < 9223372036854775808 → IsWriter history area frame handed old → with_waiting old mid → mid.waiting.items ≡ old.waiting.items ++ more
     → IsWriter history area frame (handed ++ more) mid
 writer_handed history area frame handed more old mid small is same waits = subst (IsWriter history area frame (handed ++ more)) (sym same) (record {
   area_is = is.area_is;
@@ -56,7 +56,7 @@ writer_handed history area frame handed more old mid small is same waits = subst
 same_made : (t : Past) (made : List RecordValue) (s : State) (kept : List RecordValue) → HasMade t.table t.last made (items_of t) s → HasMade t.table t.last made (items_of t) (record s { outbox = kept })
 same_made t made s kept has = record { follows = record { last = has.follows.last; cells = has.follows.cells; in_order = has.follows.in_order }; tells = has.tells }
 
-module _ {D : Type 0} (history : D → History) (old : Engine D) (new_core : State) (mid : Writer D) (hands : HandsOut (state_of old.core) new_core old.writer.waiting.items mid.waiting.items) (same : with_waiting old.writer mid) (numbered : (state_of old.core).last ≤ 4611686018427387904) where
+module _ {D M : Type 0} (history : D → History) (old : Engine D M) (new_core : State) (mid : Writer D M) (hands : HandsOut (state_of old.core) new_core old.writer.waiting.items mid.waiting.items) (same : with_waiting old.writer mid) (numbered : (state_of old.core).last ≤ 4611686018427387904) where
   module _ (area : Area) (frame : Image) (past : Past) (is : IsAt history area frame past old) where
     abbrev handed_now : List RecordValue
     handed_now = is.handed ++ hands.handed
@@ -73,10 +73,10 @@ module _ {D : Type 0} (history : D → History) (old : Engine D) (new_core : Sta
     taken = writer_handed history area frame is.handed hands.handed old.writer mid (omega (arith, numbered, is.core.follows.last, sizes)) is.writer same hands.taken
 
     -- the writer's numbers are those of records
-    pub within : (new : Writer D) → IsWriter history area frame handed_now new → new.base ≡ mid.base → new.base + new.synced ≤ (state_of old.core).last
+    pub within : (new : Writer D M) → IsWriter history area frame handed_now new → new.base ≡ mid.base → new.base + new.synced ≤ (state_of old.core).last
     within new is_writer base = omega (arith, is_writer.reached, base, ap (λ w. w.base) same, is.base, is.core.follows.last, sizes)
 
-  module _ (new : Engine D) (core : state_of new.core ≡ new_core) (reply : Reply)
+  module _ (new : Engine D M) (core : state_of new.core ≡ new_core) (reply : Reply)
       (writer : (area : Area) (frame : Image) (handed : List RecordValue) → IsWriter history area frame handed mid → IsWriter history area frame handed new.writer)
       (images : (area : Area) (frame : Image) (handed : List RecordValue) → IsWriter history area frame handed mid → LeavesOnly (history mid.device) (history new.writer.device) (LeftBy area frame handed mid.synced))
       (grows : mid.synced ≤ new.writer.synced) (base : new.writer.base ≡ mid.base)
@@ -129,7 +129,7 @@ module _ {D : Type 0} (history : D → History) (old : Engine D) (new_core : Sta
   nothing_waits none = nil_from_length mid.waiting.items (omega (arith, unwritten_size, ap length none))
 
   -- what was written is the first of what was not
-  module _ (new : Engine D) (core : state_of new.core ≡ new_core) (area : Area) (frame : Image) (past : Past) (is : IsAt history area frame past old) (after : IsWriter history area frame (handed_now area frame past is) new.writer) (count : ℕ)
+  module _ (new : Engine D M) (core : state_of new.core ≡ new_core) (area : Area) (frame : Image) (past : Past) (is : IsAt history area frame past old) (after : IsWriter history area frame (handed_now area frame past is) new.writer) (count : ℕ)
       (base : new.writer.base ≡ mid.base) (synced : new.writer.synced ≡ mid.synced + count) (mode : new.read_only ≡ old.read_only) where
     in_hand : IsWriter history area frame (handed_now area frame past is) mid
     in_hand = taken area frame past is
@@ -155,7 +155,7 @@ module _ {D : Type 0} (history : D → History) (old : Engine D) (new_core : Sta
       mode = mode;
     }
 
-  pub all_written : (new : Engine D) (area : Area) (frame : Image) (past : Past) → IsAt history area frame past old → new.writer ≡ mid → mid.waiting.items ≡ [] → (state_of old.core).last ≤ new.writer.base + new.writer.synced → unwritten old ≡ []
+  pub all_written : (new : Engine D M) (area : Area) (frame : Image) (past : Past) → IsAt history area frame past old → new.writer ≡ mid → mid.waiting.items ≡ [] → (state_of old.core).last ≤ new.writer.base + new.writer.synced → unwritten old ≡ []
   all_written new area frame past is writer_is none reached = nil_from_length (unwritten old) (omega (arith, unwritten_size, kept_none, ap length none))
     where
       in_hand : IsWriter history area frame (handed_now area frame past is) mid

@@ -32,7 +32,7 @@ module _ (g : GeometryValue) (image : Image) (formatted : IsFormatted g image) (
   pub never_unreadable : (e : Error) → ¬ IsUnreadable image e
   never_unreadable e = readable image g A [] e gives_none
 
-  begun_of : {D : Type 0} (history : D → History) (engine : Engine D) (geometry : GeometryValue) (half : Half) (records : List RecordValue) → Gives image geometry half records
+  begun_of : {D M : Type 0} (history : D → History) (engine : Engine D M) (geometry : GeometryValue) (half : Half) (records : List RecordValue) → Gives image geometry half records
       → (records ≡ [] → IsAt history (log_area geometry half) image (opening geometry.pages) engine) → IsAt history (log_area g A) image (opening g.pages) engine
   begun_of history engine geometry half records gives begins =
       subst (λ (x : GeometryValue). IsAt history (log_area x A) image (opening x.pages) engine) (one_geometry image geometry g half A records [] gives gives_none)
@@ -40,7 +40,7 @@ module _ (g : GeometryValue) (image : Image) (formatted : IsFormatted g image) (
       (begins (one_list image geometry g half A records [] gives gives_none)))
 
 module _ {D : Type 0} (history : D → History) (before : D) (g : GeometryValue) (formatted : IsFormatted g (history before).disk.content) (closed : AreGatesClosed g A (history before).disk.content) where
-  pub begun_formatted : (engine : Engine D) → IsOpened history before engine → IsAt history (log_area g A) (history before).disk.content (opening g.pages) engine
+  pub begun_formatted : {M : Type 0} (engine : Engine D M) → IsOpened history before engine → IsAt history (log_area g A) (history before).disk.content (opening g.pages) engine
   begun_formatted engine is = begun_of g (history before).disk.content formatted closed history engine is.geometry is.half is.records is.gives is.begins
 
 abbrev pub MayRefuse : Error → Type 0

@@ -109,7 +109,7 @@ no_rows = (fresh_has_made 0 0).tells.prefixes 0 (omega arith)
 pub none_held : (pages last : ℕ) → last ≡ 0 → holding pages last (rows_of []) ≡ fresh pages 0
 none_held pages last none = ap (holding pages last) no_rows ∙ ap (fresh pages) none
 
-module _ {D : Type 0} (history : D → History) (image : Image) (area : Area) (pages : ℕ) (groups : List (List RecordValue)) (none : records_of groups ≡ []) (engine : Engine D) (core : core_of engine ≡ fresh pages 0)
+module _ {D M : Type 0} (history : D → History) (image : Image) (area : Area) (pages : ℕ) (groups : List (List RecordValue)) (none : records_of groups ≡ []) (engine : Engine D M) (core : core_of engine ≡ fresh pages 0)
     (area_is : engine.writer.log.area ≡ area) (inside : IsInside area image) (stands : Stands engine.writer.log image groups) (content : (history (device_of engine)).disk.content ≡ image)
     (synced : IsSynced (history (device_of engine)).disk) where
   disk : Disk
@@ -173,15 +173,15 @@ refused_since before at later e count told = subst (λ n. Refuses n later e) cou
 
 -- ---- the engine
 
-can_run_over : {D : Type 0} (history : D → History) (engine : Engine D) (records : List RecordValue) → is_read_only engine ≡ is_some_record records
+can_run_over : {D M : Type 0} (history : D → History) (engine : Engine D M) (records : List RecordValue) → is_read_only engine ≡ is_some_record records
     → (records ≡ [] → (area : Area) × (frame : Image) × (past : Past) × IsAt history area frame past engine) → CanRun history engine
 can_run_over history engine [] mode begins = inr (begins refl)
 can_run_over history engine (r ∷ records) mode begins = inl mode
 
-pub can_run_opened : {D : Type 0} (history : D → History) (before : D) (engine : Engine D) → IsOpened history before engine → CanRun history engine
+pub can_run_opened : {D M : Type 0} (history : D → History) (before : D) (engine : Engine D M) → IsOpened history before engine → CanRun history engine
 can_run_opened history before engine is = can_run_over history engine is.records is.mode (λ none. (log_area is.geometry is.half, (history before).disk.content, opening is.geometry.pages, is.begins none))
 
-module _ {D : Type 0} (history : D → History) (before : D) (engine : Engine D) (g : GeometryValue) (log : Log) (rows : Table) (last : ℕ) (is : IsFound (history before).disk.content g log rows last)
+module _ {D M : Type 0} (history : D → History) (before : D) (engine : Engine D M) (g : GeometryValue) (log : Log) (rows : Table) (last : ℕ) (is : IsFound (history before).disk.content g log rows last)
     (core : core_of engine ≡ holding g.pages last rows) where
   held : core_of engine ≡ holding g.pages (length is.records) (rows_of is.records)
   held = core ∙ ap (λ n. holding g.pages n rows) is.last-is ∙ ap (holding g.pages (length is.records)) is.rows-are

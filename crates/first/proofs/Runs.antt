@@ -46,8 +46,8 @@ survives_last area frame past es rs event reply j c even last was =
     (subst (λ (xs : List Reply). Survives area frame (and_then past (es ++ event ∷ []) (rs ++ reply ∷ [])) (acknowledged_by (and_then past (take j (es ++ event ∷ [])) xs)) c) (sym (take_at rs (reply ∷ []) j (omega (arith, last, even))))
     (subst (λ (p : Past). Survives area frame p (acknowledged_by (and_then past es rs)) c) (and_then_both past es (event ∷ []) rs (reply ∷ [])) was)))
 
-module _ {D : Type 0} (history : D → History) (area : Area) (frame : Image) (past : Past) where
-  pub goes_nowhere : (old : Engine D) → IsAt history area frame past old → GoesOn history area frame past [] [] old old
+module _ {D M : Type 0} (history : D → History) (area : Area) (frame : Image) (past : Past) where
+  pub goes_nowhere : (old : Engine D M) → IsAt history area frame past old → GoesOn history area frame past [] [] old old
   goes_nowhere old is = record {
     at = subst (λ (p : Past). IsAt history area frame p old) (sym (and_then_none past)) is;
     kept = λ t le. refl;
@@ -56,7 +56,7 @@ module _ {D : Type 0} (history : D → History) (area : Area) (frame : Image) (p
     spans = refl;
   }
 
-  pub goes_further : (es : List Event) (rs : List Reply) (old mid new : Engine D) (event : Event) (reply : Reply) → length rs ≡ length es → GoesOn history area frame past es rs old mid → Serves history event reply mid new → GoesOn history area frame past (es ++ event ∷ []) (rs ++ reply ∷ []) old new
+  pub goes_further : (es : List Event) (rs : List Reply) (old mid new : Engine D M) (event : Event) (reply : Reply) → length rs ≡ length es → GoesOn history area frame past es rs old mid → Serves history event reply mid new → GoesOn history area frame past (es ++ event ∷ []) (rs ++ reply ∷ []) old new
   goes_further es rs old mid new event reply even ran serves = record {
     at = subst (λ (p : Past). IsAt history area frame p new) (and_then_both past es (event ∷ []) rs (reply ∷ [])) served.0;
     kept = λ t le. served.1.kept t (omega (arith, le, spans_rise (history mid.writer.device).disk_at (SurvivesAt area frame past es rs) 0 (history old.writer.device).moment ran.borders (history mid.writer.device).moment ran.spans)) ∙ ran.kept t le;
@@ -77,7 +77,7 @@ module _ {D : Type 0} (history : D → History) (area : Area) (frame : Image) (p
       served = serves area frame (and_then past es rs) ran.at
 
 -- a request that was served leaves an engine that can be run
-pub can_run_after : {D : Type 0} (history : D → History) (x : Event) (r : Reply) (old new : Engine D) → is_read_only old ≡ false → CanRun history old → Serves history x r old new → CanRun history new
+pub can_run_after : {D M : Type 0} (history : D → History) (x : Event) (r : Reply) (old new : Engine D M) → is_read_only old ≡ false → CanRun history old → Serves history x r old new → CanRun history new
 can_run_after history x r old new serving can serves = ⊎_elim
     (λ only. absurd (false≢true (sym serving ∙ only)))
     (λ at. inr (at.0, at.1, and_then at.2 (x ∷ []) (r ∷ []), (serves at.0 at.1 at.2 at.3).0))
@@ -90,7 +90,7 @@ is_serving only x serves changes = and_true only ∙ sym (ap (λ b. only && not 
     and_true true = refl
     and_true false = refl
 
-pub lawful_last : {D : Type 0} (failures : D → ℕ) (es : List Event) (rs : List Reply) (event : Event) (reply : Reply) (old mid new : Engine D) → AreLawful failures es rs old mid → IsLawful failures event reply mid new → AreLawful failures (es ++ event ∷ []) (rs ++ reply ∷ []) old new
+pub lawful_last : {D M : Type 0} (failures : D → ℕ) (es : List Event) (rs : List Reply) (event : Event) (reply : Reply) (old mid new : Engine D M) → AreLawful failures es rs old mid → IsLawful failures event reply mid new → AreLawful failures (es ++ event ∷ []) (rs ++ reply ∷ []) old new
 lawful_last failures [] [] event reply old mid new so_far lawful = (new, subst (λ e. IsLawful failures event reply e new) so_far lawful, refl)
 lawful_last failures [] (r ∷ rs) event reply old mid new so_far lawful = absurd so_far
 lawful_last failures (e ∷ es) [] event reply old mid new so_far lawful = absurd so_far

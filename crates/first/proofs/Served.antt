@@ -32,7 +32,7 @@ use Rattle.first.proofs.Stories.{served_in_core}
 one_more : (handed outbox made after : List RecordValue) (r : RecordValue) → made ≡ handed ++ outbox → after ≡ outbox ++ r ∷ [] → made ++ r ∷ [] ≡ handed ++ after
 one_more handed outbox made after r split is = ap (λ (m : List RecordValue). m ++ r ∷ []) split ∙ append_assoc handed outbox (r ∷ []) ∙ ap (λ (o : List RecordValue). handed ++ o) (sym is)
 
-module _ {D : Type 0} (history : D → History) (old new : Engine D) (same : new ≡ record old { core = new.core }) where
+module _ {D M : Type 0} (history : D → History) (old new : Engine D M) (same : new ≡ record old { core = new.core }) where
   -- a request that tells nothing
   pub served_quiet : (x : Event) (r : Reply) → state_of new.core ≡ state_of old.core → ((s : Story) → told s x r ≡ s) → ((n : ℕ) → acknowledged n (r ∷ []) ≡ n) → Serves history x r old new
   served_quiet x r core tells silent area frame past is =

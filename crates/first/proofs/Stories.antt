@@ -43,7 +43,7 @@ survives area frame past handed outbox made s n floor image split has pages reac
 pub core_next : (past : Past) (x : Event) (r : Reply) (made : List RecordValue) (s : State) → length past.replies ≡ length past.events → HasMade past.table past.last made (told (story past.events past.replies) x r).items s → HasMade past.table past.last made (items_of (and_then past (x ∷ []) (r ∷ []))) s
 core_next past x r made s even has = subst (λ (t : Story). HasMade past.table past.last made t.items s) (sym (told_all_last _ past.events past.replies x r even)) has
 
-module _ {D : Type 0} (history : D → History) (area : Area) (frame : Image) (past : Past) (old new : Engine D) (x : Event) (r : Reply) where
+module _ {D M : Type 0} (history : D → History) (area : Area) (frame : Image) (past : Past) (old new : Engine D M) (x : Event) (r : Reply) where
   abbrev later : Past
   later = and_then past (x ∷ []) (r ∷ [])
 
@@ -105,7 +105,7 @@ module _ {D : Type 0} (history : D → History) (area : Area) (frame : Image) (p
       images = subst (λ h. LeavesOnly h (history new.writer.device) (Survives area frame later (acknowledged_by past))) (ap (λ w. history w.device) same) (started (history new.writer.device) _ (after_it at reached))
 
 -- what a crash leaves of an engine as it is
-pub crash_now : {D : Type 0} (history : D → History) (area : Area) (frame : Image) (past : Past) (engine : Engine D) → IsAt history area frame past engine → (image : Image) → IsCrashImage (history engine.writer.device).disk image
+pub crash_now : {D M : Type 0} (history : D → History) (area : Area) (frame : Image) (past : Past) (engine : Engine D M) → IsAt history area frame past engine → (image : Image) → IsCrashImage (history engine.writer.device).disk image
     → Survives area frame past (acknowledged_by past) image
 crash_now history area frame past engine is image crash =
     survives area frame past is.handed (core_of engine).outbox is.made (core_of engine) engine.writer.synced (acknowledged_by past) image is.outbox is.core is.pages is.safe (is.writer.images image crash)

@@ -17,7 +17,7 @@ use Rattle.first.specs.Writer.{LeftBy, StandsFor, IsWriter}
 records_of-push : (groups : List (List RecordValue)) (group : List RecordValue) → records_of (groups ++ group ∷ []) ≡ records_of groups ++ group
 records_of-push groups group = flat_map-append (λ (g : List RecordValue). g) groups (group ∷ []) ∙ ap (λ (t : List RecordValue). records_of groups ++ t) (append-nil group)
 
-module _ {D : Type 0} (history : D → History) (area : Area) (frame : Image) (handed : List RecordValue) (old : Writer D) (is : IsWriter history area frame handed old) (sound : old.failed ≡ false) where
+module _ {D M : Type 0} (history : D → History) (area : Area) (frame : Image) (handed : List RecordValue) (old : Writer D M) (is : IsWriter history area frame handed old) (sound : old.failed ≡ false) where
   abbrev disk : Disk
   disk = (history old.device).disk
 
@@ -73,7 +73,7 @@ module _ {D : Type 0} (history : D → History) (area : Area) (frame : Image) (h
     leaves new any_moment = weaker (history old.device) new (IsAppended log disk group) (LeftBy area frame handed old.synced) left any_moment
 
     -- after the append was done
-    module _ (new : Writer D) (same_area : new.log.area ≡ old.log.area) (synced_is : new.synced ≡ old.synced + count) (waiting_is : new.waiting.items ≡ drop count old.waiting.items)
+    module _ (new : Writer D M) (same_area : new.log.area ≡ old.log.area) (synced_is : new.synced ≡ old.synced + count) (waiting_is : new.waiting.items ≡ drop count old.waiting.items)
         (slot : SameOutside (InSlot log.area log.open_slots) disk.content (history new.device).disk.content) (stands : Stands new.log (history new.device).disk.content (stood.groups ++ group ∷ [])) (all : IsSynced (history new.device).disk) where
       out_new : SameOutside (InArea area) frame (history new.device).disk.content
       out_new = outside_area (history new.device).disk.content (same_outside_wider (InSlot log.area log.open_slots) (InArea log.area) disk.content (history new.device).disk.content in_area slot)
@@ -111,7 +111,7 @@ module _ {D : Type 0} (history : D → History) (area : Area) (frame : Image) (h
       }
 
 -- after an append that failed
-module _ {D : Type 0} (history : D → History) (area : Area) (frame : Image) (handed : List RecordValue) (old new : Writer D) (is : IsWriter history area frame handed old) where
+module _ {D M : Type 0} (history : D → History) (area : Area) (frame : Image) (handed : List RecordValue) (old new : Writer D M) (is : IsWriter history area frame handed old) where
   pub failed_one : new.log ≡ old.log → new.synced ≡ old.synced → new.waiting.items ≡ old.waiting.items → length (history new.device).disk.content ≡ length (history old.device).disk.content
       → (new.failed ≡ false → StandsFor history frame (take new.synced handed) new) → LeavesOnly (history old.device) (history new.device) (LeftBy area frame handed old.synced) → IsWriter history area frame handed new
   failed_one log_is synced_is waiting_is size holds left = record {

@@ -29,12 +29,12 @@ is_read (event.Get rid) = true
 is_read event.Life = true
 
 -- the core becomes this, and nothing else of the engine changes
-pub record OnlyCore {D : Type 0} (old new : Engine D) (core : State) : Type 0 where
+pub record OnlyCore {D M : Type 0} (old new : Engine D M) (core : State) : Type 0 where
   pub core_is : core_of new ≡ core
   pub rest : new ≡ record old { core = new.core }
 
 -- So many of the records that were not in the log, the first of them, now are, and synced; the core keeps the rest of its state.
-pub record Writes {D : Type 0} (old new : Engine D) (n : ℕ) : Type 0 where
+pub record Writes {D M : Type 0} (old new : Engine D M) (n : ℕ) : Type 0 where
   pub within : n ≤ length (unwritten old)
   pub horizon : horizon_of new ≡ horizon_of old + n
   pub left : unwritten new ≡ drop n (unwritten old)
@@ -42,7 +42,7 @@ pub record Writes {D : Type 0} (old new : Engine D) (n : ℕ) : Type 0 where
   pub mode : is_read_only new ≡ is_read_only old
 
 -- what is answered where requests of this kind are served
-abbrev pub IsAnswer : {D : Type 0} → (D → ℕ) → Event → Reply → Engine D → Engine D → Type 0
+abbrev pub IsAnswer : {D M : Type 0} → (D → ℕ) → Event → Reply → Engine D M → Engine D M → Type 0
 IsAnswer failures event.Begin (reply.Txn n) old new = (begin_refusal (core_of old) ≡ None) × OnlyCore old new (begun (core_of old)) × (n ≡ (core_of old).txns.begun + 1)
 IsAnswer failures event.Begin (reply.Refused e) old new = IsRefusedBy (begin_refusal (core_of old)) e × OnlyCore old new (core_of old)
 -- A transaction that is rolling back makes no change and doesn't commit.
@@ -82,14 +82,14 @@ IsAnswer failures event.Flush (reply.Refused e) old new =
 IsAnswer failures event reply old new = ⊥
 
 -- An engine that only reads skips each request that would change something; any other request is answered.
-abbrev pub IsLawful : {D : Type 0} → (D → ℕ) → Event → Reply → Engine D → Engine D → Type 0
+abbrev pub IsLawful : {D M : Type 0} → (D → ℕ) → Event → Reply → Engine D M → Engine D M → Type 0
 IsLawful failures asked answer old new =
     ((is_read_only old ≡ true) × (is_read asked ≡ false) × (answer ≡ reply.Skipped) × (new ≡ old))
     ⊎ (((is_read_only old ≡ false) ⊎ (is_read asked ≡ true)) × IsAnswer failures asked answer old new)
 
 -- each request in turn was answered lawfully
-abbrev pub AreLawful : {D : Type 0} → (D → ℕ) → List Event → List Reply → Engine D → Engine D → Type 0
+abbrev pub AreLawful : {D M : Type 0} → (D → ℕ) → List Event → List Reply → Engine D M → Engine D M → Type 0
 AreLawful failures [] [] old new = new ≡ old
-AreLawful {D} failures (event ∷ events) (reply ∷ replies) old new = (mid : Engine D) × IsLawful failures event reply old mid × AreLawful failures events replies mid new
+AreLawful {D} {M} failures (event ∷ events) (reply ∷ replies) old new = (mid : Engine D M) × IsLawful failures event reply old mid × AreLawful failures events replies mid new
 AreLawful failures [] (reply ∷ replies) old new = ⊥
 AreLawful failures (event ∷ events) [] old new = ⊥

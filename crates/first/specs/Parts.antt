@@ -5,31 +5,31 @@ use Rattle.gate_log.specs.Area.{Log}
 use Rattle.nsf_core.specs.State.{State, state_of}
 use Rattle.first.specs.declared.engine.Engine.{Engine}
 
-abbrev pub core_of : {D : Type 0} → Engine D → State
+abbrev pub core_of : {D M : Type 0} → Engine D M → State
 core_of engine = state_of engine.core
 
-abbrev pub device_of : {D : Type 0} → Engine D → D
+abbrev pub device_of : {D M : Type 0} → Engine D M → D
 device_of engine = engine.writer.device
 
-abbrev pub log_of : {D : Type 0} → Engine D → Log
+abbrev pub log_of : {D M : Type 0} → Engine D M → Log
 log_of engine = engine.writer.log
 
 -- the records that are not in the log yet, in order
-abbrev pub unwritten : {D : Type 0} → Engine D → List RecordValue
+abbrev pub unwritten : {D M : Type 0} → Engine D M → List RecordValue
 unwritten engine = engine.writer.waiting.items ++ (core_of engine).outbox
 
 -- how many records are in the log, and synced, since the store was opened
-abbrev pub synced_of : {D : Type 0} → Engine D → ℕ
+abbrev pub synced_of : {D M : Type 0} → Engine D M → ℕ
 synced_of engine = engine.writer.synced
 
 -- the number of the last record that is in the log, and synced
-abbrev pub horizon_of : {D : Type 0} → Engine D → ℕ
+abbrev pub horizon_of : {D M : Type 0} → Engine D M → ℕ
 horizon_of engine = engine.writer.base + engine.writer.synced
 
 -- whether the device has failed
-abbrev pub has_failed : {D : Type 0} → Engine D → Bool
+abbrev pub has_failed : {D M : Type 0} → Engine D M → Bool
 has_failed engine = engine.writer.failed
 
 -- whether requests that change something are skipped
-abbrev pub is_read_only : {D : Type 0} → Engine D → Bool
+abbrev pub is_read_only : {D M : Type 0} → Engine D M → Bool
 is_read_only engine = engine.read_only

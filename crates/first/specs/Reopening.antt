@@ -41,7 +41,7 @@ opening pages = record { pages = pages; table = map.empty; last = 0; events = []
 
 -- The engine holds what its device gave: the rows of the records in the log, with every unfinished transaction taken
 -- back, and no transaction. It serves every request where there was no record, and else only reads.
-pub record IsOpened {D : Type 0} (history : D → History) (before : D) (engine : Engine D) : Type 0 where
+pub record IsOpened {D M : Type 0} (history : D → History) (before : D) (engine : Engine D M) : Type 0 where
   pub geometry : GeometryValue
   pub half : Half
   pub records : List RecordValue
@@ -61,7 +61,7 @@ pub record IsNotOpened {D : Type 0} (history : D → History) (failures : D → 
 
 -- The rows are the table of a prefix of the run's history, which has every item up to the floor, and no transaction is
 -- active.
-pub record Recovers {D : Type 0} (past : Past) (floor : ℕ) (engine : Engine D) : Type 0 where
+pub record Recovers {D M : Type 0} (past : Past) (floor : ℕ) (engine : Engine D M) : Type 0 where
   pub last : ℕ
   pub floor_is : floor ≤ last
   pub rows : (core_of engine).heap.rows ≡ table_after past.table (up_to last (items_of past))
@@ -73,9 +73,9 @@ pub record IsLeftByRun (geometry : GeometryValue) (frame : Image) (events : List
   pub survives : Survives (log_area geometry A) frame (and_then (opening geometry.pages) events replies) floor image
 
 -- These requests were answered so, each lawfully, over a store that was just formatted.
-pub record IsAnswered {D : Type 0} (history : D → History) (failures : D → ℕ) (geometry : GeometryValue) (events : List Event) (replies : List Reply) : Type 0 where
+pub record IsAnswered {D : Type 0} (M : Type 0) (history : D → History) (failures : D → ℕ) (geometry : GeometryValue) (events : List Event) (replies : List Reply) : Type 0 where
   pub frame : Image
-  pub opened : Engine D
-  pub served : Engine D
+  pub opened : Engine D M
+  pub served : Engine D M
   pub begins : IsAt history (log_area geometry A) frame (opening geometry.pages) opened
   pub lawful : AreLawful failures events replies opened served

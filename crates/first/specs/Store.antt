@@ -61,7 +61,7 @@ abbrev pub HasAsked : List (ℕ × Write) → State → Type 0
 HasAsked writes s = (txn : ℕ) → written_by txn writes ≡ writes_of (changes_of s txn)
 
 -- The engine is where this run leaves it.
-pub record IsAt {D : Type 0} (history : D → History) (area : Area) (frame : Image) (past : Past) (engine : Engine D) : Type 0 where
+pub record IsAt {D M : Type 0} (history : D → History) (area : Area) (frame : Image) (past : Past) (engine : Engine D M) : Type 0 where
   pub answered : length past.replies ≡ length past.events
   -- what was handed to the writer, and with it what waits in the outbox
   pub handed : List RecordValue
@@ -76,12 +76,12 @@ pub record IsAt {D : Type 0} (history : D → History) (area : Area) (frame : Im
   pub serves : is_read_only engine ≡ false
 
 -- The engine is where some run leaves it, or only reads.
-abbrev pub CanRun : {D : Type 0} → (D → History) → Engine D → Type 0
+abbrev pub CanRun : {D M : Type 0} → (D → History) → Engine D M → Type 0
 CanRun history engine = (is_read_only engine ≡ true) ⊎ ((area : Area) × (frame : Image) × (past : Past) × IsAt history area frame past engine)
 
 -- One request was answered so: the engine is where it leaves it, and a crash at any moment of it leaves a prefix of
 -- the history with it, which holds what was acknowledged before.
-abbrev pub Serves : {D : Type 0} → (D → History) → Event → Reply → Engine D → Engine D → Type 0
+abbrev pub Serves : {D M : Type 0} → (D → History) → Event → Reply → Engine D M → Engine D M → Type 0
 Serves history event reply old new = (area : Area) (frame : Image) (past : Past) → IsAt history area frame past old
     → IsAt history area frame (and_then past (event ∷ []) (reply ∷ [])) new
     × LeavesOnly (history (device_of old)) (history (device_of new)) (Survives area frame (and_then past (event ∷ []) (reply ∷ [])) (acknowledged_by past))
@@ -92,7 +92,7 @@ SurvivesAt area frame past events replies j = Survives area frame (and_then past
 
 -- The run went on by these requests: the engine is where they leave it; and there are moments that rise from the
 -- call's start to its end, one at the end of each request, between which each crash leaves such a prefix.
-pub record GoesOn {D : Type 0} (history : D → History) (area : Area) (frame : Image) (past : Past) (events : List Event) (replies : List Reply) (old new : Engine D) : Type 0 where
+pub record GoesOn {D M : Type 0} (history : D → History) (area : Area) (frame : Image) (past : Past) (events : List Event) (replies : List Reply) (old new : Engine D M) : Type 0 where
   pub at : IsAt history area frame (and_then past events replies) new
   pub kept : (t : ℕ) → t ≤ (history (device_of old)).moment → (history (device_of new)).disk_at t ≡ (history (device_of old)).disk_at t
   pub borders : List ℕ

@@ -25,7 +25,7 @@ pub record LeftBy (area : Area) (frame : Image) (handed : List RecordValue) (n :
   pub holds : HoldsRecords area frame (take count handed) image
 
 -- the log stands for these records, and the disk is synced
-pub record StandsFor {D : Type 0} (history : D → History) (frame : Image) (records : List RecordValue) (w : Writer D) : Type 0 where
+pub record StandsFor {D M : Type 0} (history : D → History) (frame : Image) (records : List RecordValue) (w : Writer D M) : Type 0 where
   pub groups : List (List RecordValue)
   pub stands : Stands w.log (history w.device).disk.content groups
   pub records_are : records_of groups ≡ records
@@ -33,7 +33,7 @@ pub record StandsFor {D : Type 0} (history : D → History) (frame : Image) (rec
   pub synced : IsSynced (history w.device).disk
 
 -- The records that were handed in are those in the log and those that wait; a crash now leaves a prefix of them that has the synced ones.
-pub record IsWriter {D : Type 0} (history : D → History) (area : Area) (frame : Image) (handed : List RecordValue) (w : Writer D) : Type 0 where
+pub record IsWriter {D M : Type 0} (history : D → History) (area : Area) (frame : Image) (handed : List RecordValue) (w : Writer D M) : Type 0 where
   pub area_is : w.log.area ≡ area
   pub inside : IsInside area (history w.device).disk.content
   pub small : length handed < 2 ^ 63
@@ -43,13 +43,13 @@ pub record IsWriter {D : Type 0} (history : D → History) (area : Area) (frame 
   pub images : (image : Image) → IsCrashImage (history w.device).disk image → LeftBy area frame handed w.synced image
 
 -- what became of a flush: more records are synced, or none waited, or every slot is open
-abbrev pub IsFlushed : {D : Type 0} → Flushed → Writer D → Writer D → Type 0
+abbrev pub IsFlushed : {D M : Type 0} → Flushed → Writer D M → Writer D M → Type 0
 IsFlushed Group old new = (old.synced < new.synced) × (old.waiting.items ≢ [])
 IsFlushed Nothing old new = (new ≡ old) × (old.waiting.items ≡ [])
 IsFlushed Full old new = (new ≡ old) × (old.log.open_slots ≡ old.log.area.slots) × (old.waiting.items ≢ [])
 
 -- why nothing was written: there was no memory, or the device failed, now or earlier
-abbrev pub IsNotFlushed : {D : Type 0} → (D → ℕ) → Error → Writer D → Writer D → Type 0
+abbrev pub IsNotFlushed : {D M : Type 0} → (D → ℕ) → Error → Writer D M → Writer D M → Type 0
 IsNotFlushed failures e old new =
     ((e ≡ NoMemory) × (old.failed ≡ false) × (new ≡ old))
     ⊎ ((e ≡ DeviceFailed) × (new.failed ≡ true) × (old.failed ≡ false → Rises (failures old.device) (failures new.device)))

@@ -8,22 +8,22 @@ use crate::{Event, Reply};
 use nsf_core::{Core, Undone};
 use records::{Body, Error, Key, Rid, Txn};
 use sector_device::Device;
-use std::alloc::Global;
+use std::alloc::Allocator;
 
 /// A store that serves requests in order. `restart` opens one.
 ///
 /// A store whose log held no record as it was opened serves every request. Any other serves those that only read, and
 /// skips the rest.
 #[derive(Drop)]
-pub struct Engine<D> {
-    pub(crate) core: Core<Global>,
-    pub(crate) writer: Writer<D>,
-    pub(crate) alloc: Global,
+pub struct Engine<D, A: Allocator> {
+    pub(crate) core: Core<A>,
+    pub(crate) writer: Writer<D, A>,
+    pub(crate) alloc: A,
     // Whether only requests that read are served.
     pub(crate) read_only: bool,
 }
 
-impl<D: Device> Engine<D> {
+impl<D: Device, A: Allocator + Copy> Engine<D, A> {
     ghost use Rattle.first.specs.declared.event.Event.TheVariants.{Begin, Insert, Delete, Update, Step, Undo, End, Commit, Flush};
     ghost use Rattle.nsf_core.specs.State.{state_of};
     ghost use Rattle.nsf_core.specs.Refusals.{is_active};
@@ -38,7 +38,7 @@ impl<D: Device> Engine<D> {
     ///
     /// A crash at any moment, between the replies or within a request, leaves a store that `restart` takes back to what
     /// was committed by a prefix of the requests, and nothing that a reply has told to be safe is lost (`ran`).
-    pub fn run(&mut self, events: &[Event]) -> Result<Vec<Reply>, Error>
+    pub fn run(&mut self, events: &[Event]) -> Result<Vec<Reply, A>, Error>
         requires { CanRun D.history self.old }
         ensures ran { IfOk result (λ replies. (area : Area) (frame : Image) (past : Past) → IsAt D.history area frame past self.old → GoesOn D.history area frame past events.now replies.items self.old self.new) }
         ensures lawful { IfOk result (λ replies. AreLawful D.failures events.now replies.items self.old self.new) }
@@ -57,7 +57,7 @@ impl<D: Device> Engine<D> {
     }
 
     /// The core: the rows and the transactions as they are now.
-    pub fn core(&self) -> &Core<Global>
+    pub fn core(&self) -> &Core<A>
         ensures { state_of result.now ≡ core_of self.now }
     {
         &self.core

@@ -4,6 +4,7 @@ ghost use Rattle.first.specs.declared.event.Reply.{Reply};
 ghost use Rattle.first.specs.History.{acknowledged};
 ghost use Rattle.first.specs.Store.{and_then};
 ghost use Rattle.first.specs.Reopening.{opening, Recovers, IsAnswered};
+ghost use Rattle.std.specs.declared.alloc.Global.{Global};
 ghost use Rattle.sector_device.specs.MemDisk.{history_of, failures_of};
 
 use crate::{Engine, Event, restart};
@@ -22,8 +23,8 @@ pub fn rehearse(
     geometry: Geometry,
     events: &[Event],
     fates: &[Fate],
-) -> Result<Engine<MemDisk<Global>>, Error>
-    ensures recovers { IfOk result (λ engine. (replies : List Reply) × IsAnswered (history_of {A = Global}) (failures_of {A = Global}) geometry events.now replies
+) -> Result<Engine<MemDisk<Global>, Global>, Error>
+    ensures recovers { IfOk result (λ engine. (replies : List Reply) × IsAnswered Global (history_of {A = Global}) (failures_of {A = Global}) geometry events.now replies
         × Recovers (and_then (opening geometry.pages) events.now replies) (acknowledged 0 replies) engine) }
     ensures refused { IfErr result (λ e. (e ≡ Error.DeviceTooSmall) ⊎ (e ≡ Error.DeviceFailed) ⊎ (e ≡ Error.NoMemory)) }
 {

@@ -20,7 +20,7 @@ use model::RowMap;
 use nsf_core::Core;
 use records::{Error, Geometry};
 use sector_device::Device;
-use std::alloc::Global;
+use std::alloc::Allocator;
 use store_reader::{Found, read_store};
 
 /// Opens the store on the device: syncs it, reads it, and takes back what the transactions did that neither committed nor
@@ -29,7 +29,10 @@ use store_reader::{Found, read_store};
 /// `DeviceTooSmall`, `NotFormatted` and `Damaged` where the device holds no store, or one that was harmed; none of them
 /// comes after a crash of a device that was formatted and then written by this engine alone (`recovers`). `NoMemory`, and
 /// `DeviceFailed` where the device failed in the call, may come of any.
-pub fn restart<D: Device>(alloc: Global, mut device: D) -> Result<Engine<D>, (Error, D)>
+pub fn restart<D: Device, A: Allocator + Copy>(
+    alloc: A,
+    mut device: D,
+) -> Result<Engine<D, A>, (Error, D)>
     ensures opened { IfOk result (λ engine. IsOpened D.history device engine) }
     ensures can_run { IfOk result (λ engine. CanRun D.history engine) }
     ensures refused { IfErr result (λ r. IsNotOpened D.history D.failures device r.1 r.0) }
@@ -52,7 +55,10 @@ pub fn restart<D: Device>(alloc: Global, mut device: D) -> Result<Engine<D>, (Er
 }
 
 // Syncs the device, reads the store, and loads its rows into a core.
-fn open_core<D: Device>(alloc: Global, device: &mut D) -> Result<(Core<Global>, Found), Error>
+fn open_core<D: Device, A: Allocator + Copy>(
+    alloc: A,
+    device: &mut D,
+) -> Result<(Core<A>, Found<A>), Error>
     ensures found { IfOk result (λ r. IsFound (D.history device.old).disk.content r.1.geometry r.1.log r.1.rows r.1.last) }
     ensures area { IfOk result (λ r. IsInside r.1.log.area (D.history device.old).disk.content) }
     ensures core { IfOk result (λ r. state_of r.0 ≡ holding r.1.geometry.pages r.1.last r.1.rows) }
@@ -71,12 +77,12 @@ fn open_core<D: Device>(alloc: Global, device: &mut D) -> Result<(Core<Global>, 
 }
 
 // A core over these rows, of which the last record has the number `last`.
-fn loaded(
-    alloc: Global,
+fn loaded<A: Allocator + Copy>(
+    alloc: A,
     geometry: Geometry,
-    rows: &RowMap,
+    rows: &RowMap<A>,
     last: u64,
-) -> Result<Core<Global>, Error>
+) -> Result<Core<A>, Error>
     requires number { last ≤ LAST_NUMBER }
     requires within { IsWithin geometry.pages rows.now }
     ensures made { IfOk result (λ core. state_of core ≡ holding geometry.pages last rows.now) }

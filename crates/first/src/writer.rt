@@ -10,7 +10,7 @@ ghost use Rattle.gate_log.specs.Area.{Area};
 use gate_log::{Appended, GROUP_MAX, LogArea};
 use records::{Error, Record};
 use sector_device::Device;
-use std::alloc::Global;
+use std::alloc::Allocator;
 
 /// What became of a flush.
 #[derive(Clone, Copy, Debug, PartialEq, Eq)]
@@ -25,13 +25,13 @@ pub(crate) enum Flushed {
 
 /// A device with its log, and the records that wait for it.
 #[derive(Drop)]
-pub(crate) struct Writer<D> {
+pub(crate) struct Writer<D, A: Allocator> {
     pub(crate) device: D,
     pub(crate) log: LogArea,
     // The number of the last record that the log held as it was opened.
     pub(crate) base: u64,
     // The records that were handed in and are not in the log yet, in order.
-    pub(crate) waiting: Vec<Record>,
+    pub(crate) waiting: Vec<Record, A>,
     // How many of those handed in are in the log, and synced.
     pub(crate) synced: u64,
     // Whether the device has failed.
@@ -57,9 +57,9 @@ fn group_len(records: &[Record]) -> usize
     count
 }
 
-impl<D: Device> Writer<D> {
+impl<D: Device, A: Allocator + Copy> Writer<D, A> {
     /// A writer to which nothing was handed.
-    pub(crate) fn new(alloc: Global, device: D, log: LogArea, base: u64) -> Self
+    pub(crate) fn new(alloc: A, device: D, log: LogArea, base: u64) -> Self
         ensures device { result.device ≡ device }
         ensures log { result.log ≡ log }
         ensures base { result.base ≡ base }
@@ -88,7 +88,7 @@ impl<D: Device> Writer<D> {
 
     /// Writes the next group of the records that wait, as many as fit one. A
     /// writer that failed once answers `DeviceFailed` from then on.
-    pub(crate) fn flush_group(&mut self, alloc: Global) -> Result<Flushed, Error>
+    pub(crate) fn flush_group(&mut self, alloc: A) -> Result<Flushed, Error>
         requires { (area : Area) × (frame : Image) × (handed : List RecordValue) × IsWriter D.history area frame handed self.old }
         ensures writer { (area : Area) (frame : Image) (handed : List RecordValue) → IsWriter D.history area frame handed self.old → IsWriter D.history area frame handed self.new }
         ensures images { (area : Area) (frame : Image) (handed : List RecordValue) → IsWriter D.history area frame handed self.old

@@ -10,7 +10,7 @@ use crate::group::group_body;
 use crate::slot::{is_open, read_group, write_group};
 use records::{Error, Record, SLOT_SECTORS};
 use sector_device::{Device, Failed, SECTOR_SIZE};
-use std::alloc::Global;
+use std::alloc::Allocator;
 use std::marker::Model;
 
 /// What became of a group that was to be added.
@@ -69,9 +69,9 @@ impl LogArea {
     /// A crash at any moment of the call leaves the groups as they were, or with the whole new group behind them, and
     /// from the moment it answers `Done` the latter. `NoMemory` means that nothing was written. After `DeviceFailed`
     /// the new group may be there or not, and may come and go at a crash until the area is synced and read again.
-    pub fn append<D: Device>(
+    pub fn append<D: Device, A: Allocator + Copy>(
         &mut self,
-        alloc: Global,
+        alloc: A,
         device: &mut D,
         records: &[Record],
     ) -> Result<Appended, Error>
@@ -117,11 +117,11 @@ impl LogArea {
     ///
     /// `Damaged` names the gate of the first slot that can't be: an open one after a closed one, or an open one whose
     /// body is no group. Nothing is written.
-    pub fn read_all<D: Device>(
+    pub fn read_all<D: Device, A: Allocator + Copy>(
         &mut self,
-        alloc: Global,
+        alloc: A,
         device: &mut D,
-    ) -> Result<Vec<Record>, Error>
+    ) -> Result<Vec<Record, A>, Error>
         requires inside { IsInside self.old.area (D.history device.old).disk.content }
 
         // These are the only groups, by the law `one_reading`, and where there are such no sector is damaged.
@@ -144,9 +144,9 @@ impl LogArea {
     /// The gate of the group that a record is in, by the record's index in what `read_all` gave, or `None` where there
     /// is no such record. So a caller can say where a record lies that can't follow the one before it. The groups are
     /// read again, and nothing is written.
-    pub fn gate_of<D: Device>(
+    pub fn gate_of<D: Device, A: Allocator + Copy>(
         &self,
-        alloc: Global,
+        alloc: A,
         device: &mut D,
         index: usize,
     ) -> Result<Option<u64>, Error>
@@ -193,12 +193,12 @@ impl LogArea {
 }
 
 // The records of all groups, and how many slots are open.
-fn read_slots<D: Device>(
-    alloc: Global,
+fn read_slots<D: Device, A: Allocator + Copy>(
+    alloc: A,
     device: &mut D,
     first: u64,
     slots: u64,
-) -> Result<(Vec<Record>, u64), Error>
+) -> Result<(Vec<Record, A>, u64), Error>
     requires inside { first + SLOT_SECTORS * slots ≤ length (D.history device.old).disk.content }
     requires number { first + SLOT_SECTORS * slots < 2 ^ 64 }
     ensures read { IfOk result (λ found. (groups : List (List RecordValue))
@@ -230,8 +230,8 @@ fn read_slots<D: Device>(
 }
 
 // The gate of the group that a record is in, of the groups in these slots, which are all open.
-fn gate_of_record<D: Device>(
-    alloc: Global,
+fn gate_of_record<D: Device, A: Allocator + Copy>(
+    alloc: A,
     device: &mut D,
     first: u64,
     slots: u64,

@@ -8,7 +8,7 @@ ghost use Rattle.gate_log.specs.Steps.{AreSpelled};
 use byteorder::{BigEndian, ByteOrder};
 use records::{Error, Record, SLOT_SECTORS};
 use sector_device::SECTOR_SIZE;
-use std::alloc::{AllocError, Global};
+use std::alloc::{AllocError, Allocator};
 
 /// The sectors of a slot behind its gate.
 pub(crate) const BODY_SECTORS: u64 = SLOT_SECTORS - 1;
@@ -38,7 +38,7 @@ pub fn fits(records: &[Record]) -> bool
 }
 
 // The records, spelled one after the other.
-fn spelled(alloc: Global, records: &[Record]) -> Result<Vec<u8>, Error>
+fn spelled<A: Allocator>(alloc: A, records: &[Record]) -> Result<Vec<u8, A>, Error>
     ensures ok { IfOk result (λ bytes. bytes.items ≡ spellings records.now) }
     ensures fits { OnOk result (All Fits records.now) }
     ensures no_memory { IfErr result (λ e. e ≡ Error.NoMemory) }
@@ -62,7 +62,10 @@ fn header(count: u16, len: u16) -> [u8; HEADER_SIZE]
 }
 
 /// The body of a group of these records.
-pub(crate) fn group_body(alloc: Global, records: &[Record]) -> Result<Vec<u8>, Error>
+pub(crate) fn group_body<A: Allocator + Copy>(
+    alloc: A,
+    records: &[Record],
+) -> Result<Vec<u8, A>, Error>
     requires { FitsGroup records.now }
     ensures ok { IfOk result (λ body. IsGroup records.now body.items) }
     ensures no_memory { IfErr result (λ e. e ≡ Error.NoMemory) }
@@ -92,7 +95,11 @@ fn are_zeros(bytes: &[u8]) -> bool
 }
 
 // This many records, spelled one after the other with nothing behind them.
-fn spelled_records(alloc: Global, count: u16, bytes: &[u8]) -> Result<Option<Vec<Record>>, Error>
+fn spelled_records<A: Allocator>(
+    alloc: A,
+    count: u16,
+    bytes: &[u8],
+) -> Result<Option<Vec<Record, A>>, Error>
     ensures found { IfOk result (λ found. MatchOption found
         ((records : List RecordValue) → ¬ AreSpelled records count bytes.now)
         (λ records. AreSpelled records.items count bytes.now)) }
@@ -116,7 +123,10 @@ fn spelled_records(alloc: Global, count: u16, bytes: &[u8]) -> Result<Option<Vec
 }
 
 /// The records of a group with this body, if it is one.
-pub(crate) fn group_records(alloc: Global, body: &[u8]) -> Result<Option<Vec<Record>>, Error>
+pub(crate) fn group_records<A: Allocator>(
+    alloc: A,
+    body: &[u8],
+) -> Result<Option<Vec<Record, A>>, Error>
     requires { length body.now ≡ BODY_SIZE }
     ensures found { IfOk result (λ found. MatchOption found
         ((records : List RecordValue) → ¬ IsGroup records body.now)

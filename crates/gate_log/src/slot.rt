@@ -10,7 +10,7 @@ ghost use Rattle.gate_log.specs.Steps.{MayDiffer, IsPartlyWritten};
 use crate::group::{BODY_SECTORS, BODY_SIZE, group_records};
 use records::{Error, Record, SLOT_SECTORS};
 use sector_device::{Device, Failed, SECTOR_SIZE};
-use std::alloc::Global;
+use std::alloc::Allocator;
 
 /// The first byte of an open gate (the format document, "Log"). A gate with any other first byte is closed.
 pub const OPEN: u8 = 0xA5;
@@ -82,7 +82,11 @@ pub(crate) fn is_open<D: Device>(device: &mut D, gate: u64) -> Result<bool, Erro
 }
 
 // The bytes behind a gate.
-fn read_body<D: Device>(alloc: Global, device: &mut D, gate: u64) -> Result<Vec<u8>, Error>
+fn read_body<D: Device, A: Allocator>(
+    alloc: A,
+    device: &mut D,
+    gate: u64,
+) -> Result<Vec<u8, A>, Error>
     requires inside { gate + SLOT_SECTORS ≤ length (D.history device.old).disk.content }
     requires number { gate + SLOT_SECTORS < 2 ^ 64 }
     ensures value { IfOk result (λ bytes. bytes.items ≡ body (D.history device.old).disk.content gate) }
@@ -104,11 +108,11 @@ fn read_body<D: Device>(alloc: Global, device: &mut D, gate: u64) -> Result<Vec<
 }
 
 /// The records of the group behind a gate, if there is one.
-pub(crate) fn read_group<D: Device>(
-    alloc: Global,
+pub(crate) fn read_group<D: Device, A: Allocator + Copy>(
+    alloc: A,
     device: &mut D,
     gate: u64,
-) -> Result<Option<Vec<Record>>, Error>
+) -> Result<Option<Vec<Record, A>>, Error>
     requires inside { gate + SLOT_SECTORS ≤ length (D.history device.old).disk.content }
     requires number { gate + SLOT_SECTORS < 2 ^ 64 }
     ensures found { IfOk result (λ found. MatchOption found

@@ -11,29 +11,29 @@ use crate::life::Life;
 use crate::list_map::ListMap;
 use crate::row_map::RowMap;
 use records::{Action, Record, Txn, TxnAction};
-use std::alloc::{AllocError, Global};
+use std::alloc::{AllocError, Allocator};
 
 /// All cells.
 #[derive(Drop)]
-pub struct CellMaps {
-    pub rows: RowMap,
-    pub entries: EntryMap,
-    pub lists: ListMap,
+pub struct CellMaps<A: Allocator> {
+    pub rows: RowMap<A>,
+    pub entries: EntryMap<A>,
+    pub lists: ListMap<A>,
     pub life: Life,
 }
 
 /// What became of records that were redone as long as each could follow the one before.
 #[derive(Drop)]
-pub enum Redone {
+pub enum Redone<A: Allocator> {
     /// All of them: the cells that they left.
-    All(CellMaps),
+    All(CellMaps<A>),
     /// The record at this index, from 0, is the first that can't follow.
     Unfit(usize),
 }
 
-impl CellMaps {
+impl<A: Allocator + Copy> CellMaps<A> {
     /// No row, no entry, no transaction and no index.
-    pub fn new(alloc: Global) -> Self
+    pub fn new(alloc: A) -> Self
         ensures { cells_of result ≡ record { rows = map.empty; entries = map.empty; pending = map.empty; life = Life.Absent } }
     {
         CellMaps {
@@ -44,7 +44,7 @@ impl CellMaps {
         }
     }
 
-    fn redo_one(&mut self, alloc: Global, action: &Action) -> Result<(), AllocError>
+    fn redo_one(&mut self, alloc: A, action: &Action) -> Result<(), AllocError>
         ensures { OnOk result (cells_of self.new ≡ set_by (cells_of self.old) action.now) }
     {
         self.rows.redo(action)?;
@@ -55,7 +55,7 @@ impl CellMaps {
     }
 
     /// The cells after these records, the first of them first.
-    pub fn redo(mut self, alloc: Global, records: &[Record]) -> Result<Self, AllocError>
+    pub fn redo(mut self, alloc: A, records: &[Record]) -> Result<Self, AllocError>
         ensures { IfOk result (λ cells. cells_of cells ≡ cells_after (cells_of self) records.now) }
     {
         for record in records {
@@ -103,11 +103,11 @@ impl CellMaps {
     /// pages. The record `last` left these cells.
     pub fn follow(
         mut self,
-        alloc: Global,
+        alloc: A,
         pages: u32,
         last: u64,
         records: &[Record],
-    ) -> Result<Redone, AllocError>
+    ) -> Result<Redone<A>, AllocError>
         ensures { IfOk result (IsRedone pages last (cells_of self) records.now) }
     {
         let mut before = last;
@@ -122,7 +122,7 @@ impl CellMaps {
     }
 
     /// The rows with every unfinished transaction taken back, in the order of their numbers.
-    pub fn recover(self) -> Result<RowMap, AllocError>
+    pub fn recover(self) -> Result<RowMap<A>, AllocError>
         ensures { IfOk result (λ rows. rows ≡ recovered_rows (cells_of self)) }
     {
         let CellMaps { rows, lists, .. } = self;

@@ -1,21 +1,12 @@
 //! Runs a script of commands against a store on a disk in memory, and prints each answer.
 #![tactic(auto)]
 
-mod answer;
-mod arguments;
-mod request;
-mod run;
-mod session;
-#[cfg(test)]
-mod tests;
-mod text;
-
 use std::process::ExitCode;
 use std::{env, io};
 
 fn main(rt: HostRuntime) -> io::Result<ExitCode> {
     let words: Vec<String> = env::args(&rt)?.collect(rt.alloc())?;
-    let status = run::run(
+    let status = session::run(
         rt.alloc(),
         words.as_slice(),
         &mut rt.reader(),

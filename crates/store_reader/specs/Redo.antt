@@ -6,6 +6,6 @@ use Rattle.store_reader.specs.declared.redo.Outcome.{Outcome}
 use Rattle.store_reader.specs.declared.redo.Outcome.TheVariants.{Rows, Misplaced}
 use Rattle.store_reader.specs.Contents.{AreOfRows, nothing, rows_of, IsFirstMisplaced}
 
-abbrev pub IsOutcome : ℕ → List RecordValue → Outcome → Type 0
+abbrev pub IsOutcome : {A : Type 0} → ℕ → List RecordValue → Outcome A → Type 0
 IsOutcome pages records (Rows rows) = AreOfRows records × AreFollowing pages 0 nothing records × (rows ≡ rows_of records)
 IsOutcome pages records (Misplaced index) = IsFirstMisplaced pages records index

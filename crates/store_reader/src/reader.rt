@@ -16,17 +16,17 @@ use gate_log::LogArea;
 use model::RowMap;
 use records::{Error, Geometry};
 use sector_device::Device;
-use std::alloc::Global;
+use std::alloc::Allocator;
 
 /// What a store holds.
 #[derive(Drop)]
-pub struct Found {
+pub struct Found<A: Allocator> {
     /// How large the store is.
     pub geometry: Geometry,
     /// The log of its current half, with as many open slots as there are groups in it.
     pub log: LogArea,
     /// The committed rows: those that the log's records make, with every unfinished transaction taken back.
-    pub rows: RowMap,
+    pub rows: RowMap<A>,
     /// The number of the last record, or 0.
     pub last: u64,
 }
@@ -46,7 +46,12 @@ fn open_fresh<D: Device>(device: &mut D) -> Result<Halves, Error>
 }
 
 // Names the gate of the group of a record that is misplaced.
-fn misplaced<D: Device>(alloc: Global, device: &mut D, log: &LogArea, index: usize) -> Error
+fn misplaced<D: Device, A: Allocator + Copy>(
+    alloc: A,
+    device: &mut D,
+    log: &LogArea,
+    index: usize,
+) -> Error
     requires inside { IsInside log.now.area (D.history device.old).disk.content }
     requires stands { (groups : List (List RecordValue)) × Stands log.now (D.history device.old).disk.content groups × (index < length (records_of groups)) }
     ensures told { Refuses (D.failures device.old) (D.failures device.new) result
@@ -70,7 +75,10 @@ fn misplaced<D: Device>(alloc: Global, device: &mut D, log: &LogArea, index: usi
 /// that was used; `Damaged` with the gate of the log's first slot that can't be; `Damaged` with the gate of the group
 /// of the first record that can't follow the ones before it, or is of an index, which no store has yet. `NoMemory` and
 /// `DeviceFailed` come at any of these.
-pub fn read_store<D: Device>(alloc: Global, device: &mut D) -> Result<Found, Error>
+pub fn read_store<D: Device, A: Allocator + Copy>(
+    alloc: A,
+    device: &mut D,
+) -> Result<Found<A>, Error>
     ensures found { IfOk result (λ found. IsFound (D.history device.old).disk.content found.geometry found.log found.rows found.last) }
     ensures inside { IfOk result (λ found. IsWithin found.geometry.pages found.rows) }
     ensures area { IfOk result (λ found. IsInside found.log.area (D.history device.old).disk.content) }

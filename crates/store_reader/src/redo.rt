@@ -6,13 +6,13 @@ ghost use Rattle.store_reader.specs.Redo.{IsOutcome};
 
 use model::{CellMaps, Redone, RowMap};
 use records::{Action, Part, Record, TxnAction};
-use std::alloc::{AllocError, Global};
+use std::alloc::{AllocError, Allocator};
 
 /// What became of the records of a log.
 #[derive(Drop)]
-pub(crate) enum Outcome {
+pub(crate) enum Outcome<A: Allocator> {
     /// They are redone, and what is unfinished is taken back: the rows.
-    Rows(RowMap),
+    Rows(RowMap<A>),
     /// The record at this index, from 0, is the first that isn't of rows, or can't follow the ones before it.
     Misplaced(usize),
 }
@@ -46,7 +46,11 @@ fn count_of_rows(records: &[Record]) -> usize
 
 /// Redoes the records over no rows as long as each is of rows and can follow the one before, in a store of so many
 /// pages, and takes back what is unfinished then.
-pub(crate) fn redo(alloc: Global, pages: u32, records: &[Record]) -> Result<Outcome, AllocError>
+pub(crate) fn redo<A: Allocator + Copy>(
+    alloc: A,
+    pages: u32,
+    records: &[Record],
+) -> Result<Outcome<A>, AllocError>
     ensures { IfOk result (IsOutcome pages records.now) }
 {
     let count = count_of_rows(records);

@@ -176,14 +176,18 @@ fn a_full_log(rt: HostRuntime) -> Result<(), Fail> {
 }
 
 // A row was inserted, and its flush and another one were both done or both refused; a commit's flush was refused.
-fn check_failed(rt: &impl Abort, replies: &[Reply], wrote: bool) -> Result<(), Fail> {
+fn check_failed(rt: &impl Abort, replies: &[Reply], fails_at: u64) -> Result<(), Fail> {
     let failed = Reply::Refused(Error::DeviceFailed);
-    let wanted = if wrote { Reply::Horizon(1) } else { failed };
+    let wanted = if fails_at == 12 {
+        Reply::Horizon(1)
+    } else {
+        failed
+    };
     match replies {
         [_, inserted, flushed, again, _, last] => {
             assert!(rt; *inserted == Reply::Rid(FIRST));
-            assert!(rt; *flushed == wanted && *again == wanted);
-            assert!(rt; *last == failed);
+            assert!(rt; *flushed == wanted && *again == wanted, "call {fails_at}");
+            assert!(rt; *last == failed, "call {fails_at}");
             Ok(())
         }
         _ => Err("six replies")?,
@@ -204,7 +208,7 @@ fn check_device(rt: &impl Abort, alloc: Global, fails_at: u64) -> Result<(), Fai
     let disk = FaultDisk::new(formatted(alloc)?, Which::WritesAndSyncs, fails_at);
     let served = serve(alloc, disk, &asked)?;
     check_row(rt, served.first, Some(ant()?));
-    check_failed(rt, &served.replies, fails_at == 12)
+    check_failed(rt, &served.replies, fails_at)
 }
 
 // Once the device failed, each flush is refused; what needs the core alone is served.

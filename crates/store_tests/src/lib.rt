@@ -6,4 +6,6 @@ mod disks;
 #[cfg(test)]
 mod engine_tests;
 #[cfg(test)]
+mod memory_tests;
+#[cfg(test)]
 mod reader_tests;

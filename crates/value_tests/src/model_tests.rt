@@ -104,22 +104,26 @@ fn end() -> Result<Record, Fail> {
     })
 }
 
-fn cells_after(alloc: Global, records: &[Record]) -> Result<CellMaps, Fail> {
+fn cells_after(alloc: Global, records: &[Record]) -> Result<CellMaps<Global>, Fail> {
     Ok(CellMaps::new(alloc).redo(alloc, records)?)
 }
 
 // How many changes the transaction may still take back.
-fn unfinished(cells: &CellMaps, by: u64) -> Result<usize, Fail> {
+fn unfinished(cells: &CellMaps<Global>, by: u64) -> Result<usize, Fail> {
     Ok(cells.lists.get(txn(by)?).len())
 }
 
 // The rows once the transaction's changes are taken back.
-fn taken_back(rows: RowMap, lists: &ListMap, by: u64) -> Result<RowMap, Fail> {
+fn taken_back(
+    rows: RowMap<Global>,
+    lists: &ListMap<Global>,
+    by: u64,
+) -> Result<RowMap<Global>, Fail> {
     Ok(rows.revert(lists.get(txn(by)?))?)
 }
 
 // The first row once both transactions' changes are taken back.
-fn committed(cells: CellMaps) -> Result<Option<Row>, Fail> {
+fn committed(cells: CellMaps<Global>) -> Result<Option<Row>, Fail> {
     let CellMaps { rows, lists, .. } = cells;
     let rows = taken_back(rows, &lists, 1)?;
     let rows = taken_back(rows, &lists, 2)?;
@@ -129,7 +133,7 @@ fn committed(cells: CellMaps) -> Result<Option<Row>, Fail> {
 // Transactions 1 and 2 have so many changes to take back.
 fn check_unfinished(
     rt: &impl Abort,
-    cells: &CellMaps,
+    cells: &CellMaps<Global>,
     of_first: usize,
     of_second: usize,
 ) -> Result<(), Fail> {
@@ -142,7 +146,7 @@ fn check_unfinished(
 // the changes of both transactions are taken back.
 fn check_rows(
     rt: &impl Abort,
-    cells: CellMaps,
+    cells: CellMaps<Global>,
     row: Option<Row>,
     left: Option<Row>,
 ) -> Result<(), Fail> {
@@ -192,12 +196,12 @@ fn an_update_taken_back(rt: HostRuntime) -> Result<(), Fail> {
     check_rows(&rt, cells, Some(old), Some(old))
 }
 
-fn followed(alloc: Global, records: &[Record]) -> Result<Redone, Fail> {
+fn followed(alloc: Global, records: &[Record]) -> Result<Redone<Global>, Fail> {
     Ok(CellMaps::new(alloc).follow(alloc, 1, 7, records)?)
 }
 
 // The first row once all is recovered.
-fn recovered(cells: CellMaps) -> Result<Option<Row>, Fail> {
+fn recovered(cells: CellMaps<Global>) -> Result<Option<Row>, Fail> {
     Ok(cells.recover()?.get(FIRST))
 }
 
@@ -227,7 +231,7 @@ fn a_number_left_out(rt: HostRuntime) -> Result<(), Fail> {
     Ok(())
 }
 
-fn applied(alloc: Global, writes: &[Write]) -> Result<RowMap, Fail> {
+fn applied(alloc: Global, writes: &[Write]) -> Result<RowMap<Global>, Fail> {
     Ok(RowMap::new(alloc).apply(writes)?)
 }
 

@@ -7,12 +7,13 @@ use std::alloc::Global;
 use std::process::Abort;
 use std::test::Fail;
 
-// Sixteen writes and a sync. A call that fails is answered, and the next `format` succeeds.
-// Counted calls of a device.
+// The device was called so often.
 fn check_made(rt: &impl Abort, disk: &FaultDisk<MemDisk<Global>>, made: u64) {
-    assert!(rt; disk.made() == made);
+    let found = disk.made();
+    assert_eq!(rt; found, made);
 }
 
+// Sixteen writes and a sync. A call that fails is answered, and the next `format` succeeds.
 #[test]
 fn each_call_of_format_fails_in_turn(rt: HostRuntime) -> Result<(), Fail> {
     for k in 1..18 {

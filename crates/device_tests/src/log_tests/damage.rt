@@ -53,7 +53,8 @@ fn check(
     damaged: u64,
 ) -> Result<(), Fail> {
     let mut disk = blank(alloc)?;
-    append_two(rt, alloc, &mut disk, &example()?, &[commit(3)?])?;
+    let appended = append_two(rt, alloc, &mut disk, &example()?, &[commit(3)?])?;
+    assert!(rt; appended == Appended::Done, "{name}");
     for (n, at, byte) in edits {
         set_byte(rt, &mut disk, *n, *at, *byte)?;
     }

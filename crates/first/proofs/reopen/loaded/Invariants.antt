@@ -3,7 +3,7 @@ use Rattle.first.proofs.Loading.{IsLoaded}
 use Rattle.first.proofs.reopen.loaded.Given as goal
 
 abbrev pub invariant-loop-entry : goal.invariant-loop-entry
-invariant-loop-entry l = IsLoaded l.fn.geometry.pages l.last l.rows l.entries.items (state_of l.core)
+invariant-loop-entry g l = IsLoaded l.fn.geometry.pages l.last l.rows l.entries.items (state_of l.core)
 
 abbrev pub decreases-loop-entry : goal.decreases-loop-entry
-decreases-loop-entry l = goal.left-loop-entry l
+decreases-loop-entry g l = goal.left-loop-entry g l

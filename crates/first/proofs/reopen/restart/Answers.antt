@@ -8,7 +8,7 @@ use Rattle.first.proofs.reopen.restart.Goals as goal
 pub returns-in-Ok-clause-opened : goal.returns-in-Ok-clause-opened
 returns-in-Ok-clause-opened g c =
     let h = g.D.Device.history in
-    let engine : Engine g.row.D.Denot = record { core = c.in-Ok.core; writer = c.new.result; alloc = c.args.alloc; read_only = nat_lt 0 c.in-Ok.found.last } in
+    let engine : Engine g.row.D.Denot g.row.A.Denot = record { core = c.in-Ok.core; writer = c.new.result; alloc = c.args.alloc; read_only = nat_lt 0 c.in-Ok.found.last } in
     opened_engine h c.args.device engine c.in-Ok.found.geometry c.in-Ok.found.log c.in-Ok.found.rows c.in-Ok.found.last c.in-Ok.ensures.found c.in-Ok.ensures.core c.in-Ok.ensures.area
     (subst (OnlySyncs h c.args.device) (sym c.new.ensures.device) c.in-Ok.ensures.only) (subst (λ d. IsSynced (h d).disk) (sym c.new.ensures.device) c.in-Ok.ensures.synced)
     c.new.ensures.log c.new.ensures.base c.new.ensures.waiting c.new.ensures.synced c.new.ensures.failed refl
@@ -18,7 +18,7 @@ returns-in-Ok-clause-can_run g c = can_run_opened g.D.Device.history c.args.devi
 
 pub returns-in-Ok-clause-recovers : goal.returns-in-Ok-clause-recovers
 returns-in-Ok-clause-recovers g c geometry frame events replies floor left =
-    let engine : Engine g.row.D.Denot = record { core = c.in-Ok.core; writer = c.new.result; alloc = c.args.alloc; read_only = nat_lt 0 c.in-Ok.found.last } in
+    let engine : Engine g.row.D.Denot g.row.A.Denot = record { core = c.in-Ok.core; writer = c.new.result; alloc = c.args.alloc; read_only = nat_lt 0 c.in-Ok.found.last } in
     opened_recovers g.D.Device.history c.args.device engine c.in-Ok.found.geometry c.in-Ok.found.log c.in-Ok.found.rows c.in-Ok.found.last c.in-Ok.ensures.found c.in-Ok.ensures.core geometry frame events replies floor left
 
 pub returns-in-Err-clause-readable : goal.returns-in-Err-clause-readable

@@ -5,7 +5,7 @@ use Rattle.records.specs.RecordValue.{RecordValue}
 use Rattle.gate_log.specs.Group.{IsGroup}
 use Rattle.gate_log.specs.Area.{IsOpen}
 use Rattle.std.proofs.lemmas.List.{flat_map_more}
-use Rattle.sector_device.proofs.Within.{reads_then}
+use Rattle.sector_device.proofs.Within.{reads_none, reads_then}
 use Rattle.gate_log.proofs.Areas.{one_open, first_damaged, none_here, some_here}
 use Rattle.gate_log.proofs.area.read_slots.Goals as goal
 
@@ -26,6 +26,13 @@ returns-in_default-clause-refused g c =
     let is_open = subst (λ (d : Disk). IsOpen d.content gate) c.loop-slot.invariant.reads.disk (c.in_ok-is_open.ensures.value.0 c.if-not-branch.false) in
     let none = subst (λ (d : Disk). (records : List RecordValue) → ¬ IsGroup records (concat (slice_range d.content (gate + 1) (gate + 8)))) same (none_here _ _ _ c.in_default.is c.in_ok-group.ensures.found) in
     inr (_, refl, first_damaged c.args.first slot c.args.slots _ read.0 c.loop-slot-test.true read.1 (is_open, inr none))
+
+pub loop-slot-init : goal.loop-slot-init
+loop-slot-init g c = record {
+  read = ([], record { room = omega arith; opened = λ slot low. absurd (omega (arith, low)); closed = λ slot low high. absurd (omega (arith, high)) }, refl, c.new-records.ensures.items);
+  reads = reads_none _;
+  quiet = refl;
+}
 
 pub loop-slot-preserved : goal.loop-slot-preserved
 loop-slot-preserved g c =

@@ -3,10 +3,10 @@ use Rattle.gate_log.proofs.Groups.{count-spellings, extended, group_filled}
 use Rattle.gate_log.proofs.group.group_body.Goals as goal
 
 pub overflow_cast-records : goal.overflow_cast-records
-overflow_cast-records c = omega (arith, count-spellings c.args.records.now, c.requires.short)
+overflow_cast-records g c = omega (arith, count-spellings c.args.records.now, c.requires.short)
 
 pub returns-clause-ok : goal.returns-clause-ok
-returns-clause-ok c =
+returns-clause-ok g c =
     let records = c.args.records.now in
     let bytes = c.in_ok-spelled.spelled in
     let all = c.extend_from_slice-2.new.self in

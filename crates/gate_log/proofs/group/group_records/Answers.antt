@@ -7,19 +7,19 @@ use Rattle.gate_log.proofs.Groups.{parted, from_parts, found_map}
 use Rattle.gate_log.proofs.group.group_records.Goals as goal
 
 pub returns-then-count-eq0-clause-found : goal.returns-then-count-eq0-clause-found
-returns-then-count-eq0-clause-found c = λ records group.
+returns-then-count-eq0-clause-found g c = λ records group.
     let numbers = c.read_header-count in
     let parts = parted records c.args.body.now (drop 4 c.args.body.now) numbers.result.0 numbers.result.1 (omega arith) (omega arith) numbers.ensures group in
     omega (arith, parts.some, c.if-count-eq0.true)
 
 pub returns-then-len-gt-GROUP_MAX-clause-found : goal.returns-then-len-gt-GROUP_MAX-clause-found
-returns-then-len-gt-GROUP_MAX-clause-found c = λ records group.
+returns-then-len-gt-GROUP_MAX-clause-found g c = λ records group.
     let numbers = c.read_header-count in
     let parts = parted records c.args.body.now (drop 4 c.args.body.now) numbers.result.0 numbers.result.1 (omega arith) (omega arith) numbers.ensures group in
     omega (arith, parts.short, c.if-len-gt-GROUP_MAX.true, c.from-len.ensures)
 
 pub returns-then-not-are_zeros-clause-found : goal.returns-then-not-are_zeros-clause-found
-returns-then-not-are_zeros-clause-found c = λ records group.
+returns-then-not-are_zeros-clause-found g c = λ records group.
     let numbers = c.read_header-count in
     let body = c.args.body.now in
     let parts = parted records body (drop 4 body) numbers.result.0 numbers.result.1 (omega arith) (omega arith) numbers.ensures group in
@@ -27,7 +27,7 @@ returns-then-not-are_zeros-clause-found c = λ records group.
     false≢true (sym c.if-not-are_zeros.true ∙ c.are_zeros.ensures.1 (subst (All (λ b. b ≡ 0)) zeros parts.zeros-are))
 
 pub returns-clause-found : goal.returns-clause-found
-returns-clause-found c =
+returns-clause-found g c =
     let numbers = c.read_header-count in
     let body = c.args.body.now in
     let count = numbers.result.0 in

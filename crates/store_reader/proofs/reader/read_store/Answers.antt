@@ -50,8 +50,8 @@ returns-in-Misplaced-clause-refused g c =
     ∙ area_is c.log_first.result c.from.result geometry half c.log_first.ensures.value (c.from.ensures ∙ ap (λ (x : GeometryValue). x.slots) (c.geometry.view_is ∙ c.geometry-geometry.ensures)) in
     let read = c.in_ok-records.ensures.read in
     let stands = subst (λ (d : Disk). Stands log d.content read.0) (sym c.read_all.ensures.reads.disk) read.1 in
-    let outcome = subst (λ (x : GeometryValue). IsOutcome x.pages c.deref.result.now (Misplaced c.in-Misplaced.index)) c.geometry.view_is
-    (subst (λ (x : Outcome). IsOutcome c.geometry.inside.pages c.deref.result.now x) c.in-Misplaced.is c.in_ok-index.ensures) in
+    let outcome = subst (λ (x : GeometryValue). IsOutcome {A = g.row.A.Denot} x.pages c.deref.result.now (Misplaced c.in-Misplaced.index)) c.geometry.view_is
+    (subst (λ (x : Outcome _). IsOutcome c.geometry.inside.pages c.deref.result.now x) c.in-Misplaced.is c.in_ok-index.ensures) in
     let first = subst (λ (l : List RecordValue). IsFirstMisplaced geometry.pages l c.in-Misplaced.index) (c.deref.ensures.value ∙ read.2)
     (subst (λ (x : GeometryValue). IsFirstMisplaced x.pages c.deref.result.now c.in-Misplaced.index) c.geometry-geometry.ensures outcome) in
     record_misplaced image now geometry half _ _ _ _ c.in_ok-halves.ensures.opened same (c.in_ok-records.ensures.quiet ∙ c.in_ok-halves.ensures.quiet) c.in_ok-halves.ensures.fresh
@@ -73,8 +73,8 @@ returns-clause-found g c =
     ∙ area_is c.log_first.result c.from.result geometry half c.log_first.ensures.value (c.from.ensures ∙ ap (λ (x : GeometryValue). x.slots) (c.geometry.view_is ∙ c.geometry-geometry.ensures)) in
     let read = c.in_ok-records.ensures.read in
     let stands = subst (λ (d : Disk). Stands log d.content read.0) c.open_fresh.ensures.reads.disk read.1 in
-    let outcome = subst (λ (x : GeometryValue). IsOutcome x.pages c.deref.result.now (Rows c.in-Rows.rows)) c.geometry.view_is
-    (subst (λ (x : Outcome). IsOutcome c.geometry.inside.pages c.deref.result.now x) c.in-Rows.is c.in_ok-index.ensures) in
+    let outcome = subst (λ (x : GeometryValue). IsOutcome {A = g.row.A.Denot} x.pages c.deref.result.now (Rows c.in-Rows.rows)) c.geometry.view_is
+    (subst (λ (x : Outcome _). IsOutcome c.geometry.inside.pages c.deref.result.now x) c.in-Rows.is c.in_ok-index.ensures) in
     let items = c.deref.ensures.value in
     subst (λ (x : GeometryValue). IsFound image x log c.in-Rows.rows c.len.result) (sym c.geometry-geometry.ensures)
     (found image geometry half log read.0 c.deref.result.now c.in-Rows.rows c.len.result c.in_ok-halves.ensures.opened c.in_ok-halves.ensures.fresh area stands (items ∙ read.2)
@@ -82,6 +82,6 @@ returns-clause-found g c =
 
 pub returns-clause-inside : goal.returns-clause-inside
 returns-clause-inside g c =
-    let outcome = subst (λ (x : GeometryValue). IsOutcome x.pages c.deref.result.now (Rows c.in-Rows.rows)) c.geometry.view_is
-    (subst (λ (x : Outcome). IsOutcome c.geometry.inside.pages c.deref.result.now x) c.in-Rows.is c.in_ok-index.ensures) in
+    let outcome = subst (λ (x : GeometryValue). IsOutcome {A = g.row.A.Denot} x.pages c.deref.result.now (Rows c.in-Rows.rows)) c.geometry.view_is
+    (subst (λ (x : Outcome _). IsOutcome c.geometry.inside.pages c.deref.result.now x) c.in-Rows.is c.in_ok-index.ensures) in
     subst (IsWithin c.geometry-geometry.result.pages) (sym outcome.2) (records_within c.geometry-geometry.result.pages 0 c.deref.result.now outcome.1)

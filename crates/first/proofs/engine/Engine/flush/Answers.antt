@@ -20,7 +20,7 @@ pub flush_group-requires : goal.flush_group-requires
 flush_group-requires g c =
     let history = g.D.Device.history in
     let old = c.args.self.now in
-    let mid : Writer g.row.D.Denot = record old.writer { waiting = c.take_outbox.new.sink } in
+    let mid : Writer g.row.D.Denot g.row.A.Denot = record old.writer { waiting = c.take_outbox.new.sink } in
     let hands = c.take_outbox.ensures.handed in
     let numbered : (state_of old.core).last ≤ 4611686018427387904 = omega (arith, c.last-last.ensures.value, c.last-last.ensures.numbered) in
     (c.requires.0, c.requires.1, c.requires.3.handed ++ hands.handed, taken history old (state_of c.take_outbox.new.self) mid hands refl numbered c.requires.0 c.requires.1 c.requires.2 c.requires.3)
@@ -29,7 +29,7 @@ pub horizon-requires : goal.horizon-requires
 horizon-requires g c =
     let history = g.D.Device.history in
     let old = c.args.self.now in
-    let mid : Writer g.row.D.Denot = record old.writer { waiting = c.take_outbox.new.sink } in
+    let mid : Writer g.row.D.Denot g.row.A.Denot = record old.writer { waiting = c.take_outbox.new.sink } in
     let hands = c.take_outbox.ensures.handed in
     let numbered : (state_of old.core).last ≤ 4611686018427387904 = omega (arith, c.last-last.ensures.value, c.last-last.ensures.numbered) in
     omega (arith, numbered, within history old (state_of c.take_outbox.new.self) mid hands refl numbered c.requires.0 c.requires.1 c.requires.2 c.requires.3 c.flush_group.new.self (c.flush_group.ensures.writer c.requires.0 c.requires.1 (c.requires.3.handed ++ hands.handed) (taken history old (state_of c.take_outbox.new.self) mid hands refl numbered c.requires.0 c.requires.1 c.requires.2 c.requires.3)) c.flush_group.ensures.base)
@@ -38,17 +38,17 @@ pub returns-in-Ok-Group-clause-serves : goal.returns-in-Ok-Group-clause-serves
 returns-in-Ok-Group-clause-serves g c =
     let history = g.D.Device.history in
     let old = c.args.self.now in
-    let mid : Writer g.row.D.Denot = record old.writer { waiting = c.take_outbox.new.sink } in
+    let mid : Writer g.row.D.Denot g.row.A.Denot = record old.writer { waiting = c.take_outbox.new.sink } in
     let hands = c.take_outbox.ensures.handed in
     let numbered : (state_of old.core).last ≤ 4611686018427387904 = omega (arith, c.last-last.ensures.value, c.last-last.ensures.numbered) in
-    let new : Engine g.row.D.Denot = record { core = c.take_outbox.new.self; writer = c.flush_group.new.self; alloc = old.alloc; read_only = old.read_only } in
+    let new : Engine g.row.D.Denot g.row.A.Denot = record { core = c.take_outbox.new.self; writer = c.flush_group.new.self; alloc = old.alloc; read_only = old.read_only } in
     served_flush history old (state_of c.take_outbox.new.self) mid hands refl numbered new refl (Horizon c.horizon.result) c.flush_group.ensures.writer c.flush_group.ensures.images c.flush_group.ensures.grows c.flush_group.ensures.base (λ n le. omega (arith, le, c.horizon.ensures)) refl
 
 pub told_up_to-requires : goal.told_up_to-requires
 told_up_to-requires g c =
     let history = g.D.Device.history in
     let old = c.args.self.now in
-    let mid : Writer g.row.D.Denot = record old.writer { waiting = c.take_outbox.new.sink } in
+    let mid : Writer g.row.D.Denot g.row.A.Denot = record old.writer { waiting = c.take_outbox.new.sink } in
     let hands = c.take_outbox.ensures.handed in
     let numbered : (state_of old.core).last ≤ 4611686018427387904 = omega (arith, c.last-last.ensures.value, c.last-last.ensures.numbered) in
     let after = c.flush_group.ensures.writer c.requires.0 c.requires.1 (c.requires.3.handed ++ hands.handed) (taken history old (state_of c.take_outbox.new.self) mid hands refl numbered c.requires.0 c.requires.1 c.requires.2 c.requires.3) in
@@ -58,10 +58,10 @@ pub returns-in-Ok-Nothing : goal.returns-in-Ok-Nothing
 returns-in-Ok-Nothing g c =
     let history = g.D.Device.history in
     let old = c.args.self.now in
-    let mid : Writer g.row.D.Denot = record old.writer { waiting = c.take_outbox.new.sink } in
+    let mid : Writer g.row.D.Denot g.row.A.Denot = record old.writer { waiting = c.take_outbox.new.sink } in
     let hands = c.take_outbox.ensures.handed in
     let numbered : (state_of old.core).last ≤ 4611686018427387904 = omega (arith, c.last-last.ensures.value, c.last-last.ensures.numbered) in
-    let new : Engine g.row.D.Denot = record { core = c.take_outbox.new.self; writer = c.flush_group.new.self; alloc = old.alloc; read_only = old.read_only } in
+    let new : Engine g.row.D.Denot g.row.A.Denot = record { core = c.take_outbox.new.self; writer = c.flush_group.new.self; alloc = old.alloc; read_only = old.read_only } in
     let flushed : IsFlushed Nothing mid c.flush_group.new.self = subst (λ f. IsFlushed f mid c.flush_group.new.self) c.in-Ok-Nothing.field-0-is c.in-Ok-Nothing.ensures.flushed in
     let wrote = writes history old (state_of c.take_outbox.new.self) mid hands refl numbered new refl c.requires.0 c.requires.1 c.requires.2 c.requires.3 (c.flush_group.ensures.writer c.requires.0 c.requires.1 (c.requires.3.handed ++ hands.handed) (taken history old (state_of c.take_outbox.new.self) mid hands refl numbered c.requires.0 c.requires.1 c.requires.2 c.requires.3)) 0 c.flush_group.ensures.base (omega (arith, ap (λ w. w.synced) flushed.0)) refl in
     let all : horizon_of new ≡ horizon_of old = omega (arith, wrote.horizon) in
@@ -86,30 +86,30 @@ pub returns-in-Ok-Full-clause-serves : goal.returns-in-Ok-Full-clause-serves
 returns-in-Ok-Full-clause-serves g c =
     let history = g.D.Device.history in
     let old = c.args.self.now in
-    let mid : Writer g.row.D.Denot = record old.writer { waiting = c.take_outbox.new.sink } in
+    let mid : Writer g.row.D.Denot g.row.A.Denot = record old.writer { waiting = c.take_outbox.new.sink } in
     let hands = c.take_outbox.ensures.handed in
     let numbered : (state_of old.core).last ≤ 4611686018427387904 = omega (arith, c.last-last.ensures.value, c.last-last.ensures.numbered) in
-    let new : Engine g.row.D.Denot = record { core = c.take_outbox.new.self; writer = c.flush_group.new.self; alloc = old.alloc; read_only = old.read_only } in
+    let new : Engine g.row.D.Denot g.row.A.Denot = record { core = c.take_outbox.new.self; writer = c.flush_group.new.self; alloc = old.alloc; read_only = old.read_only } in
     served_flush history old (state_of c.take_outbox.new.self) mid hands refl numbered new refl LogFull c.flush_group.ensures.writer c.flush_group.ensures.images c.flush_group.ensures.grows c.flush_group.ensures.base (λ n le. le) refl
 
 pub returns-in-Err-clause-serves : goal.returns-in-Err-clause-serves
 returns-in-Err-clause-serves g c =
     let history = g.D.Device.history in
     let old = c.args.self.now in
-    let mid : Writer g.row.D.Denot = record old.writer { waiting = c.take_outbox.new.sink } in
+    let mid : Writer g.row.D.Denot g.row.A.Denot = record old.writer { waiting = c.take_outbox.new.sink } in
     let hands = c.take_outbox.ensures.handed in
     let numbered : (state_of old.core).last ≤ 4611686018427387904 = omega (arith, c.last-last.ensures.value, c.last-last.ensures.numbered) in
-    let new : Engine g.row.D.Denot = record { core = c.take_outbox.new.self; writer = c.flush_group.new.self; alloc = old.alloc; read_only = old.read_only } in
+    let new : Engine g.row.D.Denot g.row.A.Denot = record { core = c.take_outbox.new.self; writer = c.flush_group.new.self; alloc = old.alloc; read_only = old.read_only } in
     served_flush history old (state_of c.take_outbox.new.self) mid hands refl numbered new refl (Refused c.in-Err.error) c.flush_group.ensures.writer c.flush_group.ensures.images c.flush_group.ensures.grows c.flush_group.ensures.base (λ n le. le) refl
 
 pub returns-in-Ok-Group-clause-answer : goal.returns-in-Ok-Group-clause-answer
 returns-in-Ok-Group-clause-answer g c =
     let history = g.D.Device.history in
     let old = c.args.self.now in
-    let mid : Writer g.row.D.Denot = record old.writer { waiting = c.take_outbox.new.sink } in
+    let mid : Writer g.row.D.Denot g.row.A.Denot = record old.writer { waiting = c.take_outbox.new.sink } in
     let hands = c.take_outbox.ensures.handed in
     let numbered : (state_of old.core).last ≤ 4611686018427387904 = omega (arith, c.last-last.ensures.value, c.last-last.ensures.numbered) in
-    let new : Engine g.row.D.Denot = record { core = c.take_outbox.new.self; writer = c.flush_group.new.self; alloc = old.alloc; read_only = old.read_only } in
+    let new : Engine g.row.D.Denot g.row.A.Denot = record { core = c.take_outbox.new.self; writer = c.flush_group.new.self; alloc = old.alloc; read_only = old.read_only } in
     let flushed : IsFlushed Group mid c.flush_group.new.self = subst (λ f. IsFlushed f mid c.flush_group.new.self) c.in-Ok-Group.field-0-is c.in-Ok-Group.ensures.flushed in
     let count = c.flush_group.new.self.synced - mid.synced in
     (c.in-Ok-Group.ensures.sound.0, c.in-Ok-Group.ensures.sound.1, c.horizon.ensures, (λ some. omega (arith, c.horizon.ensures, c.flush_group.ensures.base, flushed.0)), (count, writes history old (state_of c.take_outbox.new.self) mid hands refl numbered new refl c.requires.0 c.requires.1 c.requires.2 c.requires.3 (c.flush_group.ensures.writer c.requires.0 c.requires.1 (c.requires.3.handed ++ hands.handed) (taken history old (state_of c.take_outbox.new.self) mid hands refl numbered c.requires.0 c.requires.1 c.requires.2 c.requires.3)) count c.flush_group.ensures.base (omega (arith, flushed.0)) refl))
@@ -118,10 +118,10 @@ pub returns-in-Ok-Full-clause-answer : goal.returns-in-Ok-Full-clause-answer
 returns-in-Ok-Full-clause-answer g c =
     let history = g.D.Device.history in
     let old = c.args.self.now in
-    let mid : Writer g.row.D.Denot = record old.writer { waiting = c.take_outbox.new.sink } in
+    let mid : Writer g.row.D.Denot g.row.A.Denot = record old.writer { waiting = c.take_outbox.new.sink } in
     let hands = c.take_outbox.ensures.handed in
     let numbered : (state_of old.core).last ≤ 4611686018427387904 = omega (arith, c.last-last.ensures.value, c.last-last.ensures.numbered) in
-    let new : Engine g.row.D.Denot = record { core = c.take_outbox.new.self; writer = c.flush_group.new.self; alloc = old.alloc; read_only = old.read_only } in
+    let new : Engine g.row.D.Denot g.row.A.Denot = record { core = c.take_outbox.new.self; writer = c.flush_group.new.self; alloc = old.alloc; read_only = old.read_only } in
     let flushed : IsFlushed Full mid c.flush_group.new.self = subst (λ f. IsFlushed f mid c.flush_group.new.self) c.in-Ok-Full.field-0-is c.in-Ok-Full.ensures.flushed in
     (c.in-Ok-Full.ensures.sound.0, c.in-Ok-Full.ensures.sound.1, flushed.1, some_waits history old (state_of c.take_outbox.new.self) mid hands refl numbered flushed.2, (writes history old (state_of c.take_outbox.new.self) mid hands refl numbered new refl c.requires.0 c.requires.1 c.requires.2 c.requires.3 (c.flush_group.ensures.writer c.requires.0 c.requires.1 (c.requires.3.handed ++ hands.handed) (taken history old (state_of c.take_outbox.new.self) mid hands refl numbered c.requires.0 c.requires.1 c.requires.2 c.requires.3)) 0 c.flush_group.ensures.base (omega (arith, ap (λ w. w.synced) flushed.0)) refl))
 
@@ -129,8 +129,8 @@ pub returns-in-Err-clause-answer : goal.returns-in-Err-clause-answer
 returns-in-Err-clause-answer g c =
     let history = g.D.Device.history in
     let old = c.args.self.now in
-    let mid : Writer g.row.D.Denot = record old.writer { waiting = c.take_outbox.new.sink } in
+    let mid : Writer g.row.D.Denot g.row.A.Denot = record old.writer { waiting = c.take_outbox.new.sink } in
     let hands = c.take_outbox.ensures.handed in
     let numbered : (state_of old.core).last ≤ 4611686018427387904 = omega (arith, c.last-last.ensures.value, c.last-last.ensures.numbered) in
-    let new : Engine g.row.D.Denot = record { core = c.take_outbox.new.self; writer = c.flush_group.new.self; alloc = old.alloc; read_only = old.read_only } in
+    let new : Engine g.row.D.Denot g.row.A.Denot = record { core = c.take_outbox.new.self; writer = c.flush_group.new.self; alloc = old.alloc; read_only = old.read_only } in
     (⊎_elim (λ none. inl (none.0, none.1, ap (λ w. w.failed) none.2 ∙ none.1)) (λ failed. inr failed) c.in-Err.ensures.err, (writes history old (state_of c.take_outbox.new.self) mid hands refl numbered new refl c.requires.0 c.requires.1 c.requires.2 c.requires.3 (c.flush_group.ensures.writer c.requires.0 c.requires.1 (c.requires.3.handed ++ hands.handed) (taken history old (state_of c.take_outbox.new.self) mid hands refl numbered c.requires.0 c.requires.1 c.requires.2 c.requires.3)) 0 c.flush_group.ensures.base (omega (arith, c.in-Err.ensures.nothing)) refl))

@@ -18,7 +18,7 @@ returns-in-Ok-Done-clause-writer g c = λ area frame handed is.
     let within : count ≤ length c.args.self.now.waiting.items = omega (arith, ap length c.deref.ensures.value, c.group_len-count.ensures.within) in
     let before = stood history area frame handed c.args.self.now is c.if-self.false in
     let done : c.append.result ≡ Ok Done = cc (c.in-Ok-Done.is, c.in-Ok-Done.field-0-is) in
-    let new : Writer g.row.D.Denot = record { device = c.append.new.device; log = c.append.new.self; base = c.args.self.now.base; waiting = c.drop-drain.new.self.0; synced = c.args.self.now.synced + count; failed = c.args.self.now.failed } in
+    let new : Writer g.row.D.Denot g.row.A.Denot = record { device = c.append.new.device; log = c.append.new.self; base = c.args.self.now.base; waiting = c.drop-drain.new.self.0; synced = c.args.self.now.synced + count; failed = c.args.self.now.failed } in
     appended_one history area frame handed c.args.self.now is c.if-self.false count _ (ap (take count) c.deref-2.ensures.value) within (λ all. cc (c.append.ensures.full.1 all, done)) new c.append.ensures.area refl (c.drop-drain.ensures.items ∙ c.drain.ensures.kept) c.append.ensures.outside (c.append.ensures.done done before.groups before.stands) (c.append.ensures.synced done)
 
 pub returns-in-Err-NoMemory-clause-images : goal.returns-in-Err-NoMemory-clause-images
@@ -35,5 +35,5 @@ returns-in-Err-clause-images g c = λ area frame handed is.
 
 pub returns-in-Err-clause-writer : goal.returns-in-Err-clause-writer
 returns-in-Err-clause-writer g c = λ area frame handed is.
-    let new : Writer g.row.D.Denot = record { device = c.append.new.device; log = c.append.new.self; base = c.args.self.now.base; waiting = c.args.self.now.waiting; synced = c.args.self.now.synced; failed = true } in
+    let new : Writer g.row.D.Denot g.row.A.Denot = record { device = c.append.new.device; log = c.append.new.self; base = c.args.self.now.base; waiting = c.args.self.now.waiting; synced = c.args.self.now.synced; failed = true } in
     failed_one g.D.Device.history area frame handed c.args.self.now new is c.in-Err.ensures.err refl refl c.append.ensures.outside.sectors (λ sound. absurd (false≢true (sym sound))) (returns-in-Err-clause-images g c area frame handed is)

@@ -7,7 +7,7 @@ use Rattle.model.proofs.FollowingLaws.{cells_one_more, following_one_more, first
 use Rattle.model.proofs.cell_maps.CellMaps.follow.Goals as goal
 
 pub returns-then-not-can_follow : goal.returns-then-not-can_follow
-returns-then-not-can_follow c =
+returns-then-not-can_follow g c =
     let is = c.loop-index.invariant in
     first_unfit c.args.pages c.args.last (cells_of c.args.self) c.args.records.now c.loop-index.index c.index-records-index.result (omega arith) c.index-records-index.is is.following (λ can.
     let here = subst (λ n. CanFollow c.args.pages n (cells_of c.loop-index.self) c.index-records-index.result) (sym is.number)
@@ -17,7 +17,7 @@ returns-then-not-can_follow c =
     absurd cc)
 
 pub loop-index-preserved : goal.loop-index-preserved
-loop-index-preserved c =
+loop-index-preserved g c =
     let is = c.loop-index.invariant in
     let r = c.index-records-index.result in
     let here : CanFollow c.args.pages c.loop-index.before (cells_of c.loop-index.self) r = c.can_follow.ensures.0 c.if-not-can_follow.false in

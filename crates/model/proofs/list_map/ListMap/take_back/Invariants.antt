@@ -5,4 +5,4 @@ use Rattle.model.proofs.MapLaws.{each_reverted}
 use Rattle.model.proofs.list_map.ListMap.take_back.Given as goal
 
 abbrev pub invariant-loop-changes : goal.invariant-loop-changes
-invariant-loop-changes l = each_reverted l.left l.changes-iterator ≡ all_reverted l.fn.rows (map.entries l.self)
+invariant-loop-changes g l = each_reverted l.left l.changes-iterator ≡ all_reverted l.fn.rows (map.entries l.self)

@@ -10,16 +10,16 @@ abbrev made : List (Place × Row) → Table
 made es = map.from_entries {R = rid_cmp} es
 
 pub loop-rid-init : goal.loop-rid-init
-loop-rid-init c =
+loop-rid-init g c =
     ap (λ (es : List (Place × Row)). made (es ++ c.into_iter-rid-iterator.result)) c.new-entries.ensures.items
     ∙ ap made (c.into_iter-rid-iterator.ensures.into_iter_gives ∙ c.iter-rid-items.ensures.rest) ∙ c.self.view_is
 
 pub loop-rid-preserved : goal.loop-rid-preserved
-loop-rid-preserved c =
+loop-rid-preserved g c =
     ap (λ (es : List (Place × Row)). made (es ++ c.next.new.self)) c.in_ok-push.ensures.items
     ∙ ap made (append_assoc c.loop-rid.entries.items ((c.in-Some.rid.now, c.in-Some.row.now) ∷ []) c.next.new.self ∙ ap (λ (es : List (Place × Row)). c.loop-rid.entries.items ++ es) (sym c.in-Some.ensures.steps))
     ∙ c.loop-rid.invariant
 
 pub returns : goal.returns
-returns c =
+returns g c =
     ap made (sym (ap (λ (es : List (Place × Row)). c.loop-rid.entries.items ++ es) c.in-None.ensures.steps.0 ∙ append-nil c.loop-rid.entries.items)) ∙ c.loop-rid.invariant

@@ -1,7 +1,0 @@
-pub mod Disk
-pub mod Session
-pub mod Requests
-pub mod Answers
-pub mod Texts
-pub mod Dump
-pub mod Runs

@@ -1,0 +1,5 @@
+//! Tests of the program `nsf-replay`, as `session` runs it.
+#![tactic(auto)]
+
+#[cfg(test)]
+mod tests;

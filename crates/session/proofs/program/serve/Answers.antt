@@ -1,0 +1,45 @@
+use Rattle.std.proofs.Common.{◌≡◌, ℕ, List, Option, Result, Ok, Err, IfOk, sym, subst}
+use Rattle.first.specs.declared.event.Event.{Event}
+use Rattle.first.specs.declared.event.Reply.{Reply}
+use Rattle.session.specs.Session.{Serves, Flushes, last_made, outcome_of}
+use Rattle.session.specs.Runs.{GoesOn, Runs}
+use Rattle.session.specs.declared.answer.Answer.{Answer}
+use Rattle.session.specs.declared.request.Request.{Request}
+use Rattle.session.specs.declared.request.Request.TheVariants as request
+use Rattle.session.specs.declared.session.Session.{Session}
+use Rattle.session.specs.declared.session.Stopped.{Stopped}
+use Rattle.session.specs.declared.session.End.{End}
+use Rattle.session.proofs.program.serve.Goals as goal
+
+module _ {W F : Type 0} (contents : W → Option (List ℕ)) (old new : Session) (before after : W) (answer : Result Answer Stopped) where
+  -- what comes of an event, where its answer was printed
+  event_runs : (event : Event) (result : Result (Result Session End) F)
+      → ((reply : Reply) × Serves event reply old new × (answer ≡ outcome_of new reply))
+      → IfOk result (λ (next : Result Session End). GoesOn contents answer new next before after)
+      → IfOk result (λ (next : Result Session End). Runs contents (request.Event event) old next before after)
+  event_runs event (Ok next) answered goes =
+      (new, answered.0, answered.1, subst (λ (a : Result Answer Stopped). GoesOn contents a new next before after) answered.2 goes)
+  event_runs event (Err e) answered goes = goes
+
+  -- what comes of the flushes, where their answer was printed
+  flush_runs : (result : Result (Result Session End) F)
+      → ((reply : Reply) × Flushes (last_made old) reply old new × (answer ≡ outcome_of new reply))
+      → IfOk result (λ (next : Result Session End). GoesOn contents answer new next before after)
+      → IfOk result (λ (next : Result Session End). Runs contents request.Flush old next before after)
+  flush_runs (Ok next) answered goes =
+      (new, answered.0, answered.1, subst (λ (a : Result Answer Stopped). GoesOn contents a new next before after) answered.2 goes)
+  flush_runs (Err e) answered goes = goes
+
+pub returns-in-Event-clause-runs : goal.returns-in-Event-clause-runs
+returns-in-Event-clause-runs g c =
+    subst (λ (r : Request). IfOk c.go_on.result (λ (next : Result Session End). Runs g.W.Write.contents r c.args.session next c.args.output.now c.go_on.new.output))
+    (sym c.in-Event.is)
+    (event_runs g.W.Write.contents c.args.session c.serve-answer.new.self c.args.output.now c.go_on.new.output c.serve-answer.result
+    c.in-Event.event c.go_on.result c.serve-answer.ensures.answer c.go_on.ensures.goes_on)
+
+pub returns-in-Flush-clause-runs : goal.returns-in-Flush-clause-runs
+returns-in-Flush-clause-runs g c =
+    subst (λ (r : Request). IfOk c.go_on-in-Flush.result (λ (next : Result Session End). Runs g.W.Write.contents r c.args.session next c.args.output.now c.go_on-in-Flush.new.output))
+    (sym c.in-Flush.is)
+    (flush_runs g.W.Write.contents c.args.session c.flush-answer.new.self c.args.output.now c.go_on-in-Flush.new.output c.flush-answer.result
+    c.go_on-in-Flush.result c.flush-answer.ensures.answer c.go_on-in-Flush.ensures.goes_on)

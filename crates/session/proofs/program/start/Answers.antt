@@ -1,0 +1,39 @@
+use Rattle.std.proofs.Common.{◌≡◌, ◌⊎◌, ⊎_elim, inl, inr, ◌<◌, ◌≤◌, ℕ, List, length, ap, sym, subst, ◌∙◌, rules, arith}
+use Rattle.std.proofs.lemmas.List.{length-replicate}
+use Rattle.std.specs.declared.alloc.Global.{Global}
+use Rattle.records.specs.GeometryValue.{sectors_of}
+use Rattle.sector_device.specs.MemDisk.{history_of}
+use Rattle.sector_device.specs.declared.memory.MemDisk.{MemDisk}
+use Rattle.flip_image.specs.declared.half.Half.TheVariants.{A}
+use Rattle.flip_image.specs.Store.{IsFormatted, AreGatesClosed}
+use Rattle.session.specs.Disk.{disk_history}
+use Rattle.session.proofs.program.start.Goals as goal
+
+pub returns-in-Ok-clause-starts : goal.returns-in-Ok-clause-starts
+returns-in-Ok-clause-starts c =
+    let g = c.args.geometry in
+    let size : length (history_of c.in_ok-memory.memory).disk.content ≡ c.args.sectors = ap length c.in_ok-memory.ensures.zeros ∙ length-replicate c.args.sectors _ in
+    let holds : ¬ (length (history_of c.in_ok-memory.memory).disk.content < sectors_of g) = (λ less. absurd (search rules)) in
+    record {
+      room = omega (arith, size, holds);
+      disk = c.new-disk.result;
+      formatted = subst (λ (d : MemDisk Global). IsFormatted g (history_of d).disk.content) (sym c.new-disk.ensures.device) c.in_ok-format.ensures.formatted;
+      closed = subst (λ (d : MemDisk Global). AreGatesClosed g A (history_of d).disk.content) (sym c.new-disk.ensures.device) c.in_ok-format.ensures.closed;
+      counted = c.new-disk.ensures.which;
+      made = c.new-disk.ensures.made;
+      cut = c.new-disk.ensures.fails_at;
+      opened = c.in-Ok.ensures.opened;
+      anew = c.in-Ok.ensures.anew;
+    }
+
+pub returns-clause-refused : goal.returns-clause-refused
+returns-clause-refused c =
+    let g = c.args.geometry in
+    let image = (disk_history c.new-disk.result).disk.content in
+    let formatted = subst (λ (d : MemDisk Global). IsFormatted g (history_of d).disk.content) (sym c.new-disk.ensures.device) c.in_ok-format.ensures.formatted in
+    let closed = subst (λ (d : MemDisk Global). AreGatesClosed g A (history_of d).disk.content) (sym c.new-disk.ensures.device) c.in_ok-format.ensures.closed in
+    let gives = c.format_gives_nothing.ensures g image formatted closed in
+    inr (⊎_elim
+    (⊎_elim (λ none. inr none) (λ failed. inl failed.0))
+    (λ unreadable. absurd (c.one_answer.ensures.readable image g _ _ c.in-Err.error gives unreadable))
+    c.in-Err.ensures.opened.why)

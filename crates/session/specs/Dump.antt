@@ -1,0 +1,30 @@
+-- What a dump prints.
+use Rattle.std.specs.Prelude.{ℕ, zero, suc, List, [], ◌++◌}
+use Rattle.std.specs.FinMap as map
+use Rattle.std.specs.Option.{option_map_or}
+use Rattle.records.specs.Values.{Place}
+use Rattle.records.specs.declared.rid.TheConstants.{SLOTS_PER_PAGE}
+use Rattle.model.specs.Table.{Table}
+use Rattle.model.specs.declared.life.Life.TheVariants.{Absent}
+use Rattle.session.specs.Session.{rows_of}
+use Rattle.session.specs.Texts.{line_of}
+use Rattle.session.specs.declared.answer.Answer.TheVariants.{RowAt, Life}
+use Rattle.session.specs.declared.session.Session.{Session}
+
+-- the line of the row at a place, if one is there
+abbrev pub row_line : Table → Place → List ℕ
+row_line rows place = option_map_or (λ row. line_of (RowAt place row)) (map.get rows place) []
+
+-- the lines of the rows in the first slots of a page
+unfoldable pub slot_lines : Table → (page slots : ℕ) → List ℕ
+slot_lines rows page zero = []
+slot_lines rows page (suc slot) = slot_lines rows page slot ++ row_line rows (record { page = page; slot = slot })
+
+-- the lines of the rows in the first pages
+unfoldable pub page_lines : Table → (pages : ℕ) → List ℕ
+page_lines rows zero = []
+page_lines rows (suc page) = page_lines rows page ++ slot_lines rows page SLOTS_PER_PAGE
+
+-- the rows, in the order of their places, and how far the index is
+abbrev pub dump_text : Session → List ℕ
+dump_text session = page_lines (rows_of session) session.geometry.pages ++ line_of (Life Absent)

@@ -1,0 +1,107 @@
+-- What becomes of a whole script: what is printed, and the status of the program.
+use Rattle.std.specs.Prelude.{◌≡◌, ◌⊎◌, ◌≤◌, ◌<◌, ◌+◌, ◌-◌, ◌^◌, ℕ, min, false, Option, Some, None, List, Result, Ok, Err}
+use Rattle.std.specs.Io.KnownBytes.{Appends}
+use Rattle.std.specs.declared.alloc.Global.{Global}
+use Rattle.records.specs.GeometryValue.{GeometryValue, IsGeometry, sectors_of}
+use Rattle.records.specs.declared.error.Error.{Error}
+use Rattle.records.specs.declared.error.Error.TheVariants.{NoMemory, DeviceFailed, DeviceTooSmall, BadGeometry, BadScript}
+use Rattle.sector_device.specs.declared.call.Fate.{Fate}
+use Rattle.sector_device.specs.FaultDisk.{which_of, made_of, fails_at_of}
+use Rattle.sector_device.specs.declared.fault.Which.TheVariants.{WritesAndSyncs}
+use Rattle.sector_device.specs.declared.fault.FaultDisk.{FaultDisk}
+use Rattle.sector_device.specs.declared.memory.MemDisk.{MemDisk}
+use Rattle.model.specs.declared.life.Life.TheVariants.{Absent}
+use Rattle.flip_image.specs.declared.half.Half.TheVariants.{A}
+use Rattle.flip_image.specs.Store.{IsFormatted, AreGatesClosed}
+use Rattle.first.specs.Reopening.{IsNotOpened}
+use Rattle.script.specs.Grammar.{lines, IsScript, IsFirstFault}
+use Rattle.script.specs.declared.command.Command.{Command}
+use Rattle.session.specs.Disk.{disk_history, disk_failures, LosesPower}
+use Rattle.session.specs.Session.{has_crashed, disk_of, OpensOn}
+use Rattle.session.specs.Dump.{dump_text}
+use Rattle.session.specs.Runs.{Prints, RunsCommands}
+use Rattle.session.specs.declared.answer.Answer.TheVariants as answer
+use Rattle.session.specs.declared.arguments.Arguments.{Arguments}
+use Rattle.session.specs.declared.session.Session.{Session}
+use Rattle.session.specs.declared.session.End.{End}
+use Rattle.session.specs.declared.session.End.TheVariants as end
+
+abbrev pub geometry_of : Arguments → GeometryValue
+geometry_of arguments = record { pages = arguments.pages; entries = arguments.entries; slots = arguments.slots }
+
+-- how many sectors the disk has: those asked for, or as many as the store needs
+abbrev pub sectors_asked : Option ℕ → GeometryValue → ℕ
+sectors_asked (Some sectors) geometry = sectors
+sectors_asked None geometry = sectors_of geometry
+
+-- A store of this geometry was made on a new disk of so many sectors, and opened. Of the writes and syncs from then on
+-- the one of this number is cut short, or none at 0.
+pub record Starts (sectors : ℕ) (geometry : GeometryValue) (fails_at : ℕ) (session : Session) : Type 0 where
+  pub room : sectors_of geometry ≤ sectors
+  pub disk : FaultDisk (MemDisk Global)
+  pub formatted : IsFormatted geometry (disk_history disk).disk.content
+  pub closed : AreGatesClosed geometry A (disk_history disk).disk.content
+  pub counted : which_of disk ≡ WritesAndSyncs
+  pub made : made_of disk ≡ 0
+  pub cut : fails_at_of disk ≡ fails_at
+  pub opened : OpensOn disk geometry fails_at session
+  pub anew : has_crashed session ≡ false
+
+-- why no store was made and opened on a new disk of so many sectors
+abbrev pub IsNoStart : ℕ → GeometryValue → Error → Type 0
+IsNoStart sectors geometry e = ((e ≡ DeviceTooSmall) × (sectors < sectors_of geometry)) ⊎ (e ≡ DeviceFailed) ⊎ (e ≡ NoMemory)
+
+-- The write or sync of this number is cut short: the one that was asked for, counted from where a start without it ends.
+abbrev pub IsCutAt : ℕ → GeometryValue → Option ℕ → ℕ → Type 0
+IsCutAt sectors geometry None fails_at = fails_at ≡ 0
+IsCutAt sectors geometry (Some stop) fails_at =
+    (trial : Session) × Starts sectors geometry 0 trial × (fails_at ≡ min (made_of (disk_of trial) + stop) (2 ^ 64 - 1))
+
+-- A new store was opened, as the arguments ask for it.
+abbrev pub StartsFor : Arguments → Session → Type 0
+StartsFor arguments session =
+    (fails_at : ℕ) × IsCutAt (sectors_asked arguments.sectors (geometry_of arguments)) (geometry_of arguments) arguments.stop fails_at
+    × Starts (sectors_asked arguments.sectors (geometry_of arguments)) (geometry_of arguments) fails_at session
+
+-- Why no command was run, the first that fits: the text is no script, the arguments give no geometry, or no store of it
+-- was made and opened. There may be no memory at each.
+abbrev pub IsFault : Arguments → List ℕ → Error → Type 0
+IsFault arguments text e =
+    (e ≡ NoMemory)
+    ⊎ ((index : ℕ) × (e ≡ BadScript (index + 1)) × IsFirstFault (lines text) index)
+    ⊎ ((commands : List Command) × IsScript (lines text) commands
+    × (((e ≡ BadGeometry) × ¬ IsGeometry (geometry_of arguments))
+    ⊎ (IsGeometry (geometry_of arguments) × IsNoStart (sectors_asked arguments.sectors (geometry_of arguments)) (geometry_of arguments) e)))
+
+module _ {W : Type 0} (contents : W → Option (List ℕ)) where
+  -- the refusal was printed, and the status says so
+  abbrev pub IsRefused : Error → ℕ → W → W → Type 0
+  IsRefused e status before after = Prints contents (answer.Refused e) before after × (status ≡ 1)
+
+  -- The store was opened again on this disk, and that was printed, and then what it holds. Or it was refused.
+  abbrev pub ShowsLeft : GeometryValue → FaultDisk (MemDisk Global) → ℕ → W → W → Type 0
+  ShowsLeft geometry disk status before after =
+      ((session : Session) × (between : W) × OpensOn disk geometry 0 session × Prints contents (answer.Restart Absent) before between
+      × Appends (contents between) (contents after) (dump_text session) × (status ≡ 0))
+      ⊎ ((e : Error) × (given_back : FaultDisk (MemDisk Global)) × IsNotOpened disk_history disk_failures disk given_back e × IsRefused e status before after)
+
+  -- That the session was stopped was printed. Then the power was lost, with this fate for every unsynced sector.
+  abbrev pub IsStopped : GeometryValue → Fate → FaultDisk (MemDisk Global) → ℕ → W → W → Type 0
+  IsStopped geometry fate disk status before after =
+      (left : FaultDisk (MemDisk Global)) × (between : W) × Prints contents answer.Stopped before between × LosesPower fate 0 disk left
+      × ShowsLeft geometry left status between after
+
+  -- what is printed behind the commands' own lines, by how they ended
+  abbrev pub Ends : Arguments → Result (Unit {0}) End → ℕ → W → W → Type 0
+  Ends arguments (Ok done) status before after = (status ≡ 0) × (after ≡ before)
+  Ends arguments (Err (end.Refused e)) status before after = IsRefused e status before after
+  Ends arguments (Err (end.Stopped disk)) status before after = IsStopped (geometry_of arguments) arguments.fate disk status before after
+
+  -- The text's commands were run in turn over a new store, up to the last one, or to that at which the session ended.
+  -- Or nothing was run, and why was printed.
+  abbrev pub Plays : Arguments → List ℕ → ℕ → W → W → Type 0
+  Plays arguments text status before after =
+      ((e : Error) × IsFault arguments text e × IsRefused e status before after)
+      ⊎ ((commands : List Command) × (session : Session) × (last : Result (Unit {0}) End) × (between : W)
+      × IsScript (lines text) commands × StartsFor arguments session
+      × RunsCommands contents commands session last before between × Ends arguments last status between after)

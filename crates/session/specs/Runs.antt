@@ -1,0 +1,75 @@
+-- What the commands of a script do, and what is printed for them.
+use Rattle.std.specs.Prelude.{◌≡◌, ◌&&◌, not, ℕ, Option, List, [], ◌∷◌, Result, Ok, Err, MatchBool, MatchResult}
+use Rattle.std.specs.Io.KnownBytes.{Appends}
+use Rattle.std.specs.declared.alloc.Global.{Global}
+use Rattle.sector_device.specs.declared.call.Fate.{Fate}
+use Rattle.sector_device.specs.declared.fault.FaultDisk.{FaultDisk}
+use Rattle.sector_device.specs.declared.memory.MemDisk.{MemDisk}
+use Rattle.model.specs.declared.life.Life.TheVariants.{Absent}
+use Rattle.first.specs.declared.event.Reply.{Reply}
+use Rattle.script.specs.declared.command.Command.{Command}
+use Rattle.session.specs.Disk.{LosesPower}
+use Rattle.session.specs.Session.{has_crashed, disk_of, last_made, outcome_of, Serves, Flushes, calls_to_stop, Reopens}
+use Rattle.session.specs.Requests.{request_of, only_reads}
+use Rattle.session.specs.Texts.{line_of}
+use Rattle.session.specs.Dump.{dump_text}
+use Rattle.session.specs.declared.answer.Answer.{Answer}
+use Rattle.session.specs.declared.answer.Answer.TheVariants as answer
+use Rattle.session.specs.declared.request.Request.{Request}
+use Rattle.session.specs.declared.request.Request.TheVariants as request
+use Rattle.session.specs.declared.session.Session.{Session}
+use Rattle.session.specs.declared.session.Stopped.{Stopped}
+use Rattle.session.specs.declared.session.End.{End}
+use Rattle.session.specs.declared.session.End.TheVariants as end
+
+module _ {W : Type 0} (contents : W → Option (List ℕ)) where
+  -- the line of this answer was printed
+  abbrev pub Prints : Answer → W → W → Type 0
+  Prints answer before after = Appends (contents before) (contents after) (line_of answer)
+
+  -- The answer was printed, and the session goes on. Or it was stopped: then nothing was printed, and its disk is left.
+  abbrev pub GoesOn : Result Answer Stopped → Session → Result Session End → W → W → Type 0
+  GoesOn (Ok answer) session next before after = (next ≡ Ok session) × Prints answer before after
+  GoesOn (Err stopped) session next before after = (next ≡ Err (end.Stopped (disk_of session))) × (after ≡ before)
+
+  -- where the store was opened again, that was printed
+  abbrev pub PrintsRestart : Result Session End → W → W → Type 0
+  PrintsRestart (Ok session) before after = Prints (answer.Restart Absent) before after
+  PrintsRestart (Err e) before after = after ≡ before
+
+  -- The power was lost, with this fate for every unsynced sector, and the store was opened again, or the session ended.
+  abbrev pub Restarts : Fate → Session → Result Session End → W → W → Type 0
+  Restarts fate old next before after =
+      ((disk : FaultDisk (MemDisk Global)) × LosesPower fate (calls_to_stop old) (disk_of old) disk
+      × Reopens disk old.geometry (calls_to_stop old) next)
+      × PrintsRestart next before after
+
+  -- The request was served, and what came of it was printed.
+  abbrev pub Runs : Request → Session → Result Session End → W → W → Type 0
+  Runs (request.Event event) old next before after =
+      (new : Session) × (reply : Reply) × Serves event reply old new × GoesOn (outcome_of new reply) new next before after
+  Runs request.Flush old next before after =
+      (new : Session) × (reply : Reply) × Flushes (last_made old) reply old new × GoesOn (outcome_of new reply) new next before after
+  Runs (request.Crash fate) old next before after = Restarts fate old next before after
+  Runs request.Dump old next before after = (next ≡ Ok old) × Appends (contents before) (contents after) (dump_text old)
+
+  -- After a crash a request that doesn't only read is skipped. Any other is served.
+  abbrev pub RunsRequest : Request → Session → Result Session End → W → W → Type 0
+  RunsRequest request old next before after = MatchBool (has_crashed old && not (only_reads request))
+      (GoesOn (Ok answer.Skipped) old next before after)
+      (Runs request old next before after)
+
+  -- A command that gives too many bytes is refused.
+  abbrev pub RunsCommand : Command → Session → Result Session End → W → W → Type 0
+  RunsCommand command old next before after = MatchResult (request_of command)
+      (λ request. RunsRequest request old next before after)
+      (λ error. GoesOn (Ok (answer.Refused error)) old next before after)
+
+  -- The commands were run in turn, up to the last one, or to that at which the session ended.
+  abbrev pub RunsCommands : List Command → Session → Result (Unit {0}) End → W → W → Type 0
+  RunsCommands [] old last before after = (last ≡ Ok tt) × (after ≡ before)
+  RunsCommands (command ∷ commands) old last before after =
+      (next : Result Session End) × (between : W) × RunsCommand command old next before between
+      × MatchResult next
+      (λ session. RunsCommands commands session last between after)
+      (λ e. (last ≡ Err e) × (after ≡ between))

@@ -1,0 +1,125 @@
+-- A store under a script.
+use Rattle.std.specs.Prelude.{◌≡◌, ◌⊎◌, ◌-◌, ◌&&◌, ℕ, nat_lt, Bool, true, false, List, [], ◌∷◌, Result, Ok, Err, if◌then◌else◌}
+use Rattle.std.specs.declared.alloc.Global.{Global}
+use Rattle.records.specs.GeometryValue.{GeometryValue}
+use Rattle.records.specs.declared.error.Error.{Error}
+use Rattle.records.specs.declared.error.Error.TheVariants.{NoMemory, DeviceFailed}
+use Rattle.sector_device.specs.FaultDisk.{made_of}
+use Rattle.sector_device.specs.declared.fault.FaultDisk.{FaultDisk}
+use Rattle.sector_device.specs.declared.memory.MemDisk.{MemDisk}
+use Rattle.model.specs.Table.{Table}
+use Rattle.first.specs.Lawful.{AreLawful}
+use Rattle.first.specs.Parts.{core_of, device_of}
+use Rattle.first.specs.Parts as engine
+use Rattle.first.specs.Reopening.{IsOpened, IsNotOpened}
+use Rattle.first.specs.Store.{CanRun}
+use Rattle.first.specs.declared.engine.Engine.{Engine}
+use Rattle.first.specs.declared.event.Event.{Event}
+use Rattle.first.specs.declared.event.Event.TheVariants.{Flush}
+use Rattle.first.specs.declared.event.Reply.{Reply}
+use Rattle.first.specs.declared.event.Reply.TheVariants.{Horizon, Refused}
+use Rattle.session.specs.Answers.{answer_of}
+use Rattle.session.specs.Disk.{disk_history, disk_failures}
+use Rattle.session.specs.declared.answer.Answer.{Answer}
+use Rattle.session.specs.declared.session.Session.{Session}
+use Rattle.session.specs.declared.session.Stopped.{Stopped}
+use Rattle.session.specs.declared.session.End.{End}
+use Rattle.session.specs.declared.session.End.TheVariants as end
+
+-- the engine is where its restart and its runs left it
+pub record IsServing (engine : Engine (FaultDisk (MemDisk Global)) Global) : Type 0 where
+  pub can_run : CanRun disk_history engine
+
+abbrev pub IsOpen : Session → Type 0
+IsOpen session = IsServing session.engine
+
+-- the script has crashed the device
+abbrev pub has_crashed : Session → Bool
+has_crashed session = session.crashed
+
+-- the disk below the engine
+abbrev pub disk_of : Session → FaultDisk (MemDisk Global)
+disk_of session = device_of session.engine
+
+-- The session is that of a store that was opened on this disk.
+pub record OpensOn (disk : FaultDisk (MemDisk Global)) (geometry : GeometryValue) (fails_at : ℕ) (session : Session) : Type 0 where
+  pub opened : IsOpened disk_history disk session.engine
+  pub horizon_is : session.horizon ≡ engine.horizon_of session.engine
+  pub geometry_is : session.geometry ≡ geometry
+  pub fails_at_is : session.fails_at ≡ fails_at
+
+-- how many writes and syncs more are made with the one that is cut short, or 0
+abbrev pub calls_to_stop : Session → ℕ
+calls_to_stop session = session.fails_at - made_of (disk_of session)
+
+-- whether the error tells that the write or sync of this number was made, which was to be cut short
+abbrev pub tells_stop : ℕ → Error → Bool
+tells_stop fails_at DeviceFailed = nat_lt 0 fails_at
+tells_stop fails_at _ = false
+
+-- The store was opened on this disk after a crash, or it was not: then the session was stopped, where the error tells
+-- so, and else refused.
+abbrev pub Reopens : FaultDisk (MemDisk Global) → GeometryValue → ℕ → Result Session End → Type 0
+Reopens disk geometry fails_at (Ok session) = OpensOn disk geometry fails_at session × (has_crashed session ≡ true)
+Reopens disk geometry fails_at (Err (end.Stopped after)) =
+    (e : Error) × IsNotOpened disk_history disk_failures disk after e × (tells_stop fails_at e ≡ true)
+Reopens disk geometry fails_at (Err (end.Refused e)) =
+    (after : FaultDisk (MemDisk Global)) × IsNotOpened disk_history disk_failures disk after e × (tells_stop fails_at e ≡ false)
+
+-- the rows of the store
+abbrev pub rows_of : Session → Table
+rows_of session = (core_of session.engine).heap.rows
+
+-- every record up to this number is synced
+abbrev pub horizon_of : Session → ℕ
+horizon_of session = session.horizon
+
+-- the number of the last record made
+abbrev pub last_made : Session → ℕ
+last_made session = (core_of session.engine).last
+
+-- The engine ran the one event, and this is its lawful reply; or there was no memory for a reply, and nothing was done.
+abbrev pub IsReply : Event → Reply → Engine (FaultDisk (MemDisk Global)) Global → Engine (FaultDisk (MemDisk Global)) Global → Type 0
+IsReply event reply old new =
+    AreLawful disk_failures (event ∷ []) (reply ∷ []) old new
+    ⊎ ((reply ≡ Refused NoMemory) × (new ≡ old))
+
+-- whether the reply tells that the write or sync that was to be cut short was made
+abbrev pub is_stop : Session → Reply → Bool
+is_stop session (Refused error) = tells_stop session.fails_at error
+is_stop session _ = false
+
+-- what is answered for the reply
+abbrev pub outcome_of : Session → Reply → Result Answer Stopped
+outcome_of session reply = if is_stop session reply then Err (record {}) else Ok (answer_of (horizon_of session) reply)
+
+-- The event had this reply, and nothing but the engine has changed.
+pub record Serves (event : Event) (reply : Reply) (old new : Session) : Type 0 where
+  pub replied : IsReply event reply old.engine new.engine
+  pub rest : new ≡ record old { engine = new.engine }
+
+-- how far the records are synced after a flush with this reply
+abbrev pub horizon_after : ℕ → Reply → ℕ
+horizon_after horizon (Horizon number) = number
+horizon_after horizon _ = horizon
+
+-- whether the reply tells of more synced records than there were, and not yet of all up to the last
+abbrev pub asks_again : ℕ → ℕ → Reply → Bool
+asks_again last horizon (Horizon number) = nat_lt horizon number && nat_lt number last
+asks_again last horizon _ = false
+
+-- One flush had this reply.
+pub record IsFlushed (reply : Reply) (old new : Session) : Type 0 where
+  pub replied : IsReply Flush reply old.engine new.engine
+  pub rest : new ≡ record old { engine = new.engine; horizon = horizon_after (horizon_of old) reply }
+
+-- One flush after another had these replies, each of which asks for another flush, and then the final one, which doesn't.
+abbrev pub AreFlushed : ℕ → List Reply → Reply → Session → Session → Type 0
+AreFlushed last [] final old new = (asks_again last (horizon_of old) final ≡ false) × IsFlushed final old new
+AreFlushed last (reply ∷ replies) final old new =
+    (asks_again last (horizon_of old) reply ≡ true)
+    × ((mid : Session) × IsFlushed reply old mid × AreFlushed last replies final mid new)
+
+-- The session flushed until all records made before were synced, or it went no further. This was the last reply.
+abbrev pub Flushes : ℕ → Reply → Session → Session → Type 0
+Flushes last final old new = (replies : List Reply) × AreFlushed last replies final old new

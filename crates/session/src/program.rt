@@ -1,0 +1,330 @@
+//! The program over what it reads and writes.
+ghost use Rattle.std.specs.Prelude.{◌≡◌, ◌≤◌, IfOk, IfErr, OnOk};
+ghost use Rattle.script.specs.Grammar.{lines, IsScript};
+ghost use Rattle.session.specs.Session.{IsOpen};
+ghost use Rattle.session.specs.Runs.{Prints, GoesOn, Restarts, Runs, RunsRequest, RunsCommand, RunsCommands};
+ghost use Rattle.session.specs.Plays.{geometry_of, sectors_asked, Starts, IsNoStart, IsCutAt, StartsFor, IsFault, IsRefused, IsStopped, Ends, Plays};
+
+use crate::answer::Answer;
+use crate::arguments::Arguments;
+use crate::request::Request;
+use crate::session::{Disk, End, Session, Stopped};
+use flip_image::Halves;
+use records::{Error, Geometry};
+use script::Command;
+use sector_device::{Fate, FaultDisk, MemDisk, Which};
+use std::alloc::Global;
+use std::convert::AsStr;
+use std::io;
+use std::io::{ErrorKind, Read, Write};
+use store_reader::{format_gives_nothing, one_answer};
+
+/// How many writes and syncs the disk has room to record.
+const CALLS: usize = 16_384;
+
+fn print<W: Write>(output: &mut W, answer: Answer) -> io::Result<()>
+    ensures { OnOk result (Prints W.contents answer output.old output.new) }
+{
+    writeln!(output, "{answer}")
+}
+
+// Prints the answer, and goes on with the session unless it was stopped.
+fn go_on<W: Write>(
+    session: Session,
+    answer: Result<Answer, Stopped>,
+    output: &mut W,
+) -> io::Result<Result<Session, End>>
+    requires { IsOpen session }
+    ensures goes_on { IfOk result (λ next. GoesOn W.contents answer session next output.old output.new) }
+    ensures open { IfOk result (λ next. IfOk next IsOpen) }
+{
+    match answer {
+        Ok(answer) => {
+            print(output, answer)?;
+            Ok(Ok(session))
+        }
+        Err(Stopped) => Ok(Err(End::Stopped(session.into_disk()))),
+    }
+}
+
+// Crashes the device, and prints that the store was opened again.
+fn crash<W: Write>(session: Session, fate: Fate, output: &mut W) -> io::Result<Result<Session, End>>
+    ensures restarts { IfOk result (λ next. Restarts W.contents fate session next output.old output.new) }
+    ensures open { IfOk result (λ next. IfOk next IsOpen) }
+{
+    match session.crash(fate) {
+        Ok(session) => {
+            print(output, Answer::Restart(session.life()))?;
+            Ok(Ok(session))
+        }
+        Err(end) => Ok(Err(end)),
+    }
+}
+
+// Serves a request, and prints the answer.
+fn serve<W: Write>(
+    mut session: Session,
+    request: Request,
+    output: &mut W,
+) -> io::Result<Result<Session, End>>
+    requires { IsOpen session }
+    ensures runs { IfOk result (λ next. Runs W.contents request session next output.old output.new) }
+    ensures open { IfOk result (λ next. IfOk next IsOpen) }
+{
+    match request {
+        Request::Event(event) => {
+            let answer = session.serve(event);
+            go_on(session, answer, output)
+        }
+        Request::Flush => {
+            let answer = session.flush();
+            go_on(session, answer, output)
+        }
+        Request::Crash(fate) => crash(session, fate, output),
+        Request::Dump => {
+            session.dump(output)?;
+            Ok(Ok(session))
+        }
+    }
+}
+
+// Serves a request, or skips it after a crash, and prints the answer.
+fn run_request<W: Write>(
+    session: Session,
+    request: Request,
+    output: &mut W,
+) -> io::Result<Result<Session, End>>
+    requires { IsOpen session }
+    ensures runs { IfOk result (λ next. RunsRequest W.contents request session next output.old output.new) }
+    ensures open { IfOk result (λ next. IfOk next IsOpen) }
+{
+    if session.has_crashed() && !request.only_reads() {
+        return go_on(session, Ok(Answer::Skipped), output);
+    }
+    serve(session, request, output)
+}
+
+// Runs a command, and prints the answer.
+fn run_command<W: Write>(
+    session: Session,
+    command: &Command,
+    output: &mut W,
+) -> io::Result<Result<Session, End>>
+    requires { IsOpen session }
+    ensures runs { IfOk result (λ next. RunsCommand W.contents command.now session next output.old output.new) }
+    ensures open { IfOk result (λ next. IfOk next IsOpen) }
+{
+    match Request::of(command) {
+        Ok(request) => run_request(session, request, output),
+        Err(error) => go_on(session, Ok(Answer::Refused(error)), output),
+    }
+}
+
+// Runs the commands in turn.
+fn run_commands<W: Write>(
+    session: Session,
+    commands: &[Command],
+    output: &mut W,
+) -> io::Result<Result<(), End>>
+    requires { IsOpen session }
+    ensures { IfOk result (λ last. RunsCommands W.contents commands.now session last output.old output.new) }
+{
+    let mut session = session;
+    for command in commands {
+        match run_command(session, command, output)? {
+            Ok(next) => session = next,
+            Err(end) => return Ok(Err(end)),
+        }
+    }
+    Ok(Ok(()))
+}
+
+// A store of this geometry on a new disk, opened. The write or sync of this number is cut short,
+// or none at 0.
+fn start(alloc: Global, sectors: u64, geometry: Geometry, fails_at: u64) -> Result<Session, Error>
+    ensures starts { IfOk result (Starts sectors geometry fails_at) }
+    ensures refused { IfErr result (IsNoStart sectors geometry) }
+    ensures open { IfOk result IsOpen }
+{
+    format_gives_nothing();
+    one_answer();
+    let mut memory = MemDisk::new(alloc, sectors, CALLS)?;
+    Halves::format(&mut memory, geometry)?;
+    let disk = FaultDisk::new(memory, Which::WritesAndSyncs, fails_at);
+    match Session::open(alloc, disk, geometry, fails_at) {
+        Ok(session) => Ok(session),
+        Err((error, _)) => Err(error),
+    }
+}
+
+// The number of the write or sync that is cut short, or 0: so many more than a start makes.
+fn cut_at(alloc: Global, sectors: u64, geometry: Geometry, stop: Option<u32>) -> Result<u64, Error>
+    ensures cut { IfOk result (IsCutAt sectors geometry stop) }
+    ensures refused { IfErr result (IsNoStart sectors geometry) }
+{
+    match stop {
+        Some(stop) => {
+            let made = start(alloc, sectors, geometry, 0)?.into_disk().made();
+            Ok(made.saturating_add(u64::from(stop)))
+        }
+        None => Ok(0),
+    }
+}
+
+// How many sectors the disk has.
+fn sectors_for(arguments: &Arguments, geometry: Geometry) -> u64
+    ensures { result ≡ sectors_asked arguments.now.sectors geometry }
+{
+    match arguments.sectors {
+        Some(sectors) => u64::from(sectors),
+        None => geometry.sectors(),
+    }
+}
+
+// The store that the arguments ask for, opened.
+fn start_for(alloc: Global, arguments: &Arguments, geometry: Geometry) -> Result<Session, Error>
+    requires { geometry ≡ geometry_of arguments.now }
+    ensures starts { IfOk result (StartsFor arguments.now) }
+    ensures refused { IfErr result (IsNoStart (sectors_asked arguments.now.sectors geometry) geometry) }
+    ensures open { IfOk result IsOpen }
+{
+    let sectors = sectors_for(arguments, geometry);
+    let fails_at = cut_at(alloc, sectors, geometry, arguments.stop)?;
+    start(alloc, sectors, geometry, fails_at)
+}
+
+// What is printed after a stop: the device crashes, and the store is opened again.
+fn after_stop<W: Write>(
+    alloc: Global,
+    disk: Disk,
+    geometry: Geometry,
+    fate: Fate,
+    output: &mut W,
+) -> io::Result<u8>
+    ensures { IfOk result (λ status. IsStopped W.contents geometry fate disk status output.old output.new) }
+{
+    print(output, Answer::Stopped)?;
+    match Session::reopen(alloc, disk, geometry, fate) {
+        Ok(session) => {
+            print(output, Answer::Restart(session.life()))?;
+            session.dump(output)?;
+            Ok(0)
+        }
+        Err((error, _)) => refused(output, error),
+    }
+}
+
+fn refused<W: Write>(output: &mut W, error: Error) -> io::Result<u8>
+    ensures { IfOk result (λ status. IsRefused W.contents error status output.old output.new) }
+{
+    print(output, Answer::Refused(error))?;
+    Ok(1)
+}
+
+// Prints what is printed once the commands have ended.
+fn end<W: Write>(
+    alloc: Global,
+    arguments: &Arguments,
+    geometry: Geometry,
+    last: Result<(), End>,
+    output: &mut W,
+) -> io::Result<u8>
+    requires { geometry ≡ geometry_of arguments.now }
+    ensures { IfOk result (λ status. Ends W.contents arguments.now last status output.old output.new) }
+{
+    match last {
+        Ok(()) => Ok(0),
+        Err(End::Refused(error)) => refused(output, error),
+        Err(End::Stopped(disk)) => after_stop(alloc, disk, geometry, arguments.fate, output),
+    }
+}
+
+// The commands of the text and the store for them, or why there are none.
+fn prepared(
+    alloc: Global,
+    arguments: &Arguments,
+    text: &[u8],
+) -> Result<(Vec<Command>, Geometry, Session), Error>
+    ensures script { IfOk result (λ made. IsScript (lines text.now) made.0.items) }
+    ensures geometry { IfOk result (λ made. made.1 ≡ geometry_of arguments.now) }
+    ensures starts { IfOk result (λ made. StartsFor arguments.now made.2) }
+    ensures open { IfOk result (λ made. IsOpen made.2) }
+    ensures fault { IfErr result (IsFault arguments.now text.now) }
+{
+    let commands = script::read(alloc, text)?;
+    let geometry = Geometry::new(arguments.pages, arguments.entries, arguments.slots)?;
+    let session = start_for(alloc, arguments, geometry)?;
+    Ok((commands, geometry, session))
+}
+
+/// Runs the script over a new store, as the arguments ask, and prints the answers and how it ended. Answers the exit
+/// status. The error is the output's, and then some of it is printed.
+pub fn run_script<W: Write>(
+    alloc: Global,
+    arguments: &Arguments,
+    text: &[u8],
+    output: &mut W,
+) -> io::Result<u8>
+    ensures { IfOk result (λ status. Plays W.contents arguments.now text.now status output.old output.new) }
+{
+    match prepared(alloc, arguments, text) {
+        Ok((commands, geometry, session)) => {
+            let last = run_commands(session, &commands, output)?;
+            end(alloc, arguments, geometry, last, output)
+        }
+        Err(error) => refused(output, error),
+    }
+}
+
+// The whole of the input.
+fn all_of(alloc: Global, input: &mut impl Read) -> io::Result<Vec<u8>> {
+    let mut bytes = Vec::new(alloc);
+    input.read_to_end(&mut bytes)?;
+    Ok(bytes)
+}
+
+// Prints what clap has to say, and answers the exit status.
+fn usage(error: &clap::Error, output: &mut impl Write, errors: &mut impl Write) -> u8
+    ensures { result ≤ 2 }
+{
+    if error.use_stderr() {
+        let _ = write!(errors, "{error}");
+        return 2;
+    }
+    match write!(output, "{error}") {
+        Ok(()) => 0,
+        Err(_) => 1,
+    }
+}
+
+/// Runs the program on these words, the first of them its own name, and answers its exit status:
+/// 0 where the script ran, 1 where input, output, script or device failed or was refused, 2 for bad
+/// arguments.
+pub fn run<S: AsStr>(
+    alloc: Global,
+    words: &[S],
+    input: &mut impl Read,
+    output: &mut impl Write,
+    errors: &mut impl Write,
+) -> u8
+    ensures { result ≤ 2 }
+{
+    let arguments = match Arguments::read(alloc, words) {
+        Ok(arguments) => arguments,
+        Err(error) if error.kind() == clap::error::ErrorKind::OutOfMemory => {
+            return refused(output, Error::NoMemory).unwrap_or(1);
+        }
+        Err(error) => return usage(&error, output, errors),
+    };
+    let text = match all_of(alloc, input) {
+        Ok(text) => text,
+        Err(error) if error.kind() == ErrorKind::OutOfMemory => {
+            return refused(output, Error::NoMemory).unwrap_or(1);
+        }
+        Err(_) => {
+            let _ = writeln!(errors, "nsf: cannot read standard input");
+            return 1;
+        }
+    };
+    run_script(alloc, &arguments, &text, output).unwrap_or(1)
+}

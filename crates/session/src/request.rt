@@ -1,0 +1,93 @@
+//! What a command asks of the store.
+ghost use Rattle.std.specs.Prelude.{◌≡◌};
+ghost use Rattle.session.specs.Requests.{fate_of};
+
+use first::Event;
+use records::{Body, Error, Key};
+use script::{ByteText, Command};
+use sector_device::Fate;
+
+/// What a command asks for.
+#[derive(Clone, Copy, Debug, PartialEq, Eq)]
+pub enum Request {
+    /// One event of the engine.
+    Event(Event),
+    /// As many flushes as it takes until every record made is synced.
+    Flush,
+    /// A crash of the device with this fate for every unsynced sector, and a restart.
+    Crash(Fate),
+    /// Every row, and how far the index is.
+    Dump,
+}
+
+impl Request {
+    ghost use Rattle.session.specs.Requests.{request_of, only_reads};
+
+    /// What the command asks for. `KeyTooLong`, then `BodyTooLong`, where it gives too many bytes.
+    pub fn of(command: &Command) -> Result<Self, Error>
+        ensures { result ≡ request_of command.now }
+    {
+        match command {
+            Command::Begin => Ok(Request::Event(Event::Begin)),
+            Command::Insert { txn, key, body } => {
+                let key = Key::new(key.as_slice())?;
+                let body = Body::new(body.as_slice())?;
+                Ok(Request::Event(Event::Insert {
+                    txn: *txn,
+                    key,
+                    body,
+                }))
+            }
+            Command::Delete { txn, rid } => Ok(Request::Event(Event::Delete {
+                txn: *txn,
+                rid: *rid,
+            })),
+            Command::Update {
+                txn,
+                rid,
+                key,
+                body,
+            } => {
+                let key = Key::new(key.as_slice())?;
+                let body = Body::new(body.as_slice())?;
+                Ok(Request::Event(Event::Update {
+                    txn: *txn,
+                    rid: *rid,
+                    key,
+                    body,
+                }))
+            }
+            Command::Step { txn } => Ok(Request::Event(Event::Step { txn: *txn })),
+            Command::Undo { txn } => Ok(Request::Event(Event::Undo { txn: *txn })),
+            Command::End { txn } => Ok(Request::Event(Event::End { txn: *txn })),
+            Command::Commit { txn } => Ok(Request::Event(Event::Commit { txn: *txn })),
+            Command::Flush => Ok(Request::Flush),
+            Command::Crash { fate } => Ok(Request::Crash(device_fate(*fate))),
+            Command::Get { rid } => Ok(Request::Event(Event::Get { rid: *rid })),
+            Command::Dump => Ok(Request::Dump),
+        }
+    }
+
+    /// Whether it changes nothing. After a crash only such requests are served.
+    pub fn only_reads(&self) -> bool
+        ensures { result ≡ only_reads self.now }
+    {
+        match self {
+            Request::Event(Event::Get { .. } | Event::Life) | Request::Dump => true,
+            Request::Event(_) | Request::Flush | Request::Crash(_) => false,
+        }
+    }
+}
+
+// The device's fate of this name.
+fn device_fate(fate: script::Fate) -> Fate
+    ensures { result ≡ fate_of fate }
+{
+    match fate {
+        script::Fate::Old => Fate::Old,
+        script::Fate::New => Fate::New,
+        script::Fate::Zero => Fate::Zero,
+        script::Fate::Gate => Fate::Gate,
+        script::Fate::Junk => Fate::Junk,
+    }
+}

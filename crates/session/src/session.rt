@@ -1,0 +1,285 @@
+//! A store under a script.
+ghost use Rattle.std.specs.Prelude.{◌≡◌, false, IfOk, OnOk, MatchResult};
+ghost use Rattle.std.specs.Io.KnownBytes.{Appends};
+ghost use Rattle.std.specs.declared.alloc.Global.{Global};
+ghost use Rattle.sector_device.specs.declared.fault.FaultDisk.{FaultDisk};
+ghost use Rattle.sector_device.specs.declared.memory.MemDisk.{MemDisk};
+ghost use Rattle.model.specs.declared.life.Life.{Life};
+ghost use Rattle.first.specs.Reopening.{IsNotOpened};
+ghost use Rattle.session.specs.Disk.{disk_history, disk_failures, LosesPower};
+ghost use Rattle.session.specs.Session.{asks_again, tells_stop};
+ghost use Rattle.session.specs.Dump.{row_line, slot_lines, dump_text};
+
+use crate::answer::Answer;
+use first::{Engine, Event, Reply, restart};
+use model::Life;
+use records::{Error, Geometry, Rid, SLOTS_PER_PAGE};
+use sector_device::{Fate, FaultDisk, MemDisk, Which};
+use std::alloc::Global;
+use std::io;
+use std::io::Write;
+
+/// The program's disk: it is in memory, and one write or sync of it may be cut short.
+pub type Disk = FaultDisk<MemDisk<Global>>;
+
+/// The write or sync that was to be cut short was made.
+#[derive(Clone, Copy, Debug, PartialEq, Eq)]
+pub struct Stopped;
+
+/// Why a script ended before its last command.
+#[derive(Drop)]
+pub enum End {
+    /// The store could not be opened after a crash.
+    Refused(Error),
+    /// The write or sync that was to be cut short was made.
+    Stopped(Disk),
+}
+
+/// A store, and what its script has done to it so far.
+#[derive(Drop)]
+pub struct Session {
+    alloc: Global,
+    engine: Engine<Disk, Global>,
+    geometry: Geometry,
+    // the number of the write or sync that is cut short, or 0
+    fails_at: u64,
+    // every record up to this number is synced
+    horizon: u64,
+    crashed: bool,
+}
+
+// The disk after a loss of power with this fate for every unsynced sector. The write or sync of
+// this number is then cut short, or none at 0.
+fn crashed(disk: Disk, fate: Fate, fails_at: u64) -> Disk
+    ensures { LosesPower fate fails_at disk result }
+{
+    let mut memory = disk.into_inner();
+    memory.crash(&[fate]);
+    FaultDisk::new(memory, Which::WritesAndSyncs, fails_at)
+}
+
+// Whether the error tells that the write or sync of this number was made, which was to be cut short.
+// The disk in memory fails by itself nowhere: it has room to record all its calls.
+fn tells_stop(fails_at: u64, error: Error) -> bool
+    ensures { result ≡ tells_stop fails_at error }
+{
+    match error {
+        Error::DeviceFailed => fails_at > 0,
+        _ => false,
+    }
+}
+
+// Whether a flush with this reply is followed by another: more records were synced than the horizon
+// had told, and not yet all up to the last.
+fn asks_again(last: u64, horizon: u64, reply: &Reply) -> bool
+    ensures { result ≡ asks_again last horizon reply.now }
+{
+    match *reply {
+        Reply::Horizon(number) => horizon < number && number < last,
+        _ => false,
+    }
+}
+
+impl Session {
+    ghost use Rattle.first.specs.declared.event.Reply.{Reply};
+    ghost use Rattle.session.specs.Session.{IsOpen, OpensOn, has_crashed, disk_of, last_made, is_stop, outcome_of, Serves, IsFlushed, Flushes, calls_to_stop, Reopens, rows_of};
+
+    /// Opens the store on the disk, whose write or sync of this number is cut short, or none at 0.
+    /// Where the restart is refused, the disk comes back.
+    pub fn open(
+        alloc: Global,
+        disk: Disk,
+        geometry: Geometry,
+        fails_at: u64,
+    ) -> Result<Self, (Error, Disk)>
+        ensures opened { MatchResult result
+            (OpensOn disk geometry fails_at)
+            (λ r. IsNotOpened disk_history disk_failures disk r.1 r.0) }
+        ensures open { IfOk result IsOpen }
+        ensures anew { IfOk result (λ session. has_crashed session ≡ false) }
+    {
+        let engine = restart(alloc, disk)?;
+        let horizon = engine.core().last();
+        Ok(Session {
+            alloc,
+            engine,
+            geometry,
+            fails_at,
+            horizon,
+            crashed: false,
+        })
+    }
+
+    /// Opens the store on the disk after a loss of power. No call is cut short any more.
+    pub fn reopen(
+        alloc: Global,
+        disk: Disk,
+        geometry: Geometry,
+        fate: Fate,
+    ) -> Result<Self, (Error, Disk)>
+        ensures opened { (after : FaultDisk (MemDisk Global)) × LosesPower fate 0 disk after × MatchResult result
+            (OpensOn after geometry 0)
+            (λ r. IsNotOpened disk_history disk_failures after r.1 r.0) }
+        ensures open { IfOk result IsOpen }
+        ensures anew { IfOk result (λ session. has_crashed session ≡ false) }
+    {
+        let disk = crashed(disk, fate, 0);
+        Session::open(alloc, disk, geometry, 0)
+    }
+
+    /// Whether the script has crashed the device. Then only requests that change nothing are served.
+    pub fn has_crashed(&self) -> bool
+        ensures { result ≡ has_crashed self.now }
+    {
+        self.crashed
+    }
+
+    /// How far the index is.
+    pub fn life(&self) -> Life
+        ensures { result ≡ Life.Absent }
+    {
+        self.engine.core().life()
+    }
+
+    /// The disk, with what was written to it.
+    pub fn into_disk(self) -> Disk
+        ensures { result ≡ disk_of self }
+    {
+        self.engine.into_device()
+    }
+
+    // Whether this reply tells that the write or sync that was to be cut short was made.
+    fn is_stop(&self, reply: &Reply) -> bool
+        ensures { result ≡ is_stop self.now reply.now }
+    {
+        match *reply {
+            Reply::Refused(error) => tells_stop(self.fails_at, error),
+            _ => false,
+        }
+    }
+
+    // One event's reply.
+    fn reply_to(&mut self, event: Event) -> Reply
+        requires { IsOpen self.old }
+        ensures serves { Serves event result self.old self.new }
+        ensures open { IsOpen self.new }
+    {
+        match self.engine.run(&[event]) {
+            Ok(replies) => match replies.as_slice() {
+                [reply] => *reply,
+                _ => unreachable!(),
+            },
+            Err(error) => Reply::Refused(error),
+        }
+    }
+
+    // What is answered for the reply.
+    fn outcome_of(&self, reply: Reply) -> Result<Answer, Stopped>
+        ensures { result ≡ outcome_of self.now reply }
+    {
+        if self.is_stop(&reply) {
+            return Err(Stopped);
+        }
+        Ok(Answer::of(reply, self.horizon))
+    }
+
+    /// Serves one event.
+    pub fn serve(&mut self, event: Event) -> Result<Answer, Stopped>
+        requires { IsOpen self.old }
+        ensures answer { (reply : Reply) × Serves event reply self.old self.new × (result ≡ outcome_of self.new reply) }
+        ensures open { IsOpen self.new }
+    {
+        let reply = self.reply_to(event);
+        self.outcome_of(reply)
+    }
+
+    // Flushes once.
+    fn flush_once(&mut self) -> Reply
+        requires { IsOpen self.old }
+        ensures flushed { IsFlushed result self.old self.new }
+        ensures open { IsOpen self.new }
+    {
+        let reply = self.reply_to(Event::Flush);
+        if let Reply::Horizon(number) = reply {
+            self.horizon = number;
+        }
+        reply
+    }
+
+    /// Flushes until every record made is synced, or a flush is refused, or the log is full.
+    pub fn flush(&mut self) -> Result<Answer, Stopped>
+        requires { IsOpen self.old }
+        ensures answer { (reply : Reply) × Flushes (last_made self.old) reply self.old self.new × (result ≡ outcome_of self.new reply) }
+        ensures open { IsOpen self.new }
+    {
+        let last = self.engine.core().last();
+        loop {
+            let horizon = self.horizon;
+            let reply = self.flush_once();
+            if !asks_again(last, horizon, &reply) {
+                return self.outcome_of(reply);
+            }
+        }
+    }
+
+    /// Crashes the device with this fate for every unsynced sector, and opens the store again.
+    pub fn crash(self, fate: Fate) -> Result<Self, End>
+        ensures crashed { (disk : FaultDisk (MemDisk Global)) × LosesPower fate (calls_to_stop self) (disk_of self) disk
+            × Reopens disk self.geometry (calls_to_stop self) result }
+        ensures open { IfOk result IsOpen }
+    {
+        let alloc = self.alloc;
+        let geometry = self.geometry;
+        let fails_at = self.fails_at;
+        let disk = self.engine.into_device();
+        let left = fails_at.saturating_sub(disk.made());
+        let disk = crashed(disk, fate, left);
+        match Session::open(alloc, disk, geometry, left) {
+            Ok(mut session) => {
+                session.crashed = true;
+                Ok(session)
+            }
+            Err((error, disk)) => {
+                if tells_stop(left, error) {
+                    Err(End::Stopped(disk))
+                } else {
+                    Err(End::Refused(error))
+                }
+            }
+        }
+    }
+
+    // Prints the row at the place, if there is one.
+    fn dump_row<W: Write>(&self, rid: Rid, output: &mut W) -> io::Result<()>
+        ensures { OnOk result (Appends (W.contents output.old) (W.contents output.new) (row_line (rows_of self.now) rid)) }
+    {
+        match self.engine.core().get(rid) {
+            Some(row) => {
+                let answer = Answer::RowAt { rid, row };
+                writeln!(output, "{answer}")
+            }
+            None => Ok(()),
+        }
+    }
+
+    // Prints the rows of a page, in the order of their slots.
+    fn dump_page<W: Write>(&self, page: u32, output: &mut W) -> io::Result<()>
+        ensures { OnOk result (Appends (W.contents output.old) (W.contents output.new) (slot_lines (rows_of self.now) page SLOTS_PER_PAGE)) }
+    {
+        for slot in 0..SLOTS_PER_PAGE {
+            self.dump_row(Rid { page, slot }, output)?;
+        }
+        Ok(())
+    }
+
+    /// Prints each row, in the order of their places, and how far the index is.
+    pub fn dump<W: Write>(&self, output: &mut W) -> io::Result<()>
+        ensures { OnOk result (Appends (W.contents output.old) (W.contents output.new) (dump_text self.now)) }
+    {
+        for page in 0..self.geometry.pages {
+            self.dump_page(page, output)?;
+        }
+        let answer = Answer::Life(self.life());
+        writeln!(output, "{answer}")
+    }
+}
