@@ -1,7 +1,6 @@
-use Rattle.std.proofs.Common.{◌≡◌, ◌⊎◌, ⊎_elim, inl, inr, ◌<◌, ◌≤◌, ℕ, List, length, ap, sym, subst, ◌∙◌, rules, arith}
+use Rattle.std.proofs.Common.{◌≡◌, ◌⊎◌, ⊎_elim, inl, inr, ℕ, length, ap, sym, subst, ◌∙◌}
 use Rattle.std.proofs.lemmas.List.{length-replicate}
 use Rattle.std.specs.declared.alloc.Global.{Global}
-use Rattle.records.specs.GeometryValue.{sectors_of}
 use Rattle.sector_device.specs.MemDisk.{history_of}
 use Rattle.sector_device.specs.declared.memory.MemDisk.{MemDisk}
 use Rattle.flip_image.specs.declared.half.Half.TheVariants.{A}
@@ -12,16 +11,13 @@ use Rattle.session.proofs.program.start.Goals as goal
 pub returns-in-Ok-clause-starts : goal.returns-in-Ok-clause-starts
 returns-in-Ok-clause-starts c =
     let g = c.args.geometry in
-    let size : length (history_of c.in_ok-memory.memory).disk.content ≡ c.args.sectors = ap length c.in_ok-memory.ensures.zeros ∙ length-replicate c.args.sectors _ in
-    let holds : ¬ (length (history_of c.in_ok-memory.memory).disk.content < sectors_of g) = (λ less. absurd (search rules)) in
+    let content : length (history_of c.format.new.device).disk.content ≡ c.args.sectors =
+    c.in_ok-format.ensures.outside.sectors ∙ ap length c.in_ok-memory.ensures.zeros ∙ length-replicate c.args.sectors _ in
     record {
-      room = omega (arith, size, holds);
       disk = c.new-disk.result;
       formatted = subst (λ (d : MemDisk Global). IsFormatted g (history_of d).disk.content) (sym c.new-disk.ensures.device) c.in_ok-format.ensures.formatted;
       closed = subst (λ (d : MemDisk Global). AreGatesClosed g A (history_of d).disk.content) (sym c.new-disk.ensures.device) c.in_ok-format.ensures.closed;
-      counted = c.new-disk.ensures.which;
-      made = c.new-disk.ensures.made;
-      cut = c.new-disk.ensures.fails_at;
+      size = ap (λ (d : MemDisk Global). length (history_of d).disk.content) c.new-disk.ensures.device ∙ content;
       opened = c.in-Ok.ensures.opened;
       anew = c.in-Ok.ensures.anew;
     }
