@@ -1,5 +1,5 @@
 -- A flush leaves the engine where the run says.
-use Rattle.std.proofs.Common.{◌≡◌, ◌≢◌, ℕ, ◌+◌, ◌≤◌, ◌<◌, List, [], ◌∷◌, ◌++◌, length, take, drop, sym, ◌∙◌, ap, subst, arith, append_assoc, length-append, length-drop}
+use Rattle.std.proofs.Common.{◌≡◌, ◌≢◌, ℕ, ◌+◌, ◌≤◌, ◌<◌, List, [], ◌∷◌, ◌++◌, length, take, drop, sym, ◌∙◌, ap, subst, arith, append_assoc, append-nil, length-append, length-drop}
 use Rattle.std.proofs.lemmas.List.{nil_from_length, take-append-le, drop-append-le, drop-drop}
 use Rattle.records.specs.RecordValue.{RecordValue}
 use Rattle.sector_device.specs.Disk.{Image}
@@ -13,7 +13,7 @@ use Rattle.first.specs.declared.event.Reply.{Reply}
 use Rattle.first.specs.declared.engine.Engine.{Engine}
 use Rattle.first.specs.declared.writer.Writer.{Writer}
 use Rattle.first.specs.History.{acknowledged}
-use Rattle.first.specs.Writer.{HoldsRecords, LeftBy, StandsFor, IsWriter}
+use Rattle.first.specs.Writer.{HoldsRecords, LeftBy, StandsFor, FillsGroup, IsWriter}
 use Rattle.first.specs.Store.{Past, items_of, acknowledged_by, and_then, Survives, IsAt, Serves}
 use Rattle.first.specs.Parts.{unwritten}
 use Rattle.first.specs.Lawful.{Writes}
@@ -128,9 +128,20 @@ module _ {D M : Type 0} (history : D → History) (old : Engine D M) (new_core :
   nothing_waits : unwritten old ≡ [] → mid.waiting.items ≡ []
   nothing_waits none = nil_from_length mid.waiting.items (omega (arith, unwritten_size, ap length none))
 
+  was : unwritten old ≡ mid.waiting.items ++ hands.kept
+  was = ap (λ (o : List RecordValue). old.writer.waiting.items ++ o) hands.split ∙ sym (append_assoc old.writer.waiting.items hands.handed hands.kept) ∙ ap (λ (o : List RecordValue). o ++ hands.kept) (sym hands.taken)
+
+  module _ (new : Engine D M) (core : state_of new.core ≡ new_core) where
+    outbox_is : (state_of new.core).outbox ≡ hands.kept
+    outbox_is = ap (λ (s : State). s.outbox) (core ∙ hands.same)
+
+    -- where all was handed over, what fills a group of what waits does so of all that was unwritten
+    pub fills : (count : ℕ) → FillsGroup mid.waiting.items count → (state_of new.core).outbox ≡ [] → FillsGroup (unwritten old) count
+    fills count most none = subst (λ (rs : List RecordValue). FillsGroup rs count) (sym (was ∙ ap (λ (o : List RecordValue). mid.waiting.items ++ o) (sym outbox_is ∙ none) ∙ append-nil mid.waiting.items)) most
+
   -- what was written is the first of what was not
   module _ (new : Engine D M) (core : state_of new.core ≡ new_core) (area : Area) (frame : Image) (past : Past) (is : IsAt history area frame past old) (after : IsWriter history area frame (handed_now area frame past is) new.writer) (count : ℕ)
-      (base : new.writer.base ≡ mid.base) (synced : new.writer.synced ≡ mid.synced + count) (mode : new.read_only ≡ old.read_only) where
+      (base : new.writer.base ≡ mid.base) (synced : new.writer.synced ≡ mid.synced + count) (mode : new.read_only ≡ old.read_only) (failures : D → ℕ) (rises : failures mid.device ≤ failures new.writer.device) where
     in_hand : IsWriter history area frame (handed_now area frame past is) mid
     in_hand = taken area frame past is
 
@@ -140,19 +151,14 @@ module _ {D M : Type 0} (history : D → History) (old : Engine D M) (new_core :
     waiting : new.writer.waiting.items ≡ drop count mid.waiting.items
     waiting = after.waits ∙ ap (λ n. drop n (handed_now area frame past is)) synced ∙ sym (ap (drop count) in_hand.waits ∙ drop-drop count mid.synced (handed_now area frame past is) ∙ ap (λ n. drop n (handed_now area frame past is)) (omega arith))
 
-    was : unwritten old ≡ mid.waiting.items ++ hands.kept
-    was = ap (λ (o : List RecordValue). old.writer.waiting.items ++ o) hands.split ∙ sym (append_assoc old.writer.waiting.items hands.handed hands.kept) ∙ ap (λ (o : List RecordValue). o ++ hands.kept) (sym hands.taken)
-
-    outbox_is : (state_of new.core).outbox ≡ hands.kept
-    outbox_is = ap (λ (s : State). s.outbox) (core ∙ hands.same)
-
-    pub writes : Writes old new count
+    pub writes : Writes failures old new count
     writes = record {
       within = omega (arith, enough, unwritten_size);
       horizon = omega (arith, base, synced, ap (λ w. w.base) same, ap (λ w. w.synced) same);
-      left = ap (λ (o : List RecordValue). new.writer.waiting.items ++ o) outbox_is ∙ ap (λ (o : List RecordValue). o ++ hands.kept) waiting ∙ sym (ap (drop count) was ∙ drop-append-le count mid.waiting.items hands.kept enough);
-      core = core ∙ hands.same ∙ ap (λ (o : List RecordValue). record (state_of old.core) { outbox = o }) (sym outbox_is);
+      left = ap (λ (o : List RecordValue). new.writer.waiting.items ++ o) (outbox_is new core) ∙ ap (λ (o : List RecordValue). o ++ hands.kept) waiting ∙ sym (ap (drop count) was ∙ drop-append-le count mid.waiting.items hands.kept enough);
+      core = core ∙ hands.same ∙ ap (λ (o : List RecordValue). record (state_of old.core) { outbox = o }) (sym (outbox_is new core));
       mode = mode;
+      later = omega (arith, rises, ap (λ w. failures w.device) same);
     }
 
   pub all_written : (new : Engine D M) (area : Area) (frame : Image) (past : Past) → IsAt history area frame past old → new.writer ≡ mid → mid.waiting.items ≡ [] → (state_of old.core).last ≤ new.writer.base + new.writer.synced → unwritten old ≡ []
@@ -166,3 +172,10 @@ module _ {D M : Type 0} (history : D → History) (old : Engine D M) (new_core :
 
   pub some_waits : mid.waiting.items ≢ [] → unwritten old ≢ []
   some_waits waits none = waits (nothing_waits none)
+
+  -- where a record made is not in the log, something is unwritten
+  pub some_unwritten : (area : Area) (frame : Image) (past : Past) → IsAt history area frame past old → (horizon : ℕ) → horizon ≡ mid.base + mid.synced → horizon < (state_of old.core).last → unwritten old ≢ []
+  some_unwritten area frame past is horizon told below none = absurd (omega (arith, below, told, ap (λ w. w.base) same, ap (λ w. w.synced) same, is.base, is.core.follows.last, ap length is.outbox, length-append is.handed (state_of old.core).outbox, sizes_none, is.writer.reached, ap length is.writer.waits, length-drop old.writer.synced is.handed))
+    where
+      sizes_none : length old.writer.waiting.items + length (state_of old.core).outbox ≡ 0
+      sizes_none = sym (length-append old.writer.waiting.items (state_of old.core).outbox) ∙ ap length none

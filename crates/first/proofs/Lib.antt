@@ -7,6 +7,6 @@ mod Stories
 mod Served
 mod Flushing
 mod Runs
+mod Crashes
 mod Loading
 mod Reopened
-mod Rehearsed

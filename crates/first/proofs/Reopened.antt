@@ -196,6 +196,7 @@ module _ {D M : Type 0} (history : D → History) (before : D) (engine : Engine 
         floor_is = left.survives.floor_is;
         rows = ap (λ (s : State). s.heap.rows) held ∙ ap rows_of same ∙ left.survives.recovers;
         no_txn = ap (λ (s : State). s.txns.active) held;
+        next = omega (arith, ap (λ (s : State). s.last) held, ap (λ (l : List RecordValue). length l) same, left.survives.numbered);
       }
 
   module _ (inside : IsInside log.area (history before).disk.content) (device : OnlySyncs history before (device_of engine)) (synced : IsSynced (history (device_of engine)).disk)

@@ -11,9 +11,9 @@ use Rattle.first.specs.declared.event.Reply.{Reply}
 use Rattle.first.specs.declared.engine.Engine.{Engine}
 use Rattle.first.specs.Lawful.{is_read, IsLawful, AreLawful}
 use Rattle.first.specs.Parts.{is_read_only}
-use Rattle.first.specs.Store.{CanRun, Past, acknowledged_by, and_then, Survives, IsAt, Serves, SurvivesAt, GoesOn}
+use Rattle.first.specs.Store.{CanRun, Past, acknowledged_by, and_then, Survives, IsAt, Serves, SurvivesAt, GoesOn, AreServed}
 
-spans_rise : (disk_at : ℕ → Disk) (P : ℕ → Image → Type 0) (j from : ℕ) (borders : List ℕ) (to : ℕ) → Spans disk_at P j from borders to → from ≤ to
+pub spans_rise : (disk_at : ℕ → Disk) (P : ℕ → Image → Type 0) (j from : ℕ) (borders : List ℕ) (to : ℕ) → Spans disk_at P j from borders to → from ≤ to
 spans_rise disk_at P j from [] to is = omega (arith, is)
 spans_rise disk_at P j from (next ∷ borders) to spans = omega (arith, spans.0, spans_rise disk_at P (j + 1) next borders to spans.2)
 
@@ -25,7 +25,7 @@ spans_map disk_at P Q j from (next ∷ borders) to f spans = (
   spans_map disk_at P Q (j + 1) next borders to (λ i low high. f i (omega (arith, low)) (omega (arith, high))) spans.2,
 )
 
-and_then_none : (past : Past) → and_then past [] [] ≡ past
+pub and_then_none : (past : Past) → and_then past [] [] ≡ past
 and_then_none past = λ i. record { pages = past.pages; table = past.table; last = past.last; events = append-nil past.events i; replies = append-nil past.replies i }
 
 and_then_both : (past : Past) (es more : List Event) (rs others : List Reply) → and_then (and_then past es rs) more others ≡ and_then past (es ++ more) (rs ++ others)
@@ -95,3 +95,13 @@ lawful_last failures [] [] event reply old mid new so_far lawful = (new, subst (
 lawful_last failures [] (r ∷ rs) event reply old mid new so_far lawful = absurd so_far
 lawful_last failures (e ∷ es) [] event reply old mid new so_far lawful = absurd so_far
 lawful_last failures (e ∷ es) (r ∷ rs) event reply old mid new so_far lawful = (so_far.0, so_far.1, lawful_last failures es rs event reply so_far.0 mid new so_far.2 lawful)
+
+pub served_last : {D M : Type 0} (history : D → History) (failures : D → ℕ) (area : Area) (frame : Image) (past : Past) (es : List Event) (rs : List Reply) (event : Event) (reply : Reply) (old mid new : Engine D M) → IsAt history area frame past old
+    → AreServed history failures area frame past es rs old mid → IsLawful failures event reply mid new → Serves history event reply mid new → AreServed history failures area frame past (es ++ event ∷ []) (rs ++ reply ∷ []) old new
+served_last history failures area frame past [] [] event reply old mid new at so_far lawful serves =
+    let first = subst (λ e. Serves history event reply e new) so_far serves area frame past at in
+    (new, subst (λ e. IsLawful failures event reply e new) so_far lawful, first.0, first.1, refl)
+served_last history failures area frame past [] (r ∷ rs) event reply old mid new at so_far lawful serves = absurd so_far
+served_last history failures area frame past (e ∷ es) [] event reply old mid new at so_far lawful serves = absurd so_far
+served_last history failures area frame past (e ∷ es) (r ∷ rs) event reply old mid new at so_far lawful serves =
+    (so_far.0, so_far.1, so_far.2, so_far.3, served_last history failures area frame (and_then past (e ∷ []) (r ∷ [])) es rs event reply so_far.0 mid new so_far.2 so_far.4 lawful serves)

@@ -1,5 +1,5 @@
 -- Where a request leaves a run.
-use Rattle.std.proofs.Common.{◌≡◌, ℕ, ◌+◌, ◌≤◌, List, [], ◌∷◌, ◌++◌, length, take, sym, ◌∙◌, ap, subst, arith, length-append}
+use Rattle.std.proofs.Common.{◌≡◌, ℕ, ◌+◌, ◌≤◌, List, [], ◌∷◌, ◌++◌, length, take, sym, ◌∙◌, ap, subst, arith, length-append, length-take}
 use Rattle.std.proofs.lemmas.List.{take-append-le}
 use Rattle.records.specs.RecordValue.{RecordValue}
 use Rattle.model.specs.Cells.{cells_after}
@@ -32,6 +32,7 @@ survives area frame past handed outbox made s n floor image split has pages reac
       (subst (λ p. AreFollowing p past.last (at_rest past.table) (take left.count made)) pages (following-take s.heap.pages past.last (at_rest past.table) made left.count has.follows.in_order));
   unindexed = ap (λ rs. (cells_after (at_rest past.table) rs).life) prefix ∙ none_so_far left.count (at_rest past.table) made (ap (λ c. c.life) has.follows.cells);
   last = past.last + left.count;
+  numbered = omega (arith, length-take left.count handed, left.within);
   floor_is = omega (arith, reached, left.floor);
   recovers = ap (recovered past.table) prefix ∙ has.tells.prefixes left.count (omega (arith, left.within, ap length split, length-append handed outbox));
 }

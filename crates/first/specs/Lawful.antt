@@ -12,6 +12,7 @@ use Rattle.first.specs.declared.event.Event.TheVariants as event
 use Rattle.first.specs.declared.event.Reply.{Reply}
 use Rattle.first.specs.declared.event.Reply.TheVariants as reply
 use Rattle.first.specs.declared.engine.Engine.{Engine}
+use Rattle.first.specs.Writer.{FillsGroup}
 use Rattle.first.specs.Parts.{core_of, device_of, log_of, unwritten, horizon_of, has_failed, is_read_only}
 
 -- whether a request only reads
@@ -33,13 +34,15 @@ pub record OnlyCore {D M : Type 0} (old new : Engine D M) (core : State) : Type 
   pub core_is : core_of new ≡ core
   pub rest : new ≡ record old { core = new.core }
 
--- So many of the records that were not in the log, the first of them, now are, and synced; the core keeps the rest of its state.
-pub record Writes {D M : Type 0} (old new : Engine D M) (n : ℕ) : Type 0 where
+-- So many of the records that were not in the log, the first of them, now are, and synced; the core keeps the rest of its
+-- state, and the device's count of failures doesn't fall.
+pub record Writes {D M : Type 0} (failures : D → ℕ) (old new : Engine D M) (n : ℕ) : Type 0 where
   pub within : n ≤ length (unwritten old)
   pub horizon : horizon_of new ≡ horizon_of old + n
   pub left : unwritten new ≡ drop n (unwritten old)
   pub core : core_of new ≡ record (core_of old) { outbox = (core_of new).outbox }
   pub mode : is_read_only new ≡ is_read_only old
+  pub later : failures (device_of old) ≤ failures (device_of new)
 
 -- what is answered where requests of this kind are served
 abbrev pub IsAnswer : {D M : Type 0} → (D → ℕ) → Event → Reply → Engine D M → Engine D M → Type 0
@@ -70,15 +73,16 @@ IsAnswer failures (event.Commit txn) (reply.Refused e) old new = (is_rolling (co
 IsAnswer failures (event.Commit txn) reply.Skipped old new = (is_rolling (core_of old) txn ≡ true) × (new ≡ old)
 IsAnswer failures (event.Get rid) (reply.Row row) old new = (row ≡ map.get (core_of old).heap.rows rid) × (new ≡ old)
 IsAnswer failures event.Life (reply.Life life) old new = (life ≡ Absent) × (new ≡ old)
--- A flush that succeeds writes a record at least, where there is one to write.
+-- A flush that succeeds writes a record at least, where there is one to write, and as many as fill a group, where all of
+-- them could be handed over.
 IsAnswer failures event.Flush (reply.Horizon n) old new = (has_failed old ≡ false) × (has_failed new ≡ false) × (n ≡ horizon_of new) × (unwritten old ≢ [] → horizon_of old < n)
-    × ((written : ℕ) × Writes old new written)
-IsAnswer failures event.Flush reply.LogFull old new = (has_failed old ≡ false) × (has_failed new ≡ false) × ((log_of old).open_slots ≡ (log_of old).area.slots) × (unwritten old ≢ []) × Writes old new 0
--- A writer whose device failed answers so from then on.
+    × ((written : ℕ) × Writes failures old new written × ((core_of new).outbox ≡ [] → FillsGroup (unwritten old) written))
+IsAnswer failures event.Flush reply.LogFull old new = (has_failed old ≡ false) × (has_failed new ≡ false) × ((log_of old).open_slots ≡ (log_of old).area.slots) × (unwritten old ≢ []) × Writes failures old new 0
+-- There was no memory for a record that waits; or the device failed, and a writer whose device failed answers so from then on.
 IsAnswer failures event.Flush (reply.Refused e) old new =
-    (((e ≡ NoMemory) × (has_failed old ≡ false) × (has_failed new ≡ false))
+    (((e ≡ NoMemory) × (has_failed old ≡ false) × (has_failed new ≡ false) × (unwritten old ≢ []))
     ⊎ ((e ≡ DeviceFailed) × (has_failed new ≡ true) × (has_failed old ≡ false → Rises (failures (device_of old)) (failures (device_of new)))))
-    × Writes old new 0
+    × Writes failures old new 0
 IsAnswer failures event reply old new = ⊥
 
 -- An engine that only reads skips each request that would change something; any other request is answered.

@@ -1,5 +1,5 @@
 -- What a restart makes of what a device holds.
-use Rattle.std.specs.Prelude.{◌≡◌, ◌⊎◌, ℕ, ◌≤◌, Bool, true, false, List, [], ◌∷◌, length}
+use Rattle.std.specs.Prelude.{◌≡◌, ◌⊎◌, ℕ, ◌+◌, ◌≤◌, Bool, true, false, List, [], ◌∷◌, ◌++◌, length, take}
 use Rattle.std.specs.FinMap as map
 use Rattle.records.specs.RecordValue.{RecordValue}
 use Rattle.records.specs.GeometryValue.{GeometryValue}
@@ -7,7 +7,7 @@ use Rattle.records.specs.declared.error.Error.{Error}
 use Rattle.model.specs.Table.{Table}
 use Rattle.model.specs.History.{table_after, up_to}
 use Rattle.sector_device.specs.Disk.{Image, IsSynced, IsCrashImage}
-use Rattle.sector_device.specs.History.{History, LeavesOnly}
+use Rattle.sector_device.specs.History.{History, LeavesOnly, Between}
 use Rattle.gate_log.specs.Area.{Refuses}
 use Rattle.flip_image.specs.declared.half.Half.{Half}
 use Rattle.flip_image.specs.declared.half.Half.TheVariants.{A}
@@ -17,8 +17,8 @@ use Rattle.nsf_core.specs.State.{State, fresh}
 use Rattle.first.specs.declared.event.Event.{Event}
 use Rattle.first.specs.declared.event.Reply.{Reply}
 use Rattle.first.specs.declared.engine.Engine.{Engine}
+use Rattle.first.specs.History.{acknowledged}
 use Rattle.first.specs.Parts.{core_of, device_of, horizon_of, has_failed, is_read_only}
-use Rattle.first.specs.Lawful.{AreLawful}
 use Rattle.first.specs.Store.{Past, items_of, and_then, Survives, IsAt}
 
 -- a core over these rows, with no transaction, of which the last record has this number
@@ -66,16 +66,18 @@ pub record Recovers {D M : Type 0} (past : Past) (floor : ℕ) (engine : Engine 
   pub floor_is : floor ≤ last
   pub rows : (core_of engine).heap.rows ≡ table_after past.table (up_to last (items_of past))
   pub no_txn : (core_of engine).txns.active ≡ []
+  pub next : (core_of engine).last ≡ last
 
 -- A run over a store that was formatted, and a crash that left it so.
 pub record IsLeftByRun (geometry : GeometryValue) (frame : Image) (events : List Event) (replies : List Reply) (floor : ℕ) (image : Image) : Type 0 where
   pub formatted : IsFormatted geometry frame
   pub survives : Survives (log_area geometry A) frame (and_then (opening geometry.pages) events replies) floor image
 
--- These requests were answered so, each lawfully, over a store that was just formatted.
-pub record IsAnswered {D : Type 0} (M : Type 0) (history : D → History) (failures : D → ℕ) (geometry : GeometryValue) (events : List Event) (replies : List Reply) : Type 0 where
-  pub frame : Image
-  pub opened : Engine D M
-  pub served : Engine D M
-  pub begins : IsAt history (log_area geometry A) frame (opening geometry.pages) opened
-  pub lawful : AreLawful failures events replies opened served
+-- These requests were answered so by an engine over a store that was formatted, whatever was answered since. A crash at any
+-- moment of the call leaves what the run left up to one of the requests, with all that was acknowledged before that one.
+abbrev pub SurvivesAnyCrash : {D M : Type 0} → (D → History) → List Event → List Reply → Engine D M → Engine D M → Type 0
+SurvivesAnyCrash history events replies old new =
+    (geometry : GeometryValue) (frame : Image) (earlier : List Event) (answered : List Reply) → IsFormatted geometry frame
+    → IsAt history (log_area geometry A) frame (and_then (opening geometry.pages) earlier answered) old
+    → Between (history (device_of new)).disk_at (history (device_of old)).moment (history (device_of new)).moment
+    (λ image. (j : ℕ) × (j ≤ length events) × IsLeftByRun geometry frame (earlier ++ take (j + 1) events) (answered ++ take (j + 1) replies) (acknowledged 0 (answered ++ take j replies)) image)

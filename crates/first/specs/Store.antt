@@ -20,6 +20,7 @@ use Rattle.first.specs.declared.event.Reply.{Reply}
 use Rattle.first.specs.declared.engine.Engine.{Engine}
 use Rattle.first.specs.History.{story, written_by, acknowledged}
 use Rattle.first.specs.Writer.{HoldsRecords, IsWriter}
+use Rattle.first.specs.Lawful.{IsLawful}
 use Rattle.first.specs.Parts.{core_of, device_of, synced_of, is_read_only}
 
 -- A run: how many pages the store has, the rows and the number of the last record that it began with, what was asked,
@@ -45,8 +46,8 @@ and_then past events replies = record past { events = past.events ++ events; rep
 abbrev pub recovered : Table → List RecordValue → Table
 recovered table records = recovered_rows (cells_after (at_rest table) records)
 
--- The image, outside the log that of the opening, holds records that a reader takes and that make no index, and recovers
--- the table of a prefix of the history, which has every item up to the floor.
+-- Outside the log the image is what the run began with. Its log holds records that a reader takes and that make no index.
+-- They recover the table of a prefix of the history, which has every item up to the floor, and ends where they end.
 pub record Survives (area : Area) (frame : Image) (past : Past) (floor : ℕ) (image : Image) : Type 0 where
   pub records : List RecordValue
   pub holds : HoldsRecords area frame records image
@@ -54,6 +55,7 @@ pub record Survives (area : Area) (frame : Image) (past : Past) (floor : ℕ) (i
   pub unindexed : (cells_after (at_rest past.table) records).life ≡ Absent
   pub last : ℕ
   pub floor_is : floor ≤ last
+  pub numbered : last ≡ past.last + length records
   pub recovers : recovered past.table records ≡ table_after past.table (up_to last (items_of past))
 
 -- Each transaction has on its list what the replies accepted.
@@ -98,3 +100,14 @@ pub record GoesOn {D M : Type 0} (history : D → History) (area : Area) (frame 
   pub borders : List ℕ
   pub one_each : length borders ≡ length events
   pub spans : Spans (history (device_of new)).disk_at (SurvivesAt area frame past events replies) 0 (history (device_of old)).moment borders (history (device_of new)).moment
+
+-- Each request in turn was answered lawfully, from where the run had left the engine to where it leaves it then.
+abbrev pub AreServed : {D M : Type 0} → (D → History) → (D → ℕ) → Area → Image → Past → List Event → List Reply → Engine D M → Engine D M → Type 0
+AreServed history failures area frame past [] [] old new = new ≡ old
+AreServed {D} {M} history failures area frame past (event ∷ events) (reply ∷ replies) old new =
+    (mid : Engine D M) × IsLawful failures event reply old mid
+    × IsAt history area frame (and_then past (event ∷ []) (reply ∷ [])) mid
+    × LeavesOnly (history (device_of old)) (history (device_of mid)) (Survives area frame (and_then past (event ∷ []) (reply ∷ [])) (acknowledged_by past))
+    × AreServed history failures area frame (and_then past (event ∷ []) (reply ∷ [])) events replies mid new
+AreServed history failures area frame past [] (reply ∷ replies) old new = ⊥
+AreServed history failures area frame past (event ∷ events) [] old new = ⊥

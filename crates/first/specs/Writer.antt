@@ -1,11 +1,13 @@
 -- What the writer keeps of the records that were handed to it.
-use Rattle.std.specs.Prelude.{◌≡◌, ◌≢◌, ◌⊎◌, ℕ, ◌≤◌, ◌<◌, ◌^◌, true, false, List, [], length, take, drop}
+use Rattle.std.specs.Prelude.{◌≡◌, ◌≢◌, ◌⊎◌, ℕ, ◌+◌, ◌-◌, ◌≤◌, ◌<◌, ◌^◌, true, false, List, [], length, take, drop}
 use Rattle.records.specs.RecordValue.{RecordValue}
 use Rattle.sector_device.specs.Disk.{Image, IsCrashImage, IsSynced, SameOutside}
 use Rattle.sector_device.specs.History.{History, Rises}
 use Rattle.records.specs.declared.error.Error.{Error}
 use Rattle.records.specs.declared.error.Error.TheVariants.{NoMemory, DeviceFailed}
 use Rattle.gate_log.specs.Area.{Area, InArea, IsInside, HoldsGroups, Stands, records_of}
+use Rattle.gate_log.specs.Group.{spellings}
+use Rattle.gate_log.specs.declared.group.TheConstants.{GROUP_MAX}
 use Rattle.first.specs.declared.writer.Writer.{Writer}
 use Rattle.first.specs.declared.writer.Flushed.{Flushed}
 use Rattle.first.specs.declared.writer.Flushed.TheVariants.{Group, Nothing, Full}
@@ -42,14 +44,18 @@ pub record IsWriter {D M : Type 0} (history : D → History) (area : Area) (fram
   pub holds : w.failed ≡ false → StandsFor history frame (take w.synced handed) w
   pub images : (image : Image) → IsCrashImage (history w.device).disk image → LeftBy area frame handed w.synced image
 
--- what became of a flush: more records are synced, or none waited, or every slot is open
+-- The first n of the records fill a group: with one more they take too many bytes, or there is no other.
+abbrev pub FillsGroup : List RecordValue → ℕ → Type 0
+FillsGroup records n = n < length records → GROUP_MAX < length (spellings (take (n + 1) records))
+
+-- what became of a flush: as many more records are synced as fill a group, or none waited, or every slot is open
 abbrev pub IsFlushed : {D M : Type 0} → Flushed → Writer D M → Writer D M → Type 0
-IsFlushed Group old new = (old.synced < new.synced) × (old.waiting.items ≢ [])
+IsFlushed Group old new = (old.synced < new.synced) × (old.waiting.items ≢ []) × FillsGroup old.waiting.items (new.synced - old.synced)
 IsFlushed Nothing old new = (new ≡ old) × (old.waiting.items ≡ [])
 IsFlushed Full old new = (new ≡ old) × (old.log.open_slots ≡ old.log.area.slots) × (old.waiting.items ≢ [])
 
--- why nothing was written: there was no memory, or the device failed, now or earlier
+-- why nothing was written: there was no memory for a group that waits, or the device failed, now or earlier
 abbrev pub IsNotFlushed : {D M : Type 0} → (D → ℕ) → Error → Writer D M → Writer D M → Type 0
 IsNotFlushed failures e old new =
-    ((e ≡ NoMemory) × (old.failed ≡ false) × (new ≡ old))
+    ((e ≡ NoMemory) × (old.failed ≡ false) × (old.waiting.items ≢ []) × (new ≡ old))
     ⊎ ((e ≡ DeviceFailed) × (new.failed ≡ true) × (old.failed ≡ false → Rises (failures old.device) (failures new.device)))

@@ -30,51 +30,12 @@ impl<D: Device, A: Allocator + Copy> Engine<D, A> {
     ghost use Rattle.first.specs.declared.event.Reply.TheVariants.{Horizon, Refused};
     ghost use Rattle.first.specs.Parts.{core_of, device_of, horizon_of, is_read_only};
     ghost use Rattle.first.specs.Lawful.{is_read, IsAnswer, IsLawful, AreLawful};
-    ghost use Rattle.first.specs.Store.{Past, acknowledged_by, Survives, IsAt, CanRun, Serves, GoesOn};
+    ghost use Rattle.first.specs.Store.{Past, acknowledged_by, Survives, IsAt, CanRun, Serves, GoesOn, AreServed};
+    ghost use Rattle.first.specs.Reopening.{SurvivesAnyCrash};
 
-    /// Serves requests in order, one reply for each. The one error is
-    /// `NoMemory`, where there was no room for the replies, and then nothing
-    /// was served.
-    ///
-    /// A crash at any moment, between the replies or within a request, leaves a store that `restart` takes back to what
-    /// was committed by a prefix of the requests, and nothing that a reply has told to be safe is lost (`ran`).
-    pub fn run(&mut self, events: &[Event]) -> Result<Vec<Reply, A>, Error>
-        requires { CanRun D.history self.old }
-        ensures ran { IfOk result (λ replies. (area : Area) (frame : Image) (past : Past) → IsAt D.history area frame past self.old → GoesOn D.history area frame past events.now replies.items self.old self.new) }
-        ensures lawful { IfOk result (λ replies. AreLawful D.failures events.now replies.items self.old self.new) }
-        ensures refused { OnErr result (self.new ≡ self.old) }
-        ensures no_memory { IfErr result (λ e. e ≡ Error.NoMemory) }
-        ensures can_run { CanRun D.history self.new }
-    {
-        let mut replies = Vec::with_capacity(self.alloc, events.len())?;
-        for event in events {
-            let reply = self.step(*event);
-            let Ok(()) = replies.push(reply) else {
-                unreachable!()
-            };
-        }
-        Ok(replies)
-    }
-
-    /// The core: the rows and the transactions as they are now.
-    pub fn core(&self) -> &Core<A>
-        ensures { state_of result.now ≡ core_of self.now }
-    {
-        &self.core
-    }
-
-    /// The device as it is now. What was not written to it is lost, and nothing of it was acknowledged: a crash of the
-    /// device leaves what `restart` takes back to a prefix of the history, with everything that was.
-    pub fn into_device(self) -> D
-        ensures device { result ≡ device_of self }
-        ensures survives { (area : Area) (frame : Image) (past : Past) (image : Image) → IsAt D.history area frame past self
-            → IsCrashImage (D.history result).disk image → Survives area frame past (acknowledged_by past) image }
-    {
-        self.writer.into_device()
-    }
-
-    // Serves one request.
-    fn step(&mut self, event: Event) -> Reply
+    /// Serves one request. A crash at any moment of the call leaves a store that `restart` takes back to what was
+    /// committed by a prefix of the requests, and nothing that an earlier reply has told to be safe is lost (`serves`).
+    pub fn serve(&mut self, event: Event) -> Reply
         requires { CanRun D.history self.old }
         ensures serves { Serves D.history event result self.old self.new }
         ensures lawful { IsLawful D.failures event result self.old self.new }
@@ -101,6 +62,49 @@ impl<D: Device, A: Allocator + Copy> Engine<D, A> {
             Event::Get { rid } => Reply::Row(self.core.get(rid)),
             Event::Life => Reply::Life(self.core.life()),
         }
+    }
+
+    /// Serves requests in order, one reply for each. The one error is
+    /// `NoMemory`, where there was no room for the replies, and then nothing
+    /// was served.
+    ///
+    /// A crash at any moment, between the replies or within a request, leaves a store that `restart` takes back to what
+    /// was committed by a prefix of the requests, and nothing that a reply has told to be safe is lost (`ran`).
+    pub fn run(&mut self, events: &[Event]) -> Result<Vec<Reply, A>, Error>
+        requires { CanRun D.history self.old }
+        ensures any_crash { IfOk result (λ replies. SurvivesAnyCrash D.history events.now replies.items self.old self.new) }
+        ensures ran { IfOk result (λ replies. (area : Area) (frame : Image) (past : Past) → IsAt D.history area frame past self.old → GoesOn D.history area frame past events.now replies.items self.old self.new) }
+        ensures served { IfOk result (λ replies. (area : Area) (frame : Image) (past : Past) → IsAt D.history area frame past self.old → AreServed D.history D.failures area frame past events.now replies.items self.old self.new) }
+        ensures lawful { IfOk result (λ replies. AreLawful D.failures events.now replies.items self.old self.new) }
+        ensures refused { OnErr result (self.new ≡ self.old) }
+        ensures no_memory { IfErr result (λ e. e ≡ Error.NoMemory) }
+        ensures can_run { CanRun D.history self.new }
+    {
+        let mut replies = Vec::with_capacity(self.alloc, events.len())?;
+        for event in events {
+            let reply = self.serve(*event);
+            let Ok(()) = replies.push(reply) else {
+                unreachable!()
+            };
+        }
+        Ok(replies)
+    }
+
+    /// The core: the rows and the transactions as they are now.
+    pub fn core(&self) -> &Core<A>
+        ensures { state_of result.now ≡ core_of self.now }
+    {
+        &self.core
+    }
+
+    /// The device as it is now. What was not written to it is lost, and nothing of it was acknowledged: a crash of the
+    /// device leaves what `restart` takes back to a prefix of the history, with everything that was.
+    pub fn into_device(self) -> D
+        ensures device { result ≡ device_of self }
+        ensures survives { (area : Area) (frame : Image) (past : Past) (image : Image) → IsAt D.history area frame past self
+            → IsCrashImage (D.history result).disk image → Survives area frame past (acknowledged_by past) image }
+    {
+        self.writer.into_device()
     }
 
     // Whether the request would change something, and only those that read are served.

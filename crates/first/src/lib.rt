@@ -4,11 +4,9 @@
 
 mod engine;
 mod event;
-mod rehearsal;
 mod reopen;
 mod writer;
 
 pub use engine::Engine;
 pub use event::{Event, Reply};
-pub use rehearsal::rehearse;
 pub use reopen::restart;

@@ -99,6 +99,7 @@ impl<D: Device, A: Allocator + Copy> Writer<D, A> {
         ensures grows { self.old.synced ≤ self.new.synced }
         ensures err { IfErr result (λ e. IsNotFlushed D.failures e self.old self.new) }
         ensures nothing { OnErr result (self.new.synced ≡ self.old.synced) }
+        ensures later { D.failures self.old.device ≤ D.failures self.new.device }
     {
         if self.failed {
             return Err(Error::DeviceFailed);

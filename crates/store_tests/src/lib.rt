@@ -9,3 +9,11 @@ mod engine_tests;
 mod memory_tests;
 #[cfg(test)]
 mod reader_tests;
+#[cfg(test)]
+mod rehearsal;
+#[cfg(test)]
+mod requests;
+#[cfg(test)]
+mod store;
+#[cfg(test)]
+mod values;

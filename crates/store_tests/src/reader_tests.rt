@@ -1,9 +1,9 @@
 // What a reader finds in a store, and what it refuses.
 use crate::disks::{FIRST, SECTORS, formatted, geometry, set};
+use crate::values::{record_number, row, txn};
 use gate_log::{Appended, LogArea, fits};
 use records::{
-    Action, Body, Change, Error, Geometry, IndexAction, Key, Part, Record, RecordNumber, Rid, Row,
-    Rows, Txn, TxnAction,
+    Action, Change, Error, Geometry, IndexAction, Part, Record, Rid, Row, Rows, TxnAction,
 };
 use sector_device::{Device, Fate, FaultDisk, Which};
 use std::alloc::Global;
@@ -13,34 +13,29 @@ use store_reader::read_store;
 
 const NEXT: Rid = Rid { page: 0, slot: 1 };
 
-fn row(key: &[u8]) -> Result<Row, Fail> {
-    Ok(Row {
-        key: Key::new(key)?,
-        body: Body::new(b"x")?,
-    })
-}
-
 // The index is created, as record `number`.
 fn creation(number: u64) -> Result<Record, Fail> {
     Ok(Record {
-        number: RecordNumber::new(number).ok_or("a number")?,
+        number: record_number(number)?,
         action: Action::OfIndex {
             action: IndexAction::Create,
         },
     })
 }
 
-// Transaction `txn` inserts a row as its first change, as record `number`.
-fn insertion(number: u64, txn: u64, rid: Rid, key: &[u8]) -> Result<Record, Fail> {
+// Transaction `by` inserts a row as its first change, as record `number`.
+fn insertion(number: u64, by: u64, rid: Rid, key: &[u8]) -> Result<Record, Fail> {
     let change = Change {
         position: 0,
         rid,
-        rows: Rows::Inserted { new: row(key)? },
+        rows: Rows::Inserted {
+            new: row(key, b"x")?,
+        },
     };
     let part = Part::Slot;
-    let txn = Txn::new(txn).ok_or("a transaction")?;
+    let txn = txn(by)?;
     Ok(Record {
-        number: RecordNumber::new(number).ok_or("a number")?,
+        number: record_number(number)?,
         action: Action::OfTxn {
             txn,
             action: TxnAction::Forward { part, change },
@@ -48,11 +43,11 @@ fn insertion(number: u64, txn: u64, rid: Rid, key: &[u8]) -> Result<Record, Fail
     })
 }
 
-// Transaction `txn` commits, as record `number`.
-fn commit(number: u64, txn: u64) -> Result<Record, Fail> {
-    let txn = Txn::new(txn).ok_or("a transaction")?;
+// Transaction `by` commits, as record `number`.
+fn commit(number: u64, by: u64) -> Result<Record, Fail> {
+    let txn = txn(by)?;
     Ok(Record {
-        number: RecordNumber::new(number).ok_or("a number")?,
+        number: record_number(number)?,
         action: Action::OfTxn {
             txn,
             action: TxnAction::Commit,
@@ -147,7 +142,7 @@ fn a_row_redone_and_a_row_taken_back(rt: HostRuntime) -> Result<(), Fail> {
     let second = [insertion(3, 2, NEXT, b"bee")?];
     append(&rt, rt.alloc(), &mut disk, &second)?;
     disk.crash(&[Fate::Junk]);
-    check_found(&rt, rt.alloc(), &mut disk, 2, Some(row(b"ant")?), 3)?;
+    check_found(&rt, rt.alloc(), &mut disk, 2, Some(row(b"ant", b"x")?), 3)?;
     // Half B, once it is current, has no group.
     set(&rt, &mut disk, 1, 0, 0xA5)?;
     check_found(&rt, rt.alloc(), &mut disk, 0, None, 0)

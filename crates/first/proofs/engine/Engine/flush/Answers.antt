@@ -1,4 +1,4 @@
-use Rattle.std.proofs.Common.{ℕ, ◌∷◌, ◌≡◌, ◌-◌, ◌≤◌, ◌++◌, refl, arith, sym, ap, subst, ◌∙◌, inl, inr, ⊎_elim, []}
+use Rattle.std.proofs.Common.{ℕ, length, ◌∷◌, ◌≡◌, ◌-◌, ◌≤◌, ◌++◌, refl, arith, sym, ap, subst, ◌∙◌, inl, inr, ⊎_elim, []}
 use Rattle.records.specs.declared.error.Error.TheVariants.{NoMemory}
 use Rattle.first.specs.declared.event.Reply.TheVariants.{Horizon, LogFull, Refused}
 use Rattle.first.specs.declared.engine.Engine.{Engine}
@@ -11,7 +11,7 @@ use Rattle.first.specs.Store.{Serves}
 use Rattle.first.specs.declared.event.Reply.{Reply}
 use Rattle.first.specs.Lawful.{IsAnswer}
 use Rattle.first.specs.declared.event.Event.TheVariants.{Flush}
-use Rattle.first.proofs.Flushing.{taken, within, served_flush, writes, all_written, some_waits}
+use Rattle.first.proofs.Flushing.{taken, within, served_flush, writes, fills, all_written, some_waits, some_unwritten}
 use Rattle.std.proofs.lemmas.Bool.{cases_lt}
 use Rattle.nsf_core.specs.State.{state_of}
 use Rattle.first.proofs.engine.Engine.flush.Goals as goal
@@ -63,7 +63,7 @@ returns-in-Ok-Nothing g c =
     let numbered : (state_of old.core).last ≤ 4611686018427387904 = omega (arith, c.last-last.ensures.value, c.last-last.ensures.numbered) in
     let new : Engine g.row.D.Denot g.row.A.Denot = record { core = c.take_outbox.new.self; writer = c.flush_group.new.self; alloc = old.alloc; read_only = old.read_only } in
     let flushed : IsFlushed Nothing mid c.flush_group.new.self = subst (λ f. IsFlushed f mid c.flush_group.new.self) c.in-Ok-Nothing.field-0-is c.in-Ok-Nothing.ensures.flushed in
-    let wrote = writes history old (state_of c.take_outbox.new.self) mid hands refl numbered new refl c.requires.0 c.requires.1 c.requires.2 c.requires.3 (c.flush_group.ensures.writer c.requires.0 c.requires.1 (c.requires.3.handed ++ hands.handed) (taken history old (state_of c.take_outbox.new.self) mid hands refl numbered c.requires.0 c.requires.1 c.requires.2 c.requires.3)) 0 c.flush_group.ensures.base (omega (arith, ap (λ w. w.synced) flushed.0)) refl in
+    let wrote = writes history old (state_of c.take_outbox.new.self) mid hands refl numbered new refl c.requires.0 c.requires.1 c.requires.2 c.requires.3 (c.flush_group.ensures.writer c.requires.0 c.requires.1 (c.requires.3.handed ++ hands.handed) (taken history old (state_of c.take_outbox.new.self) mid hands refl numbered c.requires.0 c.requires.1 c.requires.2 c.requires.3)) 0 c.flush_group.ensures.base (omega (arith, ap (λ w. w.synced) flushed.0)) refl g.D.Device.failures c.flush_group.ensures.later in
     let all : horizon_of new ≡ horizon_of old = omega (arith, wrote.horizon) in
     let tells : (r : Reply) → ((n : ℕ) → n ≤ horizon_of new → acknowledged n (r ∷ []) ≤ horizon_of new) → Serves history Flush r old new = λ r safe. served_flush history old (state_of c.take_outbox.new.self) mid hands refl numbered new refl r c.flush_group.ensures.writer c.flush_group.ensures.images c.flush_group.ensures.grows c.flush_group.ensures.base safe refl in
     elim (cases_lt (horizon_of new) c.last-last.result) [
@@ -72,13 +72,13 @@ returns-in-Ok-Nothing g c =
           let written : unwritten old ≡ [] = all_written history old (state_of c.take_outbox.new.self) mid hands refl numbered new c.requires.0 c.requires.1 c.requires.2 c.requires.3 flushed.0 flushed.1 (omega (arith, reached, c.last-last.ensures.value)) in
           record {
             serves = subst (λ (r : Reply). Serves history Flush r old new) (sym is) (tells (Horizon (horizon_of new)) (λ n le. omega (arith, le)));
-            answer = subst (λ (r : Reply). IsAnswer g.D.Device.failures Flush r old new) (sym is) (c.in-Ok-Nothing.ensures.sound.0, c.in-Ok-Nothing.ensures.sound.1, refl, (λ some. absurd (some written)), (0, wrote));
+            answer = subst (λ (r : Reply). IsAnswer g.D.Device.failures Flush r old new) (sym is) (c.in-Ok-Nothing.ensures.sound.0, c.in-Ok-Nothing.ensures.sound.1, refl, (λ some. absurd (some written)), (0, wrote, (λ _ below. absurd (omega (arith, below, ap length written)))));
           }
       | inl over ↦
           let is : c.told_up_to.result ≡ Refused NoMemory = c.told_up_to.ensures.some over in
           record {
             serves = subst (λ (r : Reply). Serves history Flush r old new) (sym is) (tells (Refused NoMemory) (λ n le. le));
-            answer = subst (λ (r : Reply). IsAnswer g.D.Device.failures Flush r old new) (sym is) (inl (refl, c.in-Ok-Nothing.ensures.sound.0, c.in-Ok-Nothing.ensures.sound.1), wrote);
+            answer = subst (λ (r : Reply). IsAnswer g.D.Device.failures Flush r old new) (sym is) (inl (refl, c.in-Ok-Nothing.ensures.sound.0, c.in-Ok-Nothing.ensures.sound.1, some_unwritten history old (state_of c.take_outbox.new.self) mid hands refl numbered c.requires.0 c.requires.1 c.requires.2 c.requires.3 (horizon_of new) (omega (arith, ap (λ w. w.base) flushed.0, ap (λ w. w.synced) flushed.0)) (omega (arith, over, c.last-last.ensures.value))), wrote);
           }
     ]
 
@@ -112,7 +112,7 @@ returns-in-Ok-Group-clause-answer g c =
     let new : Engine g.row.D.Denot g.row.A.Denot = record { core = c.take_outbox.new.self; writer = c.flush_group.new.self; alloc = old.alloc; read_only = old.read_only } in
     let flushed : IsFlushed Group mid c.flush_group.new.self = subst (λ f. IsFlushed f mid c.flush_group.new.self) c.in-Ok-Group.field-0-is c.in-Ok-Group.ensures.flushed in
     let count = c.flush_group.new.self.synced - mid.synced in
-    (c.in-Ok-Group.ensures.sound.0, c.in-Ok-Group.ensures.sound.1, c.horizon.ensures, (λ some. omega (arith, c.horizon.ensures, c.flush_group.ensures.base, flushed.0)), (count, writes history old (state_of c.take_outbox.new.self) mid hands refl numbered new refl c.requires.0 c.requires.1 c.requires.2 c.requires.3 (c.flush_group.ensures.writer c.requires.0 c.requires.1 (c.requires.3.handed ++ hands.handed) (taken history old (state_of c.take_outbox.new.self) mid hands refl numbered c.requires.0 c.requires.1 c.requires.2 c.requires.3)) count c.flush_group.ensures.base (omega (arith, flushed.0)) refl))
+    (c.in-Ok-Group.ensures.sound.0, c.in-Ok-Group.ensures.sound.1, c.horizon.ensures, (λ some. omega (arith, c.horizon.ensures, c.flush_group.ensures.base, flushed.0)), (count, writes history old (state_of c.take_outbox.new.self) mid hands refl numbered new refl c.requires.0 c.requires.1 c.requires.2 c.requires.3 (c.flush_group.ensures.writer c.requires.0 c.requires.1 (c.requires.3.handed ++ hands.handed) (taken history old (state_of c.take_outbox.new.self) mid hands refl numbered c.requires.0 c.requires.1 c.requires.2 c.requires.3)) count c.flush_group.ensures.base (omega (arith, flushed.0)) refl g.D.Device.failures c.flush_group.ensures.later, fills history old (state_of c.take_outbox.new.self) mid hands refl numbered new refl count flushed.2))
 
 pub returns-in-Ok-Full-clause-answer : goal.returns-in-Ok-Full-clause-answer
 returns-in-Ok-Full-clause-answer g c =
@@ -123,7 +123,7 @@ returns-in-Ok-Full-clause-answer g c =
     let numbered : (state_of old.core).last ≤ 4611686018427387904 = omega (arith, c.last-last.ensures.value, c.last-last.ensures.numbered) in
     let new : Engine g.row.D.Denot g.row.A.Denot = record { core = c.take_outbox.new.self; writer = c.flush_group.new.self; alloc = old.alloc; read_only = old.read_only } in
     let flushed : IsFlushed Full mid c.flush_group.new.self = subst (λ f. IsFlushed f mid c.flush_group.new.self) c.in-Ok-Full.field-0-is c.in-Ok-Full.ensures.flushed in
-    (c.in-Ok-Full.ensures.sound.0, c.in-Ok-Full.ensures.sound.1, flushed.1, some_waits history old (state_of c.take_outbox.new.self) mid hands refl numbered flushed.2, (writes history old (state_of c.take_outbox.new.self) mid hands refl numbered new refl c.requires.0 c.requires.1 c.requires.2 c.requires.3 (c.flush_group.ensures.writer c.requires.0 c.requires.1 (c.requires.3.handed ++ hands.handed) (taken history old (state_of c.take_outbox.new.self) mid hands refl numbered c.requires.0 c.requires.1 c.requires.2 c.requires.3)) 0 c.flush_group.ensures.base (omega (arith, ap (λ w. w.synced) flushed.0)) refl))
+    (c.in-Ok-Full.ensures.sound.0, c.in-Ok-Full.ensures.sound.1, flushed.1, some_waits history old (state_of c.take_outbox.new.self) mid hands refl numbered flushed.2, (writes history old (state_of c.take_outbox.new.self) mid hands refl numbered new refl c.requires.0 c.requires.1 c.requires.2 c.requires.3 (c.flush_group.ensures.writer c.requires.0 c.requires.1 (c.requires.3.handed ++ hands.handed) (taken history old (state_of c.take_outbox.new.self) mid hands refl numbered c.requires.0 c.requires.1 c.requires.2 c.requires.3)) 0 c.flush_group.ensures.base (omega (arith, ap (λ w. w.synced) flushed.0)) refl g.D.Device.failures c.flush_group.ensures.later))
 
 pub returns-in-Err-clause-answer : goal.returns-in-Err-clause-answer
 returns-in-Err-clause-answer g c =
@@ -133,4 +133,4 @@ returns-in-Err-clause-answer g c =
     let hands = c.take_outbox.ensures.handed in
     let numbered : (state_of old.core).last ≤ 4611686018427387904 = omega (arith, c.last-last.ensures.value, c.last-last.ensures.numbered) in
     let new : Engine g.row.D.Denot g.row.A.Denot = record { core = c.take_outbox.new.self; writer = c.flush_group.new.self; alloc = old.alloc; read_only = old.read_only } in
-    (⊎_elim (λ none. inl (none.0, none.1, ap (λ w. w.failed) none.2 ∙ none.1)) (λ failed. inr failed) c.in-Err.ensures.err, (writes history old (state_of c.take_outbox.new.self) mid hands refl numbered new refl c.requires.0 c.requires.1 c.requires.2 c.requires.3 (c.flush_group.ensures.writer c.requires.0 c.requires.1 (c.requires.3.handed ++ hands.handed) (taken history old (state_of c.take_outbox.new.self) mid hands refl numbered c.requires.0 c.requires.1 c.requires.2 c.requires.3)) 0 c.flush_group.ensures.base (omega (arith, c.in-Err.ensures.nothing)) refl))
+    (⊎_elim (λ none. inl (none.0, none.1, ap (λ w. w.failed) none.3 ∙ none.1, some_waits history old (state_of c.take_outbox.new.self) mid hands refl numbered none.2)) (λ failed. inr failed) c.in-Err.ensures.err, (writes history old (state_of c.take_outbox.new.self) mid hands refl numbered new refl c.requires.0 c.requires.1 c.requires.2 c.requires.3 (c.flush_group.ensures.writer c.requires.0 c.requires.1 (c.requires.3.handed ++ hands.handed) (taken history old (state_of c.take_outbox.new.self) mid hands refl numbered c.requires.0 c.requires.1 c.requires.2 c.requires.3)) 0 c.flush_group.ensures.base (omega (arith, c.in-Err.ensures.nothing)) refl g.D.Device.failures c.flush_group.ensures.later))

@@ -3,8 +3,11 @@ use Rattle.std.proofs.lemmas.List.{take_more, take_all}
 use Rattle.first.specs.declared.event.Event.{Event}
 use Rattle.first.specs.declared.event.Reply.{Reply}
 use Rattle.first.specs.Lawful.{IsLawful, AreLawful}
-use Rattle.first.specs.Store.{Serves, GoesOn}
-use Rattle.first.proofs.Runs.{goes_nowhere, goes_further, lawful_last}
+use Rattle.sector_device.specs.Disk.{Image}
+use Rattle.gate_log.specs.Area.{Area}
+use Rattle.first.specs.Store.{Past, IsAt, Serves, GoesOn, AreServed}
+use Rattle.first.proofs.Runs.{goes_nowhere, goes_further, lawful_last, served_last}
+use Rattle.first.proofs.Crashes.{survives_any_crash}
 use Rattle.first.proofs.engine.Engine.run.Goals as goal
 
 pub loop-event-init : goal.loop-event-init
@@ -13,6 +16,7 @@ loop-event-init g c = record {
   room = omega (arith, c.in_ok-replies.ensures.exact);
   lawful = subst (λ (rs : List Reply). AreLawful g.D.Device.failures [] rs c.args.self.now c.args.self.now) (sym c.in_ok-replies.ensures.items) refl;
   can_run = c.requires;
+  served = λ area frame past is. subst (λ (rs : List Reply). AreServed g.D.Device.history g.D.Device.failures area frame past [] rs c.args.self.now c.args.self.now) (sym c.in_ok-replies.ensures.items) refl;
   ran = λ area frame past is. subst (λ (rs : List Reply). GoesOn g.D.Device.history area frame past [] rs c.args.self.now c.args.self.now) (sym c.in_ok-replies.ensures.items) (goes_nowhere g.D.Device.history area frame past c.args.self.now is);
 }
 
@@ -25,24 +29,33 @@ loop-event-preserved g c =
     let item : c.event-item.result ≡ get_or events i c.event-item.result = c.event-item.is in
     let even : length c.loop-event.replies.items ≡ length (take i events) = omega (arith, inv.even, length-take i events, c.loop-event-test.true) in
     record {
-      even = omega (arith, inv.even, ap length c.in-Ok.ensures.items, length-append c.loop-event.replies.items (c.step-reply.result ∷ []));
+      even = omega (arith, inv.even, ap length c.in-Ok.ensures.items, length-append c.loop-event.replies.items (c.serve-reply.result ∷ []));
       room = omega (arith, inv.room, c.push.ensures.capacity);
       lawful =
-          subst (λ (es : List Event). AreLawful g.D.Device.failures es c.push.new.self.items c.args.self.now c.step-reply.new.self) (sym (take_more events i c.event-item.result c.loop-event-test.true))
-          (subst (λ (rs : List Reply). AreLawful g.D.Device.failures (take i events ++ get_or events i c.event-item.result ∷ []) rs c.args.self.now c.step-reply.new.self) (sym c.in-Ok.ensures.items)
-          (lawful_last g.D.Device.failures (take i events) c.loop-event.replies.items (get_or events i c.event-item.result) c.step-reply.result c.args.self.now c.loop-event.self c.step-reply.new.self inv.lawful (subst (λ e. IsLawful g.D.Device.failures e c.step-reply.result c.loop-event.self c.step-reply.new.self) item c.step-reply.ensures.lawful)));
-      can_run = c.step-reply.ensures.can_run;
+          subst (λ (es : List Event). AreLawful g.D.Device.failures es c.push.new.self.items c.args.self.now c.serve-reply.new.self) (sym (take_more events i c.event-item.result c.loop-event-test.true))
+          (subst (λ (rs : List Reply). AreLawful g.D.Device.failures (take i events ++ get_or events i c.event-item.result ∷ []) rs c.args.self.now c.serve-reply.new.self) (sym c.in-Ok.ensures.items)
+          (lawful_last g.D.Device.failures (take i events) c.loop-event.replies.items (get_or events i c.event-item.result) c.serve-reply.result c.args.self.now c.loop-event.self c.serve-reply.new.self inv.lawful (subst (λ e. IsLawful g.D.Device.failures e c.serve-reply.result c.loop-event.self c.serve-reply.new.self) item c.serve-reply.ensures.lawful)));
+      can_run = c.serve-reply.ensures.can_run;
+      served = λ area frame past is.
+          subst (λ (es : List Event). AreServed history g.D.Device.failures area frame past es c.push.new.self.items c.args.self.now c.serve-reply.new.self) (sym (take_more events i c.event-item.result c.loop-event-test.true))
+          (subst (λ (rs : List Reply). AreServed history g.D.Device.failures area frame past (take i events ++ get_or events i c.event-item.result ∷ []) rs c.args.self.now c.serve-reply.new.self) (sym c.in-Ok.ensures.items)
+          (served_last history g.D.Device.failures area frame past (take i events) c.loop-event.replies.items (get_or events i c.event-item.result) c.serve-reply.result c.args.self.now c.loop-event.self c.serve-reply.new.self is (inv.served area frame past is) (subst (λ e. IsLawful g.D.Device.failures e c.serve-reply.result c.loop-event.self c.serve-reply.new.self) item c.serve-reply.ensures.lawful) (subst (λ e. Serves history e c.serve-reply.result c.loop-event.self c.serve-reply.new.self) item c.serve-reply.ensures.serves)));
       ran = λ area frame past is.
-          subst (λ (es : List Event). GoesOn history area frame past es c.push.new.self.items c.args.self.now c.step-reply.new.self) (sym (take_more events i c.event-item.result c.loop-event-test.true))
-          (subst (λ (rs : List Reply). GoesOn history area frame past (take i events ++ get_or events i c.event-item.result ∷ []) rs c.args.self.now c.step-reply.new.self) (sym c.in-Ok.ensures.items)
-          (goes_further history area frame past (take i events) c.loop-event.replies.items c.args.self.now c.loop-event.self c.step-reply.new.self (get_or events i c.event-item.result) c.step-reply.result even (inv.ran area frame past is) (subst (λ e. Serves history e c.step-reply.result c.loop-event.self c.step-reply.new.self) item c.step-reply.ensures.serves)));
+          subst (λ (es : List Event). GoesOn history area frame past es c.push.new.self.items c.args.self.now c.serve-reply.new.self) (sym (take_more events i c.event-item.result c.loop-event-test.true))
+          (subst (λ (rs : List Reply). GoesOn history area frame past (take i events ++ get_or events i c.event-item.result ∷ []) rs c.args.self.now c.serve-reply.new.self) (sym c.in-Ok.ensures.items)
+          (goes_further history area frame past (take i events) c.loop-event.replies.items c.args.self.now c.loop-event.self c.serve-reply.new.self (get_or events i c.event-item.result) c.serve-reply.result even (inv.ran area frame past is) (subst (λ e. Serves history e c.serve-reply.result c.loop-event.self c.serve-reply.new.self) item c.serve-reply.ensures.serves)));
     }
 
 pub returns : goal.returns
-returns g c = record {
-  ran = λ area frame past is. subst (λ (es : List Event). GoesOn g.D.Device.history area frame past es c.loop-event.replies.items c.args.self.now c.loop-event.self) (take_all c.loop-event.event-index c.args.events.now c.loop-event-test.false) (c.loop-event.invariant.ran area frame past is);
-  lawful = subst (λ (es : List Event). AreLawful g.D.Device.failures es c.loop-event.replies.items c.args.self.now c.loop-event.self) (take_all c.loop-event.event-index c.args.events.now c.loop-event-test.false) c.loop-event.invariant.lawful;
-  refused = tt;
-  no_memory = tt;
-  can_run = c.loop-event.invariant.can_run;
-}
+returns g c =
+    let ran : (area : Area) (frame : Image) (past : Past) → IsAt g.D.Device.history area frame past c.args.self.now → GoesOn g.D.Device.history area frame past c.args.events.now c.loop-event.replies.items c.args.self.now c.loop-event.self =
+    λ area frame past is. subst (λ (es : List Event). GoesOn g.D.Device.history area frame past es c.loop-event.replies.items c.args.self.now c.loop-event.self) (take_all c.loop-event.event-index c.args.events.now c.loop-event-test.false) (c.loop-event.invariant.ran area frame past is) in
+    record {
+      any_crash = survives_any_crash g.D.Device.history c.args.events.now c.loop-event.replies.items c.args.self.now c.loop-event.self ran;
+      served = λ area frame past is. subst (λ (es : List Event). AreServed g.D.Device.history g.D.Device.failures area frame past es c.loop-event.replies.items c.args.self.now c.loop-event.self) (take_all c.loop-event.event-index c.args.events.now c.loop-event-test.false) (c.loop-event.invariant.served area frame past is);
+      ran = ran;
+      lawful = subst (λ (es : List Event). AreLawful g.D.Device.failures es c.loop-event.replies.items c.args.self.now c.loop-event.self) (take_all c.loop-event.event-index c.args.events.now c.loop-event-test.false) c.loop-event.invariant.lawful;
+      refused = tt;
+      no_memory = tt;
+      can_run = c.loop-event.invariant.can_run;
+    }

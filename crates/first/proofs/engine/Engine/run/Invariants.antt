@@ -2,7 +2,7 @@ use Rattle.std.proofs.Common.{◌≡◌, ◌≤◌, length, take, vec_capacity}
 use Rattle.first.specs.Lawful.{AreLawful}
 use Rattle.sector_device.specs.Disk.{Image}
 use Rattle.gate_log.specs.Area.{Area}
-use Rattle.first.specs.Store.{Past, IsAt, CanRun, GoesOn}
+use Rattle.first.specs.Store.{Past, IsAt, CanRun, GoesOn, AreServed}
 use Rattle.first.proofs.engine.Engine.run.Given as goal
 
 abbrev pub invariant-loop-event : goal.invariant-loop-event
@@ -13,5 +13,6 @@ invariant-loop-event g l =
       room : length l.events ≤ vec_capacity l.replies;
       lawful : AreLawful g.D.Device.failures (take l.event-index l.events) l.replies.items l.fn.self l.self;
       can_run : CanRun history l.self;
+      served : (area : Area) (frame : Image) (past : Past) → IsAt history area frame past l.fn.self → AreServed history g.D.Device.failures area frame past (take l.event-index l.events) l.replies.items l.fn.self l.self;
       ran : (area : Area) (frame : Image) (past : Past) → IsAt history area frame past l.fn.self → GoesOn history area frame past (take l.event-index l.events) l.replies.items l.fn.self l.self;
     }

@@ -1,7 +1,9 @@
-use Rattle.std.proofs.Common.{true, ◌≡◌, ◌≤◌, ◌+◌, Ok, refl, sym, ap, ◌∙◌, take, length, arith}
+use Rattle.std.proofs.Common.{true, ◌≡◌, ◌≢◌, ◌≤◌, ◌<◌, ◌+◌, ◌-◌, List, [], Ok, refl, sym, ap, subst, ◌∙◌, take, length, arith}
+use Rattle.records.specs.RecordValue.{RecordValue}
 use Rattle.gate_log.specs.declared.area.Appended.TheVariants.{Done}
 use Rattle.first.specs.declared.writer.Writer.{Writer}
 use Rattle.std.proofs.lemmas.Bool.{false≢true}
+use Rattle.first.specs.Writer.{FillsGroup}
 use Rattle.first.proofs.Writing.{stood, leaves, appended_one, failed_one}
 use Rattle.first.proofs.writer.Writer.flush_group.Goals as goal
 
@@ -37,3 +39,12 @@ pub returns-in-Err-clause-writer : goal.returns-in-Err-clause-writer
 returns-in-Err-clause-writer g c = λ area frame handed is.
     let new : Writer g.row.D.Denot g.row.A.Denot = record { device = c.append.new.device; log = c.append.new.self; base = c.args.self.now.base; waiting = c.args.self.now.waiting; synced = c.args.self.now.synced; failed = true } in
     failed_one g.D.Device.history area frame handed c.args.self.now new is c.in-Err.ensures.err refl refl c.append.ensures.outside.sectors (λ sound. absurd (false≢true (sym sound))) (returns-in-Err-clause-images g c area frame handed is)
+
+pub returns-in-Ok-Done-clause-flushed : goal.returns-in-Ok-Done-clause-flushed
+returns-in-Ok-Done-clause-flushed g c =
+    let count = c.group_len-count.result in
+    let old = c.args.self.now in
+    let length_is : length c.deref.result.now ≡ length old.waiting.items = ap length c.deref.ensures.value in
+    let is_count : (old.synced + count) - old.synced ≡ count = omega arith in
+    let most : FillsGroup old.waiting.items count = subst (λ (rs : List RecordValue). FillsGroup rs count) c.deref.ensures.value c.group_len-count.ensures.most in
+    ((omega arith), (λ none. omega (arith, ap length none, c.group_len-count.ensures.within, length_is)), subst (FillsGroup old.waiting.items) (sym is_count) most)

@@ -7,7 +7,7 @@ use Rattle.first.specs.Lawful.{is_read}
 use Rattle.first.specs.Store.{Serves}
 use Rattle.first.proofs.Runs.{can_run_after, is_serving}
 use Rattle.first.proofs.Served.{served_quiet}
-use Rattle.first.proofs.engine.Engine.step.Goals as goal
+use Rattle.first.proofs.engine.Engine.serve.Goals as goal
 
 pub returns-in-Begin-clause-serves : goal.returns-in-Begin-clause-serves
 returns-in-Begin-clause-serves g c = subst (λ (e : Event). Serves g.D.Device.history e c.begin.result c.args.self.now c.begin.new.self) (sym c.in-Begin.is) c.begin.ensures.serves

@@ -1,0 +1,53 @@
+-- What a crash within a run leaves.
+use Rattle.std.proofs.Common.{◌≡◌, ℕ, ◌+◌, ◌<◌, ◌≤◌, List, [], ◌∷◌, ◌++◌, length, take, inl, inr, sym, ◌∙◌, ap, subst, arith, length-append}
+use Rattle.std.proofs.lemmas.Bool.{cases_lt}
+use Rattle.sector_device.specs.Disk.{Image, Disk, IsCrashImage}
+use Rattle.sector_device.specs.History.{History, Between, Spans}
+use Rattle.gate_log.specs.Area.{Area}
+use Rattle.flip_image.specs.declared.half.Half.TheVariants.{A}
+use Rattle.store_reader.specs.Contents.{log_area}
+use Rattle.first.specs.declared.event.Event.{Event}
+use Rattle.first.specs.declared.event.Reply.{Reply}
+use Rattle.first.specs.declared.engine.Engine.{Engine}
+use Rattle.first.specs.Store.{Past, acknowledged_by, and_then, Survives, IsAt, SurvivesAt, GoesOn}
+use Rattle.first.specs.Reopening.{opening, SurvivesAnyCrash}
+use Rattle.first.proofs.Runs.{and_then_none}
+use Rattle.first.proofs.Stories.{crash_now}
+
+-- a moment is between two of the borders
+found : (disk_at : ℕ → Disk) (P : ℕ → Image → Type 0) (j from : ℕ) (borders : List ℕ) (to t : ℕ) (image : Image) → Spans disk_at P j from borders to → 0 < length borders → from ≤ t → t ≤ to → IsCrashImage (disk_at t) image
+    → (i : ℕ) × (i < j + length borders) × P i image
+found disk_at P j from [] to t image spans some low high crash = absurd (omega (arith, some))
+found disk_at P j from (next ∷ []) to t image spans some low high crash = (j, omega arith, spans.1 t image low (omega (arith, high, spans.2)) crash)
+found disk_at P j from (next ∷ (more ∷ borders)) to t image spans some low high crash = elim (cases_lt next t) [
+  | inl over ↦
+      let rest = found disk_at P (j + 1) next (more ∷ borders) to t image spans.2 (omega arith) (omega (arith, over)) high crash in
+      (rest.0, omega (arith, rest.1), rest.2)
+  | inr within ↦ (j, omega arith, spans.1 t image low within crash)
+]
+
+no_borders : (disk_at : ℕ → Disk) (P : ℕ → Image → Type 0) (j from : ℕ) (borders : List ℕ) (to : ℕ) → length borders ≡ 0 → Spans disk_at P j from borders to → from ≡ to
+no_borders disk_at P j from [] to none spans = spans
+no_borders disk_at P j from (next ∷ borders) to none spans = absurd (omega (arith, none))
+
+module _ {D M : Type 0} (history : D → History) (area : Area) (frame : Image) (past : Past) (old new : Engine D M) (is : IsAt history area frame past old) where
+  crash_within : (events : List Event) (replies : List Reply) → GoesOn history area frame past events replies old new
+      → Between (history new.writer.device).disk_at (history old.writer.device).moment (history new.writer.device).moment (λ image. (j : ℕ) × (j ≤ length events) × SurvivesAt area frame past events replies j image)
+  crash_within [] [] ran t image low high crash = (0, omega arith, subst (λ (p : Past). Survives area frame p (acknowledged_by p) image) (sym (and_then_none past)) (crash_now history area frame past old is image (subst (λ (d : Disk). IsCrashImage d image) same crash)))
+    where
+      ended : (history old.writer.device).moment ≡ (history new.writer.device).moment
+      ended = no_borders (history new.writer.device).disk_at (SurvivesAt area frame past [] []) 0 (history old.writer.device).moment ran.borders (history new.writer.device).moment ran.one_each ran.spans
+
+      same : (history new.writer.device).disk_at t ≡ (history old.writer.device).disk
+      same = ran.kept t (omega (arith, high, ended)) ∙ ap (history old.writer.device).disk_at (omega (arith, low, high, ended)) ∙ (history old.writer.device).now
+  crash_within [] (r ∷ rs) ran t image low high crash = absurd (omega (arith, ran.at.answered, is.answered, length-append past.replies (r ∷ rs), length-append past.events []))
+  crash_within (e ∷ es) rs ran t image low high crash =
+      let it = found (history new.writer.device).disk_at (SurvivesAt area frame past (e ∷ es) rs) 0 (history old.writer.device).moment ran.borders (history new.writer.device).moment t image ran.spans (omega (arith, ran.one_each)) low high crash in
+      (it.0, omega (arith, it.1, ran.one_each), it.2)
+
+pub survives_any_crash : {D M : Type 0} (history : D → History) (events : List Event) (replies : List Reply) (old new : Engine D M)
+    → ((area : Area) (frame : Image) (past : Past) → IsAt history area frame past old → GoesOn history area frame past events replies old new) → SurvivesAnyCrash history events replies old new
+survives_any_crash history events replies old new ran geometry frame earlier answered formatted is t image low high crash =
+    let past : Past = and_then (opening geometry.pages) earlier answered in
+    let it = crash_within history (log_area geometry A) frame past old new is events replies (ran (log_area geometry A) frame past is) t image low high crash in
+    (it.0, it.1, record { formatted = formatted; survives = it.2 })
