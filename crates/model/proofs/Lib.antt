@@ -11,3 +11,5 @@ pub mod PrefixLaws
 pub mod FollowingLaws
 pub mod PlacesLaws
 pub mod PlacedLaws
+pub mod ImageLaws
+pub mod GivenLaws

@@ -11,17 +11,24 @@ use Rattle.records.specs.declared.record.IndexAction.TheVariants.{BuildCheckpoin
 use Rattle.records.specs.declared.record.Part.{Part}
 use Rattle.records.specs.declared.record.Part.TheVariants.{NewEntry, OldEntry, Slot}
 use Rattle.records.specs.declared.record.TxnAction.{TxnAction}
-use Rattle.model.specs.Cells.{Cells, list_of, set_by}
+use Rattle.model.specs.Cells.{Cells, set_by}
 use Rattle.model.specs.Table.{applied}
 use Rattle.core_model.specs.Changes.{new_pair, old_pair}
-use Rattle.core_model.specs.States.{Made, NewMarked, OldMarked, OldSet, Phase, RowSet, State}
+use Rattle.core_model.specs.States.{Active, Made, NewMarked, OldMarked, OldSet, Phase, RowSet, State}
 use Rattle.core_model.specs.Steps.{Attempt, Begin, Checkpoint, Clean, Commit, Create, End, Finish, Keep, Next, Start, Step, Take, Undo, Wrap, is_indexed, txn_at}
 
--- these are the cells of the state, with each transaction's list as the log has it, the oldest change first
+-- The list that a log has of a transaction: its changes, the oldest first. One that has no change may have no list.
+abbrev pub IsListOf : Option (List ChangeValue) → Option Active → Type 0
+IsListOf None None = Unit {0}
+IsListOf None (Some x) = x.changes ≡ []
+IsListOf (Some list) None = ⊥
+IsListOf (Some list) (Some x) = list ≡ reverse x.changes
+
+-- these are the cells of the state
 pub record HasCells (s : State) (cells : Cells) : Type 0 where
   pub rows : cells.rows ≡ s.rows
   pub entries : cells.entries ≡ s.entries
-  pub pending : (t : ℕ) → list_of cells.pending t ≡ reverse (txn_at s t).changes
+  pub pending : (t : ℕ) → IsListOf (get cells.pending t) (s.txns t)
   pub life : cells.life ≡ s.life
 
 abbrev pub set_by_any : Cells → Option Action → Cells
@@ -63,10 +70,6 @@ abbrev pub place_action : Pair → Option Mark → Option Action
 place_action p None = Some (OfIndex (BuildPlace p))
 place_action p (Some mark) = None
 
-abbrev pub checkpoint_action : Option Pair → Option Action
-checkpoint_action None = None
-checkpoint_action (Some p) = Some (OfIndex (BuildCheckpoint p))
-
 -- what a step puts into the log
 abbrev pub action_of : State → Step → Option Action
 action_of s (Begin t) = None
@@ -78,7 +81,7 @@ action_of s (Commit t) = Some (OfTxn t TxnAction.Commit)
 action_of s Create = Some (OfIndex IndexAction.Create)
 action_of s (Take n) = None
 action_of s (Attempt p) = place_action p (get s.entries p)
-action_of s Checkpoint = checkpoint_action s.bound
+action_of s (Checkpoint p) = Some (OfIndex (BuildCheckpoint p))
 action_of s Finish = Some (OfIndex BuildDone)
 action_of s (Clean p) = Some (OfIndex (IndexAction.Clean p))
 action_of s (Keep p) = None

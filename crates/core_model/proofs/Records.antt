@@ -20,15 +20,17 @@ use Rattle.records.specs.declared.pair.Pair.{Pair}
 use Rattle.records.specs.declared.record.Action.{Action}
 use Rattle.records.specs.declared.record.Part.TheVariants.{Slot}
 use Rattle.records.specs.declared.row.Row.{Row}
-use Rattle.model.specs.Cells.{Cells, Pending, list_of, noted, set_by, some_list, taken_off, with_list, with_mark}
+use Rattle.model.specs.Cells.{Cells, Pending, list_of, noted, set_by, taken_off, with_list, with_mark}
 use Rattle.model.specs.KeyActions.{after_action}
 use Rattle.model.specs.Table.{Index, Table}
 use Rattle.model.specs.declared.key_action.KeyAction.TheVariants.{BuildPut}
-use Rattle.model.specs.declared.life.Life.TheVariants.{Building}
-use Rattle.core_contracts.specs.Records.{HasCells, action_of, begun_action, checkpoint_action, first_action, is_last, next_action, place_action, set_by_any, undo, undo_action}
-use Rattle.core_model.proofs.Laws.{Gone, build_put_some, gone_is, nat_decided, not_none, update_apart, update_here}
+use Rattle.core_model.specs.Records.{HasCells, IsListOf, action_of, begun_action, first_action, is_last, next_action, place_action, set_by_any, undo, undo_action}
+use Rattle.core_model.proofs.Builds.{build_put_some}
+use Rattle.core_model.proofs.Frames.{nat_decided}
+use Rattle.core_model.proofs.Latest.{Gone, gone_is, not_none}
+use Rattle.core_model.proofs.Orders.{update_apart, update_here}
 use Rattle.core_model.specs.Changes.{gone, new_pair, old_pair}
-use Rattle.core_model.specs.Invariants.{HasPair, Invariant, IsPhaseOf}
+use Rattle.core_model.specs.Invariants.{HasPair, IsShaped, IsWellFormed}
 use Rattle.core_model.specs.States.{Active, Made, NewMarked, OldMarked, OldSet, Phase, RowSet, State}
 use Rattle.core_model.specs.Steps.{Attempt, Begin, Checkpoint, Clean, Commit, Create, End, Finish, IsEnabled, Keep, Next, Start, Step, Take, Undo, Wrap, after, carried_on, is_indexed, left, moved_by, new_txn, row_made, row_undone, started, txn_at, undoing, undone, undone_first, update, with_change, with_entry, with_txn, without_newest}
 
@@ -60,29 +62,31 @@ off_newest older c =
     ∙ ap (λ n. take n (reverse older ++ c ∷ [])) last
     ∙ take-append_seam (reverse older) (c ∷ [])
 
-listed : (cs : List ChangeValue) → unwrap_or (some_list cs) [] ≡ cs
-listed [] = refl
-listed (c ∷ cs) = refl
+pub list_is : (list : Option (List ChangeValue)) (x : Active) → IsListOf list (Some x) → unwrap_or list [] ≡ reverse x.changes
+list_is None x h = sym (ap reverse h)
+list_is (Some list) x h = h
 
-abbrev changes_of : Option Active → List ChangeValue
-changes_of o = reverse (unwrap_or o new_txn).changes
+pub no_list : (list : Option (List ChangeValue)) → IsListOf list None → list ≡ None
+no_list None h = refl
+no_list (Some list) h = absurd h
 
-module _ (s : State) (pending : Pending) (h : (u : ℕ) → list_of pending u ≡ changes_of (s.txns u)) (t : ℕ) (o : Option Active) where
+module _ (s : State) (pending : Pending) (h : (u : ℕ) → IsListOf (get pending u) (s.txns u)) (t : ℕ) (o : Option Active) where
   -- the list of one transaction is set
-  list_set : (cs : List ChangeValue) → cs ≡ changes_of o → (u : ℕ) → list_of (with_list pending t cs) u ≡ changes_of (update nat_cmp s.txns t o u)
-  list_set cs e u = elim (nat_decided u t) [
+  list_set : (list : Option (List ChangeValue)) → IsListOf list o → (u : ℕ) → IsListOf (get (with_list pending t list) u) (update nat_cmp s.txns t o u)
+  list_set list e u = elim (nat_decided u t) [
     | inl same ↦
-        ap (λ w. list_of (with_list pending t cs) w) same ∙ ap (λ (m : Option (List ChangeValue)). unwrap_or m []) (get-set_at_same nat_exact pending t (some_list cs)) ∙ listed cs ∙ e
-        ∙ sym (ap changes_of (ap (update nat_cmp s.txns t o) same ∙ update_here nat_cmp_total s.txns t o))
+        subst (λ l. IsListOf l (update nat_cmp s.txns t o u)) (sym (ap (get (with_list pending t list)) same ∙ get-set_at_same nat_exact pending t list))
+        (subst (IsListOf list) (sym (ap (update nat_cmp s.txns t o) same ∙ update_here nat_cmp_total s.txns t o)) e)
     | inr n ↦
-        ap (λ (m : Option (List ChangeValue)). unwrap_or m []) (get-set_at_other nat_exact pending t (some_list cs) u n) ∙ h u ∙ sym (ap changes_of (update_apart nat_cmp-IsAntisymmetric s.txns t o u n))
+        subst (λ l. IsListOf l (update nat_cmp s.txns t o u)) (sym (get-set_at_other nat_exact pending t list u n))
+        (subst (IsListOf (get pending u)) (sym (update_apart nat_cmp-IsAntisymmetric s.txns t o u n)) (h u))
   ]
 
   -- or stays
-  list_stays : changes_of (s.txns t) ≡ changes_of o → (u : ℕ) → list_of pending u ≡ changes_of (update nat_cmp s.txns t o u)
+  list_stays : IsListOf (get pending t) o → (u : ℕ) → IsListOf (get pending u) (update nat_cmp s.txns t o u)
   list_stays e u = elim (nat_decided u t) [
-    | inl same ↦ ap (list_of pending) same ∙ h t ∙ e ∙ sym (ap changes_of (ap (update nat_cmp s.txns t o) same ∙ update_here nat_cmp_total s.txns t o))
-    | inr n ↦ h u ∙ sym (ap changes_of (update_apart nat_cmp-IsAntisymmetric s.txns t o u n))
+    | inl same ↦ subst (λ w. IsListOf (get pending w) (update nat_cmp s.txns t o w)) (sym same) (subst (IsListOf (get pending t)) (sym (update_here nat_cmp_total s.txns t o)) e)
+    | inr n ↦ subst (IsListOf (get pending u)) (sym (update_apart nat_cmp-IsAntisymmetric s.txns t o u n)) (h u)
   ]
 
 -- the pair of a record is that of its row
@@ -97,40 +101,40 @@ other_holder : (s : State) (cells : Cells) (holder : Place → Option ℕ) → H
 other_holder s cells holder k = record { rows = k.rows; entries = k.entries; pending = k.pending; life = k.life }
 
 module _ (s : State) (cells : Cells) (k : HasCells s cells) (t : ℕ) where
-  pending_is : (u : ℕ) → list_of cells.pending u ≡ changes_of (s.txns u)
+  pending_is : (u : ℕ) → IsListOf (get cells.pending u) (s.txns u)
   pending_is = k.pending
 
   -- a record that sets the row
   row_cells : (rid : Place) (row : Option Row) (x' : Active) (cs : List ChangeValue) → cs ≡ reverse x'.changes
-      → HasCells (record s { rows = set_at s.rows rid row; txns = with_txn s t x' }) (record { rows = set_at cells.rows rid row; entries = cells.entries; pending = with_list cells.pending t cs; life = cells.life })
+      → HasCells (record s { rows = set_at s.rows rid row; txns = with_txn s t x' }) (record { rows = set_at cells.rows rid row; entries = cells.entries; pending = with_list cells.pending t (Some cs); life = cells.life })
   row_cells rid row x' cs e = record {
     rows = ap (λ m. set_at m rid row) k.rows;
     entries = k.entries;
-    pending = list_set s cells.pending pending_is t (Some x') cs e;
+    pending = list_set s cells.pending pending_is t (Some x') (Some cs) e;
     life = k.life;
   }
 
   -- a record that sets an entry
   entry_cells : (rid : Place) (row other : Option Row) (mark : Mark) (o : Option Pair) → gone (is_indexed s.life) rid row other ≡ o → HasPair o (λ p. Unit {0}) → (x' : Active) (cs : List ChangeValue) → cs ≡ reverse x'.changes
-      → HasCells (record s { entries = with_entry s.entries o mark; txns = with_txn s t x' }) (record { rows = cells.rows; entries = with_mark cells.entries rid row mark; pending = with_list cells.pending t cs; life = cells.life })
+      → HasCells (record s { entries = with_entry s.entries o mark; txns = with_txn s t x' }) (record { rows = cells.rows; entries = with_mark cells.entries rid row mark; pending = with_list cells.pending t (Some cs); life = cells.life })
   entry_cells rid row other mark o g is x' cs e = record {
     rows = k.rows;
     entries = ap (λ m. with_mark m rid row mark) k.entries ∙ marked_is (is_indexed s.life) rid row other s.entries mark o is g;
-    pending = list_set s cells.pending pending_is t (Some x') cs e;
+    pending = list_set s cells.pending pending_is t (Some x') (Some cs) e;
     life = k.life;
   }
 
   -- a record that ends the transaction
-  gone_cells : (committed : Table) → HasCells (left s t committed) (record { rows = cells.rows; entries = cells.entries; pending = with_list cells.pending t []; life = cells.life })
-  gone_cells committed = record { rows = k.rows; entries = k.entries; pending = list_set s cells.pending pending_is t None [] refl; life = k.life }
+  gone_cells : (committed : Table) → HasCells (left s t committed) (record { rows = cells.rows; entries = cells.entries; pending = with_list cells.pending t None; life = cells.life })
+  gone_cells committed = record { rows = k.rows; entries = k.entries; pending = list_set s cells.pending pending_is t None None tt; life = k.life }
 
   -- no record
-  same_cells : (x' : Active) → changes_of (s.txns t) ≡ reverse x'.changes → HasCells (record s { txns = with_txn s t x' }) cells
+  same_cells : (x' : Active) → IsListOf (get cells.pending t) (Some x') → HasCells (record s { txns = with_txn s t x' }) cells
   same_cells x' e = record { rows = k.rows; entries = k.entries; pending = list_stays s cells.pending pending_is t (Some x') e; life = k.life }
 
   module _ (x : Active) (active : s.txns t ≡ Some x) where
     mine : list_of cells.pending t ≡ reverse x.changes
-    mine = pending_is t ∙ ap changes_of active
+    mine = list_is (get cells.pending t) x (subst (IsListOf (get cells.pending t)) active (pending_is t))
 
     first_list : (c : ChangeValue) → c.position ≡ length x.changes → noted (list_of cells.pending t) c ≡ reverse (c ∷ x.changes)
     first_list c e = ap (λ cs. noted cs c) mine ∙ noted_first x.changes c e
@@ -159,27 +163,31 @@ module _ (s : State) (cells : Cells) (k : HasCells s cells) (t : ℕ) where
       first_cells b None g = row_left (old_pair (is_indexed s.life) c)
       first_cells b (Some p) g = entry_cells c.rid (new_row c.rows) (old_row c.rows) Marked (Some p) g (record { it = p; is = refl; holds = tt }) (undoing x (NewMarked b)) _ mine
 
-next_cells : (s : State) (i : Invariant s) (cells : Cells) → HasCells s cells → (t : ℕ) (cs : List ChangeValue) (phase : Phase) (rolling : Bool) → s.txns t ≡ Some (record { changes = cs; phase = phase; rolling = rolling })
+next_cells : (s : State) (i : IsWellFormed s) (cells : Cells) → HasCells s cells → (t : ℕ) (cs : List ChangeValue) (phase : Phase) (rolling : Bool) → s.txns t ≡ Some (record { changes = cs; phase = phase; rolling = rolling })
     → HasCells (carried_on s t (record { changes = cs; phase = phase; rolling = rolling }) cs phase) (set_by_any cells (next_action t cs phase))
 next_cells s i cells k t [] phase rolling active = k
 next_cells s i cells k t (c ∷ older) OldMarked rolling active =
-    row_cells s cells k t c.rid (new_row c.rows) (record { changes = c ∷ older; phase = row_made (new_pair (is_indexed s.life) c); rolling = rolling }) _ (again_list s cells k t _ active c older refl (i.numbered t _ active).0)
+    row_cells s cells k t c.rid (new_row c.rows) (record { changes = c ∷ older; phase = row_made (new_pair (is_indexed s.life) c); rolling = rolling }) _ (again_list s cells k t _ active c older refl (i.txns t _ active).numbered.0)
 next_cells s i cells k t (c ∷ older) RowSet rolling active =
-    entry_cells s cells k t c.rid (new_row c.rows) (old_row c.rows) Live (new_pair (is_indexed s.life) c) refl (i.coherent.txns t _ active).phase (record { changes = c ∷ older; phase = Made; rolling = rolling }) _
-    (again_list s cells k t _ active c older refl (i.numbered t _ active).0)
+    entry_cells s cells k t c.rid (new_row c.rows) (old_row c.rows) Live (new_pair (is_indexed s.life) c) refl (i.txns t _ active).shaped (record { changes = c ∷ older; phase = Made; rolling = rolling }) _
+    (again_list s cells k t _ active c older refl (i.txns t _ active).numbered.0)
 next_cells s i cells k t (c ∷ older) Made rolling active = k
 next_cells s i cells k t (c ∷ older) (NewMarked b) rolling active = k
 next_cells s i cells k t (c ∷ older) OldSet rolling active = k
 
-undo_cells : (s : State) (i : Invariant s) (cells : Cells) → HasCells s cells → (t : ℕ) (cs : List ChangeValue) (phase : Phase) (rolling : Bool) → s.txns t ≡ Some (record { changes = cs; phase = phase; rolling = rolling })
+none_changed : (x x' : Active) → x.changes ≡ x'.changes → (list : Option (List ChangeValue)) → IsListOf list (Some x) → IsListOf list (Some x')
+none_changed x x' e None h = sym e ∙ h
+none_changed x x' e (Some list) h = h ∙ ap reverse e
+
+undo_cells : (s : State) (i : IsWellFormed s) (cells : Cells) → HasCells s cells → (t : ℕ) (cs : List ChangeValue) (phase : Phase) (rolling : Bool) → s.txns t ≡ Some (record { changes = cs; phase = phase; rolling = rolling })
     → HasCells (undone s t (record { changes = cs; phase = phase; rolling = rolling }) cs phase) (set_by_any cells (undo_action (is_indexed s.life) t cs phase))
-undo_cells s i cells k t [] phase rolling active = same_cells s cells k t (record { changes = []; phase = phase; rolling = true }) (ap changes_of active)
+undo_cells s i cells k t [] phase rolling active = same_cells s cells k t (record { changes = []; phase = phase; rolling = true }) (none_changed (record { changes = []; phase = phase; rolling = rolling }) (record { changes = []; phase = phase; rolling = true }) refl (get cells.pending t) (subst (IsListOf (get cells.pending t)) active (k.pending t)))
 undo_cells s i cells k t (c ∷ older) OldMarked rolling active = first_cells s cells k t _ active c older refl false _ refl
 undo_cells s i cells k t (c ∷ older) RowSet rolling active = first_cells s cells k t _ active c older refl true _ refl
 undo_cells s i cells k t (c ∷ older) Made rolling active = first_cells s cells k t _ active c older refl true _ refl
 undo_cells s i cells k t (c ∷ older) (NewMarked b) rolling active = row_left s cells k t _ active c older refl (old_pair (is_indexed s.life) c)
 undo_cells s i cells k t (c ∷ older) OldSet rolling active =
-    entry_cells s cells k t c.rid (old_row c.rows) (new_row c.rows) Live (old_pair (is_indexed s.life) c) refl (i.coherent.txns t _ active).phase (record { changes = older; phase = Made; rolling = true }) _
+    entry_cells s cells k t c.rid (old_row c.rows) (new_row c.rows) Live (old_pair (is_indexed s.life) c) refl (i.txns t _ active).shaped (record { changes = older; phase = Made; rolling = true }) _
     (off_list s cells k t _ active c older refl)
 
 attempt_cells : (s : State) (cells : Cells) → HasCells s cells → (p : Pair) (o : Option Mark) → get s.entries p ≡ o → HasCells (record s { entries = set_at s.entries p (after_action BuildPut o); bound = Some p }) (set_by_any cells (place_action p o))
@@ -191,12 +199,8 @@ attempt_cells s cells k p (Some mark) e = record {
   life = k.life;
 }
 
-checkpoint_cells : (s : State) (cells : Cells) → HasCells s cells → (p : Pair) (o : Option Pair) → o ≡ Some p → HasCells (record s { life = Building o }) (set_by_any cells (checkpoint_action o))
-checkpoint_cells s cells k p None e = absurd (not_none e refl)
-checkpoint_cells s cells k p (Some q) e = record { rows = k.rows; entries = k.entries; pending = k.pending; life = refl }
-
-moved_cells : (s : State) (e : Step) (cells : Cells) → Invariant s → IsEnabled s e → HasCells s cells → HasCells (moved_by s e) (set_by_any cells (action_of s e))
-moved_cells s (Begin t) cells i a k = same_cells s cells k t new_txn (ap changes_of a)
+moved_cells : (s : State) (e : Step) (cells : Cells) → IsWellFormed s → IsEnabled s e → HasCells s cells → HasCells (moved_by s e) (set_by_any cells (action_of s e))
+moved_cells s (Begin t) cells i a k = same_cells s cells k t new_txn (subst (λ l. IsListOf l (Some new_txn)) (sym (no_list (get cells.pending t) (subst (IsListOf (get cells.pending t)) a (k.pending t)))) refl)
 moved_cells s (Start t c) cells i a k = start_cells s cells k t (txn_at s t) a.active c a.position _ refl
 moved_cells s (Next t) cells i a k = next_cells s i cells k t (txn_at s t).changes (txn_at s t).phase (txn_at s t).rolling a.0
 moved_cells s (Undo t) cells i a k = undo_cells s i cells k t (txn_at s t).changes (txn_at s t).phase (txn_at s t).rolling a
@@ -205,13 +209,13 @@ moved_cells s (Commit t) cells i a k = gone_cells s cells k t _
 moved_cells s Create cells i a k = record { rows = k.rows; entries = k.entries; pending = k.pending; life = refl }
 moved_cells s (Take n) cells i a k = record { rows = k.rows; entries = k.entries; pending = k.pending; life = k.life }
 moved_cells s (Attempt p) cells i a k = attempt_cells s cells k p _ refl
-moved_cells s Checkpoint cells i a k = checkpoint_cells s cells k a.1 _ a.2
+moved_cells s (Checkpoint p) cells i a k = record { rows = k.rows; entries = k.entries; pending = k.pending; life = refl }
 moved_cells s Finish cells i a k = record { rows = k.rows; entries = k.entries; pending = k.pending; life = refl }
 moved_cells s (Clean p) cells i a k = record { rows = k.rows; entries = ap (λ m. set_at m p None) k.entries; pending = k.pending; life = k.life }
 moved_cells s (Keep p) cells i a k = record { rows = k.rows; entries = k.entries; pending = k.pending; life = k.life }
 moved_cells s Wrap cells i a k = record { rows = k.rows; entries = k.entries; pending = k.pending; life = k.life }
 
-pub step_follows : (s : State) (e : Step) (cells : Cells) → Invariant s → IsEnabled s e → HasCells s cells → HasCells (after s e) (set_by_any cells (action_of s e))
+pub step_follows : (s : State) (e : Step) (cells : Cells) → IsWellFormed s → IsEnabled s e → HasCells s cells → HasCells (after s e) (set_by_any cells (action_of s e))
 step_follows s e cells i a k =
     let h : HasCells (moved_by s e) (set_by_any cells (action_of s e)) = moved_cells s e cells i a k in
     record { rows = h.rows; entries = h.entries; pending = h.pending; life = h.life }
@@ -239,45 +243,41 @@ begun_rows : (indexed : Bool) (t : ℕ) (c : ChangeValue) (old o : Option Pair) 
 begun_rows indexed t c old None e = refl
 begun_rows indexed t c old (Some p) e = new_there indexed c.rid c.rows (old_row c.rows) p e
 
-next_rows : (indexed : Bool) (entries : Index) (t : ℕ) (cs : List ChangeValue) (phase : Phase) (rolling : Bool) → IsPhaseOf indexed entries cs phase rolling → HasRows (next_action t cs phase)
-next_rows indexed entries t [] phase rolling h = tt
-next_rows indexed entries t (c ∷ older) OldMarked rolling h = refl
-next_rows indexed entries t (c ∷ older) RowSet rolling h = new_there indexed c.rid c.rows (old_row c.rows) h.it h.is
-next_rows indexed entries t (c ∷ older) Made rolling h = tt
-next_rows indexed entries t (c ∷ older) (NewMarked b) rolling h = tt
-next_rows indexed entries t (c ∷ older) OldSet rolling h = tt
+next_rows : (indexed : Bool) (t : ℕ) (cs : List ChangeValue) (phase : Phase) → IsShaped indexed cs phase → HasRows (next_action t cs phase)
+next_rows indexed t [] phase h = tt
+next_rows indexed t (c ∷ older) OldMarked h = refl
+next_rows indexed t (c ∷ older) RowSet h = new_there indexed c.rid c.rows (old_row c.rows) h.it h.is
+next_rows indexed t (c ∷ older) Made h = tt
+next_rows indexed t (c ∷ older) (NewMarked b) h = tt
+next_rows indexed t (c ∷ older) OldSet h = tt
 
-undo_rows : (indexed : Bool) (entries : Index) (t : ℕ) (cs : List ChangeValue) (phase : Phase) (rolling : Bool) → IsPhaseOf indexed entries cs phase rolling → HasRows (undo_action indexed t cs phase)
-undo_rows indexed entries t [] phase rolling h = tt
-undo_rows indexed entries t (c ∷ older) OldMarked rolling h = begun_rows indexed t c (old_pair indexed c) _ refl
-undo_rows indexed entries t (c ∷ older) RowSet rolling h = begun_rows indexed t c (old_pair indexed c) _ refl
-undo_rows indexed entries t (c ∷ older) Made rolling h = begun_rows indexed t c (old_pair indexed c) _ refl
-undo_rows indexed entries t (c ∷ older) (NewMarked b) rolling h = refl
-undo_rows indexed entries t (c ∷ older) OldSet rolling h = old_there indexed c.rid c.rows (new_row c.rows) h.it h.is
+undo_rows : (indexed : Bool) (t : ℕ) (cs : List ChangeValue) (phase : Phase) → IsShaped indexed cs phase → HasRows (undo_action indexed t cs phase)
+undo_rows indexed t [] phase h = tt
+undo_rows indexed t (c ∷ older) OldMarked h = begun_rows indexed t c (old_pair indexed c) _ refl
+undo_rows indexed t (c ∷ older) RowSet h = begun_rows indexed t c (old_pair indexed c) _ refl
+undo_rows indexed t (c ∷ older) Made h = begun_rows indexed t c (old_pair indexed c) _ refl
+undo_rows indexed t (c ∷ older) (NewMarked b) h = refl
+undo_rows indexed t (c ∷ older) OldSet h = old_there indexed c.rid c.rows (new_row c.rows) h.it h.is
 
 place_rows : (p : Pair) (o : Option Mark) → HasRows (place_action p o)
 place_rows p None = refl
 place_rows p (Some mark) = tt
 
-checkpoint_rows : (o : Option Pair) → HasRows (checkpoint_action o)
-checkpoint_rows None = tt
-checkpoint_rows (Some p) = refl
-
-action_rows : (s : State) (e : Step) → Invariant s → IsEnabled s e → HasRows (action_of s e)
+action_rows : (s : State) (e : Step) → IsWellFormed s → IsEnabled s e → HasRows (action_of s e)
 action_rows s (Begin t) i a = tt
 action_rows s (Start t c) i a = first_rows (is_indexed s.life) t c _ refl
-action_rows s (Next t) i a = next_rows (is_indexed s.life) s.entries t (txn_at s t).changes (txn_at s t).phase (txn_at s t).rolling (i.coherent.txns t (txn_at s t) a.0).phase
-action_rows s (Undo t) i a = undo_rows (is_indexed s.life) s.entries t (txn_at s t).changes (txn_at s t).phase (txn_at s t).rolling (i.coherent.txns t (txn_at s t) a).phase
+action_rows s (Next t) i a = next_rows (is_indexed s.life) t (txn_at s t).changes (txn_at s t).phase (i.txns t (txn_at s t) a.0).shaped
+action_rows s (Undo t) i a = undo_rows (is_indexed s.life) t (txn_at s t).changes (txn_at s t).phase (i.txns t (txn_at s t) a).shaped
 action_rows s (End t) i a = refl
 action_rows s (Commit t) i a = refl
 action_rows s Create i a = refl
 action_rows s (Take n) i a = tt
 action_rows s (Attempt p) i a = place_rows p _
-action_rows s Checkpoint i a = checkpoint_rows _
+action_rows s (Checkpoint p) i a = refl
 action_rows s Finish i a = refl
 action_rows s (Clean p) i a = refl
 action_rows s (Keep p) i a = tt
 action_rows s Wrap i a = tt
 
-pub record_rows : (s : State) (e : Step) (a : Action) → Invariant s → IsEnabled s e → action_of s e ≡ Some a → IsTrue (has_rows a)
+pub record_rows : (s : State) (e : Step) (a : Action) → IsWellFormed s → IsEnabled s e → action_of s e ≡ Some a → IsTrue (has_rows a)
 record_rows s e a i k is = subst HasRows is (action_rows s e i k)

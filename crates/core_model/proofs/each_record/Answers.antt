@@ -1,5 +1,5 @@
-use Rattle.core_contracts.proofs.Records.{step_follows, record_rows}
-use Rattle.core_contracts.proofs.each_record.Goals as goal
+use Rattle.core_model.proofs.Records.{step_follows, record_rows}
+use Rattle.core_model.proofs.each_record.Goals as goal
 
 pub returns-clause-cells : goal.returns-clause-cells
 returns-clause-cells c = step_follows

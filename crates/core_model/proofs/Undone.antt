@@ -1,4 +1,4 @@
--- What a restart makes of the cells: each change that is left is taken back, all steps of its undo from the first on.
+-- A restart as the machine undoes: the newest change first, each with all steps of its undo.
 use Rattle.std.specs.FinMap.{entries}
 use Rattle.std.specs.Ordering.{nat_cmp}
 use Rattle.std.specs.Prelude.{Bool, List, None, Option, Some, [], ℕ, ◌∷◌, ◌≡◌}
@@ -30,17 +30,15 @@ abbrev pub entries_back : Bool → List (ℕ × List ChangeValue) → Index → 
 entries_back indexed [] entries = entries
 entries_back indexed (l ∷ ls) entries = entries_back indexed ls (entries_undone indexed l.1 entries)
 
--- these are the active transactions
+-- these are the active transactions, without some that have no change
 abbrev pub IsListing : (ℕ → Option Active) → List (ℕ × List ChangeValue) → Type 0
-IsListing txns [] = (t : ℕ) → txns t ≡ None
+IsListing txns [] = (t : ℕ) (x : Active) → txns t ≡ Some x → x.changes ≡ []
 IsListing txns (l ∷ ls) = ((x : Active) × (txns l.0 ≡ Some x) × (x.changes ≡ l.1)) × IsListing (update nat_cmp txns l.0 None) ls
 
--- the cells that a restart hands out, where these transactions are left
-abbrev pub restarted : State → List (ℕ × List ChangeValue) → Opened
-restarted s left = record {
-  rows = rows_back left s.rows;
-  entries = entries_back (is_indexed s.life) left s.entries;
-  life = s.life;
+-- what a restart gives, where these transactions are left and the last record has this number
+abbrev pub restarted : State → List (ℕ × List ChangeValue) → ℕ → Opened
+restarted s left last = record {
+  given = record { table = rows_back left s.rows; entries = entries_back (is_indexed s.life) left s.entries; life = s.life; last = last };
   pages = s.pages;
   places = s.places;
 }
