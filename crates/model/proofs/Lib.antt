@@ -1,4 +1,5 @@
 pub mod MapLaws
+mod PairLaws
 pub mod TableLaws
 pub mod CellsLaws
 pub mod HistoryLaws

@@ -24,7 +24,7 @@ ghost use Rattle.records.specs.declared.record.TxnAction.TheVariants.{Forward, U
 ghost use Rattle.records.specs.declared.record.Part.TheVariants.{Slot};
 ghost use Rattle.model.specs.Cells.{Cells, cells_after, rows_after, set_by, reverted, changed, AreChanges, Pending, list_of, with_list, noted, taken_off};
 ghost use Rattle.model.specs.Following.{CanFollow, AreFollowing, ArePlaced, IsFirstUnfit, IsWithin};
-ghost use Rattle.model.specs.History.{Item, Committed, table_after, table_with, life_after, life_with, up_to, AreRising, last_number};
+ghost use Rattle.model.specs.History.{Item, Committed, table_after, table_with, life_after, life_with, up_to, AreRising};
 
 /// A record after others sets its cells last.
 pub fn one_more_record()

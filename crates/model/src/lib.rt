@@ -8,10 +8,11 @@ mod key_action;
 mod laws;
 mod life;
 mod list_map;
+mod pairs;
 mod row_map;
 mod write;
 
-pub use cell_maps::{CellMaps, Redone};
+pub use cell_maps::{CellMaps, Recovered, Redone};
 pub use entry_map::EntryMap;
 pub use key_action::{KeyAction, after_action};
 pub use laws::{

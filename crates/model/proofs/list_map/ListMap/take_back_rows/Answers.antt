@@ -1,6 +1,6 @@
 use Rattle.std.proofs.Common.{◌∙◌, ap}
 use Rattle.model.proofs.MapLaws.{each_reverted, reverted-entries}
-use Rattle.model.proofs.list_map.ListMap.take_back.Goals as goal
+use Rattle.model.proofs.list_map.ListMap.take_back_rows.Goals as goal
 
 pub loop-changes-init : goal.loop-changes-init
 loop-changes-init g c =
