@@ -14,7 +14,7 @@ use Rattle.core_contracts.specs.Events.{BuildReply, CleanReply, Cleaned, Done, E
 use Rattle.core_contracts.specs.Replies.{HasNoPlace, IsAnyActive, IsBuildDue, IsCleanDue, IsDue, IsFirst, IsHeldByOther, IsOfNone, IsProper, build_step, change_of, clean_step, last_refusals, refusals, refusals_of}
 use Rattle.core_contracts.specs.Served.{HasStanding, IsEnabledAny}
 use Rattle.core_model.proofs.Laws.{nat_decided, not_none}
-use Rattle.core_model.specs.Invariants.{Invariant}
+use Rattle.core_model.specs.Invariants.{IsWellFormed}
 use Rattle.core_model.specs.States.{Active, State}
 use Rattle.core_model.specs.Steps.{Attempt, CanStart, HasRoom, IsActive, IsEnabled, IsReady, Start, Step, all_reserved, is_indexed, new_txn, txn_at}
 
@@ -72,7 +72,7 @@ no_txn_above s n h = by_txn (s.txns (n + 1)) refl
     by_txn (Some x) e = absurd (too_great (h (n + 1) x e))
 
 -- ---- of which step an event is
-module _ (s : State) (k : Standing) (i : Invariant s) (h : HasStanding s k) where
+module _ (s : State) (k : Standing) (i : IsWellFormed s) (h : HasStanding s k) where
   by_step : (e : Step) (step : Option Step) → step ≡ Some e → (IsFirst (last_refusals s k e) None → IsEnabled s e) → IsFirst (refusals_of s k step) None → IsEnabledAny s step
   by_step e step is f last = subst (IsEnabledAny s) (sym is) (f (subst (λ o. IsFirst (refusals_of s k o) None) is last))
 
@@ -90,7 +90,7 @@ module _ (s : State) (k : Standing) (i : Invariant s) (h : HasStanding s k) wher
 
   build_enabled : (b : BuildReply) → IsBuildDue s k b → IsFirst (refusals_of s k (build_step b)) None → IsEnabledAny s (build_step b)
   build_enabled Idle d last = tt
-  build_enabled (BuildReply.Marked p n) d last = (d.0, p, d.2)
+  build_enabled (BuildReply.Marked p n) d last = (d.0, d.2)
   build_enabled (Scanned page) d last = d.0.0
   build_enabled (Placed p) d last = record {
     building = d.0.0;
@@ -120,9 +120,9 @@ module _ (s : State) (k : Standing) (i : Invariant s) (h : HasStanding s k) wher
   due_enabled (Event.Insert t row) reply step known proper first d last =
       by_step _ step d.3 (change_enabled t d.0 (Inserted row) known proper d.1.free.empty (λ held. not_none held.1 d.1.free.unheld) d.1.free.inside) last
   due_enabled (Event.Delete t r) reply step known proper first d last =
-      by_step _ step d.3 (change_enabled t r (Deleted d.0) known proper d.1 (not_refused (not_refused first).1).0 (i.coherent.inside r d.0 d.1)) last
+      by_step _ step d.3 (change_enabled t r (Deleted d.0) known proper d.1 (not_refused (not_refused first).1).0 (i.rows r d.0 d.1)) last
   due_enabled (Event.Update t r row) reply step known proper first d last =
-      by_step _ step d.3 (change_enabled t r (Updated d.0 row) known proper d.1 (not_refused (not_refused first).1).0 (i.coherent.inside r d.0 d.1)) last
+      by_step _ step d.3 (change_enabled t r (Updated d.0 row) known proper d.1 (not_refused (not_refused first).1).0 (i.rows r d.0 d.1)) last
   due_enabled (Event.Step t) reply step known proper first d last = by_step _ step d.1 (λ l. (is_active s t known, proper.1)) last
   due_enabled (Event.Undo t) reply step known proper first d last = by_step _ step d.1 (λ l. is_active s t known) last
   due_enabled (Event.End t) reply step known proper first d last = by_step _ step d.1 (λ l. (is_active s t known, proper)) last

@@ -1,8 +1,8 @@
 -- Events with allowed replies make a run, and tell its history.
-use Rattle.std.proofs.Common.{Bool, List, None, Option, Some, [], ap, arith, false, inl, inr, nat_eq, refl, subst, suc, sym, true, zero, ℕ, ◌++◌, ◌+◌, ◌<◌, ◌||◌, ◌∙◌, ◌∷◌, ◌≡◌, ◌≢◌, ◌≤◌, ◌⊎◌}
+use Rattle.std.proofs.Common.{Bool, List, None, Option, Some, [], ap, append-nil, arith, cond, false, inl, inr, is_some, length, nat_eq, refl, subst, suc, sym, take, true, true≢false, zero, ℕ, ◌++◌, ◌+◌, ◌-◌, ◌<◌, ◌||◌, ◌∙◌, ◌∷◌, ◌≡◌, ◌≢◌, ◌≤◌, ◌⊎◌}
 use Rattle.std.proofs.lemmas.Bool.{eq-eqb}
 use Rattle.std.specs.Cmp.{nat_cmp_total}
-use Rattle.std.specs.FinMap.{empty, entries, get, nat_cmp-IsAntisymmetric}
+use Rattle.std.specs.FinMap.{empty, empty_of_len, get, get-empty, insert, len, len-empty, len-insert, len-remove, nat_cmp-IsAntisymmetric, remove}
 use Rattle.std.specs.Ordering.{nat_cmp}
 use Rattle.std.specs.Prelude.{map}
 use Rattle.records.specs.ChangeValue.{ChangeValue}
@@ -10,25 +10,28 @@ use Rattle.records.specs.declared.change.Rows.TheVariants.{Deleted, Inserted, Up
 use Rattle.records.specs.declared.pair.Mark.{Mark}
 use Rattle.records.specs.declared.pair.Pair.{Pair}
 use Rattle.records.specs.declared.record.Action.{Action}
-use Rattle.model.specs.History.{AreRising, Deed, Item, stage_after, stage_of, table_after}
-use Rattle.model.specs.Table.{Index, Table}
+use Rattle.model.specs.History.{AreRising, Deed, Item, life_after, table_after}
 use Rattle.model.specs.declared.life.Life.TheVariants.{Building, Complete}
 use Rattle.model.specs.declared.write.Write.{Write}
-use Rattle.core_contracts.proofs.CoreValues.{value_is}
 use Rattle.core_contracts.proofs.Replies.{due_enabled, is_active}
-use Rattle.core_contracts.specs.CoreValues.{CoreValue, IsPageOf, state_of, value_after}
-use Rattle.core_contracts.specs.Events.{BuildReply, Built, CleanReply, Cleaned, Cleaner, Done, Empty, Event, Idle, Kept, Placed, Rejected, Reply, Scanned, Standing, Stepped, Undone, Wrapped, after_build, after_clean, standing_after, standing_at}
-use Rattle.core_contracts.specs.Records.{checkpoint_action, next_action, place_action, undo_action}
-use Rattle.core_contracts.specs.Replies.{IsAllowed, IsBuildDue, IsDue, IsFirst, IsOfNone, IsProper, accepted, after_any, build_step, change_of, clean_step, last_refusals, no_memory, refusals, refused, refused_last, skipped, unknown}
-use Rattle.core_contracts.specs.Served.{Follows, HasStanding, IsEnabledAny, IsMove, Serves, asked_after, count_of, items_at, items_of, listing, nothing, numbers_to, one_listed, records_of, served}
-use Rattle.core_contracts.specs.Tables.{IsExclusive}
-use Rattle.core_model.proofs.Laws.{interleaved, nat_decided, not_none, opened_holds, step_keeps, txn_apart, update_apart, update_here}
+use Rattle.core_contracts.specs.Events.{BuildReply, Refused, Skipped, Txn, Built, CleanReply, Cleaned, Cleaner, Done, Empty, Event, Idle, Kept, Placed, Rejected, Reply, Scanned, Standing, Stepped, Undone, Wrapped, after_build, after_clean, standing_after, standing_at}
+use Rattle.core_model.specs.Records.{action_of, next_action, place_action, undo_action}
+use Rattle.core_model.specs.Logs.{HasMade, item_at, next_number, one_record}
+use Rattle.records.specs.RecordValue.{RecordValue}
+use Rattle.model.specs.Given.{IsBeginning, given_after}
+use Rattle.std.proofs.lemmas.List.{append_assoc, length-append}
+use Rattle.records.specs.declared.error.Error.{Error}
+use Rattle.records.specs.declared.number.TheConstants.{LAST_NUMBER}
+use Rattle.records.specs.declared.txn.TheConstants.{TXNS_MAX}
+use Rattle.std.proofs.lemmas.Bool.{cases_lt}
+use Rattle.core_contracts.specs.Replies.{IsAllowed, IsBuildDue, IsDue, IsFirst, IsOfNone, IsProper, accepted, after_any, build_step, change_of, clean_step, last_refusals, refusals_of, no_memory, refusals, refused, refused_last, skipped, unknown}
+use Rattle.core_contracts.specs.Served.{HasCounts, HasServed, HasStanding, asked_over, records_by, IsEnabledAny, IsMove, Serves, asked_after, items_at, items_of, nothing, number_after, served}
+use Rattle.core_model.proofs.Laws.{fit_step, interleaved, items_deeds, deeds, made_holds, made_more, made_nothing, made_recovers, nat_decided, not_none, txn_apart, update_apart, update_here}
 use Rattle.core_model.specs.Changes.{new_pair, old_pair}
-use Rattle.core_model.specs.Histories.{AllActiveAmong, CanOpen, IsAmong, IsFaithful, Opened, deeds_of, history, no_writes, opened, writes_after}
-use Rattle.core_model.specs.Invariants.{Invariant, IsPhaseOf, no_step, one_step}
-use Rattle.core_model.specs.Restarts.{IsListing}
+use Rattle.core_model.specs.Histories.{CanOpen, IsFaithful, Opened, deeds_of, no_writes, opened, writes_after}
+use Rattle.core_model.specs.Invariants.{Invariant, IsShaped, IsWellFormed}
 use Rattle.core_model.specs.States.{Active, Made, NewMarked, OldMarked, OldSet, Phase, Pledges, RowSet, State}
-use Rattle.core_model.specs.Steps.{IsActive, IsBuilding, IsEnabled, Next, Start, Step, after, carried_on, is_indexed, new_txn, row_made, row_undone, started, txn_at, undoing, undone, undone_first, update, with_change, with_phase, with_txn, without_newest}
+use Rattle.core_model.specs.Steps.{IsActive, IsBuilding, Next, Start, Step, after, carried_on, is_indexed, new_txn, row_made, row_undone, started, txn_at, undoing, undone, undone_first, update, with_change, with_phase, with_txn, without_newest}
 
 -- ---- what the standing says stays
 record SameScan (s s' : State) : Type 0 where
@@ -109,9 +112,19 @@ module _ (s : State) (n : ℕ) (le : (u : ℕ) (y : Active) → s.txns u ≡ Som
     undone_le (c ∷ older) (NewMarked b) u y e = put_le (row_undone x older (old_pair (is_indexed s.life) c)) u y e
     undone_le (c ∷ older) OldSet u y e = put_le (without_newest older) u y e
 
+-- all that the standing says but the counts
+record Stands (s : State) (k : Standing) : Type 0 where
+  pub begun : (t : ℕ) (x : Active) → s.txns t ≡ Some x → t ≤ k.begun
+  pub in_a_row : k.scanned ≤ s.pages
+  pub taken : (n : ℕ) → n < k.scanned → s.taken n ≡ true
+  pub tried : 1 ≤ k.attempts → IsBuilding s.life → s.bound ≢ None
+
 module _ (s : State) (k : Standing) (h : HasStanding s k) where
+  as_before : Stands s k
+  as_before = record { begun = h.begun; in_a_row = h.in_a_row; taken = h.taken; tried = h.tried }
+
   -- the builder is where it was
-  standing_kept : (s' : State) (k' : Standing) → SameScan s s' → k'.scanned ≡ k.scanned → k'.attempts ≡ k.attempts → ((u : ℕ) (y : Active) → s'.txns u ≡ Some y → u ≤ k'.begun) → HasStanding s' k'
+  standing_kept : (s' : State) (k' : Standing) → SameScan s s' → k'.scanned ≡ k.scanned → k'.attempts ≡ k.attempts → ((u : ℕ) (y : Active) → s'.txns u ≡ Some y → u ≤ k'.begun) → Stands s' k'
   standing_kept s' k' v a b le = record {
     begun = le;
     in_a_row = rw (a, v.pages) h.in_a_row;
@@ -135,8 +148,8 @@ module _ (s : State) (k : Standing) (h : HasStanding s k) where
       nat_same : (n : ℕ) → nat_eq n n ≡ true
       nat_same n = eq-eqb n n refl
 
-  built_standing : (b : BuildReply) → IsBuildDue s k b → HasStanding (after_any s (build_step b)) (after_build k b)
-  built_standing Idle d = h
+  built_standing : (b : BuildReply) → IsBuildDue s k b → Stands (after_any s (build_step b)) (after_build k b)
+  built_standing Idle d = as_before
   built_standing (BuildReply.Marked p n) d = record {
     begun = h.begun;
     in_a_row = h.in_a_row;
@@ -174,212 +187,226 @@ module _ (s : State) (k : Standing) (h : HasStanding s k) where
       not_complete : (highest : Option Pair) → Complete ≡ Building highest → ⊥
       not_complete highest e = absurd (cc)
 
-  cleaned_standing : (c : CleanReply) → HasStanding (after s (clean_step c)) (after_clean k c)
+  cleaned_standing : (c : CleanReply) → Stands (after s (clean_step c)) (after_clean k c)
   cleaned_standing (Cleaned p) = standing_kept _ _ (record { pages = refl; bound = refl; taken = refl; life = refl }) refl refl h.begun
   cleaned_standing (Kept p) = standing_kept _ _ (record { pages = refl; bound = refl; taken = refl; life = refl }) refl refl h.begun
   cleaned_standing Wrapped = standing_kept _ _ (record { pages = refl; bound = refl; taken = refl; life = refl }) refl refl h.begun
 
   -- with the reply and the step that are due
-  at_due : (e : Step) (right : Reply) (reply : Reply) (step : Option Step) → reply ≡ right → step ≡ Some e → HasStanding (after s e) (standing_after k right) → HasStanding (after_any s step) (standing_after k reply)
+  at_due : (e : Step) (right : Reply) (reply : Reply) (step : Option Step) → reply ≡ right → step ≡ Some e → Stands (after s e) (standing_after k right) → Stands (after_any s step) (standing_after k reply)
   at_due e right reply step p q a = rw (p, q) a
 
-  at_rest : (right : Reply) (reply : Reply) (step : Option Step) → reply ≡ right → step ≡ None → HasStanding s (standing_after k right) → HasStanding (after_any s step) (standing_after k reply)
+  at_rest : (right : Reply) (reply : Reply) (step : Option Step) → reply ≡ right → step ≡ None → Stands s (standing_after k right) → Stands (after_any s step) (standing_after k reply)
   at_rest right reply step p q a = rw (p, q) a
 
   other_made : (s' : State) (pledges : Pledges) → SameScan s s' → SameScan s (record s' { pledges = pledges })
   other_made s' pledges v = record { pages = v.pages; bound = v.bound; taken = v.taken; life = v.life }
 
-  start_standing : (t : ℕ) (c : ChangeValue) (k' : Standing) → IsActive s t → k'.scanned ≡ k.scanned → k'.attempts ≡ k.attempts → k'.begun ≡ k.begun → HasStanding (after s (Start t c)) k'
+  start_standing : (t : ℕ) (c : ChangeValue) (k' : Standing) → IsActive s t → k'.scanned ≡ k.scanned → k'.attempts ≡ k.attempts → k'.begun ≡ k.begun → Stands (after s (Start t c)) k'
   start_standing t c k' active a b n =
       standing_kept _ k' (other_made _ _ (scan_started s t (txn_at s t) c (old_pair (is_indexed s.life) c))) a b
       (λ u y e. rw n (started_le s k.begun h.begun t (txn_at s t) active c (old_pair (is_indexed s.life) c) u y e))
 
-  due_standing : (e : Event) (reply : Reply) (step : Option Step) → (IsOfNone s e → ⊥) → IsDue s k e reply step → HasStanding (after_any s step) (standing_after k reply)
-  due_standing Event.Begin reply step known d = at_due _ _ reply step d.0 d.1 (standing_kept _ _ (record { pages = refl; bound = refl; taken = refl; life = refl }) refl refl (begun_le s k.begun h.begun))
-  due_standing (Event.Insert t row) reply step known d = at_due _ _ reply step d.2 d.3 (start_standing t (change_of s t d.0 (Inserted row)) _ (is_active s t known) refl refl refl)
-  due_standing (Event.Delete t r) reply step known d = at_due _ _ reply step d.2 d.3 (start_standing t (change_of s t r (Deleted d.0)) _ (is_active s t known) refl refl refl)
-  due_standing (Event.Update t r row) reply step known d = at_due _ _ reply step d.2 d.3 (start_standing t (change_of s t r (Updated d.0 row)) _ (is_active s t known) refl refl refl)
-  due_standing (Event.Step t) reply step known d =
+  due_stands : (e : Event) (reply : Reply) (step : Option Step) → (IsOfNone s e → ⊥) → IsDue s k e reply step → Stands (after_any s step) (standing_after k reply)
+  due_stands Event.Begin reply step known d = at_due _ _ reply step d.0 d.1 (standing_kept _ _ (record { pages = refl; bound = refl; taken = refl; life = refl }) refl refl (begun_le s k.begun h.begun))
+  due_stands (Event.Insert t row) reply step known d = at_due _ _ reply step d.2 d.3 (start_standing t (change_of s t d.0 (Inserted row)) _ (is_active s t known) refl refl refl)
+  due_stands (Event.Delete t r) reply step known d = at_due _ _ reply step d.2 d.3 (start_standing t (change_of s t r (Deleted d.0)) _ (is_active s t known) refl refl refl)
+  due_stands (Event.Update t r row) reply step known d = at_due _ _ reply step d.2 d.3 (start_standing t (change_of s t r (Updated d.0 row)) _ (is_active s t known) refl refl refl)
+  due_stands (Event.Step t) reply step known d =
       at_due (Next t) Stepped reply step d.0 d.1 (standing_kept _ _ (other_made _ _ (scan_carried s t (txn_at s t) (txn_at s t).changes (txn_at s t).phase)) refl refl
       (carried_le s k.begun h.begun t (txn_at s t) (is_active s t known) (txn_at s t).changes (txn_at s t).phase))
-  due_standing (Event.Undo t) reply step known d = elim d.0 [
+  due_stands (Event.Undo t) reply step known d = elim d.0 [
     | inl empty ↦ at_due (Step.Undo t) Empty reply step empty.1 d.1 (undone_standing t k (is_active s t known) refl refl refl)
     | inr more ↦ at_due (Step.Undo t) Undone reply step more.1 d.1 (undone_standing t (standing_after k Undone) (is_active s t known) refl refl refl)
   ]
     where
-      undone_standing : (t : ℕ) (k' : Standing) → IsActive s t → k'.scanned ≡ k.scanned → k'.attempts ≡ k.attempts → k'.begun ≡ k.begun → HasStanding (after s (Step.Undo t)) k'
+      undone_standing : (t : ℕ) (k' : Standing) → IsActive s t → k'.scanned ≡ k.scanned → k'.attempts ≡ k.attempts → k'.begun ≡ k.begun → Stands (after s (Step.Undo t)) k'
       undone_standing t k' active a b n =
           standing_kept _ k' (other_made _ _ (scan_undone s t (txn_at s t) (txn_at s t).changes (txn_at s t).phase)) a b
           (λ u y e. rw n (undone_le s k.begun h.begun t (txn_at s t) active (txn_at s t).changes (txn_at s t).phase u y e))
-  due_standing (Event.End t) reply step known d = at_due _ _ reply step d.0 d.1 (standing_kept _ _ (record { pages = refl; bound = refl; taken = refl; life = refl }) refl refl (gone_le s k.begun h.begun t))
-  due_standing (Event.Commit t) reply step known d = at_due _ _ reply step d.0 d.1 (standing_kept _ _ (record { pages = refl; bound = refl; taken = refl; life = refl }) refl refl (gone_le s k.begun h.begun t))
-  due_standing Event.Create reply step known d = at_due Step.Create (Reply.Created (k.made + 1)) reply step d.0 d.1 (record {
+  due_stands (Event.End t) reply step known d = at_due _ _ reply step d.0 d.1 (standing_kept _ _ (record { pages = refl; bound = refl; taken = refl; life = refl }) refl refl (gone_le s k.begun h.begun t))
+  due_stands (Event.Commit t) reply step known d = at_due _ _ reply step d.0 d.1 (standing_kept _ _ (record { pages = refl; bound = refl; taken = refl; life = refl }) refl refl (gone_le s k.begun h.begun t))
+  due_stands Event.Create reply step known d = at_due Step.Create (Reply.Created (k.made + 1)) reply step d.0 d.1 (record {
     begun = h.begun;
     in_a_row = omega arith;
     taken = λ n l. absurd (omega (arith, l));
     tried = λ l. absurd (omega (arith, l));
   })
-  due_standing Event.Build reply step known d = rw (d.2, d.3) (built_standing d.0 d.1)
-  due_standing Event.Clean reply step known d = rw (d.2, d.3) (cleaned_standing d.0)
-  due_standing (Event.Get r) reply step known d = at_rest _ reply step d.0 d.1 h
-  due_standing (Event.Find key) reply step known d = at_rest _ reply step d.2 d.3 h
-  due_standing Event.Life reply step known d = at_rest _ reply step d.0 d.1 h
+  due_stands Event.Build reply step known d = rw (d.2, d.3) (built_standing d.0 d.1)
+  due_stands Event.Clean reply step known d = rw (d.2, d.3) (cleaned_standing d.0)
+  due_stands (Event.Get r) reply step known d = at_rest _ reply step d.0 d.1 as_before
+  due_stands (Event.Find key) reply step known d = at_rest _ reply step d.2 d.3 as_before
+  due_stands Event.Life reply step known d = at_rest _ reply step d.0 d.1 as_before
+
+-- ---- the counts
+present_len : (m : Pledges) (t n : ℕ) → is_some (get m t) ≡ true → len (insert m t n) ≡ len m
+present_len m t n e = len-insert nat_cmp_total m t n ∙ ap (λ b. cond b (len m) (len m + 1)) e
+
+new_len : (m : Pledges) (t n : ℕ) → is_some (get m t) ≡ false → len (insert m t n) ≡ len m + 1
+new_len m t n e = len-insert nat_cmp_total m t n ∙ ap (λ b. cond b (len m) (len m + 1)) e
+
+less_len : (m : Pledges) (t : ℕ) → is_some (get m t) ≡ true → len (remove m t) ≡ len m - 1
+less_len m t e = len-remove nat_cmp_total m t ∙ ap (λ b. cond b (len m - 1) (len m)) e
+
+some_len : (m : Pledges) (t : ℕ) → is_some (get m t) ≡ true → 1 ≤ len m
+some_len m t e = by_len (len m) refl
+  where
+    by_len : (n : ℕ) → len m ≡ n → 1 ≤ len m
+    by_len zero l = absurd (true≢false (sym e ∙ ap (λ (f : Pledges). is_some (get f t)) (empty_of_len m l) ∙ ap is_some (get-empty nat_cmp t)))
+    by_len (suc n) l = omega (arith, l)
+
+module _ (s : State) (k : Standing) (i : IsWellFormed s) (h : HasStanding s k) where
+  same_counts : (s' : State) (k' : Standing) → k'.active ≡ k.active → k'.begun ≡ k.begun → k.made ≤ k'.made → len s'.pledges ≡ len s.pledges → HasCounts s' k'
+  same_counts s' k' a b m l =
+      let active : k.active ≡ len s.pledges = h.counts.active in
+      let few : k.active ≤ TXNS_MAX = h.counts.few in
+      let ended : k.begun ≤ k.made + k.active = h.counts.ended in
+      record { active = a ∙ active ∙ sym l; few = omega (arith, a, few); ended = omega (arith, a, b, m, ended) }
+
+  is_pledged : (t : ℕ) → IsActive s t → is_some (get s.pledges t) ≡ true
+  is_pledged t active = i.pledged t ∙ ap is_some active
+
+  -- a transaction went on
+  put_counts : (t n : ℕ) (s' : State) (k' : Standing) → IsActive s t → s'.pledges ≡ insert s.pledges t n → k'.active ≡ k.active → k'.begun ≡ k.begun → k.made ≤ k'.made → HasCounts s' k'
+  put_counts t n s' k' active p a b m = same_counts s' k' a b m (ap len p ∙ present_len s.pledges t n (is_pledged t active))
+
+  begun_counts : (TXNS_MAX ≤ k.active → ⊥) → HasCounts (after s (Step.Begin (k.begun + 1))) (standing_after k (Txn (k.begun + 1)))
+  begun_counts fewer =
+      let active : k.active ≡ len s.pledges = h.counts.active in
+      let ended : k.begun ≤ k.made + k.active = h.counts.ended in
+      let new : len (insert s.pledges (k.begun + 1) 0) ≡ len s.pledges + 1 = new_len s.pledges (k.begun + 1) 0 (i.pledged (k.begun + 1) ∙ not_yet (s.txns (k.begun + 1)) refl) in
+      let room : k.active < TXNS_MAX = below fewer in
+      record { active = omega (arith, active, new); few = omega (arith, room); ended = omega (arith, ended) }
+    where
+      not_yet : (o : Option Active) → s.txns (k.begun + 1) ≡ o → is_some (s.txns (k.begun + 1)) ≡ false
+      not_yet None e = ap is_some e
+      not_yet (Some x) e = let l : k.begun + 1 ≤ k.begun = h.begun (k.begun + 1) x e in absurd (omega (arith, l))
+
+      below : (TXNS_MAX ≤ k.active → ⊥) → k.active < TXNS_MAX
+      below f = elim (cases_lt k.active TXNS_MAX) [ inl lt ↦ lt | inr le ↦ absurd (f le) ]
+
+  gone_counts : (t : ℕ) (s' : State) (k' : Standing) → IsActive s t → s'.pledges ≡ remove s.pledges t → k'.active ≡ k.active - 1 → k'.begun ≡ k.begun → k'.made ≡ k.made + 1 → HasCounts s' k'
+  gone_counts t s' k' on p a b m =
+      let active : k.active ≡ len s.pledges = h.counts.active in
+      let few : k.active ≤ TXNS_MAX = h.counts.few in
+      let ended : k.begun ≤ k.made + k.active = h.counts.ended in
+      let less : len (remove s.pledges t) ≡ len s.pledges - 1 = less_len s.pledges t (is_pledged t on) in
+      let some : 1 ≤ len s.pledges = some_len s.pledges t (is_pledged t on) in
+      let now : len s'.pledges ≡ len (remove s.pledges t) = ap len p in
+      record { active = omega (arith, a, active, less, now); few = omega (arith, a, few); ended = omega (arith, a, b, m, ended, active, some) }
+
+  built_counts : (b : BuildReply) → IsBuildDue s k b → HasCounts (after_any s (build_step b)) (after_build k b)
+  built_counts Idle d = h.counts
+  built_counts (BuildReply.Marked p n) d = same_counts _ _ refl refl (omega arith) refl
+  built_counts (Scanned page) d = same_counts _ _ refl refl (omega arith) refl
+  built_counts (Placed p) d = same_counts _ _ refl refl (omega arith) refl
+  built_counts (Rejected p) d = same_counts _ _ refl refl (omega arith) refl
+  built_counts (Done n) d = same_counts _ _ refl refl (omega arith) refl
+
+  cleaned_counts : (c : CleanReply) → HasCounts (after s (clean_step c)) (after_clean k c)
+  cleaned_counts (Cleaned p) = same_counts _ _ refl refl (omega arith) refl
+  cleaned_counts (Kept p) = same_counts _ _ refl refl (omega arith) refl
+  cleaned_counts Wrapped = same_counts _ _ refl refl (omega arith) refl
+
+  counts_by : (right : Reply) (want : Option Step) (reply : Reply) (step : Option Step) → reply ≡ right → step ≡ want → HasCounts (after_any s want) (standing_after k right) → HasCounts (after_any s step) (standing_after k reply)
+  counts_by right want reply step p q a = rw (p, q) a
+
+  one_refused : {A : Type 0} {error : Error} → IsFirst ((A, error) ∷ []) None → A → ⊥
+  one_refused (inl refuses) a = not_none refuses.1 refl
+  one_refused (inr allows) a = allows.0 a
+
+  due_counts : (e : Event) (reply : Reply) (step : Option Step) → (IsOfNone s e → ⊥) → IsFirst (refusals s k e) None → IsDue s k e reply step → HasCounts (after_any s step) (standing_after k reply)
+  due_counts Event.Begin reply step known first d = counts_by (Txn (k.begun + 1)) (Some (Step.Begin (k.begun + 1))) reply step d.0 d.1 (begun_counts (one_refused first))
+  due_counts (Event.Insert t row) reply step known first d = counts_by _ _ reply step d.2 d.3 (put_counts t _ _ _ (is_active s t known) refl refl refl (omega arith))
+  due_counts (Event.Delete t r) reply step known first d = counts_by _ _ reply step d.2 d.3 (put_counts t _ _ _ (is_active s t known) refl refl refl (omega arith))
+  due_counts (Event.Update t r row) reply step known first d = counts_by _ _ reply step d.2 d.3 (put_counts t _ _ _ (is_active s t known) refl refl refl (omega arith))
+  due_counts (Event.Step t) reply step known first d = counts_by _ _ reply step d.0 d.1 (put_counts t _ _ _ (is_active s t known) refl refl refl (omega arith))
+  due_counts (Event.Undo t) reply step known first d = elim d.0 [
+    | inl empty ↦ counts_by Empty (Some (Step.Undo t)) reply step empty.1 d.1 (put_counts t _ _ k (is_active s t known) refl refl refl (omega arith))
+    | inr more ↦ counts_by Undone (Some (Step.Undo t)) reply step more.1 d.1 (put_counts t _ _ (standing_after k Undone) (is_active s t known) refl refl refl (omega arith))
+  ]
+  due_counts (Event.End t) reply step known first d = counts_by _ _ reply step d.0 d.1 (gone_counts t _ _ (is_active s t known) refl refl refl refl)
+  due_counts (Event.Commit t) reply step known first d = counts_by _ _ reply step d.0 d.1 (gone_counts t _ _ (is_active s t known) refl refl refl refl)
+  due_counts Event.Create reply step known first d = counts_by _ _ reply step d.0 d.1 (same_counts _ _ refl refl (omega arith) refl)
+  due_counts Event.Build reply step known first d = rw (d.2, d.3) (built_counts d.0 d.1)
+  due_counts Event.Clean reply step known first d = rw (d.2, d.3) (cleaned_counts d.0)
+  due_counts (Event.Get r) reply step known first d = counts_by _ _ reply step d.0 d.1 h.counts
+  due_counts (Event.Find key) reply step known first d = counts_by _ _ reply step d.2 d.3 h.counts
+  due_counts Event.Life reply step known first d = counts_by _ _ reply step d.0 d.1 h.counts
 
 -- ---- the history
-abbrev pub deeds : List Item → List Deed
-deeds items = map (λ (item : Item). item.deed) items
-
-abbrev pub deeds_any : (ℕ → List Write) → Option Step → List Deed
-deeds_any writes None = []
-deeds_any writes (Some e) = deeds_of writes e
+abbrev pub items_any : (ℕ → List Write) → ℕ → Option Step → List Item
+items_any writes last None = []
+items_any writes last (Some e) = map (item_at last) (deeds_of writes e)
 
 abbrev pub writes_any : (ℕ → List Write) → Option Step → ℕ → List Write
 writes_any writes None = writes
 writes_any writes (Some e) = writes_after writes e
 
-pub record Tells (writes : ℕ → List Write) (e : Event) (reply : Reply) (step : Option Step) : Type 0 where
-  pub items : deeds (items_at writes reply e) ≡ deeds_any writes step
+pub record Tells (writes : ℕ → List Write) (last : ℕ) (e : Event) (reply : Reply) (step : Option Step) : Type 0 where
+  pub items : items_at writes reply e ≡ items_any writes last step
   pub asked : asked_after writes reply e ≡ writes_any writes step
 
-module _ (writes : ℕ → List Write) (e : Event) where
-  tells_by : (right reply : Reply) (step want : Option Step) → reply ≡ right → step ≡ want → Tells writes e right want → Tells writes e reply step
+module _ (writes : ℕ → List Write) (last : ℕ) (e : Event) where
+  tells_by : (right reply : Reply) (step want : Option Step) → reply ≡ right → step ≡ want → Tells writes last e right want → Tells writes last e reply step
   tells_by right reply step want p q a = rw (p, q) a
 
-built_tells : (writes : ℕ → List Write) (b : BuildReply) → Tells writes Event.Build (Built b) (build_step b)
-built_tells writes Idle = record { items = refl; asked = refl }
-built_tells writes (BuildReply.Marked p n) = record { items = refl; asked = refl }
-built_tells writes (Scanned page) = record { items = refl; asked = refl }
-built_tells writes (Placed p) = record { items = refl; asked = refl }
-built_tells writes (Rejected p) = record { items = refl; asked = refl }
-built_tells writes (Done n) = record { items = refl; asked = refl }
+built_tells : (s : State) (k : Standing) (writes : ℕ → List Write) (b : BuildReply) → IsBuildDue s k b → Tells writes k.made Event.Build (Built b) (build_step b)
+built_tells s k writes Idle d = record { items = refl; asked = refl }
+built_tells s k writes (BuildReply.Marked p n) d = record { items = ap (λ m. record { number = m; deed = Deed.Checkpointed p } ∷ []) d.3; asked = refl }
+built_tells s k writes (Scanned page) d = record { items = refl; asked = refl }
+built_tells s k writes (Placed p) d = record { items = refl; asked = refl }
+built_tells s k writes (Rejected p) d = record { items = refl; asked = refl }
+built_tells s k writes (Done n) d = record { items = ap (λ m. record { number = m; deed = Deed.Completed } ∷ []) d.2; asked = refl }
 
-cleaned_tells : (writes : ℕ → List Write) (c : CleanReply) → Tells writes Event.Clean (Cleaner c) (Some (clean_step c))
-cleaned_tells writes (Cleaned p) = record { items = refl; asked = refl }
-cleaned_tells writes (Kept p) = record { items = refl; asked = refl }
-cleaned_tells writes Wrapped = record { items = refl; asked = refl }
+cleaned_tells : (writes : ℕ → List Write) (last : ℕ) (c : CleanReply) → Tells writes last Event.Clean (Cleaner c) (Some (clean_step c))
+cleaned_tells writes last (Cleaned p) = record { items = refl; asked = refl }
+cleaned_tells writes last (Kept p) = record { items = refl; asked = refl }
+cleaned_tells writes last Wrapped = record { items = refl; asked = refl }
 
-due_tells : (s : State) (k : Standing) (writes : ℕ → List Write) (e : Event) (reply : Reply) (step : Option Step) → IsDue s k e reply step → Tells writes e reply step
-due_tells s k writes Event.Begin reply step d = tells_by writes Event.Begin _ reply step _ d.0 d.1 (record { items = refl; asked = refl })
-due_tells s k writes (Event.Insert t row) reply step d = tells_by writes (Event.Insert t row) _ reply step _ d.2 d.3 (record { items = refl; asked = refl })
-due_tells s k writes (Event.Delete t r) reply step d = tells_by writes (Event.Delete t r) _ reply step _ d.2 d.3 (record { items = refl; asked = refl })
-due_tells s k writes (Event.Update t r row) reply step d = tells_by writes (Event.Update t r row) _ reply step _ d.2 d.3 (record { items = refl; asked = refl })
-due_tells s k writes (Event.Step t) reply step d = tells_by writes (Event.Step t) _ reply step _ d.0 d.1 (record { items = refl; asked = refl })
+due_tells : (s : State) (k : Standing) (writes : ℕ → List Write) (e : Event) (reply : Reply) (step : Option Step) → IsDue s k e reply step → Tells writes k.made e reply step
+due_tells s k writes Event.Begin reply step d = tells_by writes k.made Event.Begin _ reply step _ d.0 d.1 (record { items = refl; asked = refl })
+due_tells s k writes (Event.Insert t row) reply step d = tells_by writes k.made (Event.Insert t row) _ reply step _ d.2 d.3 (record { items = refl; asked = refl })
+due_tells s k writes (Event.Delete t r) reply step d = tells_by writes k.made (Event.Delete t r) _ reply step _ d.2 d.3 (record { items = refl; asked = refl })
+due_tells s k writes (Event.Update t r row) reply step d = tells_by writes k.made (Event.Update t r row) _ reply step _ d.2 d.3 (record { items = refl; asked = refl })
+due_tells s k writes (Event.Step t) reply step d = tells_by writes k.made (Event.Step t) _ reply step _ d.0 d.1 (record { items = refl; asked = refl })
 due_tells s k writes (Event.Undo t) reply step d = elim d.0 [
-  | inl empty ↦ tells_by writes (Event.Undo t) _ reply step _ empty.1 d.1 (record { items = refl; asked = refl })
-  | inr more ↦ tells_by writes (Event.Undo t) _ reply step _ more.1 d.1 (record { items = refl; asked = refl })
+  | inl empty ↦ tells_by writes k.made (Event.Undo t) _ reply step _ empty.1 d.1 (record { items = refl; asked = refl })
+  | inr more ↦ tells_by writes k.made (Event.Undo t) _ reply step _ more.1 d.1 (record { items = refl; asked = refl })
 ]
-due_tells s k writes (Event.End t) reply step d = tells_by writes (Event.End t) _ reply step _ d.0 d.1 (record { items = refl; asked = refl })
-due_tells s k writes (Event.Commit t) reply step d = tells_by writes (Event.Commit t) _ reply step _ d.0 d.1 (record { items = refl; asked = refl })
-due_tells s k writes Event.Create reply step d = tells_by writes Event.Create _ reply step _ d.0 d.1 (record { items = refl; asked = refl })
-due_tells s k writes Event.Build reply step d = rw (d.2, d.3) (built_tells writes d.0)
-due_tells s k writes Event.Clean reply step d = rw (d.2, d.3) (cleaned_tells writes d.0)
-due_tells s k writes (Event.Get r) reply step d = tells_by writes (Event.Get r) _ reply step _ d.0 d.1 (record { items = refl; asked = refl })
-due_tells s k writes (Event.Find key) reply step d = tells_by writes (Event.Find key) _ reply step _ d.2 d.3 (record { items = refl; asked = refl })
-due_tells s k writes Event.Life reply step d = tells_by writes Event.Life _ reply step _ d.0 d.1 (record { items = refl; asked = refl })
-
--- ---- one event
-pub record Moves (s : State) (k : Standing) (e : Event) (reply : Reply) (s' : State) (k' : Standing) (writes : ℕ → List Write) : Type 0 where
-  pub step : Option Step
-  pub enabled : IsEnabledAny s step
-  pub is : s' ≡ after_any s step
-  pub standing : HasStanding s' k'
-  pub tells : Tells writes e reply step
-
-pub moves : (s : State) (k : Standing) (e : Event) (reply : Reply) (s' : State) (k' : Standing) (writes : ℕ → List Write) → Invariant s → HasStanding s k → IsAllowed s k e reply s' k' → Moves s k e reply s' k' writes
-moves s k e reply s' k' writes i h (unknown a) = record { step = None; enabled = tt; is = refl; standing = h; tells = record { items = refl; asked = refl } }
-moves s k e reply s' k' writes i h (skipped a b) = record { step = None; enabled = tt; is = refl; standing = h; tells = record { items = refl; asked = refl } }
-moves s k e reply s' k' writes i h (refused a b error c) = record { step = None; enabled = tt; is = refl; standing = h; tells = record { items = refl; asked = refl } }
-moves s k e reply s' k' writes i h (refused_last a b c r step d error f) = record { step = None; enabled = tt; is = refl; standing = h; tells = record { items = refl; asked = refl } }
-moves s k e reply s' k' writes i h (no_memory a b c r step d f w) = record { step = None; enabled = tt; is = refl; standing = h; tells = record { items = refl; asked = refl } }
-moves s k e reply s' k' writes i h (accepted a b c r step d f) = record {
-  step = step;
-  enabled = due_enabled s k i h e r step a b c d f;
-  is = refl;
-  standing = due_standing s k h e r step a d;
-  tells = due_tells s k writes e r step d;
-}
-
-invariant_any : (s : State) (step : Option Step) → Invariant s → IsEnabledAny s step → Invariant (after_any s step)
-invariant_any s None i a = i
-invariant_any s (Some e) i a = step_keeps s e i a
-
--- ---- one event after another
-deeds-append : (items later : List Item) → deeds (items ++ later) ≡ deeds items ++ deeds later
-deeds-append [] later = refl
-deeds-append (item ∷ items) later = ap (λ ds. item.deed ∷ ds) (deeds-append items later)
-
-one_first : (s : State) (step : Option Step) (writes : ℕ → List Write) (e : Event) (reply : Reply) (rest : List (Event × Reply)) (s' : State) (k' : Standing) → IsEnabledAny s step → Tells writes e reply step
-    → Follows (after_any s step) rest s' k' (asked_after writes reply e) → Follows s ((e, reply) ∷ rest) s' k' writes
-one_first s None writes e reply rest s' k' a t f = record {
-  steps = f.steps;
-  run = f.run;
-  history = deeds-append (items_at writes reply e) _ ∙ ap (λ ds. ds ++ deeds (items_of (asked_after writes reply e) rest)) t.items ∙ f.history ∙ ap (λ w. history w f.steps) t.asked;
-  standing = f.standing;
-}
-one_first s (Some step) writes e reply rest s' k' a t f = record {
-  steps = step ∷ f.steps;
-  run = one_step {s = s} {s' = s'} step f.steps a f.run;
-  history = deeds-append (items_at writes reply e) _ ∙ ap (λ ds. ds ++ deeds (items_of (asked_after writes reply e) rest)) t.items
-      ∙ ap (λ ds. deeds_of writes step ++ ds) (f.history ∙ ap (λ w. history w f.steps) t.asked);
-  standing = f.standing;
-}
-
-pub follows : (s : State) (k : Standing) (pairs : List (Event × Reply)) (s' : State) (k' : Standing) → Serves s k pairs s' k' → Invariant s → HasStanding s k → (writes : ℕ → List Write) → Follows s pairs s' k' writes
-follows s k pairs s' k' nothing i h writes = record { steps = []; run = no_step; history = refl; standing = h }
-follows s k pairs s'' k'' (served {s' = s'} {k' = k'} e reply rest allowed r) i h writes =
-    let m : Moves s k e reply s' k' writes = moves s k e reply s' k' writes i h allowed in
-    let i' : Invariant s' = subst Invariant (sym m.is) (invariant_any s m.step i m.enabled) in
-    let f : Follows s' rest s'' k'' (asked_after writes reply e) = follows s' k' rest s'' k'' r i' m.standing (asked_after writes reply e) in
-    one_first s m.step writes e reply rest s'' k'' m.enabled m.tells (subst (λ w. Follows w rest s'' k'' (asked_after writes reply e)) m.is f)
-
-opened_standing : (o : Opened) (last : ℕ) → HasStanding (opened o) (standing_at last)
-opened_standing o last = record {
-  begun = λ t x e. absurd (not_none e refl);
-  in_a_row = omega arith;
-  taken = λ n l. absurd (omega (arith, l));
-  tried = λ l. absurd (omega (arith, l));
-}
-
-pub all_served : (o : Opened) → CanOpen o → (last : ℕ) (pairs : List (Event × Reply)) (s : State) (k : Standing) → Serves (opened o) (standing_at last) pairs s k → Follows (opened o) pairs s k no_writes
-all_served o can last pairs s k r = follows (opened o) (standing_at last) pairs s k r (opened_holds o can) (opened_standing o last) no_writes
-
-pub served_faithful : (o : Opened) → CanOpen o → (last : ℕ) (pairs : List (Event × Reply)) (s : State) (k : Standing) → Serves (opened o) (standing_at last) pairs s k
-    → IsFaithful s (table_after o.rows (items_of no_writes pairs)) × (stage_of s.life ≡ stage_after (stage_of o.life) (items_of no_writes pairs))
-served_faithful o can last pairs s k r =
-    let f : Follows (opened o) pairs s k no_writes = all_served o can last pairs s k r in
-    interleaved o can f.steps s f.run (items_of no_writes pairs) f.history
+due_tells s k writes (Event.End t) reply step d = tells_by writes k.made (Event.End t) _ reply step _ d.0 d.1 (record { items = refl; asked = refl })
+due_tells s k writes (Event.Commit t) reply step d = tells_by writes k.made (Event.Commit t) _ reply step _ d.0 d.1 (record { items = refl; asked = refl })
+due_tells s k writes Event.Create reply step d = tells_by writes k.made Event.Create _ reply step _ d.0 d.1 (record { items = refl; asked = refl })
+due_tells s k writes Event.Build reply step d = rw (d.2, d.3) (built_tells s k writes d.0 d.1)
+due_tells s k writes Event.Clean reply step d = rw (d.2, d.3) (cleaned_tells writes k.made d.0)
+due_tells s k writes (Event.Get r) reply step d = tells_by writes k.made (Event.Get r) _ reply step _ d.0 d.1 (record { items = refl; asked = refl })
+due_tells s k writes (Event.Find key) reply step d = tells_by writes k.made (Event.Find key) _ reply step _ d.2 d.3 (record { items = refl; asked = refl })
+due_tells s k writes Event.Life reply step d = tells_by writes k.made Event.Life _ reply step _ d.0 d.1 (record { items = refl; asked = refl })
 
 -- ---- the numbers of records
-plus_none : (n : ℕ) → n ≡ n + 0
-plus_none n = omega arith
-
-count_some : (o : Option Action) → (o ≡ None → ⊥) → (n : ℕ) → n + 1 ≡ n + count_of o
-count_some None h n = absurd (h refl)
-count_some (Some action) h n = refl
-
-next_made : (t : ℕ) (cs : List ChangeValue) (phase : Phase) (indexed : Bool) (entries : Index) (rolling : Bool) → IsPhaseOf indexed entries cs phase rolling → (phase ≡ OldMarked) ⊎ (phase ≡ RowSet) → (n : ℕ) → n + 1 ≡ n + count_of (next_action t cs phase)
-next_made t [] phase indexed entries rolling h o n = absurd (made_owes phase h o)
+next_made : (t : ℕ) (cs : List ChangeValue) (phase : Phase) (indexed : Bool) → IsShaped indexed cs phase → (phase ≡ OldMarked) ⊎ (phase ≡ RowSet) → (n : ℕ) → n + 1 ≡ next_number n (next_action t cs phase)
+next_made t [] phase indexed h o n = absurd (made_owes phase h o)
   where
     made_owes : (phase : Phase) → phase ≡ Made → (phase ≡ OldMarked) ⊎ (phase ≡ RowSet) → ⊥
     made_owes phase h (inl a) = absurd (cc)
     made_owes phase h (inr a) = absurd (cc)
-next_made t (c ∷ older) OldMarked indexed entries rolling h o n = refl
-next_made t (c ∷ older) RowSet indexed entries rolling h o n = refl
-next_made t (c ∷ older) Made indexed entries rolling h o n = absurd (elim o [ inl a ↦ made_marked a | inr a ↦ made_set a ])
+next_made t (c ∷ older) OldMarked indexed h o n = refl
+next_made t (c ∷ older) RowSet indexed h o n = refl
+next_made t (c ∷ older) Made indexed h o n = absurd (elim o [ inl a ↦ made_marked a | inr a ↦ made_set a ])
   where
     made_marked : Made ≡ OldMarked → ⊥
     made_marked a = absurd (cc)
 
     made_set : Made ≡ RowSet → ⊥
     made_set a = absurd (cc)
-next_made t (c ∷ older) (NewMarked b) indexed entries rolling h o n = absurd (elim o [ inl a ↦ new_marked a | inr a ↦ new_set a ])
+next_made t (c ∷ older) (NewMarked b) indexed h o n = absurd (elim o [ inl a ↦ new_marked a | inr a ↦ new_set a ])
   where
     new_marked : NewMarked b ≡ OldMarked → ⊥
     new_marked a = absurd (cc)
 
     new_set : NewMarked b ≡ RowSet → ⊥
     new_set a = absurd (cc)
-next_made t (c ∷ older) OldSet indexed entries rolling h o n = absurd (elim o [ inl a ↦ old_marked a | inr a ↦ old_set a ])
+next_made t (c ∷ older) OldSet indexed h o n = absurd (elim o [ inl a ↦ old_marked a | inr a ↦ old_set a ])
   where
     old_marked : OldSet ≡ OldMarked → ⊥
     old_marked a = absurd (cc)
@@ -387,7 +414,7 @@ next_made t (c ∷ older) OldSet indexed entries rolling h o n = absurd (elim o 
     old_set : OldSet ≡ RowSet → ⊥
     old_set a = absurd (cc)
 
-undo_made : (t : ℕ) (cs : List ChangeValue) (phase : Phase) (indexed : Bool) → (cs ≡ [] → ⊥) → (n : ℕ) → n + 1 ≡ n + count_of (undo_action indexed t cs phase)
+undo_made : (t : ℕ) (cs : List ChangeValue) (phase : Phase) (indexed : Bool) → (cs ≡ [] → ⊥) → (n : ℕ) → n + 1 ≡ next_number n (undo_action indexed t cs phase)
 undo_made t [] phase indexed h n = absurd (h refl)
 undo_made t (c ∷ older) OldMarked indexed h n = refl
 undo_made t (c ∷ older) RowSet indexed h n = refl
@@ -395,45 +422,41 @@ undo_made t (c ∷ older) Made indexed h n = refl
 undo_made t (c ∷ older) (NewMarked b) indexed h n = refl
 undo_made t (c ∷ older) OldSet indexed h n = refl
 
-undo_none : (t : ℕ) (cs : List ChangeValue) (phase : Phase) (indexed : Bool) → cs ≡ [] → (n : ℕ) → n ≡ n + count_of (undo_action indexed t cs phase)
-undo_none t cs phase indexed e n = plus_none n ∙ ap (λ cs. n + count_of (undo_action indexed t cs phase)) (sym e)
+undo_none : (t : ℕ) (cs : List ChangeValue) (phase : Phase) (indexed : Bool) → cs ≡ [] → (n : ℕ) → n ≡ next_number n (undo_action indexed t cs phase)
+undo_none t cs phase indexed e n = ap (λ cs. next_number n (undo_action indexed t cs phase)) (sym e)
 
-place_made : (p : Pair) (o : Option Mark) → o ≡ None → (n : ℕ) → n + 1 ≡ n + count_of (place_action p o)
+place_made : (p : Pair) (o : Option Mark) → o ≡ None → (n : ℕ) → n + 1 ≡ next_number n (place_action p o)
 place_made p None e n = refl
 place_made p (Some mark) e n = absurd (not_none refl e)
 
-place_none : (p : Pair) (o : Option Mark) → (o ≡ None → ⊥) → (n : ℕ) → n ≡ n + count_of (place_action p o)
+place_none : (p : Pair) (o : Option Mark) → (o ≡ None → ⊥) → (n : ℕ) → n ≡ next_number n (place_action p o)
 place_none p None h n = absurd (h refl)
-place_none p (Some mark) h n = plus_none n
+place_none p (Some mark) h n = refl
 
-checkpoint_made : (p : Pair) (o : Option Pair) → o ≡ Some p → (n : ℕ) → n + 1 ≡ n + count_of (checkpoint_action o)
-checkpoint_made p None e n = absurd (not_none e refl)
-checkpoint_made p (Some q) e n = refl
-
-module _ (s : State) (k : Standing) (i : Invariant s) where
-  built_made : (b : BuildReply) → IsBuildDue s k b → (after_build k b).made ≡ k.made + records_of s (build_step b)
-  built_made Idle d = plus_none k.made
-  built_made (BuildReply.Marked p n) d = checkpoint_made p s.bound d.2 k.made
-  built_made (Scanned page) d = plus_none k.made
+module _ (s : State) (k : Standing) (i : IsWellFormed s) where
+  built_made : (b : BuildReply) → IsBuildDue s k b → (after_build k b).made ≡ number_after s k.made (build_step b)
+  built_made Idle d = refl
+  built_made (BuildReply.Marked p n) d = refl
+  built_made (Scanned page) d = refl
   built_made (Placed p) d = place_made p (get s.entries p) d.2 k.made
   built_made (Rejected p) d = place_none p (get s.entries p) d.2 k.made
   built_made (Done n) d = refl
 
-  cleaned_made : (c : CleanReply) → (after_clean k c).made ≡ k.made + records_of s (Some (clean_step c))
+  cleaned_made : (c : CleanReply) → (after_clean k c).made ≡ number_after s k.made (Some (clean_step c))
   cleaned_made (Cleaned p) = refl
-  cleaned_made (Kept p) = plus_none k.made
-  cleaned_made Wrapped = plus_none k.made
+  cleaned_made (Kept p) = refl
+  cleaned_made Wrapped = refl
 
-  made_by : (right reply : Reply) (step want : Option Step) → reply ≡ right → step ≡ want → (standing_after k right).made ≡ k.made + records_of s want → (standing_after k reply).made ≡ k.made + records_of s step
+  made_by : (right reply : Reply) (step want : Option Step) → reply ≡ right → step ≡ want → (standing_after k right).made ≡ number_after s k.made want → (standing_after k reply).made ≡ number_after s k.made step
   made_by right reply step want p q a = rw (p, q) a
 
-  due_made : (e : Event) (reply : Reply) (step : Option Step) → (IsOfNone s e → ⊥) → IsProper s e → IsDue s k e reply step → (standing_after k reply).made ≡ k.made + records_of s step
-  due_made Event.Begin reply step known proper d = made_by _ reply step _ d.0 d.1 (plus_none k.made)
+  due_made : (e : Event) (reply : Reply) (step : Option Step) → (IsOfNone s e → ⊥) → IsProper s e → IsDue s k e reply step → (standing_after k reply).made ≡ number_after s k.made step
+  due_made Event.Begin reply step known proper d = made_by _ reply step _ d.0 d.1 refl
   due_made (Event.Insert t row) reply step known proper d = made_by _ reply step _ d.2 d.3 refl
   due_made (Event.Delete t r) reply step known proper d = made_by _ reply step _ d.2 d.3 refl
   due_made (Event.Update t r row) reply step known proper d = made_by _ reply step _ d.2 d.3 refl
   due_made (Event.Step t) reply step known proper d =
-      made_by _ reply step _ d.0 d.1 (next_made t (txn_at s t).changes (txn_at s t).phase (is_indexed s.life) s.entries (txn_at s t).rolling (i.coherent.txns t (txn_at s t) (is_active s t known)).phase proper.0 k.made)
+      made_by _ reply step _ d.0 d.1 (next_made t (txn_at s t).changes (txn_at s t).phase (is_indexed s.life) (i.txns t (txn_at s t) (is_active s t known)).shaped proper.0 k.made)
   due_made (Event.Undo t) reply step known proper d = elim d.0 [
     | inl empty ↦ made_by _ reply step _ empty.1 d.1 (undo_none t (txn_at s t).changes (txn_at s t).phase (is_indexed s.life) empty.0 k.made)
     | inr more ↦ made_by _ reply step _ more.1 d.1 (undo_made t (txn_at s t).changes (txn_at s t).phase (is_indexed s.life) more.0 k.made)
@@ -443,19 +466,188 @@ module _ (s : State) (k : Standing) (i : Invariant s) where
   due_made Event.Create reply step known proper d = made_by _ reply step _ d.0 d.1 refl
   due_made Event.Build reply step known proper d = rw (d.2, d.3) (built_made d.0 d.1)
   due_made Event.Clean reply step known proper d = rw (d.2, d.3) (cleaned_made d.0)
-  due_made (Event.Get r) reply step known proper d = made_by _ reply step _ d.0 d.1 (plus_none k.made)
-  due_made (Event.Find key) reply step known proper d = made_by _ reply step _ d.2 d.3 (plus_none k.made)
-  due_made Event.Life reply step known proper d = made_by _ reply step _ d.0 d.1 (plus_none k.made)
+  due_made (Event.Get r) reply step known proper d = made_by _ reply step _ d.0 d.1 refl
+  due_made (Event.Find key) reply step known proper d = made_by _ reply step _ d.2 d.3 refl
+  due_made Event.Life reply step known proper d = made_by _ reply step _ d.0 d.1 refl
 
-pub is_move : (s : State) (k : Standing) (e : Event) (reply : Reply) (s' : State) (k' : Standing) → Invariant s → HasStanding s k → IsAllowed s k e reply s' k' → IsMove s k s' k'
-is_move s k e reply s' k' i h (unknown a) = record { step = None; enabled = tt; is = refl; made = plus_none k.made; holds = i; standing = h }
-is_move s k e reply s' k' i h (skipped a b) = record { step = None; enabled = tt; is = refl; made = plus_none k.made; holds = i; standing = h }
-is_move s k e reply s' k' i h (refused a b error c) = record { step = None; enabled = tt; is = refl; made = plus_none k.made; holds = i; standing = h }
-is_move s k e reply s' k' i h (refused_last a b c r step d error f) = record { step = None; enabled = tt; is = refl; made = plus_none k.made; holds = i; standing = h }
-is_move s k e reply s' k' i h (no_memory a b c r step d f w) = record { step = None; enabled = tt; is = refl; made = plus_none k.made; holds = i; standing = h }
-is_move s k e reply s' k' i h (accepted a b c r step d f) =
-    let on : IsEnabledAny s step = due_enabled s k i h e r step a b c d f in
-    record { step = step; enabled = on; is = refl; made = due_made s k i e r step a b d; holds = invariant_any s step i on; standing = due_standing s k h e r step a d }
+-- the number of the last record stays within the limit
+number_within : (s : State) (k : Standing) (step : Option Step) → IsFirst (refusals_of s k step) None → k.made ≤ LAST_NUMBER → number_after s k.made step ≤ LAST_NUMBER
+number_within s k None last le = le
+number_within s k (Some e) last le = by_action (action_of s e) refl
+  where
+    not_last : IsFirst (last_refusals s k e) None → (LAST_NUMBER ≤ k.made) × (action_of s e ≢ None) → ⊥
+    not_last (inl refuses) full = not_none refuses.1 refl
+    not_last (inr rest) full = elim rest.1 [ inl refuses ↦ not_none refuses.1 refl | inr allows ↦ allows.0 full ]
+
+    by_action : (o : Option Action) → action_of s e ≡ o → next_number k.made o ≤ LAST_NUMBER
+    by_action None is = le
+    by_action (Some action) is = elim (cases_lt k.made LAST_NUMBER) [
+      | inl lt ↦ omega (arith, lt)
+      | inr full ↦ absurd (not_last last (full, λ none. not_none is none))
+    ]
+
+module _ (s : State) (k : Standing) (i : IsWellFormed s) (h : HasStanding s k) where
+  due_standing : (e : Event) (reply : Reply) (step : Option Step) → (IsOfNone s e → ⊥) → IsProper s e → IsFirst (refusals s k e) None → IsDue s k e reply step → IsFirst (refusals_of s k step) None → HasStanding (after_any s step) (standing_after k reply)
+  due_standing e reply step known proper first d last =
+      let a : Stands (after_any s step) (standing_after k reply) = due_stands s k h e reply step known d in
+      record {
+        begun = a.begun;
+        in_a_row = a.in_a_row;
+        taken = a.taken;
+        tried = a.tried;
+        counts = due_counts s k i h e reply step known first d;
+        within = subst (λ n. n ≤ LAST_NUMBER) (sym (due_made s k i e reply step known proper d)) (number_within s k step last h.within);
+      }
+
+-- ---- one event
+pub fit_any : (s : State) (step : Option Step) → IsWellFormed s → IsEnabledAny s step → IsWellFormed (after_any s step)
+fit_any s None i a = i
+fit_any s (Some e) i a = fit_step s e i a
+
+-- ---- one event after another
+items_last : (writes : ℕ → List Write) (pairs : List (Event × Reply)) (e : Event) (reply : Reply) → items_of writes (pairs ++ (e, reply) ∷ []) ≡ items_of writes pairs ++ items_at (asked_over writes pairs) reply e
+items_last writes [] e reply = append-nil (items_at writes reply e)
+items_last writes (p ∷ pairs) e reply =
+    ap (λ l. items_at writes p.1 p.0 ++ l) (items_last (asked_after writes p.1 p.0) pairs e reply)
+    ∙ sym (append_assoc (items_at writes p.1 p.0) (items_of (asked_after writes p.1 p.0) pairs) (items_at (asked_over (asked_after writes p.1 p.0) pairs) reply e))
+
+asked_last : (writes : ℕ → List Write) (pairs : List (Event × Reply)) (e : Event) (reply : Reply) → asked_over writes (pairs ++ (e, reply) ∷ []) ≡ asked_after (asked_over writes pairs) reply e
+asked_last writes [] e reply = refl
+asked_last writes (p ∷ pairs) e reply = asked_last (asked_after writes p.1 p.0) pairs e reply
+
+module _ (o : Opened) (can : CanOpen o) (made : List RecordValue) (pairs : List (Event × Reply)) (s : State) (k : Standing) (h : HasServed o made pairs s k) where
+  abbrev asked : ℕ → List Write
+  asked = asked_over no_writes pairs
+
+  served_holds : Invariant s
+  served_holds = made_holds o can made (items_of no_writes pairs) asked s h.log
+
+  longer_number : (n : ℕ) (action : Option Action) → n ≡ next_number k.made action → n ≡ o.given.last + length (made ++ one_record k.made action)
+  longer_number n None e = e ∙ h.number ∙ ap (λ (rs : List RecordValue). o.given.last + length rs) (sym (append-nil made))
+  longer_number n (Some action) e =
+      let number : k.made ≡ o.given.last + length made = h.number in
+      let more : length (made ++ one_record k.made (Some action)) ≡ length made + 1 = length-append made (one_record k.made (Some action)) in
+      omega (arith, e, number, more)
+
+  go_on : (e : Event) (reply : Reply) (k' : Standing) (step : Option Step) → IsEnabledAny s step → HasStanding (after_any s step) k' → Tells asked k.made e reply step → k'.made ≡ number_after s k.made step
+      → HasServed o (made ++ records_by s k.made step) (pairs ++ (e, reply) ∷ []) (after_any s step) k'
+  go_on e reply k' None a standing t m = record {
+    log =
+        subst (λ rs. HasMade o rs (items_of no_writes (pairs ++ (e, reply) ∷ [])) (asked_over no_writes (pairs ++ (e, reply) ∷ [])) s) (sym (append-nil made))
+        (subst (λ items. HasMade o made items (asked_over no_writes (pairs ++ (e, reply) ∷ [])) s) (sym (items_last no_writes pairs e reply ∙ ap (λ l. items_of no_writes pairs ++ l) t.items ∙ append-nil (items_of no_writes pairs)))
+        (subst (λ w. HasMade o made (items_of no_writes pairs) w s) (sym (asked_last no_writes pairs e reply ∙ t.asked)) h.log));
+    number = m ∙ h.number ∙ ap (λ (rs : List RecordValue). o.given.last + length rs) (sym (append-nil made));
+    standing = standing;
+  }
+  go_on e reply k' (Some step) a standing t m =
+      let few : len s.pledges ≤ TXNS_MAX = few_pledged h.standing.counts.active h.standing.counts.few in
+      let more : HasMade o (made ++ one_record (o.given.last + length made) (action_of s step)) (items_of no_writes pairs ++ map (item_at (o.given.last + length made)) (deeds_of asked step)) (writes_after asked step) (after s step) =
+      made_more o can made (items_of no_writes pairs) asked s h.log step a few in
+      record {
+        log =
+            subst (λ items. HasMade o (made ++ one_record k.made (action_of s step)) items (asked_over no_writes (pairs ++ (e, reply) ∷ [])) (after s step)) (sym (items_last no_writes pairs e reply ∙ ap (λ l. items_of no_writes pairs ++ l) t.items))
+            (subst (λ w. HasMade o (made ++ one_record k.made (action_of s step)) (items_of no_writes pairs ++ map (item_at k.made) (deeds_of asked step)) w (after s step)) (sym (asked_last no_writes pairs e reply ∙ t.asked))
+            (subst (λ n. HasMade o (made ++ one_record n (action_of s step)) (items_of no_writes pairs ++ map (item_at n) (deeds_of asked step)) (writes_after asked step) (after s step)) (sym h.number) more));
+        number = longer_number k'.made (action_of s step) m;
+        standing = standing;
+      }
+    where
+      few_pledged : k.active ≡ len s.pledges → k.active ≤ TXNS_MAX → len s.pledges ≤ TXNS_MAX
+      few_pledged e l = omega (arith, e, l)
+
+  -- the reply that is due
+  pub served_due : (e : Event) (reply : Reply) (step : Option Step) → (IsOfNone s e → ⊥) → IsProper s e → IsFirst (refusals s k e) None → IsDue s k e reply step → IsFirst (refusals_of s k step) None
+      → HasServed o (made ++ records_by s k.made step) (pairs ++ (e, reply) ∷ []) (after_any s step) (standing_after k reply)
+  served_due e reply step known proper first due last =
+      let i : IsWellFormed s = served_holds.fit in
+      go_on e reply (standing_after k reply) step (due_enabled s k i h.standing e reply step known proper first due last) (due_standing s k i h.standing e reply step known proper first due last) (due_tells s k asked e reply step due) (due_made s k i e reply step known proper due)
+
+  without_step : (e : Event) (reply : Reply) → items_at asked reply e ≡ [] → asked_after asked reply e ≡ asked → HasServed o made (pairs ++ (e, reply) ∷ []) s k
+  without_step e reply none same =
+      subst (λ rs. HasServed o rs (pairs ++ (e, reply) ∷ []) s k) (append-nil made) (go_on e reply k None tt h.standing (record { items = none; asked = same }) refl)
+
+  -- a refusal, or an event that is skipped
+  pub served_refused : (e : Event) (error : Error) → HasServed o made (pairs ++ (e, Refused error) ∷ []) s k
+  served_refused e error = without_step e (Refused error) refl refl
+
+  pub served_skipped : (e : Event) → HasServed o made (pairs ++ (e, Skipped) ∷ []) s k
+  served_skipped e = without_step e Skipped refl refl
+
+  pub served_allowed : (e : Event) (reply : Reply) (step : Option Step) → IsAllowed s k e reply step → HasServed o (made ++ records_by s k.made step) (pairs ++ (e, reply) ∷ []) (after_any s step) (standing_after k reply)
+  served_allowed e reply step (unknown a) = go_on e _ k None tt h.standing (record { items = refl; asked = refl }) refl
+  served_allowed e reply step (skipped a b) = go_on e _ k None tt h.standing (record { items = refl; asked = refl }) refl
+  served_allowed e reply step (refused a b error c) = go_on e _ k None tt h.standing (record { items = refl; asked = refl }) refl
+  served_allowed e reply step (refused_last a b c r x d error f) = go_on e _ k None tt h.standing (record { items = refl; asked = refl }) refl
+  served_allowed e reply step (no_memory a b c r x d f w) = go_on e _ k None tt h.standing (record { items = refl; asked = refl }) refl
+  served_allowed e reply step (accepted a b c r x d f) = served_due e r x a b c d f
+
+served_on : (o : Opened) (can : CanOpen o) (before : List (Event × Reply)) (s : State) (k : Standing) (pairs : List (Event × Reply)) (s' : State) (k' : Standing) → Serves s k pairs s' k' → (made : List RecordValue) → HasServed o made before s k
+    → (all : List RecordValue) × HasServed o all (before ++ pairs) s' k'
+served_on o can before s k pairs s' k' nothing made h = (made, subst (λ ps. HasServed o made ps s k) (sym (append-nil before)) h)
+served_on o can before s k pairs s'' k'' (served e reply step rest allowed r) made h =
+    let one : HasServed o (made ++ records_by s k.made step) (before ++ (e, reply) ∷ []) (after_any s step) (standing_after k reply) = served_allowed o can made before s k h e reply step allowed in
+    let all : (all : List RecordValue) × HasServed o all ((before ++ (e, reply) ∷ []) ++ rest) s'' k'' = served_on o can (before ++ (e, reply) ∷ []) (after_any s step) (standing_after k reply) rest s'' k'' r (made ++ records_by s k.made step) one in
+    (all.0, subst (λ ps. HasServed o all.0 ps s'' k'') (append_assoc before ((e, reply) ∷ []) rest) all.1)
+
+opened_standing : (o : Opened) (last : ℕ) → last ≤ LAST_NUMBER → HasStanding (opened o) (standing_at last)
+opened_standing o last le = record {
+  begun = λ t x e. absurd (not_none e refl);
+  in_a_row = omega arith;
+  taken = λ n l. absurd (omega (arith, l));
+  tried = λ l. absurd (omega (arith, l));
+  counts = record { active = sym (len-empty nat_cmp ℕ); few = omega arith; ended = omega arith };
+  within = le;
+}
+
+pub served_nothing : (o : Opened) → o.given.last ≤ LAST_NUMBER → HasServed o [] [] (opened o) (standing_at o.given.last)
+served_nothing o le = record { log = made_nothing o; number = no_more o.given.last; standing = opened_standing o o.given.last le }
+  where
+    no_more : (n : ℕ) → n ≡ n + 0
+    no_more n = omega arith
+
+pub all_served : (o : Opened) → CanOpen o → o.given.last ≤ LAST_NUMBER → (pairs : List (Event × Reply)) (s : State) (k : Standing) → Serves (opened o) (standing_at o.given.last) pairs s k → (made : List RecordValue) × HasServed o made pairs s k
+all_served o can le pairs s k r = served_on o can [] (opened o) (standing_at o.given.last) pairs s k r [] (served_nothing o le)
+
+-- the numbers of records and of transactions
+pub served_numbers : (o : Opened) (made : List RecordValue) (pairs : List (Event × Reply)) (s : State) (k : Standing) → HasServed o made pairs s k → (k.made ≤ LAST_NUMBER) × (k.begun ≤ LAST_NUMBER + TXNS_MAX)
+served_numbers o made pairs s k h =
+    let ended : k.begun ≤ k.made + k.active = h.standing.counts.ended in
+    let few : k.active ≤ TXNS_MAX = h.standing.counts.few in
+    let within : k.made ≤ LAST_NUMBER = h.standing.within in
+    (within, omega (arith, ended, few, within))
+
+pub served_faithful : (o : Opened) → CanOpen o → (made : List RecordValue) (pairs : List (Event × Reply)) (s : State) (k : Standing) → HasServed o made pairs s k
+    → IsFaithful s (table_after o.given.table (items_of no_writes pairs)) × (s.life ≡ life_after o.given.life (items_of no_writes pairs))
+served_faithful o can made pairs s k h =
+    interleaved o can h.log.steps s h.log.run (items_of no_writes pairs) (ap deeds h.log.history ∙ items_deeds no_writes (opened o) o.given.last h.log.steps)
+
+pub served_recovers : (o : Opened) → CanOpen o → (made : List RecordValue) (pairs : List (Event × Reply)) (s : State) (k : Standing) → HasServed o made pairs s k → (n : ℕ) → n ≤ length made
+    → IsBeginning o.given (items_of no_writes pairs) (o.given.last + n) (given_after o.given (take n made)) × CanOpen (record o { given = given_after o.given (take n made) })
+served_recovers o can made pairs s k h n le = made_recovers o can made (items_of no_writes pairs) (asked_over no_writes pairs) s h.log n le
+
+-- a crash leaves a beginning of what was handed on
+pub served_crashed : (o : Opened) → CanOpen o → (made : List RecordValue) (pairs : List (Event × Reply)) (s : State) (k : Standing) → HasServed o made pairs s k → (handed waiting : List RecordValue) → made ≡ handed ++ waiting
+    → (n : ℕ) → n ≤ length handed → IsBeginning o.given (items_of no_writes pairs) (o.given.last + n) (given_after o.given (take n handed)) × CanOpen (record o { given = given_after o.given (take n handed) })
+served_crashed o can made pairs s k h handed waiting e n le =
+    let longer : length (handed ++ waiting) ≡ length handed + length waiting = length-append handed waiting in
+    let total : length made ≡ length (handed ++ waiting) = ap length e in
+    subst (λ (rs : List RecordValue). IsBeginning o.given (items_of no_writes pairs) (o.given.last + n) (given_after o.given rs) × CanOpen (record o { given = given_after o.given rs })) (ap (take n) e ∙ front handed n le)
+    (served_recovers o can made pairs s k h n (omega (arith, le, longer, total)))
+  where
+    front : (rs : List RecordValue) (n : ℕ) → n ≤ length rs → take n (rs ++ waiting) ≡ take n rs
+    front rs zero le = refl
+    front [] (suc n) le = absurd (omega (arith, le))
+    front (r ∷ rs) (suc n) le = ap (λ l. r ∷ l) (front rs n (omega (arith, le)))
+
+pub is_move : (s : State) (k : Standing) (e : Event) (reply : Reply) (step : Option Step) → IsWellFormed s → HasStanding s k → IsAllowed s k e reply step → IsMove s k step (standing_after k reply)
+is_move s k e reply step i h (unknown a) = record { enabled = tt; made = refl; fit = i; standing = h }
+is_move s k e reply step i h (skipped a b) = record { enabled = tt; made = refl; fit = i; standing = h }
+is_move s k e reply step i h (refused a b error c) = record { enabled = tt; made = refl; fit = i; standing = h }
+is_move s k e reply step i h (refused_last a b c r x d error f) = record { enabled = tt; made = refl; fit = i; standing = h }
+is_move s k e reply step i h (no_memory a b c r x d f w) = record { enabled = tt; made = refl; fit = i; standing = h }
+is_move s k e reply step i h (accepted a b c r x d f) =
+    let on : IsEnabledAny s x = due_enabled s k i h e r x a b c d f in
+    record { enabled = on; made = due_made s k i e r x a b d; fit = fit_any s x i on; standing = due_standing s k i h e r x a b c d f }
 
 -- ---- the items' numbers rise
 rising_from : (n m : ℕ) (items : List Item) → n ≤ m → AreRising m items → AreRising n items
@@ -485,7 +677,7 @@ module _ (s : State) (k : Standing) (writes : ℕ → List Write) where
 
   built_ticket : (b : BuildReply) → IsBuildDue s k b → IsTicketed (items_at writes (Built b) Event.Build) k.made (after_build k b).made
   built_ticket Idle d = no_ticket _ _ (omega arith)
-  built_ticket (BuildReply.Marked p n) d = no_ticket _ _ (more_made k.made)
+  built_ticket (BuildReply.Marked p n) d = one_ticket (Deed.Checkpointed p) k.made (k.made + 1) n refl d.3
   built_ticket (Scanned page) d = no_ticket _ _ (omega arith)
   built_ticket (Placed p) d = no_ticket _ _ (more_made k.made)
   built_ticket (Rejected p) d = no_ticket _ _ (omega arith)
@@ -518,90 +710,19 @@ module _ (s : State) (k : Standing) (writes : ℕ → List Write) where
   due_ticket (Event.Find key) reply step d = ticket_by (Event.Find key) _ reply d.2 (no_ticket _ _ (omega arith))
   due_ticket Event.Life reply step d = ticket_by Event.Life _ reply d.0 (no_ticket _ _ (omega arith))
 
-ticketed : (s : State) (k : Standing) (e : Event) (reply : Reply) (s' : State) (k' : Standing) (writes : ℕ → List Write) → IsAllowed s k e reply s' k' → IsTicketed (items_at writes reply e) k.made k'.made
-ticketed s k e reply s' k' writes (unknown a) = no_ticket _ _ (omega arith)
-ticketed s k e reply s' k' writes (skipped a b) = no_ticket _ _ (omega arith)
-ticketed s k e reply s' k' writes (refused a b error c) = no_ticket _ _ (omega arith)
-ticketed s k e reply s' k' writes (refused_last a b c r step d error f) = no_ticket _ _ (omega arith)
-ticketed s k e reply s' k' writes (no_memory a b c r step d f w) = no_ticket _ _ (omega arith)
-ticketed s k e reply s' k' writes (accepted a b c r step d f) = due_ticket s k writes e r step d
+ticketed : (s : State) (k : Standing) (e : Event) (reply : Reply) (step : Option Step) (writes : ℕ → List Write) → IsAllowed s k e reply step → IsTicketed (items_at writes reply e) k.made (standing_after k reply).made
+ticketed s k e reply step writes (unknown a) = no_ticket _ _ (omega arith)
+ticketed s k e reply step writes (skipped a b) = no_ticket _ _ (omega arith)
+ticketed s k e reply step writes (refused a b error c) = no_ticket _ _ (omega arith)
+ticketed s k e reply step writes (refused_last a b c r x d error f) = no_ticket _ _ (omega arith)
+ticketed s k e reply step writes (no_memory a b c r x d f w) = no_ticket _ _ (omega arith)
+ticketed s k e reply step writes (accepted a b c r x d f) = due_ticket s k writes e r x d
 
 -- the numbers are above that of the first record, and at most that of the last
 all_rising : (s : State) (k : Standing) (pairs : List (Event × Reply)) (s' : State) (k' : Standing) → Serves s k pairs s' k' → (writes : ℕ → List Write) → AreRising k.made (items_of writes pairs)
 all_rising s k pairs s' k' nothing writes = tt
-all_rising s k pairs s'' k'' (served {s' = s'} {k' = k'} e reply rest allowed r) writes =
-    (ticketed s k e reply s' k' writes allowed).before (items_of (asked_after writes reply e) rest) (all_rising s' k' rest s'' k'' r (asked_after writes reply e))
+all_rising s k pairs s'' k'' (served e reply step rest allowed r) writes =
+    (ticketed s k e reply step writes allowed).before (items_of (asked_after writes reply e) rest) (all_rising (after_any s step) (standing_after k reply) rest s'' k'' r (asked_after writes reply e))
 
 pub served_rising : (o : Opened) (last : ℕ) (pairs : List (Event × Reply)) (s : State) (k : Standing) → Serves (opened o) (standing_at last) pairs s k → AreRising last (items_of no_writes pairs)
 served_rising o last pairs s k r = all_rising (opened o) (standing_at last) pairs s k r no_writes
-
--- ---- on the data
-pub accepted_value : (v : CoreValue) (committed : Table) (k : Standing) (e : Event) (reply : Reply) (step : Step) (pairs : List Pair) → IsExclusive v.active → IsPageOf v step pairs
-    → Invariant (state_of v committed) → HasStanding (state_of v committed) k → (IsOfNone (state_of v committed) e → ⊥) → IsProper (state_of v committed) e → IsFirst (refusals (state_of v committed) k e) None
-    → IsDue (state_of v committed) k e reply (Some step) → IsFirst (last_refusals (state_of v committed) k step) None
-    → IsAllowed (state_of v committed) k e reply (state_of (value_after v step pairs) (after (state_of v committed) step).committed) (standing_after k reply)
-accepted_value v committed k e reply step pairs x p i h known proper first due last =
-    let s : State = state_of v committed in
-    let enabled : IsEnabled s step = due_enabled s k i h e reply (Some step) known proper first due last in
-    subst (λ s'. IsAllowed s k e reply s' (standing_after k reply)) (sym (value_is v committed step pairs x p enabled)) (accepted known proper first reply (Some step) due last)
-
--- ---- the active transactions are among the numbers that were given
-among_to : (n u : ℕ) → u ≤ n → IsAmong u (numbers_to n)
-among_to zero u l = inl (least u l)
-  where
-    least : (u : ℕ) → u ≤ 0 → u ≡ 0
-    least u l = omega (arith, l)
-among_to (suc n) u l = elim (nat_decided u (suc n)) [ inl same ↦ inl same | inr m ↦ inr (among_to n u (before u n l m)) ]
-  where
-    before : (u n : ℕ) → u ≤ suc n → u ≢ suc n → u ≤ n
-    before u n l m = omega (arith, l, m)
-
-pub all_among : (s : State) (k : Standing) → HasStanding s k → AllActiveAmong s (numbers_to k.begun)
-all_among s k h t x e = among_to k.begun t (h.begun t x e)
-
--- ---- and so they can be listed
-listed_same : (txns other : ℕ → Option Active) (ts : List ℕ) → ((u : ℕ) → IsAmong u ts → other u ≡ txns u) → listing other ts ≡ listing txns ts
-listed_same txns other [] same = refl
-listed_same txns other (t ∷ ts) same = ap (λ o. one_listed t o ++ listing other ts) (same t (inl refl)) ∙ ap (λ ls. one_listed t (txns t) ++ ls) (listed_same txns other ts (λ u a. same u (inr a)))
-
-abbrev AreApart : List ℕ → Type 0
-AreApart [] = Unit {0}
-AreApart (t ∷ ts) = (IsAmong t ts → ⊥) × AreApart ts
-
-below_to : (n u : ℕ) → IsAmong u (numbers_to n) → u ≤ n
-below_to zero u (inl same) = rw same (omega arith)
-below_to zero u (inr h) = absurd h
-below_to (suc n) u (inl same) = rw same (omega arith)
-below_to (suc n) u (inr h) = let less : u ≤ n = below_to n u h in omega (arith, less)
-
-apart_to : (n : ℕ) → AreApart (numbers_to n)
-apart_to zero = (λ h. h, tt)
-apart_to (suc n) = (λ h. too_great n (below_to n (suc n) h), apart_to n)
-  where
-    too_great : (n : ℕ) → suc n ≤ n → ⊥
-    too_great n l = omega (arith, l)
-
-listed_by : (txns : ℕ → Option Active) (t : ℕ) (ts : List ℕ) (o : Option Active) → txns t ≡ o → AreApart (t ∷ ts) → ((u : ℕ) (x : Active) → txns u ≡ Some x → IsAmong u (t ∷ ts))
-    → ((txns : ℕ → Option Active) → AreApart ts → ((u : ℕ) (x : Active) → txns u ≡ Some x → IsAmong u ts) → IsListing txns (listing txns ts)) → IsListing txns (one_listed t o ++ listing txns ts)
-listed_by txns t ts None e apart_all among rest =
-    rest txns apart_all.1 (λ u x k. elim (among u x k) [ inl same ↦ absurd (not_none k (ap txns same ∙ e)) | inr later ↦ later ])
-listed_by txns t ts (Some x) e apart_all among rest =
-    let gone : ℕ → Option Active = update nat_cmp txns t None in (
-      (x, e, refl),
-      subst (λ ls. IsListing gone ls) (listed_same txns gone ts (λ u a. update_apart nat_cmp-IsAntisymmetric txns t None u (λ same. apart_all.0 (subst (λ w. IsAmong w ts) same a))))
-          (rest gone apart_all.1 (λ u y k. elim (nat_decided u t) [
-            | inl same ↦ absurd (not_none k (ap gone same ∙ update_here nat_cmp_total txns t None))
-            | inr n ↦ elim (among u y (sym (update_apart nat_cmp-IsAntisymmetric txns t None u n) ∙ k)) [ inl same ↦ absurd (n same) | inr later ↦ later ]
-          ])),
-    )
-
-listed_all : (ts : List ℕ) (txns : ℕ → Option Active) → AreApart ts → ((u : ℕ) (x : Active) → txns u ≡ Some x → IsAmong u ts) → IsListing txns (listing txns ts)
-listed_all [] txns a among = λ t. none_by t (txns t) refl
-  where
-    none_by : (t : ℕ) (o : Option Active) → txns t ≡ o → txns t ≡ None
-    none_by t None e = e
-    none_by t (Some x) e = absurd (among t x e)
-listed_all (t ∷ ts) txns a among = listed_by txns t ts (txns t) refl a among (listed_all ts)
-
-pub all_listed : (s : State) (k : Standing) → HasStanding s k → IsListing s.txns (listing s.txns (numbers_to k.begun))
-all_listed s k h = listed_all (numbers_to k.begun) s.txns (apart_to k.begun) (all_among s k h)

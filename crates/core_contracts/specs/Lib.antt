@@ -1,8 +1,3 @@
-pub mod Records
-pub mod Parts
-pub mod Scans
-pub mod Tables
-pub mod CoreValues
 pub mod Events
 pub mod Replies
 pub mod Served

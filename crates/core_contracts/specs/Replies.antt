@@ -17,8 +17,8 @@ use Rattle.records.specs.declared.number.TheConstants.{LAST_NUMBER}
 use Rattle.records.specs.declared.rid.TheConstants.{SLOTS_PER_PAGE}
 use Rattle.records.specs.declared.row.Row.{Row}
 use Rattle.model.specs.declared.life.Life.TheVariants.{Absent, Complete}
-use Rattle.core_contracts.specs.Events.{BuildReply, Built, CleanReply, Cleaned, Cleaner, Done, Empty, Ended, Event, Found, Idle, Kept, LifeIs, Placed, Refused, Rejected, Reply, Rid, RowIs, Scanned, Skipped, Standing, Stepped, Txn, Undone, Wrapped, standing_after}
-use Rattle.core_contracts.specs.Records.{action_of}
+use Rattle.core_contracts.specs.Events.{BuildReply, Built, CleanReply, Cleaned, Cleaner, Done, Empty, Ended, Event, Found, Idle, Kept, LifeIs, Placed, Refused, Rejected, Reply, Rid, RowIs, Scanned, Skipped, Standing, Stepped, Txn, Undone, Wrapped}
+use Rattle.core_model.specs.Records.{action_of}
 use Rattle.records.specs.declared.limits.TheConstants.{ATTEMPTS_PER_CHECKPOINT}
 use Rattle.records.specs.declared.txn.TheConstants.{TXNS_MAX}
 use Rattle.core_model.specs.States.{Active, OldMarked, RowSet, State}
@@ -136,7 +136,7 @@ abbrev pub build_step : BuildReply → Option Step
 build_step (Scanned page) = Some (Take page)
 build_step (Placed p) = Some (Attempt p)
 build_step (Rejected p) = Some (Attempt p)
-build_step (BuildReply.Marked p n) = Some Checkpoint
+build_step (BuildReply.Marked p n) = Some (Checkpoint p)
 build_step (Done n) = Some Finish
 build_step Idle = None
 
@@ -190,14 +190,14 @@ abbrev pub after_any : State → Option Step → State
 after_any s None = s
 after_any s (Some e) = after s e
 
--- an event may get this reply, and leads to this state and standing
-pub data IsAllowed (s : State) (k : Standing) (e : Event) : Reply → State → Standing → Type 0 where
-  unknown : IsOfNone s e → IsAllowed s k e (Refused Error.NoSuchTxn) s k
-  skipped : (IsOfNone s e → ⊥) → (IsProper s e → ⊥) → IsAllowed s k e Skipped s k
-  refused : (IsOfNone s e → ⊥) → IsProper s e → (error : Error) → IsFirst (refusals s k e) (Some error) → IsAllowed s k e (Refused error) s k
+-- an event may get this reply, by this step or by none
+pub data IsAllowed (s : State) (k : Standing) (e : Event) : Reply → Option Step → Type 0 where
+  unknown : IsOfNone s e → IsAllowed s k e (Refused Error.NoSuchTxn) None
+  skipped : (IsOfNone s e → ⊥) → (IsProper s e → ⊥) → IsAllowed s k e Skipped None
+  refused : (IsOfNone s e → ⊥) → IsProper s e → (error : Error) → IsFirst (refusals s k e) (Some error) → IsAllowed s k e (Refused error) None
   refused_last : (IsOfNone s e → ⊥) → IsProper s e → IsFirst (refusals s k e) None → (reply : Reply) (step : Option Step) → IsDue s k e reply step
-      → (error : Error) → IsFirst (refusals_of s k step) (Some error) → IsAllowed s k e (Refused error) s k
+      → (error : Error) → IsFirst (refusals_of s k step) (Some error) → IsAllowed s k e (Refused error) None
   no_memory : (IsOfNone s e → ⊥) → IsProper s e → IsFirst (refusals s k e) None → (reply : Reply) (step : Option Step) → IsDue s k e reply step
-      → IsFirst (refusals_of s k step) None → WantsMemory e → IsAllowed s k e (Refused Error.NoMemory) s k
+      → IsFirst (refusals_of s k step) None → WantsMemory e → IsAllowed s k e (Refused Error.NoMemory) None
   accepted : (IsOfNone s e → ⊥) → IsProper s e → IsFirst (refusals s k e) None → (reply : Reply) (step : Option Step) → IsDue s k e reply step
-      → IsFirst (refusals_of s k step) None → IsAllowed s k e reply (after_any s step) (standing_after k reply)
+      → IsFirst (refusals_of s k step) None → IsAllowed s k e reply step

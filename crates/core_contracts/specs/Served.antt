@@ -1,24 +1,27 @@
 -- Lists of events with their replies, and the history that they tell.
+use Rattle.std.specs.FinMap.{len}
 use Rattle.std.specs.Ordering.{nat_cmp}
-use Rattle.std.specs.Prelude.{List, None, Option, Some, [], map, suc, true, zero, ℕ, ◌++◌, ◌+◌, ◌<◌, ◌∷◌, ◌≡◌, ◌≢◌, ◌≤◌}
-use Rattle.records.specs.ChangeValue.{ChangeValue}
+use Rattle.std.specs.Prelude.{List, None, Option, Some, [], length, true, ℕ, ◌++◌, ◌+◌, ◌<◌, ◌∷◌, ◌≡◌, ◌≢◌, ◌≤◌}
+use Rattle.records.specs.RecordValue.{RecordValue}
 use Rattle.records.specs.Values.{Place}
-use Rattle.records.specs.declared.record.Action.{Action}
+use Rattle.records.specs.declared.number.TheConstants.{LAST_NUMBER}
+use Rattle.records.specs.declared.txn.TheConstants.{TXNS_MAX}
 use Rattle.records.specs.declared.row.Row.{Row}
 use Rattle.model.specs.History.{Deed, Item}
 use Rattle.model.specs.declared.write.Write.{Write}
-use Rattle.core_contracts.specs.Events.{Built, Done, Ended, Event, Reply, Standing, Stepped}
-use Rattle.core_contracts.specs.Records.{action_of}
+use Rattle.core_contracts.specs.Events.{BuildReply, Built, Done, Ended, Event, Reply, Standing, Stepped, standing_after}
+use Rattle.core_model.specs.Records.{action_of}
 use Rattle.core_contracts.specs.Replies.{IsAllowed, after_any}
-use Rattle.core_model.specs.Histories.{history}
-use Rattle.core_model.specs.Invariants.{Invariant, Run}
+use Rattle.core_model.specs.Logs.{HasMade, next_number, one_record}
+use Rattle.core_model.specs.Histories.{Opened, no_writes}
+use Rattle.core_model.specs.Invariants.{IsWellFormed}
 use Rattle.core_model.specs.States.{Active, State}
 use Rattle.core_model.specs.Steps.{IsBuilding, IsEnabled, Step, update}
 
 -- one event after another, each with an allowed reply
 pub data Serves : State → Standing → List (Event × Reply) → State → Standing → Type 0 where
   nothing : {s : State} {k : Standing} → Serves s k [] s k
-  served : {s s' s'' : State} {k k' k'' : Standing} (e : Event) (reply : Reply) (rest : List (Event × Reply)) → IsAllowed s k e reply s' k' → Serves s' k' rest s'' k'' → Serves s k ((e, reply) ∷ rest) s'' k''
+  served : {s new : State} {k next : Standing} (e : Event) (reply : Reply) (step : Option Step) (rest : List (Event × Reply)) → IsAllowed s k e reply step → Serves (after_any s step) (standing_after k reply) rest new next → Serves s k ((e, reply) ∷ rest) new next
 
 abbrev pub one_write : (ℕ → List Write) → ℕ → Place → Option Row → ℕ → List Write
 one_write writes t r row = update nat_cmp writes t (writes t ++ record { rid = r; row = row } ∷ [])
@@ -36,6 +39,7 @@ asked_after writes _ _ = writes
 abbrev pub items_at : (ℕ → List Write) → Reply → Event → List Item
 items_at writes (Reply.Committed n c) (Event.Commit t) = record { number = n; deed = Deed.Committed (writes t) } ∷ []
 items_at writes (Reply.Created n) Event.Create = record { number = n; deed = Deed.Created } ∷ []
+items_at writes (Built (BuildReply.Marked p n)) Event.Build = record { number = n; deed = Deed.Checkpointed p } ∷ []
 items_at writes (Built (Done n)) Event.Build = record { number = n; deed = Deed.Completed } ∷ []
 items_at writes _ _ = []
 
@@ -44,19 +48,11 @@ abbrev pub items_of : (ℕ → List Write) → List (Event × Reply) → List It
 items_of writes [] = []
 items_of writes (p ∷ rest) = items_at writes p.1 p.0 ++ items_of (asked_after writes p.1 p.0) rest
 
--- the numbers up to n, the greatest first
-abbrev pub numbers_to : ℕ → List ℕ
-numbers_to zero = zero ∷ []
-numbers_to (suc n) = suc n ∷ numbers_to n
-
-abbrev pub one_listed : ℕ → Option Active → List (ℕ × List ChangeValue)
-one_listed t None = []
-one_listed t (Some x) = (t, x.changes) ∷ []
-
--- the active ones of these transactions, each with its changes
-abbrev pub listing : (ℕ → Option Active) → List ℕ → List (ℕ × List ChangeValue)
-listing txns [] = []
-listing txns (t ∷ ts) = one_listed t (txns t) ++ listing txns ts
+-- the active transactions are as many as the replies count, and each one that is over made a record
+pub record HasCounts (s : State) (k : Standing) : Type 0 where
+  pub active : k.active ≡ len s.pledges
+  pub few : k.active ≤ TXNS_MAX
+  pub ended : k.begun ≤ k.made + k.active
 
 -- what the standing says of the state
 pub record HasStanding (s : State) (k : Standing) : Type 0 where
@@ -64,32 +60,37 @@ pub record HasStanding (s : State) (k : Standing) : Type 0 where
   pub in_a_row : k.scanned ≤ s.pages
   pub taken : (n : ℕ) → n < k.scanned → s.taken n ≡ true
   pub tried : 1 ≤ k.attempts → IsBuilding s.life → s.bound ≢ None
+  pub counts : HasCounts s k
+  pub within : k.made ≤ LAST_NUMBER
 
--- steps that make this run, and whose history these events and replies tell
-pub record Follows (s : State) (pairs : List (Event × Reply)) (s' : State) (k' : Standing) (writes : ℕ → List Write) : Type 0 where
-  pub steps : List Step
-  pub run : Run s steps s'
-  pub history : map (λ (item : Item). item.deed) (items_of writes pairs) ≡ history writes steps
-  pub standing : HasStanding s' k'
+-- the records of a step, or of none, behind the record `last`
+abbrev pub records_by : State → ℕ → Option Step → List RecordValue
+records_by s last None = []
+records_by s last (Some e) = one_record last (action_of s e)
+
+-- what was asked of each transaction, after these events and replies
+abbrev pub asked_over : (ℕ → List Write) → List (Event × Reply) → ℕ → List Write
+asked_over writes [] = writes
+asked_over writes (p ∷ rest) = asked_over (asked_after writes p.1 p.0) rest
+
+-- The core has replied to these events so since it was opened, and made these records, of which the history is theirs.
+pub record HasServed (o : Opened) (made : List RecordValue) (pairs : List (Event × Reply)) (s : State) (k : Standing) : Type 0 where
+  pub log : HasMade o made (items_of no_writes pairs) (asked_over no_writes pairs) s
+  pub number : k.made ≡ o.given.last + length made
+  pub standing : HasStanding s k
 
 abbrev pub IsEnabledAny : State → Option Step → Type 0
 IsEnabledAny s None = Unit {0}
 IsEnabledAny s (Some e) = IsEnabled s e
 
--- how many records a step makes
-abbrev pub count_of : Option Action → ℕ
-count_of None = 0
-count_of (Some action) = 1
+-- the number of the last record after a step, or after none
+abbrev pub number_after : State → ℕ → Option Step → ℕ
+number_after s last None = last
+number_after s last (Some e) = next_number last (action_of s e)
 
-abbrev pub records_of : State → Option Step → ℕ
-records_of s None = 0
-records_of s (Some e) = count_of (action_of s e)
-
--- one enabled step was made, or none, and the number of the last record grew by its records
-pub record IsMove (s : State) (k : Standing) (s' : State) (k' : Standing) : Type 0 where
-  pub step : Option Step
+-- what is left by one step, or by none
+pub record IsMove (s : State) (k : Standing) (step : Option Step) (k' : Standing) : Type 0 where
   pub enabled : IsEnabledAny s step
-  pub is : s' ≡ after_any s step
-  pub made : k'.made ≡ k.made + records_of s step
-  pub holds : Invariant s'
-  pub standing : HasStanding s' k'
+  pub made : k'.made ≡ number_after s k.made step
+  pub fit : IsWellFormed (after_any s step)
+  pub standing : HasStanding (after_any s step) k'

@@ -45,11 +45,11 @@ module _ (s : State) (i : IsCoherent s) (absent : s.life ≡ Absent) (quiet : (t
       building_is : {h : Option Pair} → Building None ≡ Building h → None ≡ h
       building_is e = cc
 
-or_true : (a b : Bool) → (a || b) ≡ true → (a ≡ true) ⊎ (b ≡ true)
+pub or_true : (a b : Bool) → (a || b) ≡ true → (a ≡ true) ⊎ (b ≡ true)
 or_true true b e = inl refl
 or_true false b e = inr e
 
-and_right : (a b : Bool) → (a && b) ≡ true → b ≡ true
+pub and_right : (a b : Bool) → (a && b) ≡ true → b ≡ true
 and_right true b e = e
 and_right false b e = absurd (true≢false (sym e))
 

@@ -10,7 +10,7 @@ use Rattle.records.specs.declared.row.Row.{Row}
 use Rattle.model.specs.KeyActions.{after_action}
 use Rattle.model.specs.Table.{Index, IsPairOf, Table}
 use Rattle.model.specs.declared.key_action.KeyAction.TheVariants.{BuildPut}
-use Rattle.model.specs.declared.life.Life.TheVariants.{Complete}
+use Rattle.model.specs.declared.life.Life.TheVariants.{Absent, Building, Complete}
 use Rattle.core_model.proofs.Builds.{pair_by_test}
 use Rattle.core_model.proofs.Frames.{rid_decided, same_some}
 use Rattle.core_model.proofs.Latest.{not_none}
@@ -186,13 +186,20 @@ example = one_step {s = opened opening} {s' = last} Create (Begin 1 ∷ Start 1 
 -- with no row and no entry a core may begin
 pub example_opens : CanOpen opening
 example_opens = record {
-  inside = λ r w e. absurd (not_none e (get-empty rid_cmp r));
   sound = λ p e. absurd (not_none e (get-empty pair_cmp p));
   complete = λ r w e c. absurd (not_none e (get-empty rid_cmp r));
   unmarked = λ r w e. absurd (not_none e (get-empty rid_cmp r));
   empty = λ e p. get-empty pair_cmp p;
-  fits = let none : len (empty {K = Pair} {X = Mark} {R = pair_cmp}) ≡ 0 = len-empty pair_cmp Mark in omega (arith, none);
+  fits = record {
+    rows = λ r w e. absurd (not_none e (get-empty rid_cmp r));
+    entries = λ p n. absurd (n (get-empty pair_cmp p));
+    highest = λ p e. absurd (apart_lives p e);
+    room = let none : len (empty {K = Pair} {X = Mark} {R = pair_cmp}) ≡ 0 = len-empty pair_cmp Mark in omega (arith, none);
+  };
 }
+  where
+    apart_lives : (p : Pair) → Absent ≡ Building (Some p) → ⊥
+    apart_lives p e = absurd (cc)
 
 pub example_marked : get last.entries pair ≡ Some Marked
 unfolding update

@@ -1,40 +1,59 @@
 -- Every run has the history of its steps.
-use Rattle.std.proofs.Common.{Bool, List, None, Option, Some, [], ap, arith, false, inl, inr, refl, reverse, subst, sym, true, true≢false, unwrap_or, ℕ, ◌++◌, ◌∙◌, ◌∷◌, ◌≡◌, ◌≢◌, ◌≤◌, ◌⊎◌}
+use Rattle.std.proofs.Common.{Bool, List, None, Option, Some, [], ap, arith, false, inl, inr, is_some, refl, reverse, subst, sym, true, true≢false, ℕ, ◌++◌, ◌<◌, ◌∙◌, ◌∷◌, ◌≡◌, ◌≢◌, ◌≤◌, ◌⊎◌}
 use Rattle.std.specs.Cmp.{nat_cmp_total}
-use Rattle.std.specs.FinMap.{get, len, nat_cmp-IsAntisymmetric}
-use Rattle.std.specs.Ordering.{eq_by_cmp, nat_cmp}
+use Rattle.std.specs.FinMap.{get, get-empty, len, nat_cmp-IsAntisymmetric}
+use Rattle.std.specs.Ordering.{nat_cmp}
 use Rattle.std.specs.Prelude.{map}
 use Rattle.records.specs.ChangeValue.{ChangeValue}
-use Rattle.records.specs.Orders.{rid_cmp, rid_cmp-IsAntisymmetric, rid_cmp_total}
-use Rattle.records.specs.Spelling.{old_row}
 use Rattle.records.specs.Values.{Place}
 use Rattle.records.specs.declared.pair.Mark.{Mark}
 use Rattle.records.specs.declared.pair.Mark.TheVariants.{Live, Marked}
 use Rattle.records.specs.declared.pair.Pair.{Pair}
 use Rattle.records.specs.declared.row.Row.{Row}
 use Rattle.model.specs.Committed.{writes_of}
-use Rattle.model.specs.History.{Deed, Item, Stage, stage_after, stage_of, stage_with, table_after, table_with}
+use Rattle.model.specs.History.{Deed, Item, life_after, life_with, table_after, table_with}
 use Rattle.model.specs.Table.{Table, applied}
 use Rattle.model.specs.declared.life.Life.{Life}
 use Rattle.model.specs.declared.life.Life.TheVariants.{Absent, Building, Complete}
 use Rattle.model.specs.declared.write.Write.{Write}
-use Rattle.core_model.proofs.Frames.{nat_decided, rid_decided, same_some}
-use Rattle.core_model.proofs.Latest.{not_none, taken_back_applied, taken_back_latest}
-use Rattle.core_model.proofs.Orders.{apart, level, update_apart, update_here}
+use Rattle.core_model.proofs.Frames.{nat_decided, same_some}
+use Rattle.core_model.proofs.Latest.{not_none}
+use Rattle.core_model.proofs.Orders.{update_apart, update_here}
 use Rattle.core_model.proofs.Runs.{run_keeps}
 use Rattle.core_model.proofs.Sums.{none_reserved}
 use Rattle.core_model.proofs.Txns.{newest_last}
-use Rattle.core_model.specs.Changes.{latest, new_pair, old_pair, pair_of, taken_back}
-use Rattle.core_model.specs.Histories.{AreItemsOf, CanOpen, IsAmong, IsCovered, IsFaithful, IsTold, IsWhole, Opened, deeds_of, highest_of, history, no_writes, opened, restored, stage_over, table_over, write_of, writes_after}
-use Rattle.core_model.specs.Invariants.{Invariant, IsAhead, IsChained, IsCoherent, IsHeld, IsHolderOf, Run, no_step, one_step}
+use Rattle.core_model.specs.Changes.{new_pair, old_pair, pair_of}
+use Rattle.core_model.specs.Histories.{AreItemsOf, CanOpen, FitsStore, IsCovered, IsTold, IsWhole, Opened, deeds_of, highest_of, history, no_writes, opened, life_over, table_over, write_of, writes_after}
+use Rattle.core_model.specs.Invariants.{Invariant, IsAhead, IsCoherent, IsUnfinished, IsWellFormed, Run, no_step, one_step}
 use Rattle.core_model.specs.States.{Active, Made, NewMarked, OldMarked, OldSet, Phase, RowSet, State}
-use Rattle.core_model.specs.Steps.{Attempt, Begin, Checkpoint, Clean, Commit, Create, End, Finish, IsEnabled, Keep, Next, Start, Step, Take, Undo, Wrap, above, after, carried_on, is_applied, is_indexed, new_txn, row_made, row_undone, started, txn_at, undoing, undone, undone_first, update, with_change, with_phase, without_newest}
+use Rattle.core_model.specs.Steps.{Attempt, Begin, Checkpoint, Clean, Commit, Create, End, Finish, IsEnabled, Keep, Next, Start, Step, Take, Undo, Wrap, above, after, carried_on, is_indexed, new_txn, row_made, row_undone, started, txn_at, undoing, undone, undone_first, update, with_change, with_phase, without_newest}
 
 -- ---- a core over loaded cells
+module _ (o : Opened) (fits : FitsStore o) where
+  at_highest : (p : Pair) (life : Life) → o.given.life ≡ life → highest_of life ≡ Some p → p.rid.page < o.pages
+  at_highest p Absent l e = absurd (not_none e refl)
+  at_highest p (Building h) l e = fits.highest p (l ∙ ap Building e)
+  at_highest p Complete l e = absurd (not_none e refl)
+
+  pub opened_fit : IsWellFormed (opened o)
+  opened_fit = record {
+    rows = fits.rows;
+    held = λ r t e. absurd (not_none e refl);
+    txns = λ t x e. absurd (not_none e refl);
+    places = record {
+      fits =
+          let room : len o.given.entries ≤ o.places = fits.room in
+          rw none_reserved (omega (arith, room));
+      enough = λ t x e. absurd (not_none e refl);
+    };
+    inside = record { entries = fits.entries; bound = λ p e. at_highest p o.given.life refl e; highest = fits.highest; given = λ p e. absurd (true≢false (sym e)) };
+    pledged = λ t. ap is_some (get-empty nat_cmp t);
+  }
+
 module _ (o : Opened) (can : CanOpen o) where
-  ahead_by : (p : Pair) (life : Life) (m : Option Mark) (b : Bool) → get o.entries p ≡ m → m ≢ Some Marked → (IsCovered life (highest_of life) p → get o.entries p ≡ Some Live) → above (highest_of life) p ≡ b
-      → (life ≡ Absent → get o.entries p ≡ None)
-      → (get o.entries p ≡ Some Live) ⊎ (get o.entries p ≡ None) × IsAhead life (highest_of life) (λ q. false) p
+  ahead_by : (p : Pair) (life : Life) (m : Option Mark) (b : Bool) → get o.given.entries p ≡ m → m ≢ Some Marked → (IsCovered life (highest_of life) p → get o.given.entries p ≡ Some Live) → above (highest_of life) p ≡ b
+      → (life ≡ Absent → get o.given.entries p ≡ None)
+      → (get o.given.entries p ≡ Some Live) ⊎ (get o.given.entries p ≡ None) × IsAhead life (highest_of life) (λ q. false) p
   ahead_by p life (Some Live) b e u c k a = inl e
   ahead_by p life (Some Marked) b e u c k a = absurd (u refl)
   ahead_by p Absent None b e u c k a = inr (e, tt)
@@ -46,102 +65,32 @@ module _ (o : Opened) (can : CanOpen o) where
   opened_coherent = record {
     free = λ r e. refl;
     held = λ r t e. absurd (not_none e refl);
-    inside = can.inside;
+    inside = can.fits.rows;
     txns = λ t x e. absurd (not_none e refl);
     sound = can.sound;
-    visible = λ r row e idle. ahead_by (pair_of r row) o.life _ _ refl (can.unmarked r row e) (can.complete r row e) refl (λ a. can.empty a (pair_of r row));
+    visible = λ r row e idle. ahead_by (pair_of r row) o.given.life _ _ refl (can.unmarked r row e) (can.complete r row e) refl (λ a. can.empty a (pair_of r row));
     empty = can.empty;
     backed = λ h e p g a. absurd (true≢false (sym g));
     behind = λ h e p a. subst (λ l. above (highest_of l) p ≡ true) e a;
   }
 
   pub opened_holds : Invariant (opened o)
-  opened_holds = record {
-    coherent = opened_coherent;
-    places = record {
-      fits =
-          let fits : len o.entries ≤ o.places = can.fits in
-          rw none_reserved (omega (arith, fits));
-      enough = λ t x e. absurd (not_none e refl);
-    };
-    numbered = λ t x e. absurd (not_none e refl);
-  }
-
--- ---- taking back
-module _ (s : State) (i : IsCoherent s) (r : Place) where
-  taken_unnamed : (t : ℕ) (cs : List ChangeValue) (v : Option Row) → IsHolderOf s.holder t cs → s.holder r ≢ Some t → taken_back cs r v ≡ v
-  taken_unnamed t [] v h n = refl
-  taken_unnamed t (c ∷ older) v h n = rw (apart rid_cmp-IsAntisymmetric r c.rid (λ e. n (ap s.holder e ∙ h.0))) (taken_unnamed t older v h.1 n)
-
-  other_by : (t : ℕ) (o : Option Active) → s.txns t ≡ o → (v : Option Row) → s.holder r ≢ Some t → taken_back (unwrap_or o new_txn).changes r v ≡ v
-  other_by t None e v n = refl
-  other_by t (Some x) e v n = taken_unnamed t x.changes v (i.txns t x e).names n
-
-  -- the changes of the row's holder lead back to the committed row
-  again : (cs : List ChangeValue) → IsChained s.committed cs → (v : Option Row) → v ≡ get s.committed r → taken_back cs r v ≡ get s.committed r
-  again [] k v e = e
-  again (c ∷ older) k v e = elim (rid_decided r c.rid) [
-    | inl same ↦
-        let before : (old_row c.rows) ≡ latest older r (get s.committed r) = k.0 ∙ ap (λ q. latest older q (get s.committed q)) (sym same) in
-        let here : eq_by_cmp rid_cmp r c.rid ≡ true = ap (λ q. eq_by_cmp rid_cmp q c.rid) same ∙ level rid_cmp_total c.rid in
-        rw (here, before) (taken_back_latest s.committed older r k.1)
-    | inr n ↦ rw (apart rid_cmp-IsAntisymmetric r c.rid n) (again older k.1 v e)
-  ]
-
-  holder_by : (t : ℕ) → s.holder r ≡ Some t → (v : Option Row) → (v ≡ get s.rows r) ⊎ (v ≡ get s.committed r) → taken_back (txn_at s t).changes r v ≡ get s.committed r
-  holder_by t e v w =
-      let h : IsHeld s r t = i.held r t e in
-      let is : h.txn ≡ txn_at s t = ap (λ o. unwrap_or o new_txn) (sym h.active) in
-      let k : IsChained s.committed h.txn.changes = (i.txns t h.txn h.active).chained in
-      subst (λ (x : Active). taken_back x.changes r v ≡ get s.committed r) is (elim w [
-        | inl now ↦ ap (taken_back h.txn.changes r) (now ∙ h.row) ∙ taken_back_applied s.committed h.txn.changes (is_applied h.txn.phase) r k
-        | inr then ↦ again h.txn.changes k v then
-      ])
-
-  who : (o : Option ℕ) (t : ℕ) → (o ≡ Some t) ⊎ (o ≢ Some t)
-  who None t = inr (λ e. not_none e refl)
-  who (Some u) t = elim (nat_decided u t) [ inl same ↦ inl (ap Some same) | inr n ↦ inr (λ e. n (same_some refl e)) ]
-
-  restored_at : (o : Option ℕ) → s.holder r ≡ o → (v : Option Row) → (v ≡ get s.rows r) ⊎ (v ≡ get s.committed r) → ((t : ℕ) → s.holder r ≡ Some t → v ≡ get s.committed r) → v ≡ get s.committed r
-  restored_at None e v (inl now) h = now ∙ i.free r e
-  restored_at None e v (inr then) h = then
-  restored_at (Some t) e v w h = h t e
-
-  restored_is : (ts : List ℕ) (v : Option Row) → (v ≡ get s.rows r) ⊎ (v ≡ get s.committed r) → ((t : ℕ) → s.holder r ≡ Some t → IsAmong t ts ⊎ (v ≡ get s.committed r)) → restored s ts r v ≡ get s.committed r
-  restored_is [] v w h = restored_at (s.holder r) refl v w (λ t e. elim (h t e) [ inl no_place ↦ absurd no_place | inr is ↦ is ])
-  restored_is (t ∷ ts) v w h = elim (who (s.holder r) t) [
-    | inl mine ↦
-        let is : taken_back (txn_at s t).changes r v ≡ get s.committed r = holder_by t mine v w in
-        restored_is ts _ (inr is) (λ u e. inr is)
-    | inr other ↦
-        let is : taken_back (txn_at s t).changes r v ≡ v = other_by t (s.txns t) refl v other in
-        restored_is ts _ (elim w [ inl now ↦ inl (is ∙ now) | inr then ↦ inr (is ∙ then) ])
-        (λ u e. elim (h u e) [
-          | inl among ↦ elim among [ inl same ↦ absurd (other (e ∙ ap Some same)) | inr later ↦ inl later ]
-          | inr then ↦ inr (is ∙ then)
-        ])
-  ]
+  opened_holds = record { fit = opened_fit o can.fits; coherent = opened_coherent }
 
 pub complete_by : (life : Life) (bound : Option Pair) (missed : Pair → Bool) (p : Pair) → IsAhead life bound missed p → IsCovered life bound p → ⊥
 complete_by Absent bound missed p a c = c
 complete_by (Building h) bound missed p a c = true≢false (sym a.0 ∙ c)
 complete_by Complete bound missed p a c = a
 
-pub faithful : (s : State) → Invariant s → IsFaithful s s.committed
-faithful s i = record {
-  back = λ ts all r. restored_is s i.coherent r ts (get s.rows r) (inl refl) (λ t e. let h : IsHeld s r t = i.coherent.held r t e in inl (all t h.txn h.active));
-  sound = i.coherent.sound;
-  complete = λ r row e idle c. elim (i.coherent.visible r row e idle) [ inl live ↦ live | inr w ↦ absurd (complete_by s.life s.bound s.missed (pair_of r row) w.1 c) ];
-  empty = i.coherent.empty;
-  fits = i.places.fits;
-}
+pub live_by : (s : State) → Invariant s → (r : Place) (row : Row) → get s.rows r ≡ Some row → (IsUnfinished s r → ⊥) → IsCovered s.life s.bound (pair_of r row) → get s.entries (pair_of r row) ≡ Some Live
+live_by s i r row e idle c = elim (i.coherent.visible r row e idle) [ inl live ↦ live | inr w ↦ absurd (complete_by s.life s.bound s.missed (pair_of r row) w.1 c) ]
 
 pub whole : (s : State) → Invariant s → s.life ≡ Complete → ((t : ℕ) → s.txns t ≡ None) → IsWhole s
 whole s i complete quiet p = (
   i.coherent.sound p,
   λ is.
       subst (λ (q : Pair). get s.entries q ≡ Some Live) (λ j. record { key = is.has_key j; rid = p.rid })
-      ((faithful s i).complete p.rid is.row is.is_there (λ h. not_none h.active (quiet h.transaction)) (subst (λ life. IsCovered life s.bound (pair_of p.rid is.row)) (sym complete) tt)),
+      (live_by s i p.rid is.row is.is_there (λ h. not_none h.active (quiet h.transaction)) (subst (λ life. IsCovered life s.bound (pair_of p.rid is.row)) (sym complete) tt)),
 )
 
 -- ---- the history
@@ -255,7 +204,7 @@ table_step s writes told (Commit t) a = ap (applied s.committed) (sym (told.acti
 table_step s writes told Create a = refl
 table_step s writes told (Take n) a = refl
 table_step s writes told (Attempt p) a = refl
-table_step s writes told Checkpoint a = refl
+table_step s writes told (Checkpoint p) a = refl
 table_step s writes told Finish a = refl
 table_step s writes told (Clean p) a = refl
 table_step s writes told (Keep p) a = refl
@@ -271,7 +220,7 @@ told_step s writes told (Commit t) a = told_gone s writes told t
 told_step s writes told Create a = told
 told_step s writes told (Take n) a = told
 told_step s writes told (Attempt p) a = told
-told_step s writes told Checkpoint a = told
+told_step s writes told (Checkpoint p) a = told
 told_step s writes told Finish a = told
 told_step s writes told (Clean p) a = told
 told_step s writes told (Keep p) a = told
@@ -301,37 +250,37 @@ life_undone s t x (c ∷ older) Made = life_first s t x c older true (new_pair (
 life_undone s t x (c ∷ older) (NewMarked b) = refl
 life_undone s t x (c ∷ older) OldSet = refl
 
-pub stage_step : (s : State) (writes : ℕ → List Write) (e : Step) → IsEnabled s e → stage_of (after s e).life ≡ stage_over (stage_of s.life) (deeds_of writes e)
-stage_step s writes (Begin t) a = refl
-stage_step s writes (Start t c) a = ap stage_of (life_started s t (txn_at s t) c (old_pair (is_indexed s.life) c))
-stage_step s writes (Next t) a = ap stage_of (life_carried s t (txn_at s t) (txn_at s t).changes (txn_at s t).phase)
-stage_step s writes (Undo t) a = ap stage_of (life_undone s t (txn_at s t) (txn_at s t).changes (txn_at s t).phase)
-stage_step s writes (End t) a = refl
-stage_step s writes (Commit t) a = refl
-stage_step s writes Create a = refl
-stage_step s writes (Take n) a = refl
-stage_step s writes (Attempt p) a = refl
-stage_step s writes Checkpoint a = sym (ap stage_of a.0.1)
-stage_step s writes Finish a = refl
-stage_step s writes (Clean p) a = refl
-stage_step s writes (Keep p) a = refl
-stage_step s writes Wrap a = refl
+pub life_step : (s : State) (writes : ℕ → List Write) (e : Step) → IsEnabled s e → (after s e).life ≡ life_over s.life (deeds_of writes e)
+life_step s writes (Begin t) a = refl
+life_step s writes (Start t c) a = life_started s t (txn_at s t) c (old_pair (is_indexed s.life) c)
+life_step s writes (Next t) a = life_carried s t (txn_at s t) (txn_at s t).changes (txn_at s t).phase
+life_step s writes (Undo t) a = life_undone s t (txn_at s t) (txn_at s t).changes (txn_at s t).phase
+life_step s writes (End t) a = refl
+life_step s writes (Commit t) a = refl
+life_step s writes Create a = refl
+life_step s writes (Take n) a = refl
+life_step s writes (Attempt p) a = refl
+life_step s writes (Checkpoint p) a = refl
+life_step s writes Finish a = refl
+life_step s writes (Clean p) a = refl
+life_step s writes (Keep p) a = refl
+life_step s writes Wrap a = refl
 
 pub table_over-append : (table : Table) (ds es : List Deed) → table_over table (ds ++ es) ≡ table_over (table_over table ds) es
 table_over-append table [] es = refl
 table_over-append table (d ∷ ds) es = table_over-append (table_with table d) ds es
 
-pub stage_over-append : (stage : Stage) (ds es : List Deed) → stage_over stage (ds ++ es) ≡ stage_over (stage_over stage ds) es
-stage_over-append stage [] es = refl
-stage_over-append stage (d ∷ ds) es = stage_over-append (stage_with stage d) ds es
+pub life_over-append : (life : Life) (ds es : List Deed) → life_over life (ds ++ es) ≡ life_over (life_over life ds) es
+life_over-append life [] es = refl
+life_over-append life (d ∷ ds) es = life_over-append (life_with life d) ds es
 
 -- the life is that of the history
-pub tells_stage : (s s' : State) (es : List Step) → Run s es s' → (writes : ℕ → List Write) → stage_of s'.life ≡ stage_over (stage_of s.life) (history writes es)
-tells_stage s s' es no_step writes = refl
-tells_stage s s' es (one_step e rest a r) writes =
-    tells_stage (after s e) s' rest r (writes_after writes e)
-    ∙ ap (λ stage. stage_over stage (history (writes_after writes e) rest)) (stage_step s writes e a)
-    ∙ sym (stage_over-append (stage_of s.life) (deeds_of writes e) (history (writes_after writes e) rest))
+pub tells_life : (s s' : State) (es : List Step) → Run s es s' → (writes : ℕ → List Write) → s'.life ≡ life_over s.life (history writes es)
+tells_life s s' es no_step writes = refl
+tells_life s s' es (one_step e rest a r) writes =
+    tells_life (after s e) s' rest r (writes_after writes e)
+    ∙ ap (λ life. life_over life (history (writes_after writes e) rest)) (life_step s writes e a)
+    ∙ sym (life_over-append s.life (deeds_of writes e) (history (writes_after writes e) rest))
 
 -- the committed table is that of the history
 pub tells_table : (s s' : State) (es : List Step) → Run s es s' → (writes : ℕ → List Write) → IsTold s.txns writes → s'.committed ≡ table_over s.committed (history writes es)
@@ -348,23 +297,15 @@ pub items_table : (table : Table) (items : List Item) → table_over table (map 
 items_table table [] = refl
 items_table table (item ∷ items) = items_table (table_with table item.deed) items
 
-pub items_stage : (stage : Stage) (items : List Item) → stage_over stage (map (λ (item : Item). item.deed) items) ≡ stage_after stage items
-items_stage stage [] = refl
-items_stage stage (item ∷ items) = items_stage (stage_with stage item.deed) items
+pub items_life : (life : Life) (items : List Item) → life_over life (map (λ (item : Item). item.deed) items) ≡ life_after life items
+items_life life [] = refl
+items_life life (item ∷ items) = items_life (life_with life item.deed) items
 
-pub told_table : (o : Opened) (es : List Step) (s : State) → Run (opened o) es s → (items : List Item) → AreItemsOf items es → s.committed ≡ table_after o.rows items
-told_table o es s r items h = tells_table (opened o) s es r no_writes nothing_told ∙ ap (table_over o.rows) (sym h) ∙ items_table o.rows items
+pub told_table : (o : Opened) (es : List Step) (s : State) → Run (opened o) es s → (items : List Item) → AreItemsOf items es → s.committed ≡ table_after o.given.table items
+told_table o es s r items h = tells_table (opened o) s es r no_writes nothing_told ∙ ap (table_over o.given.table) (sym h) ∙ items_table o.given.table items
 
-told_stage : (o : Opened) (es : List Step) (s : State) → Run (opened o) es s → (items : List Item) → AreItemsOf items es → stage_of s.life ≡ stage_after (stage_of o.life) items
-told_stage o es s r items h = tells_stage (opened o) s es r no_writes ∙ ap (stage_over (stage_of o.life)) (sym h) ∙ items_stage (stage_of o.life) items
-
--- whatever the order of the steps
-pub interleaved : (o : Opened) → CanOpen o → (es : List Step) (s : State) → Run (opened o) es s → (items : List Item) → AreItemsOf items es
-    → IsFaithful s (table_after o.rows items) × (stage_of s.life ≡ stage_after (stage_of o.life) items)
-interleaved o can es s r items h = (
-  subst (IsFaithful s) (told_table o es s r items h) (faithful s (run_keeps _ s es r (opened_holds o can))),
-  told_stage o es s r items h,
-)
+pub told_life : (o : Opened) (es : List Step) (s : State) → Run (opened o) es s → (items : List Item) → AreItemsOf items es → s.life ≡ life_after o.given.life items
+told_life o es s r items h = tells_life (opened o) s es r no_writes ∙ ap (life_over o.given.life) (sym h) ∙ items_life o.given.life items
 
 pub interleaved_whole : (o : Opened) → CanOpen o → (es : List Step) (s : State) → Run (opened o) es s → s.life ≡ Complete → ((t : ℕ) → s.txns t ≡ None) → IsWhole s
 interleaved_whole o can es s r complete quiet = whole s (run_keeps _ s es r (opened_holds o can)) complete quiet

@@ -1,18 +1,17 @@
 -- What changes make of a row, and what taking them back gives.
-use Rattle.std.proofs.Common.{Bool, List, None, Option, Some, [], ap, cond, false, inl, inr, refl, sym, true, ℕ, ◌∙◌, ◌∷◌, ◌≡◌, ◌≢◌, ◌⊎◌}
+use Rattle.std.proofs.Common.{Bool, List, None, Option, Some, [], ap, cond, false, refl, sym, true, ℕ, ◌∙◌, ◌∷◌, ◌≡◌, ◌≢◌}
 use Rattle.std.specs.FinMap.{entries, get, nat_cmp-IsAntisymmetric, slice_cmp-IsAntisymmetric}
-use Rattle.std.specs.Ordering.{eq_by_cmp}
 use Rattle.records.specs.ChangeValue.{ChangeValue}
-use Rattle.records.specs.Orders.{rid_cmp, rid_cmp-IsAntisymmetric, rid_cmp_total}
+use Rattle.records.specs.Orders.{rid_cmp-IsAntisymmetric, rid_cmp_total}
 use Rattle.records.specs.Spelling.{new_row, old_row}
 use Rattle.records.specs.Values.{Place}
 use Rattle.records.specs.declared.pair.Mark.TheVariants.{Marked}
 use Rattle.records.specs.declared.pair.Pair.{Pair}
 use Rattle.records.specs.declared.row.Row.{Row}
 use Rattle.model.specs.Table.{Index, Table}
-use Rattle.core_model.proofs.Orders.{apart, by_test, decided, level}
-use Rattle.core_model.specs.Changes.{gone, latest, pair_of, same_key, taken_back}
-use Rattle.core_model.specs.Invariants.{IsChained, IsHolderOf, IsInPhase, IsPhaseOf, applied_of}
+use Rattle.core_model.proofs.Orders.{apart, by_test, level}
+use Rattle.core_model.specs.Changes.{gone, latest, pair_of, same_key}
+use Rattle.core_model.specs.Invariants.{IsChained, IsHolderOf, IsInPhase, IsPhaseOf}
 use Rattle.core_model.specs.States.{Made, NewMarked, OldMarked, OldSet, Phase, RowSet}
 
 pub not_none : {A : Type 0} {a : A} {o : Option A} → o ≡ Some a → o ≡ None → ⊥
@@ -73,34 +72,6 @@ chained_same holder t committed other same (c ∷ older) h k =
 pub holds_more : (holder other : Place → Option ℕ) (t : ℕ) → ((r : Place) → holder r ≡ Some t → other r ≡ Some t) → (cs : List ChangeValue) → IsHolderOf holder t cs → IsHolderOf other t cs
 holds_more holder other t same [] h = tt
 holds_more holder other t same (c ∷ older) h = (same c.rid h.0, holds_more holder other t same older h.1)
-
-taken_by : (committed : Table) (c : ChangeValue) (older : List ChangeValue) (r : Place) (v : Option Row) → IsChained committed (c ∷ older)
-    → (taken_back older r (latest older r (get committed r)) ≡ get committed r)
-    → (v ≡ latest older r (get committed r)) ⊎ (r ≡ c.rid)
-    → taken_back (c ∷ older) r v ≡ get committed r
-taken_by committed c older r v k ih w = elim (decided rid_cmp_total rid_cmp-IsAntisymmetric r c.rid) [
-  | inl e ↦
-      let before : (old_row c.rows) ≡ latest older r (get committed r) = k.0 ∙ ap (λ q. latest older q (get committed q)) (sym e) in
-      let here : eq_by_cmp rid_cmp r c.rid ≡ true = ap (λ q. eq_by_cmp rid_cmp q c.rid) e ∙ level rid_cmp_total c.rid in
-      rw (here, before) ih
-  | inr n ↦ elim w [
-    | inl e ↦ rw (apart rid_cmp-IsAntisymmetric r c.rid n, e) ih
-    | inr e ↦ absurd (n e)
-  ]
-]
-
-latest_or : (c : ChangeValue) (older : List ChangeValue) (r : Place) (v : Option Row) → (latest (c ∷ older) r v ≡ latest older r v) ⊎ (r ≡ c.rid)
-latest_or c older r v = elim (decided rid_cmp_total rid_cmp-IsAntisymmetric r c.rid) [ inl e ↦ inr e | inr n ↦ inl (latest_other c older r v n) ]
-
-pub taken_back_latest : (committed : Table) (cs : List ChangeValue) (r : Place) → IsChained committed cs → taken_back cs r (latest cs r (get committed r)) ≡ get committed r
-taken_back_latest committed [] r k = refl
-taken_back_latest committed (c ∷ older) r k = taken_by committed c older r _ k (taken_back_latest committed older r k.1) (latest_or c older r (get committed r))
-
--- also where the newest change has not set its row, or has had it set back
-pub taken_back_applied : (committed : Table) (cs : List ChangeValue) (b : Bool) (r : Place) → IsChained committed cs → taken_back cs r (latest (applied_of cs b) r (get committed r)) ≡ get committed r
-taken_back_applied committed [] b r k = refl
-taken_back_applied committed (c ∷ older) true r k = taken_back_latest committed (c ∷ older) r k
-taken_back_applied committed (c ∷ older) false r k = taken_by committed c older r _ k (taken_back_latest committed older r k.1) (inl refl)
 
 -- what a phase says of an entry stays, where no entry of its row changes
 phase_by : (indexed : Bool) (c : ChangeValue) (entries other : Index) → ((p : Pair) → p.rid ≡ c.rid → get other p ≡ get entries p)

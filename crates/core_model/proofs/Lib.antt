@@ -4,11 +4,18 @@ mod Frames
 mod Cells
 mod Txns
 mod Builds
-mod Numbers
 mod Sums
 mod Places
+mod Insides
+mod Pledged
+mod Fits
 mod Runs
 mod Histories
+mod Undone
 mod Restarts
+mod Records
+mod Logs
+mod Followed
+mod Copies
 pub mod Laws
 pub mod Example

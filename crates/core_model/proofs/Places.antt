@@ -21,7 +21,7 @@ use Rattle.core_model.proofs.Latest.{Gone, gone_is, not_none}
 use Rattle.core_model.proofs.Orders.{update_apart, update_here}
 use Rattle.core_model.proofs.Sums.{left_apart, reserved_apart, reserved_insert, reserved_left, reserved_now}
 use Rattle.core_model.specs.Changes.{gone, new_pair, old_pair}
-use Rattle.core_model.specs.Invariants.{HasPlaces, IsCoherent, IsHolderOf, lacking, lacks}
+use Rattle.core_model.specs.Invariants.{HasPlaces, IsHolderOf, lacking, lacks}
 use Rattle.core_model.specs.States.{Active, Made, NewMarked, OldMarked, OldSet, Phase, RowSet, State}
 use Rattle.core_model.specs.Steps.{Attempt, Begin, CanAttempt, CanClean, Checkpoint, Clean, Commit, Create, End, Finish, HasRoom, IsEnabled, Keep, Next, Start, Step, Take, Undo, Wrap, after, all_reserved, attempted, carried_on, is_indexed, left, new_txn, places_of, reserved, row_made, row_undone, started, txn_at, undoing, undone, undone_first, update, with_change, with_entry, with_phase, with_places, with_txn, without_newest}
 
@@ -390,18 +390,18 @@ fewer_entries : (b : Bool) (n m : ℕ) → cond b (n - 1) n + m ≤ n + m
 fewer_entries true n m = omega arith
 fewer_entries false n m = omega arith
 
-clean_places : (s : State) → IsCoherent s → HasPlaces s → (p : Pair) → CanClean s p → HasPlaces (record s { entries = set_at s.entries p None; cleaned = Some p })
+clean_places : (s : State) → ((t : ℕ) (x : Active) → s.txns t ≡ Some x → IsHolderOf s.holder t x.changes) → HasPlaces s → (p : Pair) → CanClean s p → HasPlaces (record s { entries = set_at s.entries p None; cleaned = Some p })
 clean_places s i h p can = record {
   fits =
       let shrunk : len (remove s.entries p) ≡ cond (is_some (get s.entries p)) (len s.entries - 1) (len s.entries) = len-remove pair_cmp_total s.entries p in
       let less : cond (is_some (get s.entries p)) (len s.entries - 1) (len s.entries) + all_reserved s.pledges ≤ len s.entries + all_reserved s.pledges = fewer_entries (is_some (get s.entries p)) (len s.entries) (all_reserved s.pledges) in
       let fits : len s.entries + all_reserved s.pledges ≤ s.places = h.fits in
       rw shrunk (omega (arith, less, fits));
-  enough = λ t x a. rw (other_lacking (is_indexed s.life) s.holder t s.entries p can.free x.changes (i.txns t x a).names) (h.enough t x a);
+  enough = λ t x a. rw (other_lacking (is_indexed s.life) s.holder t s.entries p can.free x.changes (i t x a)) (h.enough t x a);
 }
 
 -- ---- all steps
-pub places_step : (s : State) (e : Step) → IsCoherent s → HasPlaces s → IsEnabled s e → HasPlaces (after s e)
+pub places_step : (s : State) (e : Step) → ((t : ℕ) (x : Active) → s.txns t ≡ Some x → IsHolderOf s.holder t x.changes) → HasPlaces s → IsEnabled s e → HasPlaces (after s e)
 places_step s (Begin t) i p a = begin_places s p t
 places_step s (Start t c) i p a = start_places s p t (txn_at s t) c a.active a.room _ refl
 places_step s (Next t) i p a = next_places s p t (txn_at s t) a.0 (txn_at s t).changes refl (txn_at s t).phase
@@ -411,7 +411,7 @@ places_step s (Commit t) i p a = gone_places s p t _
 places_step s Create i p a = same_places s (after s Create) p refl refl refl (λ t x e. absurd (not_none e (a.1 t)))
 places_step s (Take n) i p a = same_places s (after s (Take n)) p refl refl refl (λ t x e. (e, refl))
 places_step s (Attempt q) i p a = attempt_places s p q a
-places_step s Checkpoint i p a = same_places s (after s Checkpoint) p refl refl refl (λ t x e. (e, sym (ap is_indexed a.0.1)))
+places_step s (Checkpoint q) i p a = same_places s (after s (Checkpoint q)) p refl refl refl (λ t x e. (e, sym (ap is_indexed a.0.1)))
 places_step s Finish i p a = same_places s (after s Finish) p refl refl refl (λ t x e. (e, sym (ap is_indexed a.building.1)))
 places_step s (Clean q) i p a = clean_places s i p q a
 places_step s (Keep q) i p a = same_places s (after s (Keep q)) p refl refl refl (λ t x e. (e, refl))

@@ -1,44 +1,53 @@
 -- A core with no transaction can be opened again from its cells.
-use Rattle.std.proofs.Common.{Bool, List, None, Option, Some, [], ap, arith, false, inl, inr, refl, subst, sym, true, true≢false, ℕ, ◌+◌, ◌∙◌, ◌∷◌, ◌≡◌, ◌≢◌, ◌≤◌}
+use Rattle.std.proofs.Common.{Bool, List, None, Option, Some, [], ap, arith, false, inl, inr, refl, subst, sym, true, true≢false, ℕ, ◌+◌, ◌<◌, ◌∙◌, ◌∷◌, ◌≡◌, ◌≢◌, ◌≤◌}
 use Rattle.std.specs.Cmp.{nat_cmp_total}
 use Rattle.std.specs.FinMap.{entries, get, len, nat_cmp-IsAntisymmetric, remove}
 use Rattle.std.specs.Ordering.{nat_cmp}
 use Rattle.records.specs.ChangeValue.{ChangeValue}
-use Rattle.records.specs.Maps.{alike, rid_exact}
 use Rattle.records.specs.Values.{Place}
 use Rattle.records.specs.declared.pair.Mark.TheVariants.{Live, Marked}
 use Rattle.records.specs.declared.pair.Pair.{Pair}
 use Rattle.records.specs.declared.row.Row.{Row}
-use Rattle.model.specs.History.{Item, table_after}
 use Rattle.model.specs.Table.{Index}
 use Rattle.model.specs.declared.life.Life.{Life}
 use Rattle.model.specs.declared.life.Life.TheVariants.{Absent, Building, Complete}
 use Rattle.core_model.proofs.Frames.{nat_decided, txn_here}
-use Rattle.core_model.proofs.Histories.{complete_by, opened_holds, told_table}
+use Rattle.core_model.proofs.Insides.{new_inside, old_inside, with_inside}
+use Rattle.core_model.proofs.Histories.{complete_by}
 use Rattle.core_model.proofs.Latest.{not_none}
 use Rattle.core_model.proofs.Orders.{update_apart, update_here, update_twice}
 use Rattle.core_model.proofs.Places.{fewer_lacking, grown_by, lacking_less}
-use Rattle.core_model.proofs.Runs.{other_pledges, run_keeps}
+use Rattle.core_model.proofs.Runs.{other_pledges}
 use Rattle.core_model.proofs.Sums.{left_apart, reserved_left}
 use Rattle.core_model.proofs.Txns.{end_keeps, taken_off_whole, undo_whole}
-use Rattle.core_model.specs.Changes.{new_pair, old_pair, pair_of}
-use Rattle.core_model.specs.Histories.{AreItemsOf, CanOpen, IsCovered, Opened, highest_of, opened}
-use Rattle.core_model.specs.Invariants.{HasPlaces, Invariant, IsCoherent, IsUnfinished, IsVisibleOrAhead, Run, lacking, lacks}
-use Rattle.core_model.specs.Restarts.{IsListing, entries_undone, restarted, rows_back, rows_undone}
+use Rattle.core_model.specs.Changes.{latest, new_pair, old_pair, pair_of}
+use Rattle.core_model.specs.Histories.{CanOpen, IsCovered, highest_of}
+use Rattle.core_model.specs.Invariants.{HasPlaces, IsBusyWith, IsCoherent, IsHeld, IsHolderOf, IsInside, IsUnfinished, applied_of, IsVisibleOrAhead, lacking, lacks}
+use Rattle.core_model.proofs.Undone.{IsListing, entries_undone, restarted, rows_back, rows_undone}
 use Rattle.core_model.specs.States.{Active, Phase, State}
-use Rattle.core_model.specs.Steps.{Step, above, all_reserved, freed, is_indexed, reserved, update, with_entry, without_newest}
+use Rattle.core_model.specs.Steps.{above, all_reserved, freed, is_applied, is_indexed, reserved, update, with_entry, without_newest}
 
-module _ (s : State) (i : IsCoherent s) (quiet : (t : ℕ) → s.txns t ≡ None) where
+module _ (s : State) (i : IsCoherent s) (n : IsInside s) (quiet : (t : ℕ) (x : Active) → s.txns t ≡ Some x → x.changes ≡ []) where
+  not_busy : (cs : List ChangeValue) (phase : Phase) (r : Place) → cs ≡ [] → IsBusyWith cs phase r → ⊥
+  not_busy [] phase r e h = h
+  not_busy (c ∷ older) phase r e h = absurd (cc)
+
   not_unfinished : (r : Place) → IsUnfinished s r → ⊥
-  not_unfinished r h = not_none h.active (quiet h.transaction)
+  not_unfinished r h = not_busy h.txn.changes h.txn.phase r (quiet h.transaction h.txn h.active) h.busy
 
-  held_by_none : (r : Place) (o : Option ℕ) → s.holder r ≡ o → s.holder r ≡ None
-  held_by_none r None e = e
-  held_by_none r (Some t) e = absurd (not_none (i.held r t e).active (quiet t))
+  none_made : (cs : List ChangeValue) (b : Bool) → cs ≡ [] → applied_of cs b ≡ []
+  none_made [] b e = refl
+  none_made (c ∷ older) b e = absurd (cc)
 
   -- the rows are the committed table
+  committed_by : (r : Place) (o : Option ℕ) → s.holder r ≡ o → get s.rows r ≡ get s.committed r
+  committed_by r None e = i.free r e
+  committed_by r (Some t) e =
+      let h : IsHeld s r t = i.held r t e in
+      h.row ∙ ap (λ cs. latest cs r (get s.committed r)) (none_made h.txn.changes (is_applied h.txn.phase) (quiet t h.txn h.active))
+
   pub only_committed : (r : Place) → get s.rows r ≡ get s.committed r
-  only_committed r = i.free r (held_by_none r (s.holder r) refl)
+  only_committed r = committed_by r (s.holder r) refl
 
   covered_by : (life : Life) → s.life ≡ life → (p : Pair) → IsCovered life (highest_of life) p → IsCovered life s.bound p
   covered_by Absent e p c = c
@@ -59,14 +68,13 @@ module _ (s : State) (i : IsCoherent s) (quiet : (t : ℕ) → s.txns t ≡ None
   unmarked_by p (inl live) e = absurd (cc)
   unmarked_by p (inr w) e = not_none e w.0
 
-  opens : len s.entries ≤ s.places → CanOpen (record { rows = s.rows; entries = s.entries; life = s.life; pages = s.pages; places = s.places })
-  opens fits = record {
-    inside = i.inside;
+  opens : (last : ℕ) → len s.entries ≤ s.places → CanOpen (restarted s [] last)
+  opens last fits = record {
+    fits = record { rows = i.inside; entries = n.entries; highest = n.highest; room = fits };
     sound = i.sound;
     complete = opens_complete;
     unmarked = λ r row e. unmarked_by (pair_of r row) (i.visible r row e (not_unfinished r));
     empty = i.empty;
-    fits = fits;
   }
 
 -- ---- the changes that are left are taken back
@@ -132,22 +140,33 @@ rolled_places s t x cs p active e = record {
   ];
 }
 
-pub record CanRestart (s : State) (ls : List (ℕ × List ChangeValue)) : Type 0 where
+-- ---- they stay in the store's pages
+undone_inside : (pages : ℕ) (indexed : Bool) (holder : Place → Option ℕ) (t : ℕ) → ((r : Place) → holder r ≡ Some t → r.page < pages) → (cs : List ChangeValue) → IsHolderOf holder t cs → (entries : Index)
+    → ((p : Pair) → get entries p ≢ None → p.rid.page < pages) → (p : Pair) → get (entries_undone indexed cs entries) p ≢ None → p.rid.page < pages
+undone_inside pages indexed holder t held [] names entries h = h
+undone_inside pages indexed holder t held (c ∷ older) names entries h =
+    let l : c.rid.page < pages = held c.rid names.0 in
+    undone_inside pages indexed holder t held older names.1 _
+    (with_inside pages (with_entry entries (new_pair indexed c) Marked) (old_pair indexed c) Live (old_inside pages indexed c l)
+    (with_inside pages entries (new_pair indexed c) Marked (new_inside pages indexed c l) h))
+
+rolled_inside : (s : State) (t : ℕ) (x : Active) (cs : List ChangeValue) → IsCoherent s → IsInside s → s.txns t ≡ Some x → x.changes ≡ cs → IsInside (record (rolled s t cs) { pledges = remove s.pledges t })
+rolled_inside s t x cs i h active e = record {
+  entries = undone_inside s.pages (is_indexed s.life) s.holder t (λ r k. (i.held r t k).inside) cs (subst (λ l. IsHolderOf s.holder t l) e (i.txns t x active).names) s.entries h.entries;
+  bound = h.bound;
+  highest = h.highest;
+  given = h.given;
+}
+
+pub record CanRestart (s : State) (ls : List (ℕ × List ChangeValue)) (last : ℕ) : Type 0 where
   pub table : (r : Place) → get (rows_back ls s.rows) r ≡ get s.committed r
-  pub opens : CanOpen (restarted s ls)
+  pub opens : CanOpen (restarted s ls last)
 
-pub can_restart : (ls : List (ℕ × List ChangeValue)) (s : State) → IsCoherent s → HasPlaces s → IsListing s.txns ls → CanRestart s ls
-can_restart [] s i p quiet = record { table = only_committed s i quiet; opens = opens s i quiet (let fits : len s.entries + all_reserved s.pledges ≤ s.places = p.fits in omega (arith, fits)) }
-can_restart (l ∷ ls) s i p listing =
+pub can_restart : (ls : List (ℕ × List ChangeValue)) (last : ℕ) (s : State) → IsCoherent s → IsInside s → HasPlaces s → IsListing s.txns ls → CanRestart s ls last
+can_restart [] last s i n p quiet = record { table = only_committed s i n quiet; opens = opens s i n quiet last (let fits : len s.entries + all_reserved s.pledges ≤ s.places = p.fits in omega (arith, fits)) }
+can_restart (l ∷ ls) last s i n p listing =
     let s' : State = record (rolled s l.0 l.1) { pledges = remove s.pledges l.0 } in
-    let after : CanRestart s' ls =
-    can_restart ls s' (other_pledges (rolled s l.0 l.1) (remove s.pledges l.0) (rolled_by l.0 listing.0.0 l.1 s i listing.0.1 listing.0.2)) (rolled_places s l.0 listing.0.0 l.1 p listing.0.1 listing.0.2) listing.1 in
+    let after : CanRestart s' ls last =
+    can_restart ls last s' (other_pledges (rolled s l.0 l.1) (remove s.pledges l.0) (rolled_by l.0 listing.0.0 l.1 s i listing.0.1 listing.0.2)) (rolled_inside s l.0 listing.0.0 l.1 i n listing.0.1 listing.0.2)
+    (rolled_places s l.0 listing.0.0 l.1 p listing.0.1 listing.0.2) listing.1 in
     record { table = after.table; opens = after.opens }
-
--- a restart at any stop gives the table of the history
-pub stopped : (o : Opened) → CanOpen o → (es : List Step) (s : State) → Run (opened o) es s → (items : List Item) → AreItemsOf items es → (ls : List (ℕ × List ChangeValue)) → IsListing s.txns ls
-    → ((restarted s ls).rows ≡ table_after o.rows items) × CanOpen (restarted s ls)
-stopped o can es s run items h ls listing =
-    let i : Invariant s = run_keeps _ s es run (opened_holds o can) in
-    let done : CanRestart s ls = can_restart ls s i.coherent i.places listing in
-    (alike rid_exact (rows_back ls s.rows) s.committed done.table ∙ told_table o es s run items h, done.opens)

@@ -1,8 +1,8 @@
 -- Every run of the core keeps the invariant, whatever the order of its steps.
-use Rattle.std.proofs.Common.{List, None, Some, refl}
+use Rattle.std.proofs.Common.{List, None, Some, refl, subst}
+use Rattle.model.specs.declared.life.Life.TheVariants.{Building}
 use Rattle.core_model.proofs.Builds.{attempt_keeps, checkpoint_keeps, clean_keeps, create_keeps, finish_keeps, place_keeps, take_keeps}
-use Rattle.core_model.proofs.Numbers.{numbered_step}
-use Rattle.core_model.proofs.Places.{places_step}
+use Rattle.core_model.proofs.Fits.{fit_step}
 use Rattle.core_model.proofs.Txns.{begin_keeps, commit_keeps, end_keeps, next_keeps, start_keeps, undo_keeps}
 use Rattle.core_model.specs.Invariants.{Invariant, IsCoherent, IsHeld, Run, TxnHolds, no_step, one_step}
 use Rattle.core_model.specs.States.{Pledges, State}
@@ -32,7 +32,7 @@ moved_coherent s (Commit t) i a = commit_keeps s i t (txn_at s t) a.0 a.1
 moved_coherent s Create i a = create_keeps s i a.0 a.1
 moved_coherent s (Take n) i a = take_keeps s i n
 moved_coherent s (Attempt p) i a = attempt_keeps s i p a
-moved_coherent s Checkpoint i a = checkpoint_keeps s i a.0
+moved_coherent s (Checkpoint p) i a = subst (λ o. IsCoherent (record s { life = Building o })) a.1 (checkpoint_keeps s i a.0)
 moved_coherent s Finish i a = finish_keeps s i a
 moved_coherent s (Clean p) i a = clean_keeps s i p a
 moved_coherent s (Keep p) i a = place_keeps s i (Some p)
@@ -42,11 +42,7 @@ coherent_step : (s : State) (e : Step) → IsCoherent s → IsEnabled s e → Is
 coherent_step s e i a = other_pledges (moved_by s e) (pledges_after s e (moved_by s e).entries) (moved_coherent s e i a)
 
 pub step_keeps : (s : State) (e : Step) → Invariant s → IsEnabled s e → Invariant (after s e)
-step_keeps s e i a = record {
-  coherent = coherent_step s e i.coherent a;
-  places = places_step s e i.coherent i.places a;
-  numbered = numbered_step s e i.numbered a;
-}
+step_keeps s e i a = record { fit = fit_step s e i.fit a; coherent = coherent_step s e i.coherent a }
 
 pub run_keeps : (s s' : State) (es : List Step) → Run s es s' → Invariant s → Invariant s'
 run_keeps s s' es no_step i = i

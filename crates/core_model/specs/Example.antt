@@ -27,7 +27,7 @@ insertion = record { position = 0; rid = place; rows = Inserted row }
 
 -- no row, no index, one page, 64 entries
 abbrev pub opening : Opened
-opening = record { rows = empty; entries = empty; life = Absent; pages = 1; places = 64 }
+opening = record { given = record { table = empty; entries = empty; life = Absent; last = 0 }; pages = 1; places = 64 }
 
 abbrev pub steps : List Step
 steps = Create ∷ Begin 1 ∷ Start 1 insertion ∷ Take 0 ∷ Undo 1 ∷ Undo 1 ∷ Undo 1 ∷ End 1 ∷ Attempt pair ∷ Finish ∷ []

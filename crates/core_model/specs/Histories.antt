@@ -1,7 +1,7 @@
 -- What a run is to show: the table of its commits, and an index that fits the rows.
 use Rattle.std.specs.FinMap.{empty, get, len}
 use Rattle.std.specs.Ordering.{nat_cmp}
-use Rattle.std.specs.Prelude.{List, None, Option, Some, [], false, map, reverse, ℕ, ◌++◌, ◌+◌, ◌<◌, ◌↔◌, ◌∷◌, ◌≡◌, ◌≢◌, ◌≤◌, ◌⊎◌}
+use Rattle.std.specs.Prelude.{List, None, Option, Some, [], false, map, reverse, ℕ, ◌++◌, ◌+◌, ◌<◌, ◌↔◌, ◌∷◌, ◌≡◌, ◌≢◌, ◌≤◌}
 use Rattle.records.specs.ChangeValue.{ChangeValue}
 use Rattle.records.specs.Spelling.{new_row}
 use Rattle.records.specs.Values.{Place}
@@ -9,15 +9,19 @@ use Rattle.records.specs.declared.pair.Mark.TheVariants.{Live, Marked}
 use Rattle.records.specs.declared.pair.Pair.{Pair}
 use Rattle.records.specs.declared.row.Row.{Row}
 use Rattle.model.specs.Committed.{writes_of}
-use Rattle.model.specs.History.{Committed, Completed, Created, Deed, Item, Stage, stage_with, table_with}
-use Rattle.model.specs.Table.{Index, IsPairOf, Table}
+use Rattle.model.specs.Cells.{Cells}
+use Rattle.model.specs.Given.{Given}
+use Rattle.model.specs.History.{Checkpointed, Committed, Completed, Created, Deed, Item, life_with, table_with}
+use Rattle.model.specs.Recovery.{recovered_rows}
+use Rattle.model.specs.Table.{IsPairOf, Table}
 use Rattle.model.specs.declared.life.Life.{Life}
 use Rattle.model.specs.declared.life.Life.TheVariants.{Absent, Building, Complete}
 use Rattle.model.specs.declared.write.Write.{Write}
-use Rattle.core_model.specs.Changes.{pair_of, taken_back}
+use Rattle.core_model.specs.Changes.{pair_of}
 use Rattle.core_model.specs.Invariants.{IsUnfinished}
+use Rattle.core_model.specs.Records.{HasCells}
 use Rattle.core_model.specs.States.{Active, State}
-use Rattle.core_model.specs.Steps.{Commit, Create, End, Finish, Start, Step, above, all_reserved, txn_at, update}
+use Rattle.core_model.specs.Steps.{Checkpoint, Commit, Create, End, Finish, Start, Step, above, all_reserved, update}
 
 -- ---- the history of a run, read off the changes that were asked for, the commits, the creation and the end of the build
 
@@ -37,6 +41,7 @@ writes_after writes _ = writes
 abbrev pub deeds_of : (ℕ → List Write) → Step → List Deed
 deeds_of writes (Commit t) = Committed (writes t) ∷ []
 deeds_of writes Create = Created ∷ []
+deeds_of writes (Checkpoint p) = Checkpointed p ∷ []
 deeds_of writes Finish = Completed ∷ []
 deeds_of writes _ = []
 
@@ -48,14 +53,14 @@ history writes (e ∷ es) = deeds_of writes e ++ history (writes_after writes e)
 abbrev pub AreItemsOf : List Item → List Step → Type 0
 AreItemsOf items steps = map (λ (item : Item). item.deed) items ≡ history no_writes steps
 
--- the table and the stage after these deeds
+-- the table and the life after these deeds
 abbrev pub table_over : Table → List Deed → Table
 table_over table [] = table
 table_over table (deed ∷ deeds) = table_over (table_with table deed) deeds
 
-abbrev pub stage_over : Stage → List Deed → Stage
-stage_over stage [] = stage
-stage_over stage (deed ∷ deeds) = stage_over (stage_with stage deed) deeds
+abbrev pub life_over : Life → List Deed → Life
+life_over life [] = life
+life_over life (deed ∷ deeds) = life_over (life_with life deed) deeds
 
 -- ---- a core over loaded cells
 
@@ -64,11 +69,9 @@ highest_of Absent = None
 highest_of (Building highest) = highest
 highest_of Complete = None
 
--- what a core begins with
+-- what a core begins with, in a store of so many pages and entries
 pub record Opened : Type 0 where
-  pub rows : Table
-  pub entries : Index
-  pub life : Life
+  pub given : Given
   pub pages : ℕ
   pub places : ℕ
 
@@ -76,20 +79,20 @@ pub record Opened : Type 0 where
 abbrev pub opened : Opened → State
 opened o =
     record {
-      rows = o.rows;
-      entries = o.entries;
+      rows = o.given.table;
+      entries = o.given.entries;
       txns = λ t. None;
       holder = λ r. None;
       pledges = empty;
-      life = o.life;
+      life = o.given.life;
       pages = o.pages;
       places = o.places;
-      bound = highest_of o.life;
+      bound = highest_of o.given.life;
       given = λ p. false;
       missed = λ p. false;
       taken = λ n. false;
       cleaned = None;
-      committed = o.rows;
+      committed = o.given.table;
     }
 
 -- where the index must have each row's pair
@@ -98,34 +101,28 @@ IsCovered Absent bound p = ⊥
 IsCovered (Building highest) bound p = above bound p ≡ false
 IsCovered Complete bound p = Unit {0}
 
--- cells that a core may begin with
+-- what fits the store: with that a core is safe
+pub record FitsStore (o : Opened) : Type 0 where
+  pub rows : (r : Place) (row : Row) → get o.given.table r ≡ Some row → r.page < o.pages
+  pub entries : (p : Pair) → get o.given.entries p ≢ None → p.rid.page < o.pages
+  pub highest : (p : Pair) → o.given.life ≡ Building (Some p) → p.rid.page < o.pages
+  pub room : len o.given.entries ≤ o.places
+
+-- what a core may begin with
 pub record CanOpen (o : Opened) : Type 0 where
-  pub inside : (r : Place) (row : Row) → get o.rows r ≡ Some row → r.page < o.pages
-  pub sound : (p : Pair) → get o.entries p ≡ Some Live → IsPairOf o.rows p
-  pub complete : (r : Place) (row : Row) → get o.rows r ≡ Some row → IsCovered o.life (highest_of o.life) (pair_of r row) → get o.entries (pair_of r row) ≡ Some Live
-  pub unmarked : (r : Place) (row : Row) → get o.rows r ≡ Some row → get o.entries (pair_of r row) ≢ Some Marked
-  pub empty : o.life ≡ Absent → (p : Pair) → get o.entries p ≡ None
-  pub fits : len o.entries ≤ o.places
+  pub fits : FitsStore o
+  pub sound : (p : Pair) → get o.given.entries p ≡ Some Live → IsPairOf o.given.table p
+  pub complete : (r : Place) (row : Row) → get o.given.table r ≡ Some row → IsCovered o.given.life (highest_of o.given.life) (pair_of r row) → get o.given.entries (pair_of r row) ≡ Some Live
+  pub unmarked : (r : Place) (row : Row) → get o.given.table r ≡ Some row → get o.given.entries (pair_of r row) ≢ Some Marked
+  pub empty : o.given.life ≡ Absent → (p : Pair) → get o.given.entries p ≡ None
 
 -- ---- what holds after any steps
 
--- the row with the changes of these transactions taken back, the last of each first
-abbrev pub restored : State → List ℕ → Place → Option Row → Option Row
-restored s [] r row = row
-restored s (t ∷ ts) r row = restored s ts r (taken_back (txn_at s t).changes r row)
-
-abbrev pub IsAmong : ℕ → List ℕ → Type 0
-IsAmong t [] = ⊥
-IsAmong t (u ∷ us) = (t ≡ u) ⊎ IsAmong t us
-
-abbrev pub AllActiveAmong : State → List ℕ → Type 0
-AllActiveAmong s ts = (t : ℕ) (x : Active) → s.txns t ≡ Some x → IsAmong t ts
-
--- the rows without the active transactions are the committed table, each live entry names a live row with its key,
+-- the rows with the changes of every active transaction taken back are the committed table, each live entry names a live row with its key,
 -- each live row without an unfinished change has its entry live as far as the index is built, without an index there is no
 -- entry, and the entries with the reserved places fit the geometry
 pub record IsFaithful (s : State) (committed : Table) : Type 0 where
-  pub back : (ts : List ℕ) → AllActiveAmong s ts → (r : Place) → restored s ts r (get s.rows r) ≡ get committed r
+  pub back : (cells : Cells) → HasCells s cells → recovered_rows cells ≡ committed
   pub sound : (p : Pair) → get s.entries p ≡ Some Live → IsPairOf s.rows p
   pub complete : (r : Place) (row : Row) → get s.rows r ≡ Some row → (IsUnfinished s r → ⊥) → IsCovered s.life s.bound (pair_of r row) → get s.entries (pair_of r row) ≡ Some Live
   pub empty : s.life ≡ Absent → (p : Pair) → get s.entries p ≡ None

@@ -117,6 +117,10 @@ pub record HasPlaces (s : State) : Type 0 where
   pub fits : len s.entries + all_reserved s.pledges ≤ s.places
   pub enough : (t : ℕ) (x : Active) → s.txns t ≡ Some x → lacking (is_indexed s.life) s.entries x.changes ≤ reserved s.pledges t
 
+-- the transactions that have a number of reserved places, be it none, are the active ones
+abbrev pub IsPledged : State → Type 0
+IsPledged s = (t : ℕ) → is_some (get s.pledges t) ≡ is_some (s.txns t)
+
 -- ---- positions of changes
 
 -- the positions count from the oldest change
@@ -124,12 +128,47 @@ abbrev pub IsNumbered : List ChangeValue → Type 0
 IsNumbered [] = Unit {0}
 IsNumbered (c ∷ older) = (c.position ≡ length older) × IsNumbered older
 
+-- ---- the store's pages
+
+-- entries, the builder's places and the pairs that pages gave are of the store's pages
+pub record IsInside (s : State) : Type 0 where
+  pub entries : (p : Pair) → get s.entries p ≢ None → p.rid.page < s.pages
+  pub bound : (p : Pair) → s.bound ≡ Some p → p.rid.page < s.pages
+  pub highest : (p : Pair) → s.life ≡ Building (Some p) → p.rid.page < s.pages
+  pub given : (p : Pair) → s.given p ≡ true → p.rid.page < s.pages
+
+-- ---- what a core needs to be safe, whatever rows and entries it began with
+
+-- the change has the pair that its phase speaks of
+abbrev pub HasShape : Bool → ChangeValue → Phase → Type 0
+HasShape indexed c OldMarked = HasPair (old_pair indexed c) (λ p. Unit {0})
+HasShape indexed c RowSet = HasPair (new_pair indexed c) (λ p. Unit {0})
+HasShape indexed c Made = Unit {0}
+HasShape indexed c (NewMarked applied) = HasPair (new_pair indexed c) (λ p. Unit {0})
+HasShape indexed c OldSet = HasPair (old_pair indexed c) (λ p. Unit {0})
+
+abbrev pub IsShaped : Bool → List ChangeValue → Phase → Type 0
+IsShaped indexed [] phase = phase ≡ Made
+IsShaped indexed (c ∷ older) phase = HasShape indexed c phase
+
+pub record IsFit (holder : Place → Option ℕ) (indexed : Bool) (t : ℕ) (x : Active) : Type 0 where
+  pub names : IsHolderOf holder t x.changes
+  pub shaped : IsShaped indexed x.changes x.phase
+  pub numbered : IsNumbered x.changes
+
+pub record IsWellFormed (s : State) : Type 0 where
+  pub rows : (r : Place) (row : Row) → get s.rows r ≡ Some row → r.page < s.pages
+  pub held : (r : Place) (t : ℕ) → s.holder r ≡ Some t → r.page < s.pages
+  pub txns : (t : ℕ) (x : Active) → s.txns t ≡ Some x → IsFit s.holder (is_indexed s.life) t x
+  pub places : HasPlaces s
+  pub inside : IsInside s
+  pub pledged : IsPledged s
+
 -- ---- all of it
 
 pub record Invariant (s : State) : Type 0 where
+  pub fit : IsWellFormed s
   pub coherent : IsCoherent s
-  pub places : HasPlaces s
-  pub numbered : (t : ℕ) (x : Active) → s.txns t ≡ Some x → IsNumbered x.changes
 
 -- a run of the core
 pub data Run : State → List Step → State → Type 0 where

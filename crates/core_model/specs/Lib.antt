@@ -3,5 +3,6 @@ pub mod States
 pub mod Steps
 pub mod Invariants
 pub mod Histories
-pub mod Restarts
 pub mod Example
+pub mod Records
+pub mod Logs

@@ -8,7 +8,6 @@ use Rattle.records.specs.ChangeValue.{ChangeValue}
 use Rattle.records.specs.Maps.{set_at}
 use Rattle.records.specs.Orders.{pair_cmp, rid_cmp}
 use Rattle.records.specs.Spelling.{new_row, old_row}
-use Rattle.records.specs.declared.pair.Mark.{Mark}
 use Rattle.records.specs.declared.pair.Mark.TheVariants.{Live, Marked}
 use Rattle.records.specs.declared.pair.Pair.{Pair}
 use Rattle.records.specs.declared.row.Row.{Row}
@@ -18,6 +17,7 @@ use Rattle.model.specs.Table.{Index, Table, applied}
 use Rattle.model.specs.declared.key_action.KeyAction.TheVariants.{BuildPut}
 use Rattle.model.specs.declared.life.Life.{Life}
 use Rattle.model.specs.declared.life.Life.TheVariants.{Absent, Building, Complete}
+pub use Rattle.model.specs.Pairs.{is_indexed, with_entry}
 use Rattle.core_model.specs.Changes.{new_pair, old_pair}
 use Rattle.records.specs.declared.limits.TheConstants.{PLACES_PER_CHANGE}
 use Rattle.core_model.specs.States.{Active, Made, NewMarked, OldMarked, OldSet, Phase, Pledges, RowSet, State}
@@ -25,11 +25,6 @@ use Rattle.core_model.specs.States.{Active, Made, NewMarked, OldMarked, OldSet, 
 -- the function with this value at this argument
 unfoldable pub update : {K X : Type 0} → (K → K → Ordering) → (K → X) → K → X → K → X
 update R f k v q = cond (eq_by_cmp R q k) v (f q)
-
-abbrev pub is_indexed : Life → Bool
-is_indexed Absent = false
-is_indexed (Building highest) = true
-is_indexed Complete = true
 
 abbrev pub above : Option Pair → Pair → Bool
 above None q = true
@@ -50,11 +45,6 @@ txn_at s t = unwrap_or (s.txns t) new_txn
 
 abbrev pub with_txn : State → ℕ → Active → ℕ → Option Active
 with_txn s t x = update nat_cmp s.txns t (Some x)
-
--- the entry of this pair, where there is one, gets this mark
-abbrev pub with_entry : Index → Option Pair → Mark → Index
-with_entry entries None mark = entries
-with_entry entries (Some p) mark = set_at entries p (Some mark)
 
 -- the phase after the row is set
 abbrev pub row_made : Option Pair → Phase
@@ -172,7 +162,7 @@ pub data Step : Type 0 where
   Create : Step
   Take : (page : ℕ) → Step
   Attempt : Pair → Step
-  Checkpoint : Step
+  Checkpoint : Pair → Step
   Finish : Step
   Clean : Pair → Step
   Keep : Pair → Step
@@ -189,7 +179,7 @@ moved_by s (Commit t) = left s t (applied s.committed (writes_of (reverse (txn_a
 moved_by s Create = created s
 moved_by s (Take page) = page_taken s page
 moved_by s (Attempt p) = attempted s p
-moved_by s Checkpoint = record s { life = Building s.bound }
+moved_by s (Checkpoint p) = record s { life = Building (Some p) }
 moved_by s Finish = record s { life = Complete }
 moved_by s (Clean p) = record s { entries = set_at s.entries p None; cleaned = Some p }
 moved_by s (Keep p) = record s { cleaned = Some p }
@@ -287,7 +277,7 @@ IsEnabled s (Commit t) = IsActive s t × IsReady (txn_at s t)
 IsEnabled s Create = (s.life ≡ Absent) × ((t : ℕ) → s.txns t ≡ None)
 IsEnabled s (Take page) = IsBuilding s.life
 IsEnabled s (Attempt p) = CanAttempt s p
-IsEnabled s Checkpoint = IsBuilding s.life × (p : Pair) × (s.bound ≡ Some p)
+IsEnabled s (Checkpoint p) = IsBuilding s.life × (s.bound ≡ Some p)
 IsEnabled s Finish = CanFinish s
 IsEnabled s (Clean p) = CanClean s p
 IsEnabled s (Keep p) = Unit {0}

@@ -1,5 +1,5 @@
 -- Laws of what records set, and of what is taken back.
-use Rattle.std.proofs.Common.{◌≡◌, ℕ, ◌-◌, List, [], ◌∷◌, ◌++◌, length, take, unwrap_or, cond, true, refl, sym, ap, ◌∙◌, arith, length-append}
+use Rattle.std.proofs.Common.{Option, ◌≡◌, ℕ, ◌-◌, List, [], ◌∷◌, ◌++◌, length, take, unwrap_or, cond, true, refl, sym, ap, ◌∙◌, arith, length-append}
 use Rattle.std.proofs.Math.Seq.{take-append_seam, take-length}
 use Rattle.std.specs.Ordering.{eq_by_cmp}
 use Rattle.std.specs.FinMap as map
@@ -10,7 +10,7 @@ use Rattle.records.specs.Spelling.{old_row, new_row}
 use Rattle.records.specs.Orders.{rid_cmp}
 use Rattle.records.specs.Maps.{set_at, rid_exact, nat_exact, get-set_at, get-set_at_same, set_at-again, set_at-get}
 use Rattle.model.specs.Table.{Table}
-use Rattle.model.specs.Cells.{Cells, cells_after, rows_after, set_by, Pending, list_of, some_list, with_list, reverted, found_at, changed, AreChanges, noted, taken_off}
+use Rattle.model.specs.Cells.{Cells, cells_after, rows_after, set_by, Pending, list_of, with_list, reverted, found_at, changed, AreChanges, noted, taken_off}
 
 -- ---- records
 
@@ -28,12 +28,8 @@ rows-cells_after cells (r ∷ records) = rows-cells_after (set_by cells r.action
 
 -- ---- lists of changes
 
-unwrapped : (changes : List ChangeValue) → unwrap_or (some_list changes) [] ≡ changes
-unwrapped [] = refl
-unwrapped (c ∷ changes) = refl
-
-pub list_of-with_list : (pending : Pending) (txn : ℕ) (changes : List ChangeValue) → list_of (with_list pending txn changes) txn ≡ changes
-list_of-with_list pending txn changes = ap (λ o. unwrap_or o []) (get-set_at_same nat_exact pending txn (some_list changes)) ∙ unwrapped changes
+pub list_of-with_list : (pending : Pending) (txn : ℕ) (list : Option (List ChangeValue)) → list_of (with_list pending txn list) txn ≡ unwrap_or list []
+list_of-with_list pending txn list = ap (λ o. unwrap_or o []) (get-set_at_same nat_exact pending txn list)
 
 -- ---- changes taken back
 

@@ -1,5 +1,5 @@
 -- Which records can follow one another.
-use Rattle.std.proofs.Common.{◌≡◌, ◌↔◌, ⊎_elim, inr, nat_lt, ℕ, ◌+◌, ◌-◌, ◌<◌, ◌≤◌, List, [], ◌∷◌, ◌++◌, length, take, drop, get_or, IsTrue, ◌==◌, sym, ap, subst, ◌∙◌, arith, length-append}
+use Rattle.std.proofs.Common.{refl, inl, Some, Option, is_some, false, true, Bool, None, ◌≡◌, ◌↔◌, ⊎_elim, inr, nat_lt, ℕ, ◌+◌, ◌-◌, ◌<◌, ◌≤◌, List, [], ◌∷◌, ◌++◌, length, take, drop, get_or, IsTrue, ◌==◌, sym, ap, subst, ◌∙◌, arith, length-append}
 use Rattle.std.proofs.lemmas.Bool.{eq-eqb, eqb-true, ltb-true, lt-ltb, cases_lt}
 use Rattle.std.proofs.lemmas.List.{take_more, drop_more, length-take-le, take-append-drop, take-append-le}
 use Rattle.std.proofs.Math.Seq.{take-length, take-append_seam, get_or-append_seam}
@@ -8,7 +8,7 @@ use Rattle.records.specs.ChangeValue.{ChangeValue}
 use Rattle.records.specs.RecordValue.{RecordValue}
 use Rattle.std.specs.FinMap as map
 use Rattle.records.specs.declared.txn.TheConstants.{TXNS_MAX}
-use Rattle.model.specs.Cells.{Cells, Pending, list_of, set_by, cells_after}
+use Rattle.model.specs.Cells.{Cells, Pending, set_by, cells_after}
 use Rattle.model.proofs.CellsLaws.{cells_after_one_more}
 use Rattle.model.specs.Following.{IsLastOf, HasRoom, CanFollow, AreFollowing, IsFirstUnfit}
 
@@ -68,11 +68,21 @@ not_following pages last cells records n unfit all =
 
 -- ---- room for a transaction
 
-pub room_test : (pending : Pending) (txn n : ℕ) → list_of pending txn ≡ [] → n ≡ length (map.entries pending) → IsTrue (nat_lt n TXNS_MAX) ↔ HasRoom pending txn
+pub room_test : (pending : Pending) (txn n : ℕ) → map.get pending txn ≡ None → n ≡ length (map.entries pending) → IsTrue (nat_lt n TXNS_MAX) ↔ HasRoom pending txn
 room_test pending txn n none is = (
   (λ test. inr (omega (arith, is, ltb-true _ _ test))),
   (λ room. ⊎_elim (λ some. absurd (some none)) (λ less. lt-ltb _ _ (omega (arith, less, is))) room),
 )
+
+pub none_is : {A : Type 0} (o : Option A) → is_some o ≡ false → o ≡ None
+none_is None e = refl
+none_is (Some a) e = absurd cc
+
+pub room_there : (pending : Pending) (txn : ℕ) (b : Bool) → b ≡ is_some (map.get pending txn) → b ≡ true → IsTrue b ↔ HasRoom pending txn
+room_there pending txn b is e = ((λ test. inl (λ none. absurd (both_ways (sym e ∙ is ∙ ap is_some none)))), (λ room. e))
+  where
+    both_ways : true ≡ false → ⊥
+    both_ways h = absurd cc
 
 -- ---- the records up to an index
 

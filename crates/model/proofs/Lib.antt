@@ -1,4 +1,5 @@
 pub mod MapLaws
+mod PairLaws
 pub mod TableLaws
 pub mod CellsLaws
 pub mod HistoryLaws
@@ -11,3 +12,5 @@ pub mod PrefixLaws
 pub mod FollowingLaws
 pub mod PlacesLaws
 pub mod PlacedLaws
+pub mod ImageLaws
+pub mod GivenLaws

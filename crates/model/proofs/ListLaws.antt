@@ -9,7 +9,7 @@ use Rattle.records.specs.Orders.{rid_cmp}
 use Rattle.records.specs.Maps.{rid_exact, nat_exact, same_key, get-set_at_other}
 use Rattle.records.specs.declared.row.Row.{Row}
 use Rattle.model.specs.Table.{written_at}
-use Rattle.model.specs.Cells.{Pending, list_of, some_list, with_list}
+use Rattle.model.specs.Cells.{Pending, list_of, with_list}
 use Rattle.model.specs.Committed.{touches, writes_of}
 use Rattle.model.specs.Prefixes.{FoundLeft, AreLinked}
 use Rattle.model.proofs.CellsLaws.{list_of-with_list}
@@ -35,8 +35,8 @@ pub written_at_last : (xs : List ChangeValue) (c : ChangeValue) (q : Place) (v :
 written_at_last [] c q v = refl
 written_at_last (d ∷ xs) c q v = written_at_last xs c q (cond (eq_by_cmp rid_cmp q d.rid) (new_row d.rows) v)
 
-pub list_of_other : (pending : Pending) (txn other : ℕ) (xs : List ChangeValue) → other ≢ txn → list_of (with_list pending txn xs) other ≡ list_of pending other
-list_of_other pending txn other xs apart = ap (λ o. unwrap_or o []) (get-set_at_other nat_exact pending txn (some_list xs) other apart)
+pub list_of_other : (pending : Pending) (txn other : ℕ) (list : Option (List ChangeValue)) → other ≢ txn → list_of (with_list pending txn list) other ≡ list_of pending other
+list_of_other pending txn other list apart = ap (λ o. unwrap_or o []) (get-set_at_other nat_exact pending txn list other apart)
 
 pub one_of : (a b : Bool) → (a || b) ≡ true → (P : Type 0) → (a ≡ true → P) → (b ≡ true → P) → P
 one_of true b h P f g = f refl
@@ -89,8 +89,8 @@ linked_last earlier [] c linked = subst (λ list. FoundLeft list c) (sym (append
 linked_last earlier (d ∷ xs) c linked = subst (λ list. FoundLeft list c) (append_assoc earlier (d ∷ []) xs) (linked_last (earlier ++ d ∷ []) xs c linked.1)
 
 -- one list set
-pub linked_with : (pending : Pending) (txn : ℕ) (xs : List ChangeValue) → ((t : ℕ) → AreLinked [] (list_of pending t)) → AreLinked [] xs → (t : ℕ) → AreLinked [] (list_of (with_list pending txn xs) t)
-linked_with pending txn xs linked own t = elim (cases_eq t txn) [
-  | inl is ↦ subst (AreLinked []) (sym (ap (list_of (with_list pending txn xs)) is ∙ list_of-with_list pending txn xs)) own
-  | inr not ↦ subst (AreLinked []) (sym (list_of_other pending txn t xs not)) (linked t)
+pub linked_with : (pending : Pending) (txn : ℕ) (list : Option (List ChangeValue)) → ((t : ℕ) → AreLinked [] (list_of pending t)) → AreLinked [] (unwrap_or list []) → (t : ℕ) → AreLinked [] (list_of (with_list pending txn list) t)
+linked_with pending txn list linked own t = elim (cases_eq t txn) [
+  | inl is ↦ subst (AreLinked []) (sym (ap (list_of (with_list pending txn list)) is ∙ list_of-with_list pending txn list)) own
+  | inr not ↦ subst (AreLinked []) (sym (list_of_other pending txn t list not)) (linked t)
 ]

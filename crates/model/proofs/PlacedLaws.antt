@@ -1,5 +1,5 @@
 -- Where records follow one another, each change on a list has its position and a page of the store.
-use Rattle.std.proofs.Common.{◌≡◌, ℕ, ◌+◌, ◌<◌, Bool, true, false, List, [], ◌∷◌, ◌++◌, length, ◌⊎◌, inl, inr, sym, ap, subst, ◌∙◌, arith}
+use Rattle.std.proofs.Common.{Option, Some, None, unwrap_or, ◌≡◌, ℕ, ◌+◌, ◌<◌, Bool, true, false, List, [], ◌∷◌, ◌++◌, length, ◌⊎◌, inl, inr, sym, ap, subst, ◌∙◌, arith}
 use Rattle.std.proofs.lemmas.Bool.{cases_eq}
 use Rattle.records.specs.ChangeValue.{ChangeValue}
 use Rattle.records.specs.RecordValue.{RecordValue}
@@ -33,10 +33,10 @@ module _ (pages : ℕ) where
   abbrev pub EachIsPlaced : Pending → Type 0
   EachIsPlaced pending = (txn : ℕ) → ArePlaced pages 0 (list_of pending txn)
 
-  one_set : (pending : Pending) (txn : ℕ) (xs : List ChangeValue) → EachIsPlaced pending → ArePlaced pages 0 xs → EachIsPlaced (with_list pending txn xs)
-  one_set pending txn xs each own t = elim (cases_eq t txn) [
-    | inl is ↦ subst (ArePlaced pages 0) (sym (ap (list_of (with_list pending txn xs)) is ∙ list_of-with_list pending txn xs)) own
-    | inr not ↦ subst (ArePlaced pages 0) (sym (list_of_other pending txn t xs not)) (each t)
+  one_set : (pending : Pending) (txn : ℕ) (list : Option (List ChangeValue)) → EachIsPlaced pending → ArePlaced pages 0 (unwrap_or list []) → EachIsPlaced (with_list pending txn list)
+  one_set pending txn list each own t = elim (cases_eq t txn) [
+    | inl is ↦ subst (ArePlaced pages 0) (sym (ap (list_of (with_list pending txn list)) is ∙ list_of-with_list pending txn list)) own
+    | inr not ↦ subst (ArePlaced pages 0) (sym (list_of_other pending txn t list not)) (each t)
   ]
 
   noted_placed : (xs : List ChangeValue) (c : ChangeValue) → ArePlaced pages 0 xs → c.rid.page < pages → (c.position ≡ length xs) ⊎ IsLastOf xs c → ArePlaced pages 0 (noted xs c)
@@ -51,10 +51,10 @@ module _ (pages : ℕ) where
 
   step_placed : (cells : Cells) (action : Action) → CanFollowBy pages cells action → EachIsPlaced cells.pending → EachIsPlaced (set_by cells action).pending
   step_placed cells (OfIndex action) can each = each
-  step_placed cells (OfTxn txn (Forward part c)) can each = one_set cells.pending txn (noted (list_of cells.pending txn) c) each (noted_placed (list_of cells.pending txn) c (each txn) can.0 can.2)
-  step_placed cells (OfTxn txn (Undo part c last)) can each = one_set cells.pending txn (taken_off (list_of cells.pending txn) last) each (taken_placed (list_of cells.pending txn) c last (each txn) can.2)
-  step_placed cells (OfTxn txn Commit) can each = one_set cells.pending txn [] each tt
-  step_placed cells (OfTxn txn End) can each = one_set cells.pending txn [] each tt
+  step_placed cells (OfTxn txn (Forward part c)) can each = one_set cells.pending txn (Some (noted (list_of cells.pending txn) c)) each (noted_placed (list_of cells.pending txn) c (each txn) can.0 can.2)
+  step_placed cells (OfTxn txn (Undo part c last)) can each = one_set cells.pending txn (Some (taken_off (list_of cells.pending txn) last)) each (taken_placed (list_of cells.pending txn) c last (each txn) can.2)
+  step_placed cells (OfTxn txn Commit) can each = one_set cells.pending txn None each tt
+  step_placed cells (OfTxn txn End) can each = one_set cells.pending txn None each tt
 
   pub following_placed : (last : ℕ) (cells : Cells) (records : List RecordValue) → AreFollowing pages last cells records → EachIsPlaced cells.pending → EachIsPlaced (cells_after cells records).pending
   following_placed last cells [] follow each = each

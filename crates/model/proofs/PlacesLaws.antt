@@ -71,17 +71,17 @@ module _ (pages : ℕ) where
   taken_here changes true here = All-take Here _ changes here
   taken_here changes false here = here
 
-  list_here : (cells : Cells) (txn : ℕ) (action : TxnAction) (changes : List ChangeValue) → CanFollowTxn pages cells txn action → All Here changes → All Here (list_by changes action)
+  list_here : (cells : Cells) (txn : ℕ) (action : TxnAction) (changes : List ChangeValue) → CanFollowTxn pages cells txn action → All Here changes → All Here (unwrap_or (list_by changes action) [])
   list_here cells txn (Forward part c) changes can here = All-append Here _ _ (All-take Here c.position changes here) (All-cons Here c [] can.0 (All-nil Here))
   list_here cells txn (Undo part c last) changes can here = taken_here changes last here
   list_here cells txn Commit changes can here = All-nil Here
   list_here cells txn End changes can here = All-nil Here
 
-  with_list_here : (pending : Pending) (txn : ℕ) (changes : List ChangeValue) → All Here changes → AreHere pending → AreHere (with_list pending txn changes)
-  with_list_here pending txn changes new here other =
+  with_list_here : (pending : Pending) (txn : ℕ) (list : Option (List ChangeValue)) → All Here (unwrap_or list []) → AreHere pending → AreHere (with_list pending txn list)
+  with_list_here pending txn list new here other =
       elim (cases_eq other txn) [
-        | inl is ↦ subst (λ n. All Here (list_of (with_list pending txn changes) n)) (sym is) (All-same Here _ _ (list_of-with_list pending txn changes) new)
-        | inr not ↦ All-same Here _ _ (list_of_other pending txn other changes not) (here other)
+        | inl is ↦ subst (λ n. All Here (list_of (with_list pending txn list) n)) (sym is) (All-same Here _ _ (list_of-with_list pending txn list) new)
+        | inr not ↦ All-same Here _ _ (list_of_other pending txn other list not) (here other)
       ]
 
   -- rows and changes are in the pages

@@ -1,5 +1,5 @@
 -- One record more of the history that records tell.
-use Rattle.std.proofs.Common.{◌≡◌, ◌≢◌, ℕ, ◌+◌, ◌<◌, ◌≤◌, true, false, cond, List, [], ◌∷◌, ◌++◌, length, take, zero, suc, Option, unwrap_or, refl, sym, ap, subst, ◌∙◌, inl, inr, arith, length-append}
+use Rattle.std.proofs.Common.{Some, None, ◌≡◌, ◌≢◌, ℕ, ◌+◌, ◌<◌, ◌≤◌, true, false, cond, List, [], ◌∷◌, ◌++◌, length, take, zero, suc, Option, unwrap_or, refl, sym, ap, subst, ◌∙◌, inl, inr, arith, length-append}
 use Rattle.std.proofs.lemmas.Bool.{cases_eq, cases_lt}
 use Rattle.std.proofs.lemmas.List.{take-append-le, take_all}
 use Rattle.std.specs.Ordering.{eq_by_cmp, nat_cmp}
@@ -34,13 +34,13 @@ module _ (rows : Table) (pending : Pending) (txn : ℕ) (c : ChangeValue) (exclu
   list = list_of pending txn
 
   abbrev pending_later : Pending
-  pending_later = with_list pending txn (list ++ c ∷ [])
+  pending_later = with_list pending txn (Some (list ++ c ∷ []))
 
   own : list_of pending_later txn ≡ list ++ c ∷ []
-  own = list_of-with_list pending txn (list ++ c ∷ [])
+  own = list_of-with_list pending txn (Some (list ++ c ∷ []))
 
   other : (u : ℕ) → u ≢ txn → list_of pending_later u ≡ list_of pending u
-  other u apart = list_of_other pending txn u (list ++ c ∷ []) apart
+  other u apart = list_of_other pending txn u (Some (list ++ c ∷ [])) apart
 
   -- a place that another transaction has changed is not the change's
   apart_place : (u : ℕ) (q : Place) → u ≢ txn → touches (list_of pending u) q ≡ true → eq_by_cmp rid_cmp q c.rid ≡ false
@@ -102,13 +102,13 @@ module _ (rows : Table) (pending : Pending) (txn : ℕ) (c : ChangeValue) (exclu
 
 module _ (rows : Table) (pending : Pending) (txn : ℕ) where
   abbrev without : Pending
-  without = with_list pending txn []
+  without = with_list pending txn None
 
   none_own : list_of without txn ≡ []
-  none_own = list_of-with_list pending txn []
+  none_own = list_of-with_list pending txn None
 
   still : (u : ℕ) → u ≢ txn → list_of without u ≡ list_of pending u
-  still u apart = list_of_other pending txn u [] apart
+  still u apart = list_of_other pending txn u None apart
 
   gone : (q : Place) {P : Type 0} → touches (list_of without txn) q ≡ true → P
   gone q touched = not_both (touches (list_of without txn) q) touched (ap (λ xs. touches xs q) none_own)
@@ -178,14 +178,14 @@ module _ (table : Table) (base : ℕ) (records : List RecordValue) (items : List
   pub row_step : (txn : ℕ) (c : ChangeValue) → r.action ≡ OfTxn txn (Forward Slot c) → c.position ≡ length (list_of cells.pending txn) → map.get cells.rows c.rid ≡ old_row c.rows → IsHeldByNoOther cells.pending txn c.rid
       → TellsHistory table base all items
   row_step txn c is at_end was held =
-      let noted_is : with_list cells.pending txn (noted (list_of cells.pending txn) c) ≡ with_list cells.pending txn (list_of cells.pending txn ++ c ∷ []) = ap (with_list cells.pending txn) (noted_first (list_of cells.pending txn) c at_end) in
-      let next : set_by cells r.action ≡ record { rows = set_at cells.rows c.rid (new_row c.rows); entries = cells.entries; pending = with_list cells.pending txn (list_of cells.pending txn ++ c ∷ []); life = cells.life } =
+      let noted_is : with_list cells.pending txn (Some (noted (list_of cells.pending txn) c)) ≡ with_list cells.pending txn (Some (list_of cells.pending txn ++ c ∷ [])) = ap (λ xs. with_list cells.pending txn (Some xs)) (noted_first (list_of cells.pending txn) c at_end) in
+      let next : set_by cells r.action ≡ record { rows = set_at cells.rows c.rid (new_row c.rows); entries = cells.entries; pending = with_list cells.pending txn (Some (list_of cells.pending txn ++ c ∷ [])); life = cells.life } =
       ap (set_by cells) is ∙ ap (λ (p : Pending). record { rows = set_at cells.rows c.rid (new_row c.rows); entries = cells.entries; pending = p; life = cells.life }) noted_is in
       tells_more items tells.rising (omega (arith, tells.within, size)) (λ n le. refl)
       (subst (λ (x : Cells). IsExclusive x.pending) (sym next) (exclusive_later cells.rows cells.pending txn c tells.exclusive held))
       (subst IsCurrent (sym next) (current_later cells.rows cells.pending txn c tells.exclusive held tells.current))
       (subst (λ (x : Cells). (t : ℕ) → AreLinked [] (list_of x.pending t)) (sym next)
-      (linked_with cells.pending txn (list_of cells.pending txn ++ c ∷ []) tells.linked (linked_one_more [] (list_of cells.pending txn) c (tells.linked txn) (λ v touched. tells.current txn c.rid v touched ∙ was))))
+      (linked_with cells.pending txn (Some (list_of cells.pending txn ++ c ∷ [])) tells.linked (linked_one_more [] (list_of cells.pending txn) c (tells.linked txn) (λ v touched. tells.current txn c.rid v touched ∙ was))))
       (subst (λ (x : Cells). IsCommitted x.rows x.pending (table_after table items)) (sym next) (step_keeps cells.rows cells.pending (table_after table items) txn c tells.committed was held))
 
   -- a commit, whose writes are those of its transaction's changes
@@ -193,39 +193,39 @@ module _ (table : Table) (base : ℕ) (records : List RecordValue) (items : List
       → TellsHistory table base all (items ++ record { number = r.number; deed = Committed (writes_of (list_of cells.pending txn)) } ∷ [])
   commit_step txn is number =
       let item : Item = record { number = r.number; deed = Committed (writes_of (list_of cells.pending txn)) } in
-      let next : set_by cells r.action ≡ record { rows = cells.rows; entries = cells.entries; pending = with_list cells.pending txn []; life = cells.life } = ap (set_by cells) is in
+      let next : set_by cells r.action ≡ record { rows = cells.rows; entries = cells.entries; pending = with_list cells.pending txn None; life = cells.life } = ap (set_by cells) is in
       let later : table_after table (items ++ item ∷ []) ≡ applied (table_after table items) (writes_of (list_of cells.pending txn)) = table_after-append table items (item ∷ []) in
       tells_more (items ++ item ∷ []) (rising-append base items item tells.rising (omega (arith, tells.within, number))) (omega (arith, last_number-append base items item, number, size)) (λ n le. up_to_later n items item (omega (arith, le, number)))
       (subst (λ (x : Cells). IsExclusive x.pending) (sym next) (exclusive_without cells.rows cells.pending txn tells.exclusive))
       (subst IsCurrent (sym next) (current_without cells.rows cells.pending txn tells.current))
-      (subst (λ (x : Cells). (t : ℕ) → AreLinked [] (list_of x.pending t)) (sym next) (linked_with cells.pending txn [] tells.linked tt))
+      (subst (λ (x : Cells). (t : ℕ) → AreLinked [] (list_of x.pending t)) (sym next) (linked_with cells.pending txn None tells.linked tt))
       (subst (λ (x : Cells). IsCommitted x.rows x.pending (table_after table (items ++ item ∷ []))) (sym next)
-      (subst (IsCommitted cells.rows (with_list cells.pending txn [])) (sym later)
+      (subst (IsCommitted cells.rows (with_list cells.pending txn None)) (sym later)
       (commit_applies cells.rows cells.pending (table_after table items) txn tells.committed (tells.exclusive.one_holder txn) (λ q touched. tells.current txn q (map.get (table_after table items) q) touched))))
 
   -- the last change of a transaction taken back
   pub undo_step : (txn : ℕ) (xs : List ChangeValue) (c : ChangeValue) → r.action ≡ OfTxn txn (Undo Slot c true) → list_of cells.pending txn ≡ xs ++ c ∷ [] → TellsHistory table base all items
   undo_step txn xs c is last =
-      let shorter : with_list cells.pending txn (taken_off (list_of cells.pending txn) true) ≡ with_list cells.pending txn xs = ap (with_list cells.pending txn) (ap (λ list. taken_off list true) last ∙ taken_off_last xs c) in
-      let next : set_by cells r.action ≡ record { rows = set_at cells.rows c.rid (old_row c.rows); entries = cells.entries; pending = with_list cells.pending txn xs; life = cells.life } =
+      let shorter : with_list cells.pending txn (Some (taken_off (list_of cells.pending txn) true)) ≡ with_list cells.pending txn (Some xs) = ap (λ xs. with_list cells.pending txn (Some xs)) (ap (λ list. taken_off list true) last ∙ taken_off_last xs c) in
+      let next : set_by cells r.action ≡ record { rows = set_at cells.rows c.rid (old_row c.rows); entries = cells.entries; pending = with_list cells.pending txn (Some xs); life = cells.life } =
       ap (set_by cells) is ∙ ap (λ (p : Pending). record { rows = set_at cells.rows c.rid (old_row c.rows); entries = cells.entries; pending = p; life = cells.life }) shorter in
       let linked : AreLinked [] (xs ++ c ∷ []) = subst (AreLinked []) last (tells.linked txn) in
       tells_more items tells.rising (omega (arith, tells.within, size)) (λ n le. refl)
       (subst (λ (x : Cells). IsExclusive x.pending) (sym next) (exclusive_shorter cells.rows cells.pending txn xs c tells.exclusive last))
       (subst IsCurrent (sym next) (current_shorter cells.rows cells.pending txn xs c tells.exclusive last tells.current (linked_last [] xs c linked)))
-      (subst (λ (x : Cells). (t : ℕ) → AreLinked [] (list_of x.pending t)) (sym next) (linked_with cells.pending txn xs tells.linked (linked_before [] xs c linked)))
+      (subst (λ (x : Cells). (t : ℕ) → AreLinked [] (list_of x.pending t)) (sym next) (linked_with cells.pending txn (Some xs) tells.linked (linked_before [] xs c linked)))
       (subst (λ (x : Cells). IsCommitted x.rows x.pending (table_after table items)) (sym next) (committed_shorter cells.rows cells.pending txn xs c tells.exclusive last (table_after table items) tells.committed))
 
   -- the end of a transaction that has nothing left to take back
   pub end_step : (txn : ℕ) → r.action ≡ OfTxn txn End → list_of cells.pending txn ≡ [] → TellsHistory table base all items
   end_step txn is none =
-      let next : set_by cells r.action ≡ record { rows = cells.rows; entries = cells.entries; pending = with_list cells.pending txn []; life = cells.life } = ap (set_by cells) is in
+      let next : set_by cells r.action ≡ record { rows = cells.rows; entries = cells.entries; pending = with_list cells.pending txn None; life = cells.life } = ap (set_by cells) is in
       tells_more items tells.rising (omega (arith, tells.within, size)) (λ n le. refl)
       (subst (λ (x : Cells). IsExclusive x.pending) (sym next) (exclusive_without cells.rows cells.pending txn tells.exclusive))
       (subst IsCurrent (sym next) (current_without cells.rows cells.pending txn tells.current))
-      (subst (λ (x : Cells). (t : ℕ) → AreLinked [] (list_of x.pending t)) (sym next) (linked_with cells.pending txn [] tells.linked tt))
+      (subst (λ (x : Cells). (t : ℕ) → AreLinked [] (list_of x.pending t)) (sym next) (linked_with cells.pending txn None tells.linked tt))
       (subst (λ (x : Cells). IsCommitted x.rows x.pending (table_after table items)) (sym next)
-      (subst (λ list. IsCommitted cells.rows (with_list cells.pending txn []) (applied (table_after table items) (writes_of list))) none
+      (subst (λ list. IsCommitted cells.rows (with_list cells.pending txn None) (applied (table_after table items) (writes_of list))) none
       (commit_applies cells.rows cells.pending (table_after table items) txn tells.committed (tells.exclusive.one_holder txn) (λ q touched. tells.current txn q (map.get (table_after table items) q) touched))))
 
 -- ---- no record

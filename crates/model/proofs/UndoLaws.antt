@@ -1,5 +1,5 @@
 -- A change taken back, the last of its transaction's list.
-use Rattle.std.proofs.Common.{◌≡◌, ◌≢◌, ℕ, Bool, true, false, cond, List, [], ◌∷◌, ◌++◌, Option, refl, sym, ap, subst, ◌∙◌, inl, inr}
+use Rattle.std.proofs.Common.{Some, ◌≡◌, ◌≢◌, ℕ, Bool, true, false, cond, List, [], ◌∷◌, ◌++◌, Option, refl, sym, ap, subst, ◌∙◌, inl, inr}
 use Rattle.std.proofs.lemmas.Bool.{cases_eq}
 use Rattle.std.specs.Ordering.{eq_by_cmp}
 use Rattle.std.specs.FinMap as map
@@ -20,16 +20,16 @@ use Rattle.model.proofs.ListLaws.{written_at_last, list_of_other, not_both, by_b
 
 module _ (rows : Table) (pending : Pending) (txn : ℕ) (xs : List ChangeValue) (c : ChangeValue) (exclusive : IsExclusive pending) (last : list_of pending txn ≡ xs ++ c ∷ []) where
   abbrev pending_shorter : Pending
-  pending_shorter = with_list pending txn xs
+  pending_shorter = with_list pending txn (Some xs)
 
   abbrev rows_back : Table
   rows_back = set_at rows c.rid (old_row c.rows)
 
   own : list_of pending_shorter txn ≡ xs
-  own = list_of-with_list pending txn xs
+  own = list_of-with_list pending txn (Some xs)
 
   other : (u : ℕ) → u ≢ txn → list_of pending_shorter u ≡ list_of pending u
-  other u apart = list_of_other pending txn u xs apart
+  other u apart = list_of_other pending txn u (Some xs) apart
 
   touched_last : touches (list_of pending txn) c.rid ≡ true
   touched_last = ap (λ list. touches list c.rid) last ∙ touches_last xs c

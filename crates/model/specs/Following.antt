@@ -1,5 +1,5 @@
 -- Which records can follow one another on a log: a reader refuses any other.
-use Rattle.std.specs.Prelude.{◌≡◌, ◌≢◌, ◌⊎◌, ℕ, ◌+◌, ◌<◌, List, [], ◌∷◌, ◌++◌, length, Option, Some}
+use Rattle.std.specs.Prelude.{◌≡◌, ◌≢◌, ◌⊎◌, ℕ, ◌+◌, ◌<◌, List, [], ◌∷◌, ◌++◌, length, Option, Some, None}
 use Rattle.std.specs.FinMap as finite
 use Rattle.records.specs.Values.{Place}
 use Rattle.records.specs.ChangeValue.{ChangeValue}
@@ -28,9 +28,9 @@ IsLastOf changes c = (earlier : List ChangeValue) × (changes ≡ earlier ++ c �
 abbrev pub IsNextOn : List ChangeValue → ChangeValue → Type 0
 IsNextOn changes c = (c.position ≡ length changes) ⊎ IsLastOf changes c
 
--- the transaction has a change already, or fewer than `TXNS_MAX` have one
+-- the transaction has made a record already, or fewer than `TXNS_MAX` have that neither committed nor ended
 abbrev pub HasRoom : Pending → ℕ → Type 0
-HasRoom pending txn = (list_of pending txn ≢ []) ⊎ (length (finite.entries pending) < TXNS_MAX)
+HasRoom pending txn = (finite.get pending txn ≢ None) ⊎ (length (finite.entries pending) < TXNS_MAX)
 
 -- a step on a row needs nothing more, a step on an entry an index
 abbrev pub AllowsPart : Life → Part → Type 0

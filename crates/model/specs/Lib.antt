@@ -8,3 +8,6 @@ pub mod Recovery
 pub mod Prefixes
 pub mod Following
 pub mod Redo
+pub mod Pairs
+pub mod Given
+pub mod Images

@@ -1,10 +1,10 @@
 //! Redo, the plain slow way.
 ghost use Rattle.std.specs.Prelude.{◌≡◌, ◌↔◌, IsTrue, OnOk, IfOk};
 ghost use Rattle.std.specs.FinMap as map;
-ghost use Rattle.model.specs.Redo.{cells_of, IsRedone};
+ghost use Rattle.model.specs.Redo.{cells_of, given_of, IsRedone};
 ghost use Rattle.model.specs.Cells.{set_by, cells_after};
 ghost use Rattle.model.specs.Following.{CanFollow, CanFollowBy, CanFollowTxn};
-ghost use Rattle.model.specs.Recovery.{recovered_rows};
+ghost use Rattle.model.specs.Given.{recovered};
 
 use crate::entry_map::EntryMap;
 use crate::life::Life;
@@ -29,6 +29,16 @@ pub enum Redone<A: Allocator> {
     All(CellMaps<A>),
     /// The record at this index, from 0, is the first that can't follow.
     Unfit(usize),
+}
+
+/// What is recovered of cells: what they hold with every unfinished transaction taken back.
+#[derive(Drop)]
+pub struct Recovered<A: Allocator> {
+    pub rows: RowMap<A>,
+    pub entries: EntryMap<A>,
+    pub life: Life,
+    /// The number of the last record that set the cells.
+    pub last: u64,
 }
 
 impl<A: Allocator + Copy> CellMaps<A> {
@@ -121,11 +131,22 @@ impl<A: Allocator + Copy> CellMaps<A> {
         Ok(Redone::All(self))
     }
 
-    /// The rows with every unfinished transaction taken back, in the order of their numbers.
-    pub fn recover(self) -> Result<RowMap<A>, AllocError>
-        ensures { IfOk result (λ rows. rows ≡ recovered_rows (cells_of self)) }
+    /// What is recovered of the cells, which records up to the number `last` left: every unfinished transaction is taken
+    /// back, in the order of their numbers.
+    pub fn recover(self, last: u64) -> Result<Recovered<A>, AllocError>
+        ensures { IfOk result (λ found. given_of found ≡ recovered (cells_of self) last) }
     {
-        let CellMaps { rows, lists, .. } = self;
-        lists.take_back(rows)
+        let CellMaps {
+            rows,
+            entries,
+            lists,
+            life,
+        } = self;
+        Ok(Recovered {
+            rows: lists.take_back_rows(rows)?,
+            entries: lists.take_back_entries(life.is_indexed(), entries)?,
+            life,
+            last,
+        })
     }
 }

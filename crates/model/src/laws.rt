@@ -1,7 +1,7 @@
 //! Laws of the definitions, for the crates above.
 ghost use Rattle.std.specs.Prelude.{◌≡◌, ◌<◌, ◌≤◌, ◌+◌, ◌++◌, [], ◌∷◌, ℕ, List, take, length};
 ghost use Rattle.std.specs.FinMap as map;
-ghost use Rattle.std.specs.Prelude.{Option, true};
+ghost use Rattle.std.specs.Prelude.{Option, Some, None, true};
 ghost use Rattle.records.specs.Values.{Place};
 ghost use Rattle.records.specs.declared.row.Row.{Row};
 ghost use Rattle.records.specs.ChangeValue.{ChangeValue};
@@ -9,7 +9,13 @@ ghost use Rattle.records.specs.RecordValue.{RecordValue};
 ghost use Rattle.records.specs.Spelling.{old_row, new_row};
 ghost use Rattle.records.specs.Maps.{set_at};
 ghost use Rattle.model.specs.declared.write.Write.{Write};
+ghost use Rattle.model.specs.declared.life.Life.{Life};
 ghost use Rattle.model.specs.Table.{Table, applied, written_at};
+ghost use Rattle.model.specs.Images.{IsCopied};
+ghost use Rattle.model.specs.Given.{Given, IsBeginning, given_after, opening_cells, recovered};
+ghost use Rattle.records.specs.declared.pair.Pair.{Pair};
+ghost use Rattle.records.specs.declared.pair.Mark.TheVariants.{Live};
+ghost use Rattle.model.specs.Table.{IsPairOf};
 ghost use Rattle.model.specs.Committed.{IsCommitted, IsHeldByNoOther, touches, writes_of};
 ghost use Rattle.model.specs.Recovery.{IsExclusive, recovered_rows};
 ghost use Rattle.model.specs.Prefixes.{TellsHistory, at_rest};
@@ -18,7 +24,7 @@ ghost use Rattle.records.specs.declared.record.TxnAction.TheVariants.{Forward, U
 ghost use Rattle.records.specs.declared.record.Part.TheVariants.{Slot};
 ghost use Rattle.model.specs.Cells.{Cells, cells_after, rows_after, set_by, reverted, changed, AreChanges, Pending, list_of, with_list, noted, taken_off};
 ghost use Rattle.model.specs.Following.{CanFollow, AreFollowing, ArePlaced, IsFirstUnfit, IsWithin};
-ghost use Rattle.model.specs.History.{Item, Committed, Stage, table_after, table_with, stage_after, stage_with, up_to, AreRising, last_number};
+ghost use Rattle.model.specs.History.{Item, Committed, table_after, table_with, life_after, life_with, up_to, AreRising};
 
 /// A record after others sets its cells last.
 pub fn one_more_record()
@@ -29,7 +35,7 @@ pub fn one_more_record()
 /// An item after others counts last.
 pub fn one_more_item()
     ensures table { (table : Table) (items : List Item) (item : Item) → table_after table (items ++ item ∷ []) ≡ table_with (table_after table items) item.deed }
-    ensures stage { (stage : Stage) (items : List Item) (item : Item) → stage_after stage (items ++ item ∷ []) ≡ stage_with (stage_after stage items) item.deed }
+    ensures life { (life : Life) (items : List Item) (item : Item) → life_after life (items ++ item ∷ []) ≡ life_with (life_after life items) item.deed }
     ensures held { (n m : ℕ) (items : List Item) (item : Item) → AreRising m (items ++ item ∷ []) → item.number ≤ n → up_to n (items ++ item ∷ []) ≡ items ++ item ∷ [] }
     ensures later { (n : ℕ) (items : List Item) (item : Item) → n < item.number → up_to n (items ++ item ∷ []) ≡ up_to n items }
     ensures prefix { (n m : ℕ) (items : List Item) → AreRising m items → (k : ℕ) × (up_to n items ≡ take k items) }
@@ -67,10 +73,10 @@ pub fn set_is_there()
 /// The committed table: a change that found its row leaves it, and a commit
 /// applies its transaction's writes.
 pub fn committed_table()
-    ensures step { (rows : Table) (pending : Pending) (table : Table) (txn : ℕ) (c : ChangeValue) → IsCommitted rows pending table → map.get rows c.rid ≡ old_row c.rows → IsHeldByNoOther pending txn c.rid → IsCommitted (set_at rows c.rid (new_row c.rows)) (with_list pending txn (list_of pending txn ++ c ∷ [])) table }
+    ensures step { (rows : Table) (pending : Pending) (table : Table) (txn : ℕ) (c : ChangeValue) → IsCommitted rows pending table → map.get rows c.rid ≡ old_row c.rows → IsHeldByNoOther pending txn c.rid → IsCommitted (set_at rows c.rid (new_row c.rows)) (with_list pending txn (Some (list_of pending txn ++ c ∷ []))) table }
     ensures set { (rows : Table) (pending : Pending) (table : Table) (txn : ℕ) (place : Place) (row : Option Row) → IsCommitted rows pending table → touches (list_of pending txn) place ≡ true → IsHeldByNoOther pending txn place → IsCommitted (set_at rows place row) pending table }
-    ensures off { (rows : Table) (pending : Pending) (table : Table) (txn : ℕ) (changes : List ChangeValue) (c : ChangeValue) → IsCommitted rows pending table → list_of pending txn ≡ changes ++ c ∷ [] → map.get rows c.rid ≡ old_row c.rows → IsHeldByNoOther pending txn c.rid → IsCommitted rows (with_list pending txn changes) table }
-    ensures commit { (rows : Table) (pending : Pending) (table : Table) (txn : ℕ) → IsCommitted rows pending table → ((q : Place) → touches (list_of pending txn) q ≡ true → IsHeldByNoOther pending txn q) → ((q : Place) → touches (list_of pending txn) q ≡ true → written_at (writes_of (list_of pending txn)) q (map.get table q) ≡ map.get rows q) → IsCommitted rows (with_list pending txn []) (applied table (writes_of (list_of pending txn))) }
+    ensures off { (rows : Table) (pending : Pending) (table : Table) (txn : ℕ) (changes : List ChangeValue) (c : ChangeValue) → IsCommitted rows pending table → list_of pending txn ≡ changes ++ c ∷ [] → map.get rows c.rid ≡ old_row c.rows → IsHeldByNoOther pending txn c.rid → IsCommitted rows (with_list pending txn (Some changes)) table }
+    ensures commit { (rows : Table) (pending : Pending) (table : Table) (txn : ℕ) → IsCommitted rows pending table → ((q : Place) → touches (list_of pending txn) q ≡ true → IsHeldByNoOther pending txn q) → ((q : Place) → touches (list_of pending txn) q ≡ true → written_at (writes_of (list_of pending txn)) q (map.get table q) ≡ map.get rows q) → IsCommitted rows (with_list pending txn None) (applied table (writes_of (list_of pending txn))) }
 {}
 
 /// Where no place is changed by two transactions, taking every unfinished one
@@ -116,4 +122,22 @@ pub fn following_records()
 /// What a restart makes of records that follow one another over no rows is in the store's pages.
 pub fn recovered_places()
     ensures { (pages last : ℕ) (records : List RecordValue) → AreFollowing pages last (at_rest map.empty) records → IsWithin pages (recovered_rows (cells_after (at_rest map.empty) records)) }
+{}
+
+/// Records that are redone over an image that was copied while they were made give the cells that they were made in, once all
+/// records up to the last copied piece are among them; and so the image with its log gives what all records up to there give.
+pub fn copied_image()
+    ensures cells { (cells : Cells) (log : List RecordValue) (m : ℕ) (image : Cells) → IsCopied cells log m image → (k : ℕ) → m ≤ k → cells_after image (take k log) ≡ cells_after cells (take k log) }
+    ensures given { (opening : Given) (before log : List RecordValue) (m : ℕ) (image : Cells) → IsCopied (cells_after (opening_cells opening) before) log m image → (k : ℕ) → m ≤ k
+        → recovered (cells_after image (take k log)) (opening.last + length before + length (take k log)) ≡ given_after opening (before ++ take k log) }
+    ensures following { (pages last : ℕ) (cells : Cells) (log : List RecordValue) (m : ℕ) (image : Cells) → IsCopied cells log m image → (records : List RecordValue) → AreFollowing pages last cells records → AreFollowing pages last image records }
+{}
+
+/// What is given with no record is the opening, and is a beginning of every history from there on; a beginning stays one as
+/// the history goes on, and with a lower floor.
+pub fn beginnings()
+    ensures again { (given : Given) → given_after given [] ≡ given }
+    ensures itself { (given : Given) (items : List Item) → AreRising given.last items → ((p : Pair) → map.get given.entries p ≡ Some Live → IsPairOf given.table p) → IsBeginning given items given.last given }
+    ensures further { (opening : Given) (items later : List Item) (floor : ℕ) (given : Given) → IsBeginning opening items floor given → AreRising given.last later → IsBeginning opening (items ++ later) floor given }
+    ensures lower { (opening : Given) (items : List Item) (floor lower : ℕ) (given : Given) → IsBeginning opening items floor given → lower ≤ floor → IsBeginning opening items lower given }
 {}

@@ -8,16 +8,17 @@ mod key_action;
 mod laws;
 mod life;
 mod list_map;
+mod pairs;
 mod row_map;
 mod write;
 
-pub use cell_maps::{CellMaps, Redone};
+pub use cell_maps::{CellMaps, Recovered, Redone};
 pub use entry_map::EntryMap;
 pub use key_action::{KeyAction, after_action};
 pub use laws::{
-    commit_order, committed_table, following_records, listed_changes, one_more_change,
-    one_more_item, one_more_record, recovered_places, recovery, set_is_there, told_history,
-    unfinished_changes,
+    beginnings, commit_order, committed_table, copied_image, following_records, listed_changes,
+    one_more_change, one_more_item, one_more_record, recovered_places, recovery, set_is_there,
+    told_history, unfinished_changes,
 };
 pub use life::Life;
 pub use list_map::ListMap;

@@ -1,7 +1,8 @@
 -- Each step of the core follows the record that it makes.
-use Rattle.std.proofs.Common.{◌≡◌, ◌≢◌, ℕ, ◌+◌, ◌<◌, ◌≤◌, true, false, List, [], ◌∷◌, ◌++◌, length, is_some, refl, sym, ap, subst, ◌∙◌, inl, inr, arith, length-append}
+use Rattle.std.proofs.Common.{◌≡◌, ◌≢◌, ℕ, ◌+◌, Option, Some, None, unwrap_or, option_map, ◌<◌, ◌≤◌, true, false, List, [], ◌∷◌, ◌++◌, length, is_some, refl, sym, ap, subst, ◌∙◌, inl, inr, arith, length-append}
 use Rattle.std.proofs.lemmas.Bool.{cases_eq}
 use Rattle.std.specs.FinMap as map
+use Rattle.std.specs.Ordering.{nat_cmp}
 use Rattle.records.specs.Values.{Place}
 use Rattle.records.specs.ChangeValue.{ChangeValue}
 use Rattle.records.specs.RecordValue.{RecordValue}
@@ -25,25 +26,38 @@ use Rattle.model.proofs.FollowingLaws.{following_push}
 use Rattle.model.proofs.PlacedLaws.{following_placed, placed_last}
 use Rattle.model.proofs.PrefixLaws.{at_first, row_step, commit_step, undo_step, end_step}
 use Rattle.txn_table.specs.Table as table
-use Rattle.txn_table.specs.Table.{new_txn}
+use Rattle.txn_table.specs.Table.{TxnState}
 use Rattle.txn_table.specs.Sound.{IsSound}
 use Rattle.nsf_core.specs.State.{State, changes_of, insertion, deletion, replacement, changed, fresh, begun, inserted, deleted, updated, rolling_back, undone, committed, ended}
 use Rattle.nsf_core.specs.Refusals.{CanInsert, CanChange, is_active}
-use Rattle.nsf_core.specs.Follows.{pending_of, cells_of, Follows, HasMade}
-use Rattle.nsf_core.proofs.Txns.{Txns, list_at, shorter, active_of, last_new, noted_own, popped_own, with_state_other, no_state, without_other}
-use Rattle.nsf_core.proofs.Lists.{list_of-pending_of, one_list, same_lists, has_room}
+use Rattle.nsf_core.specs.Follows.{HasCells, HasMade, IsListOf}
+use Rattle.nsf_core.proofs.Txns.{Txns, changes_at, list_at, shorter, active_of, noted_own, popped_own, state_other, state_without, with_state_own}
+use Rattle.nsf_core.proofs.Lists.{AreListsOf, has_room, list_is, new_list, no_list, one_list, own_list, same_list}
 use Rattle.nsf_core.proofs.Holders.{untouched, first_none, touched_by_none}
 
--- ---- no record
+mapped : (g : TxnState → TxnState) (o : Option TxnState) → is_some o ≡ true → is_some (option_map g o) ≡ true
+mapped g None active = active
+mapped g (Some x) active = refl
 
--- a state with the same rows and the same lists
-same_follows : (t : Table) (base : ℕ) (made : List RecordValue) (s : State) (later : Txns) (begun : ℕ) → ((u : ℕ) → list_at u later ≡ list_at u s.txns.active) → Follows t base made s
-    → Follows t base made (record s { txns = record { active = later; begun = begun } })
-same_follows t base made s later begun same follows = record {
-  last = follows.last;
-  in_order = follows.in_order;
-  cells = follows.cells ∙ ap (λ (p : Pending). record { rows = s.heap.rows; entries = map.empty; pending = p; life = Absent }) (same_lists s.txns.active later same);
-}
+-- a transaction that has a change is active
+has_changes : (o : Option TxnState) (earlier : List ChangeValue) (c : ChangeValue) → changes_at o ≡ earlier ++ c ∷ [] → is_some o ≡ true
+has_changes (Some x) earlier c is = refl
+has_changes None [] c is = absurd cc
+has_changes None (d ∷ earlier) c is = absurd cc
+
+-- ---- the cells
+
+module _ (s : State) (cells : Cells) (has : HasCells s cells) where
+  -- the list of one transaction is set, and perhaps a row
+  cells_with : (later : State) (txn : ℕ) (list : Option (List ChangeValue)) (rows : Table) → rows ≡ later.heap.rows → IsListOf list (table.state_of txn later.txns.active)
+      → ((u : ℕ) → u ≢ txn → table.state_of u later.txns.active ≡ table.state_of u s.txns.active)
+      → HasCells later (record { rows = rows; entries = cells.entries; pending = with_list cells.pending txn list; life = cells.life })
+  cells_with later txn list rows is own others = record {
+    rows = is;
+    entries = has.entries;
+    pending = one_list cells.pending s.txns.active later.txns.active has.pending txn list own others;
+    life = has.life;
+  }
 
 -- ---- each step
 
@@ -51,51 +65,46 @@ module _ (t : Table) (base : ℕ) (made : List RecordValue) (items : List Item) 
   abbrev record_of : Action → RecordValue
   record_of action = record { number = s.last + 1; action = action }
 
-  after : (action : Action) → cells_after (at_rest t) (made ++ record_of action ∷ []) ≡ set_by (cells_of s) action
-  after action = cells_after_one_more (at_rest t) made (record_of action) ∙ ap (λ (x : Cells). set_by x action) has.follows.cells
+  abbrev cells : Cells
+  cells = cells_after (at_rest t) made
+
+  after : (action : Action) (later : State) → HasCells later (set_by cells action) → HasCells later (cells_after (at_rest t) (made ++ record_of action ∷ []))
+  after action later = subst (HasCells later) (sym (cells_after_one_more (at_rest t) made (record_of action)))
 
   one_more : (action : Action) → s.last + 1 ≡ base + length (made ++ record_of action ∷ [])
-  one_more action = omega (arith, has.follows.last, length-append {A = RecordValue} made (record_of action ∷ []))
+  one_more action = omega (arith, has.last, length-append {A = RecordValue} made (record_of action ∷ []))
 
   number_is : s.last + 1 ≡ base + length made + 1
-  number_is = omega (arith, has.follows.last)
+  number_is = omega (arith, has.last)
 
-  ordered : (action : Action) → CanFollowBy s.heap.pages (cells_of s) action → AreFollowing s.heap.pages base (at_rest t) (made ++ record_of action ∷ [])
-  ordered action can = following_push s.heap.pages base (at_rest t) made (record_of action) has.follows.in_order (record {
-    number = number_is;
-    allowed = subst (λ (x : Cells). CanFollowBy s.heap.pages x action) (sym has.follows.cells) can;
-  })
+  ordered : (action : Action) → CanFollowBy s.heap.pages cells action → AreFollowing s.heap.pages base (at_rest t) (made ++ record_of action ∷ [])
+  ordered action can = following_push s.heap.pages base (at_rest t) made (record_of action) has.in_order (record { number = number_is; allowed = can })
 
-  of_txn : (txn : ℕ) → list_of (cells_after (at_rest t) made).pending txn ≡ changes_of s txn
-  of_txn txn = ap (λ (x : Cells). list_of x.pending txn) has.follows.cells ∙ list_of-pending_of s.txns.active txn
-
-  -- a transaction that is over has no list
-  no_list : (txn : ℕ) → is_some (table.state_of txn (table.without txn s.txns.active)) ≡ false → with_list (pending_of s.txns.active) txn [] ≡ pending_of (table.without txn s.txns.active)
-  no_list txn over = sym (one_list s.txns.active (table.without txn s.txns.active) txn [] (no_state (table.state_of txn (table.without txn s.txns.active)) over) (λ u apart. without_other s.txns.active txn u apart))
+  of_txn : (txn : ℕ) → list_of cells.pending txn ≡ changes_of s txn
+  of_txn = list_is cells.pending s.txns.active has.cells.pending
 
   -- a change, which comes next on its list, found its row, and is of a place that no other transaction has changed
   module _ (txn : ℕ) (c : ChangeValue) (few : length s.txns.active ≤ TXNS_MAX) (active : is_some (table.state_of txn s.txns.active) ≡ true) (at : c.position ≡ length (changes_of s txn)) (was : map.get s.heap.rows c.rid ≡ old_row c.rows)
       (inside : c.rid.page < s.heap.pages) (others : (u : ℕ) → u ≢ txn → touches (list_at u s.txns.active) c.rid ≡ false) where
-    listed : list_of (pending_of s.txns.active) txn ≡ changes_of s txn
-    listed = list_of-pending_of s.txns.active txn
+    longer : changes_of (changed s txn c) txn ≡ noted (list_of cells.pending txn) c
+    longer = noted_own s.txns.active txn c active ∙ sym (noted_first (changes_of s txn) c at) ∙ ap (λ xs. noted xs c) (sym (of_txn txn))
 
-    pending_is : with_list (pending_of s.txns.active) txn (noted (list_of (pending_of s.txns.active) txn) c) ≡ pending_of (changed s txn c).txns.active
-    pending_is =
-        ap (with_list (pending_of s.txns.active) txn) (ap (λ xs. noted xs c) listed ∙ noted_first (changes_of s txn) c at)
-        ∙ sym (one_list s.txns.active (table.with_state (table.noted c) txn s.txns.active) txn (changes_of s txn ++ c ∷ [])
-        (noted_own s.txns.active txn c active)
-        (λ u apart. with_state_other (table.noted c) s.txns.active txn u apart))
+    still : is_some (table.state_of txn (changed s txn c).txns.active) ≡ true
+    still = ap is_some (with_state_own (table.noted c) s.txns.active txn) ∙ mapped (table.noted c) (table.state_of txn s.txns.active) active
+
+    own : IsListOf (Some (noted (list_of cells.pending txn) c)) (table.state_of txn (changed s txn c).txns.active)
+    own = subst (λ xs. IsListOf (Some xs) (table.state_of txn (changed s txn c).txns.active)) longer (own_list (table.state_of txn (changed s txn c).txns.active) still)
 
     pub change_has_made : HasMade t base (made ++ record_of (OfTxn txn (Forward Slot c)) ∷ []) items (changed s txn c)
     change_has_made = record {
-      follows = record {
-        last = one_more (OfTxn txn (Forward Slot c));
-        in_order = ordered (OfTxn txn (Forward Slot c)) (inside, tt, inl (at ∙ sym (ap length listed)), has_room s.txns.active txn active few);
-        cells = after (OfTxn txn (Forward Slot c)) ∙ ap (λ (p : Pending). record { rows = set_at s.heap.rows c.rid (new_row c.rows); entries = map.empty; pending = p; life = Absent }) pending_is;
-      };
+      last = one_more (OfTxn txn (Forward Slot c));
+      cells = after (OfTxn txn (Forward Slot c)) (changed s txn c)
+          (cells_with s cells has.cells (changed s txn c) txn (Some (noted (list_of cells.pending txn) c)) (set_at cells.rows c.rid (new_row c.rows)) (ap (λ (rows : Table). set_at rows c.rid (new_row c.rows)) has.cells.rows) own
+          (λ u apart. state_other (table.noted c) s.txns.active txn u apart));
+      in_order = ordered (OfTxn txn (Forward Slot c)) (inside, tt, inl (at ∙ sym (ap length (of_txn txn))), has_room cells.pending s.txns.active has.cells.pending txn active few);
       tells = row_step t base made items has.tells (record_of (OfTxn txn (Forward Slot c))) txn c refl
           (at ∙ sym (ap length (of_txn txn)))
-          (ap (λ (x : Cells). map.get x.rows c.rid) has.follows.cells ∙ was)
+          (ap (λ (rows : Table). map.get rows c.rid) has.cells.rows ∙ was)
           (λ u apart. ap (λ xs. touches xs c.rid) (of_txn u) ∙ others u apart);
     }
 
@@ -119,56 +128,61 @@ module _ (t : Table) (base : ℕ) (made : List RecordValue) (items : List Item) 
 
   -- the undo of a transaction's last change
   module _ (txn : ℕ) (earlier : List ChangeValue) (c : ChangeValue) (last : changes_of s txn ≡ earlier ++ c ∷ []) where
-    undo_listed : list_of (pending_of s.txns.active) txn ≡ earlier ++ c ∷ []
-    undo_listed = list_of-pending_of s.txns.active txn ∙ last
+    was_last : list_of cells.pending txn ≡ earlier ++ c ∷ []
+    was_last = of_txn txn ∙ last
 
-    left : shorter (changes_of s txn) ≡ earlier
-    left = ap shorter last ∙ taken_off_last earlier c
+    left : changes_of (undone s txn c) txn ≡ taken_off (list_of cells.pending txn) true
+    left = popped_own s.txns.active txn ∙ ap shorter (sym (of_txn txn))
 
-    shorter_is : with_list (pending_of s.txns.active) txn (taken_off (list_of (pending_of s.txns.active) txn) true) ≡ pending_of (undone s txn c).txns.active
-    shorter_is =
-        ap (with_list (pending_of s.txns.active) txn) (ap (λ xs. taken_off xs true) undo_listed ∙ taken_off_last earlier c)
-        ∙ sym (one_list s.txns.active (table.with_state table.without_last txn s.txns.active) txn earlier
-        (popped_own s.txns.active txn ∙ left)
-        (λ u apart. with_state_other table.without_last s.txns.active txn u apart))
+    still_active : is_some (table.state_of txn (undone s txn c).txns.active) ≡ true
+    still_active = ap is_some (with_state_own table.without_last s.txns.active txn) ∙ mapped table.without_last (table.state_of txn s.txns.active) (has_changes (table.state_of txn s.txns.active) earlier c last)
 
     placed : ArePlaced s.heap.pages 0 (earlier ++ c ∷ [])
-    placed = subst (ArePlaced s.heap.pages 0) (of_txn txn ∙ last)
-        (following_placed s.heap.pages base (at_rest t) made has.follows.in_order (λ u. subst (ArePlaced s.heap.pages 0) (sym (none_at u)) tt) txn)
+    placed = subst (ArePlaced s.heap.pages 0) was_last (following_placed s.heap.pages base (at_rest t) made has.in_order (λ u. subst (ArePlaced s.heap.pages 0) (sym (none_at u)) tt) txn)
       where
         none_at : (u : ℕ) → list_of map.empty u ≡ []
-        none_at u = list_of-pending_of [] u
+        none_at u = ap (λ o. unwrap_or o []) (map.get-empty nat_cmp u)
 
     pub undo_has_made : HasMade t base (made ++ record_of (OfTxn txn (Undo Slot c true)) ∷ []) items (undone s txn c)
     undo_has_made = record {
-      follows = record {
-        last = one_more (OfTxn txn (Undo Slot c true));
-        in_order = let at = placed_last s.heap.pages 0 earlier c placed in
-            ordered (OfTxn txn (Undo Slot c true)) (at.1, tt, (earlier, undo_listed, omega (arith, at.0)));
-        cells = after (OfTxn txn (Undo Slot c true)) ∙ ap (λ (p : Pending). record { rows = set_at s.heap.rows c.rid (old_row c.rows); entries = map.empty; pending = p; life = Absent }) shorter_is;
-      };
-      tells = undo_step t base made items has.tells (record_of (OfTxn txn (Undo Slot c true))) txn earlier c refl (of_txn txn ∙ last);
+      last = one_more (OfTxn txn (Undo Slot c true));
+      cells = after (OfTxn txn (Undo Slot c true)) (undone s txn c)
+          (cells_with s cells has.cells (undone s txn c) txn (Some (taken_off (list_of cells.pending txn) true)) (set_at cells.rows c.rid (old_row c.rows)) (ap (λ (rows : Table). set_at rows c.rid (old_row c.rows)) has.cells.rows)
+          (subst (λ xs. IsListOf (Some xs) (table.state_of txn (undone s txn c).txns.active)) left (own_list (table.state_of txn (undone s txn c).txns.active) still_active))
+          (λ u apart. state_other table.without_last s.txns.active txn u apart));
+      in_order = let at = placed_last s.heap.pages 0 earlier c placed in
+          ordered (OfTxn txn (Undo Slot c true)) (at.1, tt, (earlier, was_last, omega (arith, at.0)));
+      tells = undo_step t base made items has.tells (record_of (OfTxn txn (Undo Slot c true))) txn earlier c refl was_last;
     }
 
   -- a step of the undo that found no change
   pub roll_has_made : (txn : ℕ) → changes_of s txn ≡ [] → HasMade t base made items (rolling_back s txn)
   roll_has_made txn none = record {
-    follows = same_follows t base made s (table.with_state table.without_last txn s.txns.active) s.txns.begun
-        (λ u. elim (cases_eq u txn) [
-          | inl is ↦ subst (λ n. list_at n (table.with_state table.without_last txn s.txns.active) ≡ list_at n s.txns.active) (sym is) (popped_own s.txns.active txn ∙ ap shorter none ∙ sym none)
-          | inr not ↦ with_state_other table.without_last s.txns.active txn u not
-        ]) has.follows;
+    last = has.last;
+    cells = record {
+      rows = has.cells.rows;
+      entries = has.cells.entries;
+      pending = same_list table.without_last (λ x empty. ap shorter empty) cells.pending s.txns.active (rolling_back s txn).txns.active has.cells.pending txn none
+          (with_state_own table.without_last s.txns.active txn) (λ u apart. state_other table.without_last s.txns.active txn u apart);
+      life = has.cells.life;
+    };
+    in_order = has.in_order;
     tells = has.tells;
   }
+
+  -- the cells of a core in which a transaction is over
+  over_cells : (later : State) (txn : ℕ) → later.heap.rows ≡ s.heap.rows → later.txns.active ≡ table.without txn s.txns.active → is_some (table.state_of txn (table.without txn s.txns.active)) ≡ false
+      → HasCells later (record { rows = cells.rows; entries = cells.entries; pending = with_list cells.pending txn None; life = cells.life })
+  over_cells later txn rows active over = cells_with s cells has.cells later txn None cells.rows (has.cells.rows ∙ sym rows)
+      (subst (λ (txns : Txns). IsListOf None (table.state_of txn txns)) (sym active) (no_list (table.state_of txn (table.without txn s.txns.active)) over))
+      (λ u apart. ap (table.state_of u) active ∙ state_without s.txns.active txn u apart)
 
   pub commit_has_made : (txn : ℕ) → is_active (committed s txn) txn ≡ false
       → HasMade t base (made ++ record_of (OfTxn txn Commit) ∷ []) (items ++ record { number = s.last + 1; deed = Committed (writes_of (changes_of s txn)) } ∷ []) (committed s txn)
   commit_has_made txn over = record {
-    follows = record {
-      last = one_more (OfTxn txn Commit);
-      in_order = ordered (OfTxn txn Commit) tt;
-      cells = after (OfTxn txn Commit) ∙ ap (λ (p : Pending). record { rows = s.heap.rows; entries = map.empty; pending = p; life = Absent }) (no_list txn over);
-    };
+    last = one_more (OfTxn txn Commit);
+    cells = after (OfTxn txn Commit) (committed s txn) (over_cells (committed s txn) txn refl refl over);
+    in_order = ordered (OfTxn txn Commit) tt;
     tells = subst (λ xs. TellsHistory t base (made ++ record_of (OfTxn txn Commit) ∷ []) (items ++ record { number = s.last + 1; deed = Committed (writes_of xs) } ∷ [])) (of_txn txn)
         (commit_step t base made items has.tells (record_of (OfTxn txn Commit)) txn refl number_is);
   }
@@ -176,19 +190,29 @@ module _ (t : Table) (base : ℕ) (made : List RecordValue) (items : List Item) 
   -- the end of a transaction that has no change left
   pub end_has_made : (txn : ℕ) → changes_of s txn ≡ [] → is_active (ended s txn) txn ≡ false → HasMade t base (made ++ record_of (OfTxn txn End) ∷ []) items (ended s txn)
   end_has_made txn none over = record {
-    follows = record {
-      last = one_more (OfTxn txn End);
-      in_order = ordered (OfTxn txn End) tt;
-      cells = after (OfTxn txn End) ∙ ap (λ (p : Pending). record { rows = s.heap.rows; entries = map.empty; pending = p; life = Absent }) (no_list txn over);
-    };
+    last = one_more (OfTxn txn End);
+    cells = after (OfTxn txn End) (ended s txn) (over_cells (ended s txn) txn refl refl over);
+    in_order = ordered (OfTxn txn End) tt;
     tells = end_step t base made items has.tells (record_of (OfTxn txn End)) txn refl (of_txn txn ∙ none);
   }
 
   pub begin_has_made : HasMade t base made items (begun s)
   begin_has_made = record {
-    follows = same_follows t base made s (s.txns.active ++ (s.txns.begun + 1, new_txn) ∷ []) (s.txns.begun + 1) (last_new s.txns.active (s.txns.begun + 1)) has.follows;
+    last = has.last;
+    cells = record {
+      rows = has.cells.rows;
+      entries = has.cells.entries;
+      pending = λ u. new_list s.txns.active (s.txns.begun + 1) u (map.get cells.pending u) (has.cells.pending u);
+      life = has.cells.life;
+    };
+    in_order = has.in_order;
     tells = has.tells;
   }
 
 pub fresh_has_made : (pages base : ℕ) → HasMade map.empty base [] [] (fresh pages base)
-fresh_has_made pages base = record { follows = record { last = omega arith; cells = refl; in_order = tt }; tells = at_first map.empty base }
+fresh_has_made pages base = record {
+  last = omega arith;
+  cells = record { rows = refl; entries = refl; pending = λ u. subst (λ (o : Option (List ChangeValue)). IsListOf o None) (sym (map.get-empty nat_cmp u)) tt; life = refl };
+  in_order = tt;
+  tells = at_first map.empty base;
+}

@@ -5,11 +5,7 @@ use Rattle.std.specs.Option.{option_map}
 use Rattle.records.specs.ChangeValue.{ChangeValue}
 use Rattle.txn_table.specs.Table as table
 use Rattle.txn_table.specs.Table.{TxnState}
-use Rattle.txn_table.proofs.TableLaws.{state_of-with_state}
-use Rattle.nsf_core.proofs.Txns.{Txns, with_state_own, other_number}
-
-state_other : (g : TxnState → TxnState) (txns : Txns) (txn u : ℕ) → u ≢ txn → table.state_of u (table.with_state g txn txns) ≡ table.state_of u txns
-state_other g txns txn u apart = state_of-with_state g txn u txns ∙ ap (λ b. cond b (option_map g (table.state_of txn txns)) (table.state_of u txns)) (other_number u txn apart)
+use Rattle.nsf_core.proofs.Txns.{Txns, with_state_own, state_other}
 
 -- a step that leaves each state's fact f
 kept_by : (f : Option TxnState → Bool) (g : TxnState → TxnState) (txns : Txns) (txn u : ℕ) → ((o : Option TxnState) → f (option_map g o) ≡ f o) → f (table.state_of u (table.with_state g txn txns)) ≡ f (table.state_of u txns)

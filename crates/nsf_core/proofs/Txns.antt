@@ -43,8 +43,11 @@ last_new (e ∷ es) n u =
 pub with_state_own : (f : TxnState → TxnState) (txns : Txns) (txn : ℕ) → table.state_of txn (table.with_state f txn txns) ≡ option_map f (table.state_of txn txns)
 with_state_own f txns txn = state_of-with_state f txn txn txns ∙ ap (λ b. cond b (option_map f (table.state_of txn txns)) (table.state_of txn txns)) (same_number txn)
 
+pub state_other : (f : TxnState → TxnState) (txns : Txns) (txn u : ℕ) → u ≢ txn → table.state_of u (table.with_state f txn txns) ≡ table.state_of u txns
+state_other f txns txn u apart = state_of-with_state f txn u txns ∙ ap (λ b. cond b (option_map f (table.state_of txn txns)) (table.state_of u txns)) (other_number u txn apart)
+
 pub with_state_other : (f : TxnState → TxnState) (txns : Txns) (txn u : ℕ) → u ≢ txn → list_at u (table.with_state f txn txns) ≡ list_at u txns
-with_state_other f txns txn u apart = ap changes_at (state_of-with_state f txn u txns ∙ ap (λ b. cond b (option_map f (table.state_of txn txns)) (table.state_of u txns)) (other_number u txn apart))
+with_state_other f txns txn u apart = ap changes_at (state_other f txns txn u apart)
 
 noted_at : (c : ChangeValue) (o : Option TxnState) → is_some o ≡ true → changes_at (option_map (table.noted c) o) ≡ changes_at o ++ c ∷ []
 noted_at c None active = absurd cc
@@ -66,20 +69,23 @@ popped_own txns txn = ap changes_at (with_state_own table.without_last txns txn)
 
 -- ---- a transaction less
 
-pub without_other : (txns : Txns) (txn u : ℕ) → u ≢ txn → list_at u (table.without txn txns) ≡ list_at u txns
-without_other [] txn u apart = refl
-without_other (e ∷ es) txn u apart =
-    elim (eqb txn e.0) as (λ b. eqb txn e.0 ≡ b → list_at u (cond b es (e ∷ table.without txn es)) ≡ changes_at (cond (eqb u e.0) (Some e.1) (table.state_of u es))) [
+pub state_without : (txns : Txns) (txn u : ℕ) → u ≢ txn → table.state_of u (table.without txn txns) ≡ table.state_of u txns
+state_without [] txn u apart = refl
+state_without (e ∷ es) txn u apart =
+    elim (eqb txn e.0) as (λ b. eqb txn e.0 ≡ b → table.state_of u (cond b es (e ∷ table.without txn es)) ≡ cond (eqb u e.0) (Some e.1) (table.state_of u es)) [
       | true ↦ λ is.
           let same : txn ≡ e.0 = eqb-true txn e.0 is in
           let not : eqb u e.0 ≡ false = other_number u e.0 (λ here. apart (here ∙ sym same)) in
-          sym (ap (λ b. changes_at (cond b (Some e.1) (table.state_of u es))) not)
+          sym (ap (λ b. cond b (Some e.1) (table.state_of u es)) not)
       | false ↦ λ is.
-          elim (eqb u e.0) as (λ b. changes_at (cond b (Some e.1) (table.state_of u (table.without txn es))) ≡ changes_at (cond b (Some e.1) (table.state_of u es))) [
+          elim (eqb u e.0) as (λ b. cond b (Some e.1) (table.state_of u (table.without txn es)) ≡ cond b (Some e.1) (table.state_of u es)) [
             | true ↦ refl
-            | false ↦ without_other es txn u apart
+            | false ↦ state_without es txn u apart
           ]
     ] refl
+
+pub without_other : (txns : Txns) (txn u : ℕ) → u ≢ txn → list_at u (table.without txn txns) ≡ list_at u txns
+without_other txns txn u apart = ap changes_at (state_without txns txn u apart)
 
 pub no_state : (o : Option TxnState) → is_some o ≡ false → changes_at o ≡ []
 no_state None is = refl

@@ -8,7 +8,7 @@ ghost use Rattle.nsf_core.specs.Changes.{EachIsInside};
 use heap_pages::Heap;
 use model::Life;
 use records::{
-    Action, Body, Change, Error, Geometry, Key, LAST_NUMBER, Part, Record, RecordNumber, Rid, Row,
+    Action, Body, Change, Error, Geometry, Key, Part, Record, RecordNumber, Rid, Row,
     Rows, Sink, Txn, TxnAction,
 };
 use std::alloc::Allocator;
@@ -82,6 +82,13 @@ impl<A: Allocator + Copy> Core<A> {
         ensures err { IfErr result (λ e. IsRefusedBy (begin_refusal (state_of self.old)) e × (state_of self.new ≡ state_of self.old)) }
     {
         self.txns.begin()
+    }
+
+    /// Whether the transaction has begun, and neither committed nor ended.
+    pub fn is_active(&self, txn: Txn) -> bool
+        ensures { result ≡ is_active (state_of self.now) txn }
+    {
+        self.txns.is_active(txn)
     }
 
     /// Whether the transaction may begin a change or commit: it is active, and
@@ -342,9 +349,6 @@ impl<A: Allocator + Copy> Core<A> {
         ensures ok { IfOk result (λ n. (number_refusal (state_of self.now) ≡ None) × (n ≡ (state_of self.now).last + 1)) }
         ensures err { IfErr result (λ e. number_refusal (state_of self.now) ≡ Some e) }
     {
-        if self.last == LAST_NUMBER {
-            return Err(Error::Exhausted);
-        }
         RecordNumber::new(self.last + 1).ok_or(Error::Exhausted)
     }
 
@@ -353,12 +357,11 @@ impl<A: Allocator + Copy> Core<A> {
         requires { table.change_refusal txn (state_of self.now).txns.active ≡ None }
         ensures { result ≡ next_change (state_of self.now) txn rid rows }
     {
-        let position = match self.txns.changes(txn) {
-            Some(changes) => changes.len() as u8,
-            None => 0,
+        let Some(changes) = self.txns.changes(txn) else {
+            unreachable!()
         };
         Change {
-            position,
+            position: changes.len() as u8,
             rid,
             rows,
         }

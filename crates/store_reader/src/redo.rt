@@ -1,5 +1,5 @@
 //! What the records of a log make of a store with no row.
-ghost use Rattle.std.specs.Prelude.{◌≡◌, ◌↔◌, ◌<◌, ◌≤◌, IsTrue, IfOk, length, take, slice_index_or};
+ghost use Rattle.std.specs.Prelude.{◌↔◌, ◌<◌, ◌≤◌, IsTrue, IfOk, length, take, slice_index_or};
 ghost use Rattle.records.specs.RecordValue.{RecordValue};
 ghost use Rattle.store_reader.specs.Contents.{IsOfRows, AreOfRows};
 ghost use Rattle.store_reader.specs.Redo.{IsOutcome};
@@ -57,6 +57,6 @@ pub(crate) fn redo<A: Allocator + Copy>(
     match CellMaps::new(alloc).follow(alloc, pages, 0, &records[..count])? {
         Redone::Unfit(index) => Ok(Outcome::Misplaced(index)),
         Redone::All(_) if count < records.len() => Ok(Outcome::Misplaced(count)),
-        Redone::All(cells) => Ok(Outcome::Rows(cells.recover()?)),
+        Redone::All(cells) => Ok(Outcome::Rows(cells.recover(count as u64)?.rows)),
     }
 }

@@ -7,7 +7,8 @@ use Rattle.records.specs.Values.{Place}
 use Rattle.records.specs.ChangeValue.{ChangeValue}
 use Rattle.records.specs.declared.change.TheConstants.{CHANGES_MAX}
 use Rattle.records.specs.declared.txn.TheConstants.{TXNS_MAX}
-use Rattle.txn_table.specs.Table.{TxnState, TableValue, new_txn, is_among, with_rid, holder_of, with_next, without, noted, without_last}
+use Rattle.txn_table.specs.Table.{TxnState, TableValue, new_txn, is_among, with_rid, holder_of, with_next, without, noted, without_last, put_at}
+use Rattle.txn_table.specs.declared.progress.Progress.{Progress}
 use Rattle.txn_table.specs.Sound.{Rises, AllHeld, IsSoundTxn, EachSoundTxn, OneHolder, IsSound, IsKept}
 use Rattle.txn_table.proofs.Lookups.{holder_above, not_among, among_kept, among_new, among_more}
 use Rattle.txn_table.proofs.HeldRows.{AreHeldRows-noted, AreHeldRows-without}
@@ -302,3 +303,12 @@ IsKept-without_last t held txn s here kept = record {
   sound = IsSound-rows t txn s (without_last s) here (IsSoundTxn-without_last s (state_is txn t.active s here kept.sound.txns)) refl kept.sound;
   held_rows = λ q. kept.held_rows q ∙ sym (ap is_some (holder_of-rows txn q t.active s (without_last s) here refl));
 }
+
+pub IsKept-put_at : (p : Progress) (n : ℕ) (t : TableValue) (held : List Place) (txn : ℕ) (s : TxnState) → lookup (nat_eq txn) t.active ≡ Some s → IsKept t held
+    → IsKept (table (set_value (nat_eq txn) t.active (put_at p n s)) t.begun) held
+IsKept-put_at p n t held txn s here kept =
+    let is = state_is txn t.active s here kept.sound.txns in
+    record {
+      sound = IsSound-rows t txn s (put_at p n s) here (record { few = is.few; held = is.held }) refl kept.sound;
+      held_rows = λ q. kept.held_rows q ∙ sym (ap is_some (holder_of-rows txn q t.active s (put_at p n s) here refl));
+    }

@@ -8,10 +8,11 @@ use Rattle.records.specs.Values.{Place}
 use Rattle.records.specs.ChangeValue.{ChangeValue}
 use Rattle.records.specs.declared.change.TheConstants.{CHANGES_MAX}
 use Rattle.records.specs.declared.error.Error.TheVariants.{TooManyChanges, RowBusy}
-use Rattle.txn_table.specs.Table.{TxnState, TableValue, is_among, with_rid, holder_of, with_state, noted, without_last, is_other, full_refusal, busy_refusal, touch_refusal}
+use Rattle.txn_table.specs.Table.{TxnState, TableValue, is_among, with_rid, holder_of, with_state, noted, without_last, put_at, is_other, full_refusal, busy_refusal, touch_refusal}
+use Rattle.txn_table.specs.declared.progress.Progress.{Progress}
 use Rattle.txn_table.specs.Sound.{IsKept}
 use Rattle.txn_table.proofs.Lookups.{set_value-with_state, set_value-same, with_state-unknown}
-use Rattle.txn_table.proofs.Keeps.{table, IsKept-noted, IsKept-without_last}
+use Rattle.txn_table.proofs.Keeps.{table, IsKept-noted, IsKept-put_at, IsKept-without_last}
 
 has_room : (n : ℕ) → nat_le CHANGES_MAX n ≡ false → n < CHANGES_MAX
 has_room n e = leb-false CHANGES_MAX n e
@@ -76,3 +77,11 @@ take_with_rid r rows = by (is_among r rows)
     by : (b : Bool) → take (length rows) (cond b rows (rows ++ r ∷ [])) ≡ rows
     by true = take-length rows
     by false = take-append_seam rows (r ∷ [])
+
+pub kept_after_put : (p : Progress) (m : ℕ) (es xs : List (ℕ × TxnState)) (held : List Place) (n txn : ℕ) (s s' : TxnState) → lookup (nat_eq txn) es ≡ Some s → xs ≡ set_value (nat_eq txn) es s' → s' ≡ put_at p m s → IsKept (table es n) held → IsKept (table xs n) held
+kept_after_put p m es xs held n txn s s' here set is kept =
+    subst (λ ys. IsKept (table ys n) held) (sym (set ∙ ap (set_value (nat_eq txn) es) is)) (IsKept-put_at p m (table es n) held txn s here kept)
+
+pub unknown_put : (p : Progress) (m : ℕ) (es xs : List (ℕ × TxnState)) (n txn : ℕ) (t : TableValue) → table es n ≡ t → lookup (nat_eq txn) es ≡ None → xs ≡ es → table xs n ≡ record { active = with_state (put_at p m) txn t.active; begun = t.begun }
+unknown_put p m es xs n txn t is none same =
+    ap (λ ys. table ys n) (same ∙ sym (with_state-unknown (put_at p m) txn es none)) ∙ ap (λ (v : TableValue). table (with_state (put_at p m) txn v.active) v.begun) is

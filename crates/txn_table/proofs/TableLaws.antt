@@ -4,7 +4,8 @@ use Rattle.std.proofs.Math.Bool.{or-false}
 use Rattle.std.proofs.lemmas.Bool.Decides.{eqb_tells}
 use Rattle.records.specs.Values.{Place}
 use Rattle.records.specs.ChangeValue.{ChangeValue}
-use Rattle.txn_table.specs.Table.{TxnState, TableValue, is_among, with_rid, noted, without_last, state_of, with_state, without, with_next, holder_of}
+use Rattle.txn_table.specs.Table.{TxnState, TableValue, is_among, with_rid, noted, without_last, put_at, state_of, with_state, without, with_next, holder_of}
+use Rattle.txn_table.specs.declared.progress.Progress.{Progress}
 use Rattle.txn_table.specs.Sound.{Rises, OneHolder, IsSound}
 use Rattle.txn_table.proofs.Lookups.{place_test, among_new, holder_above, holder_is}
 use Rattle.txn_table.proofs.HeldRows.{is_same, is_among-with_rid, holder_of-without_rows}
@@ -105,6 +106,14 @@ holder_of-without_last txn r [] = refl
 holder_of-without_last txn r (e ∷ es) = by (eqb txn e.0) (holder_of-without_last txn r es)
   where
     by : (b : Bool) → holder_of r (with_state without_last txn es) ≡ holder_of r es → holder_of r (cond b ((e.0, without_last e.1) ∷ es) (e ∷ with_state without_last txn es)) ≡ holder_of r (e ∷ es)
+    by true rest = refl
+    by false rest = ap (cond (is_among r e.1.rows) (Some e.0)) rest
+
+pub holder_of-put_at : (p : Progress) (n txn : ℕ) (r : Place) (es : List (ℕ × TxnState)) → holder_of r (with_state (put_at p n) txn es) ≡ holder_of r es
+holder_of-put_at p n txn r [] = refl
+holder_of-put_at p n txn r (e ∷ es) = by (eqb txn e.0) (holder_of-put_at p n txn r es)
+  where
+    by : (b : Bool) → holder_of r (with_state (put_at p n) txn es) ≡ holder_of r es → holder_of r (cond b ((e.0, put_at p n e.1) ∷ es) (e ∷ with_state (put_at p n) txn es)) ≡ holder_of r (e ∷ es)
     by true rest = refl
     by false rest = ap (cond (is_among r e.1.rows) (Some e.0)) rest
 

@@ -8,16 +8,28 @@ use Rattle.records.specs.ChangeValue.{ChangeValue}
 use Rattle.records.specs.declared.change.TheConstants.{CHANGES_MAX}
 use Rattle.records.specs.declared.error.Error.{Error}
 use Rattle.records.specs.declared.error.Error.TheVariants.{NoSuchTxn, TooManyChanges, RowBusy}
+use Rattle.txn_table.specs.declared.progress.Progress.{Progress}
+use Rattle.txn_table.specs.declared.progress.Progress.TheVariants.{OwesEntry, OwesRow, Ready, Rolling, UndoesEntry, UndoesRow}
 
--- the changes that a transaction may still take back, oldest first, the rows that it holds, in the order of its first touch, and whether it is rolling back
+-- whether a transaction that is so far is rolling back
+abbrev pub rolls : Progress → Bool
+rolls Ready = false
+rolls OwesRow = false
+rolls OwesEntry = false
+rolls Rolling = true
+rolls UndoesRow = true
+rolls UndoesEntry = true
+
+-- the changes that a transaction may still take back, oldest first, the rows that it holds, in the order of its first touch, how far it is, and how many entry places it has reserved and not used
 pub record TxnState : Type 0 where
   pub changes : List ChangeValue
   pub rows : List Place
-  pub rolling : Bool
+  pub progress : Progress
+  pub reserved : ℕ
 
 -- a transaction as it begins
 abbrev pub new_txn : TxnState
-new_txn = record { changes = []; rows = []; rolling = false }
+new_txn = record { changes = []; rows = []; progress = Ready; reserved = 0 }
 
 -- the active transactions by their numbers, oldest first, and how many were begun at all
 pub record TableValue : Type 0 where
@@ -34,11 +46,15 @@ with_rid r rs = if is_among r rs then rs else rs ++ r ∷ []
 
 -- a transaction with one more change, whose row it holds from now on
 abbrev pub noted : ChangeValue → TxnState → TxnState
-noted c s = record { changes = s.changes ++ c ∷ []; rows = with_rid c.rid s.rows; rolling = s.rolling }
+noted c s = record { changes = s.changes ++ c ∷ []; rows = with_rid c.rid s.rows; progress = s.progress; reserved = s.reserved }
 
 -- a transaction without its last change, where it had one. It still holds the row, and is rolling back from now on
 abbrev pub without_last : TxnState → TxnState
-without_last s = record { changes = take (length s.changes - 1) s.changes; rows = s.rows; rolling = true }
+without_last s = record { changes = take (length s.changes - 1) s.changes; rows = s.rows; progress = Rolling; reserved = s.reserved }
+
+-- a transaction that is so far, with so many places
+abbrev pub put_at : Progress → ℕ → TxnState → TxnState
+put_at progress reserved s = record s { progress = progress; reserved = reserved }
 
 -- the change that is taken back first
 abbrev pub last_change : TxnState → Option ChangeValue
@@ -51,7 +67,7 @@ state_of txn active = lookup (nat_eq txn) active
 -- whether a transaction in this state is rolling back
 abbrev pub is_rolling : Option TxnState → Bool
 is_rolling None = false
-is_rolling (Some s) = s.rolling
+is_rolling (Some s) = rolls s.progress
 
 -- the transactions, with the state of one changed
 abbrev pub with_state : (TxnState → TxnState) → ℕ → List (ℕ × TxnState) → List (ℕ × TxnState)

@@ -1,7 +1,8 @@
 //! One active transaction.
 ghost use Rattle.std.specs.Prelude.{◌≡◌, ◌↔◌, ◌≤◌, [], IsTrue, IfErr, OnOk, OnErr, length};
-ghost use Rattle.txn_table.specs.Table.{is_among, new_txn, noted, without_last, last_change};
+ghost use Rattle.txn_table.specs.Table.{is_among, new_txn, noted, without_last, last_change, put_at};
 
+use crate::progress::Progress;
 use records::{CHANGES_MAX, Change, Error, Rid};
 use std::alloc::Allocator;
 use std::marker::Model;
@@ -12,7 +13,9 @@ use std::marker::Model;
 pub(crate) struct ActiveTxn<A: Allocator> {
     changes: Vec<Change, A>,
     rows: Vec<Rid, A>,
-    rolling: bool,
+    progress: Progress,
+    // the entry places that are reserved and not used
+    reserved: usize,
 }
 
 impl<A: Allocator> Model for ActiveTxn<A> {
@@ -20,7 +23,7 @@ impl<A: Allocator> Model for ActiveTxn<A> {
 
     ghost Value = { TxnState };
 
-    ghost view = { λ t. record { changes = t.changes.items; rows = t.rows.items; rolling = t.rolling } };
+    ghost view = { λ t. record { changes = t.changes.items; rows = t.rows.items; progress = t.progress; reserved = t.reserved } };
 }
 
 impl<A: Allocator + Copy> ActiveTxn<A> {
@@ -31,7 +34,8 @@ impl<A: Allocator + Copy> ActiveTxn<A> {
         ActiveTxn {
             changes: Vec::new(alloc),
             rows: Vec::new(alloc),
-            rolling: false,
+            progress: Progress::Ready,
+            reserved: 0,
         }
     }
 
@@ -77,11 +81,26 @@ impl<A: Allocator + Copy> ActiveTxn<A> {
         Ok(())
     }
 
-    /// Whether a change was taken off.
-    pub(crate) fn is_rolling(&self) -> bool
-        ensures { result ≡ self.now.rolling }
+    /// How far the transaction is.
+    pub(crate) fn progress(&self) -> Progress
+        ensures { result ≡ self.now.progress }
     {
-        self.rolling
+        self.progress
+    }
+
+    /// How many entry places are reserved and not used.
+    pub(crate) fn reserved(&self) -> usize
+        ensures { result ≡ self.now.reserved }
+    {
+        self.reserved
+    }
+
+    /// The transaction is so far, and has so many places.
+    pub(crate) fn put(&mut self, progress: Progress, reserved: usize)
+        ensures { self.new ≡ put_at progress reserved self.old }
+    {
+        self.progress = progress;
+        self.reserved = reserved;
     }
 
     /// Takes the last change off. Its row stays held, and the transaction is rolling back.
@@ -89,7 +108,7 @@ impl<A: Allocator + Copy> ActiveTxn<A> {
         ensures last { result ≡ last_change self.old }
         ensures rest { self.new ≡ without_last self.old }
     {
-        self.rolling = true;
+        self.progress = Progress::Rolling;
         self.changes.pop()
     }
 }

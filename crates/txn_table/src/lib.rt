@@ -2,6 +2,8 @@
 #![tactic(auto)]
 
 mod active;
+mod progress;
 mod table;
 
+pub use progress::Progress;
 pub use table::TxnTable;

@@ -2,10 +2,11 @@
 ghost use Rattle.std.specs.Prelude.{◌≡◌, ◌≢◌, ◌+◌, ◌<◌, ◌≤◌, ◌↔◌, ℕ, [], length, not, filter, Contains, Some, None, is_some, slice_get, option_map, option_and_then, IsTrue, IsErr, IsSome, IfOk, IfErr, OnOk, OnErr, IsOkUnless};
 ghost use Rattle.std.specs.Result.{result_err};
 ghost use Rattle.records.specs.Values.{Place};
-ghost use Rattle.txn_table.specs.Table.{TxnState, is_among, with_rid, holder_of, state_of, is_rolling, with_state, with_next, without, noted, without_last, last_change, change_refusal, touch_refusal};
+ghost use Rattle.txn_table.specs.Table.{TxnState, is_among, with_rid, holder_of, state_of, is_rolling, with_state, with_next, without, noted, without_last, put_at, last_change, change_refusal, touch_refusal};
 ghost use Rattle.txn_table.specs.Sound.{IsSound};
 
 use crate::active::ActiveTxn;
+use crate::progress::Progress;
 use indexmap::IndexMap;
 use records::{Change, Error, Rid, TXNS_MAX, Txn};
 use std::alloc::Allocator;
@@ -124,9 +125,40 @@ impl<A: Allocator + Copy> TxnTable<A> {
         ensures { result ≡ is_rolling (state_of txn self.now.active) }
     {
         match self.active.get(&txn) {
-            Some(active) => active.is_rolling(),
+            Some(active) => active.progress().is_rolling(),
             None => false,
         }
+    }
+
+    /// How far an active transaction is.
+    pub fn progress(&self, txn: Txn) -> Option<Progress>
+        ensures { result ≡ option_map (λ s. s.progress) (state_of txn self.now.active) }
+    {
+        match self.active.get(&txn) {
+            Some(active) => Some(active.progress()),
+            None => None,
+        }
+    }
+
+    /// How many entry places an active transaction has reserved and not used.
+    pub fn reserved(&self, txn: Txn) -> Option<usize>
+        ensures { result ≡ option_map (λ s. s.reserved) (state_of txn self.now.active) }
+    {
+        match self.active.get(&txn) {
+            Some(active) => Some(active.reserved()),
+            None => None,
+        }
+    }
+
+    /// The transaction is so far from now on, and has so many places. One that is not active stays so.
+    pub fn put(&mut self, txn: Txn, progress: Progress, reserved: usize)
+        ensures rest { self.new ≡ record self.old { active = with_state (put_at progress reserved) txn self.old.active } }
+        ensures holders { (r : Place) → holder_of r self.new.active ≡ holder_of r self.old.active }
+    {
+        let Some(active) = self.active.get_mut(&txn) else {
+            return;
+        };
+        active.put(progress, reserved);
     }
 
     /// The transaction that holds the row. There is at most one.

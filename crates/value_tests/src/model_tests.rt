@@ -202,7 +202,7 @@ fn followed(alloc: Global, records: &[Record]) -> Result<Redone<Global>, Fail> {
 
 // The first row once all is recovered.
 fn recovered(cells: CellMaps<Global>) -> Result<Option<Row>, Fail> {
-    Ok(cells.recover()?.get(FIRST))
+    Ok(cells.recover(9)?.rows.get(FIRST))
 }
 
 // An insertion is taken back.

@@ -1,4 +1,4 @@
-use Rattle.core_model.proofs.Restarts.{stopped}
+use Rattle.core_model.proofs.Logs.{stopped}
 use Rattle.core_model.proofs.any_stop.Goals as goal
 
 pub returns : goal.returns

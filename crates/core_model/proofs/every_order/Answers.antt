@@ -1,4 +1,4 @@
-use Rattle.core_model.proofs.Histories.{interleaved}
+use Rattle.core_model.proofs.Logs.{interleaved}
 use Rattle.core_model.proofs.every_order.Goals as goal
 
 pub returns : goal.returns

@@ -1,8 +1,0 @@
-use Rattle.core_contracts.proofs.Records.{step_follows, record_rows}
-use Rattle.core_contracts.proofs.each_record.Goals as goal
-
-pub returns-clause-cells : goal.returns-clause-cells
-returns-clause-cells c = step_follows
-
-pub returns-clause-rows : goal.returns-clause-rows
-returns-clause-rows c = record_rows
