@@ -54,7 +54,7 @@ writer_handed history area frame handed more old mid small is same waits = subst
 })
 
 same_made : (t : Past) (made : List RecordValue) (s : State) (kept : List RecordValue) → HasMade t.table t.last made (items_of t) s → HasMade t.table t.last made (items_of t) (record s { outbox = kept })
-same_made t made s kept has = record { follows = record { last = has.follows.last; cells = has.follows.cells; in_order = has.follows.in_order }; tells = has.tells }
+same_made t made s kept has = record { last = has.last; cells = record { rows = has.cells.rows; entries = has.cells.entries; pending = has.cells.pending; life = has.cells.life }; in_order = has.in_order; tells = has.tells }
 
 module _ {D M : Type 0} (history : D → History) (old : Engine D M) (new_core : State) (mid : Writer D M) (hands : HandsOut (state_of old.core) new_core old.writer.waiting.items mid.waiting.items) (same : with_waiting old.writer mid) (numbered : (state_of old.core).last ≤ 4611686018427387904) where
   module _ (area : Area) (frame : Image) (past : Past) (is : IsAt history area frame past old) where
@@ -70,11 +70,11 @@ module _ {D M : Type 0} (history : D → History) (old : Engine D M) (new_core :
     sizes = ap length split_now ∙ length-append handed_now new_core.outbox
 
     pub taken : IsWriter history area frame handed_now mid
-    taken = writer_handed history area frame is.handed hands.handed old.writer mid (omega (arith, numbered, is.core.follows.last, sizes)) is.writer same hands.taken
+    taken = writer_handed history area frame is.handed hands.handed old.writer mid (omega (arith, numbered, is.core.last, sizes)) is.writer same hands.taken
 
     -- the writer's numbers are those of records
     pub within : (new : Writer D M) → IsWriter history area frame handed_now new → new.base ≡ mid.base → new.base + new.synced ≤ (state_of old.core).last
-    within new is_writer base = omega (arith, is_writer.reached, base, ap (λ w. w.base) same, is.base, is.core.follows.last, sizes)
+    within new is_writer base = omega (arith, is_writer.reached, base, ap (λ w. w.base) same, is.base, is.core.last, sizes)
 
   module _ (new : Engine D M) (core : state_of new.core ≡ new_core) (reply : Reply)
       (writer : (area : Area) (frame : Image) (handed : List RecordValue) → IsWriter history area frame handed mid → IsWriter history area frame handed new.writer)
@@ -168,14 +168,14 @@ module _ {D M : Type 0} (history : D → History) (old : Engine D M) (new_core :
       in_hand = taken area frame past is
 
       kept_none : length hands.kept ≡ 0
-      kept_none = omega (arith, reached, ap (λ w. w.base) writer_is, ap (λ w. w.synced) writer_is, ap (λ w. w.base) same, is.base, is.core.follows.last, sizes area frame past is, in_hand.reached, ap (λ s. length s.outbox) hands.same)
+      kept_none = omega (arith, reached, ap (λ w. w.base) writer_is, ap (λ w. w.synced) writer_is, ap (λ w. w.base) same, is.base, is.core.last, sizes area frame past is, in_hand.reached, ap (λ s. length s.outbox) hands.same)
 
   pub some_waits : mid.waiting.items ≢ [] → unwritten old ≢ []
   some_waits waits none = waits (nothing_waits none)
 
   -- where a record made is not in the log, something is unwritten
   pub some_unwritten : (area : Area) (frame : Image) (past : Past) → IsAt history area frame past old → (horizon : ℕ) → horizon ≡ mid.base + mid.synced → horizon < (state_of old.core).last → unwritten old ≢ []
-  some_unwritten area frame past is horizon told below none = absurd (omega (arith, below, told, ap (λ w. w.base) same, ap (λ w. w.synced) same, is.base, is.core.follows.last, ap length is.outbox, length-append is.handed (state_of old.core).outbox, sizes_none, is.writer.reached, ap length is.writer.waits, length-drop old.writer.synced is.handed))
+  some_unwritten area frame past is horizon told below none = absurd (omega (arith, below, told, ap (λ w. w.base) same, ap (λ w. w.synced) same, is.base, is.core.last, ap length is.outbox, length-append is.handed (state_of old.core).outbox, sizes_none, is.writer.reached, ap length is.writer.waits, length-drop old.writer.synced is.handed))
     where
       sizes_none : length old.writer.waiting.items + length (state_of old.core).outbox ≡ 0
       sizes_none = sym (length-append old.writer.waiting.items (state_of old.core).outbox) ∙ ap length none

@@ -155,7 +155,7 @@ module _ {D M : Type 0} (history : D → History) (image : Image) (area : Area) 
     outbox = sym (ap (λ (s : State). s.outbox) core);
     core = subst (HasMade map.empty 0 [] []) (sym core) (fresh_has_made pages 0);
     pages = ap (λ (s : State). s.heap.pages) core;
-    asked = λ txn. refl ∙ sym (ap (λ (s : State). writes_of (changes_of s txn)) core);
+    asked = λ txn _. refl ∙ sym (ap (λ (s : State). writes_of (changes_of s txn)) core);
     writer = begun_writer base reached waits sound;
     base = base;
     safe = omega (arith, reached);

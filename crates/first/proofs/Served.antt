@@ -1,5 +1,4 @@
 -- Each request that the core alone serves leaves the engine where the run says.
-use Rattle.std.proofs.lemmas.Bool.{cases_eq}
 use Rattle.model.specs.Table.{Table}
 use Rattle.std.proofs.Common.{true, inl, inr, ◌≡◌, ℕ, ◌+◌, false, List, [], ◌∷◌, ◌++◌, refl, sym, ◌∙◌, ap, subst, append_assoc}
 use Rattle.records.specs.RecordValue.{RecordValue}
@@ -14,10 +13,10 @@ use Rattle.model.specs.History.{Item, Committed}
 use Rattle.sector_device.specs.History.{History}
 use Rattle.txn_table.specs.Sound.{IsSound}
 use Rattle.nsf_core.specs.State.{State, state_of, changes_of, insertion, deletion, replacement, begun, inserted, deleted, updated, undone, rolling_back, committed, ended, TakesBack}
-use Rattle.nsf_core.specs.Refusals.{CanInsert, CanChange, is_active}
+use Rattle.nsf_core.specs.Refusals.{CanInsert, CanChange, is_active, is_rolling}
 use Rattle.nsf_core.specs.Follows.{HasMade}
 use Rattle.nsf_core.specs.declared.store.Ticket.{Ticket}
-use Rattle.nsf_core.proofs.Steps.{begin_has_made, insert_has_made, delete_has_made, update_has_made, undo_has_made, roll_has_made, commit_has_made, end_has_made, inserted_own, inserted_other, deleted_own, deleted_other, updated_own, updated_other, undone_own, undone_other, rolling_own, rolling_other, ended_own, ended_other}
+use Rattle.nsf_core.proofs.Steps.{begin_has_made, insert_has_made, delete_has_made, update_has_made, undo_has_made, roll_has_made, commit_has_made, end_has_made, inserted_own, inserted_other, deleted_own, deleted_other, updated_own, updated_other, undone_other, rolling_other, committed_own, committed_other, ended_own, ended_other, rolling_changed, rolling_undone, rolling_over, rolling_popped, rolling_popped_other}
 use Rattle.first.specs.declared.event.Event.{Event}
 use Rattle.first.specs.declared.event.Event.TheVariants as event
 use Rattle.first.specs.declared.event.Reply.{Reply}
@@ -26,7 +25,7 @@ use Rattle.first.specs.declared.engine.Engine.{Engine}
 use Rattle.first.specs.History.{Story, told, story, written_by, acknowledged}
 use Rattle.first.specs.Store.{items_of, HasAsked, Serves}
 use Rattle.first.proofs.Told.{told_refused}
-use Rattle.first.proofs.Asked.{asked_begun, asked_changed, asked_undone, asked_alike, asked_committed}
+use Rattle.first.proofs.Asked.{asked_begun, asked_changed, asked_rolling, asked_over}
 use Rattle.first.proofs.Stories.{served_in_core}
 
 one_more : (handed outbox made after : List RecordValue) (r : RecordValue) → made ≡ handed ++ outbox → after ≡ outbox ++ r ∷ [] → made ++ r ∷ [] ≡ handed ++ after
@@ -61,7 +60,7 @@ module _ {D M : Type 0} (history : D → History) (old new : Engine D M) (same :
       let s = state_of old.core in
       served_step (event.Delete txn rid) reply.Stepped (record { number = s.last + 1; action = OfTxn txn (Forward Slot (deletion s txn rid row)) }) (deleted s txn rid row) core refl refl
       (λ table base made items has. delete_has_made table base made items s has txn rid row sound can) (λ t. refl)
-      (λ t is. asked_changed t.writes s (deleted s txn rid row) txn (deletion s txn rid row) (deleted_own s txn rid row can) (λ u apart. deleted_other s txn rid row u apart) is) (λ n. refl)
+      (λ t is. asked_changed t.writes s (deleted s txn rid row) txn (deletion s txn rid row) (deleted_own s txn rid row can) (λ u apart. deleted_other s txn rid row u apart) (λ u. rolling_changed s txn (deletion s txn rid row) u) is) (λ n. refl)
 
   pub served_update : (txn : ℕ) (rid : Place) (key body : List ℕ) (row : Row) → IsSound (state_of old.core).txns → CanChange (state_of old.core) txn rid row → state_of new.core ≡ updated (state_of old.core) txn rid row (record { key = key; body = body })
       → Serves history (event.Update txn rid key body) reply.Stepped old new
@@ -70,34 +69,30 @@ module _ {D M : Type 0} (history : D → History) (old new : Engine D M) (same :
       let new_row : Row = record { key = key; body = body } in
       served_step (event.Update txn rid key body) reply.Stepped (record { number = s.last + 1; action = OfTxn txn (Forward Slot (replacement s txn rid row new_row)) }) (updated s txn rid row new_row) core refl refl
       (λ table base made items has. update_has_made table base made items s has txn rid row new_row sound can) (λ t. refl)
-      (λ t is. asked_changed t.writes s (updated s txn rid row new_row) txn (replacement s txn rid row new_row) (updated_own s txn rid row new_row can) (λ u apart. updated_other s txn rid row new_row u apart) is) (λ n. refl)
+      (λ t is. asked_changed t.writes s (updated s txn rid row new_row) txn (replacement s txn rid row new_row) (updated_own s txn rid row new_row can) (λ u apart. updated_other s txn rid row new_row u apart) (λ u. rolling_changed s txn (replacement s txn rid row new_row) u) is) (λ n. refl)
 
   pub served_undo : (txn : ℕ) (back : TakesBack (state_of old.core) txn (state_of new.core)) → Serves history (event.Undo txn) reply.Undone old new
   served_undo txn back =
       let s = state_of old.core in
       served_step (event.Undo txn) reply.Undone (record { number = s.last + 1; action = OfTxn txn (Undo Slot back.change true) }) (undone s txn back.change) back.made refl refl
       (λ table base made items has. undo_has_made table base made items s has txn back.earlier back.change back.last) (λ t. refl)
-      (λ t is. asked_undone t.writes s (undone s txn back.change) txn back.earlier back.change back.last (undone_own s txn back.earlier back.change back.last) (λ u apart. undone_other s txn back.change u apart) is) (λ n. refl)
+      (λ t is. asked_rolling t.writes s (undone s txn back.change) txn (rolling_undone s txn back.earlier back.change back.last) (λ u apart. undone_other s txn back.change u apart)
+        (λ u apart. rolling_popped_other s.txns.active txn u apart) is) (λ n. refl)
 
   pub served_end : (txn : ℕ) → changes_of (state_of old.core) txn ≡ [] → is_active (ended (state_of old.core) txn) txn ≡ false → state_of new.core ≡ ended (state_of old.core) txn → Serves history (event.End txn) reply.Ended old new
   served_end txn none over core =
       let s = state_of old.core in
       served_step (event.End txn) reply.Ended (record { number = s.last + 1; action = OfTxn txn End }) (ended s txn) core refl refl
       (λ table base made items has. end_has_made table base made items s has txn none over) (λ t. refl)
-      (λ t is. asked_alike t.writes s (ended s txn) (λ u. elim (cases_eq u txn) [
-        | inl own ↦ ap (λ n. changes_of (ended s txn) n) own ∙ ended_own s txn over ∙ sym (ap (λ n. changes_of s n) own ∙ none)
-        | inr apart ↦ ended_other s txn u apart
-      ]) is) (λ n. refl)
+      (λ t is. asked_over t.writes s (ended s txn) txn (ended_own s txn over) (λ u apart. ended_other s txn u apart) (λ u apart. rolling_over s txn u apart) is) (λ n. refl)
 
-  pub served_roll : (txn : ℕ) → changes_of (state_of old.core) txn ≡ [] → state_of new.core ≡ rolling_back (state_of old.core) txn → Serves history (event.Undo txn) reply.Empty old new
-  served_roll txn none core area frame past is =
+  pub served_roll : (txn : ℕ) → is_active (state_of old.core) txn ≡ true → changes_of (state_of old.core) txn ≡ [] → state_of new.core ≡ rolling_back (state_of old.core) txn → Serves history (event.Undo txn) reply.Empty old new
+  served_roll txn active none core area frame past is =
       let s = state_of old.core in
       served_in_core history area frame past old new (event.Undo txn) reply.Empty is.made is same (ap (λ (s : State). s.heap.pages) core) (is.outbox ∙ ap (λ (s : State). is.handed ++ s.outbox) (sym core))
       (subst (HasMade past.table past.last is.made (items_of past)) (sym core) (roll_has_made past.table past.last is.made (items_of past) s is.core txn none))
-      (subst (HasAsked (story past.events past.replies).writes) (sym core) (asked_alike _ s (rolling_back s txn) (λ u. elim (cases_eq u txn) [
-        | inl own ↦ ap (λ n. changes_of (rolling_back s txn) n) own ∙ rolling_own s txn none ∙ sym (ap (λ n. changes_of s n) own ∙ none)
-        | inr apart ↦ rolling_other s txn u apart
-      ]) is.asked))
+      (subst (HasAsked (story past.events past.replies).writes) (sym core) (asked_rolling _ s (rolling_back s txn) txn (rolling_popped s.txns.active txn active) (λ u apart. rolling_other s txn u apart)
+      (λ u apart. rolling_popped_other s.txns.active txn u apart) is.asked))
       refl
 
   pub served_begin : (n : ℕ) → state_of new.core ≡ begun (state_of old.core) → Serves history event.Begin (reply.Txn n) old new
@@ -113,7 +108,8 @@ module _ {D M : Type 0} (history : D → History) (old new : Engine D M) (same :
       served_in_core history area frame past old new (event.Insert txn key body) (reply.Rid rid) (is.made ++ made_now ∷ []) is same (ap (λ (s : State). s.heap.pages) core)
       (one_more is.handed (state_of old.core).outbox is.made (state_of new.core).outbox made_now is.outbox (ap (λ (s : State). s.outbox) core))
       (subst (HasMade past.table past.last (is.made ++ made_now ∷ []) (items_of past)) (sym core) (insert_has_made past.table past.last is.made (items_of past) (state_of old.core) is.core txn rid row sound can))
-      (subst (HasAsked (told (story past.events past.replies) (event.Insert txn key body) (reply.Rid rid)).writes) (sym core) (asked_changed _ (state_of old.core) (inserted (state_of old.core) txn rid row) txn (insertion (state_of old.core) txn rid row) (inserted_own (state_of old.core) txn rid row can) (λ u apart. inserted_other (state_of old.core) txn rid row u apart) is.asked))
+      (subst (HasAsked (told (story past.events past.replies) (event.Insert txn key body) (reply.Rid rid)).writes) (sym core) (asked_changed _ (state_of old.core) (inserted (state_of old.core) txn rid row) txn (insertion (state_of old.core) txn rid row) (inserted_own (state_of old.core) txn rid row can) (λ u apart. inserted_other (state_of old.core) txn rid row u apart)
+      (λ u. rolling_changed (state_of old.core) txn (insertion (state_of old.core) txn rid row) u) is.asked))
       refl
     where
       row : Row
@@ -122,14 +118,15 @@ module _ {D M : Type 0} (history : D → History) (old new : Engine D M) (same :
       made_now : RecordValue
       made_now = record { number = (state_of old.core).last + 1; action = OfTxn txn (Forward Slot (insertion (state_of old.core) txn rid row)) }
 
-  pub served_commit : (txn : ℕ) (ticket : Ticket) → ticket.record ≡ (state_of old.core).last + 1 → is_active (committed (state_of old.core) txn) txn ≡ false → state_of new.core ≡ committed (state_of old.core) txn
+  pub served_commit : (txn : ℕ) (ticket : Ticket) → is_rolling (state_of old.core) txn ≡ false → ticket.record ≡ (state_of old.core).last + 1 → is_active (committed (state_of old.core) txn) txn ≡ false → state_of new.core ≡ committed (state_of old.core) txn
       → Serves history (event.Commit txn) (reply.Ticket ticket) old new
-  served_commit txn ticket numbered over core area frame past is =
+  served_commit txn ticket calm numbered over core area frame past is =
       served_in_core history area frame past old new (event.Commit txn) (reply.Ticket ticket) (is.made ++ made_now ∷ []) is same (ap (λ (s : State). s.heap.pages) core)
       (one_more is.handed (state_of old.core).outbox is.made (state_of new.core).outbox made_now is.outbox (ap (λ (s : State). s.outbox) core))
       (subst (λ (i : Item). HasMade past.table past.last (is.made ++ made_now ∷ []) (items_of past ++ i ∷ []) (state_of new.core)) (sym item)
       (subst (HasMade past.table past.last (is.made ++ made_now ∷ []) (items_of past ++ counted ∷ [])) (sym core) (commit_has_made past.table past.last is.made (items_of past) (state_of old.core) is.core txn over)))
-      (subst (HasAsked (told (story past.events past.replies) (event.Commit txn) (reply.Ticket ticket)).writes) (sym core) (asked_committed _ (state_of old.core) txn over is.asked))
+      (subst (HasAsked (told (story past.events past.replies) (event.Commit txn) (reply.Ticket ticket)).writes) (sym core) (asked_over _ (state_of old.core) (committed (state_of old.core) txn) txn (committed_own (state_of old.core) txn over)
+      (λ u apart. committed_other (state_of old.core) txn u apart) (λ u apart. rolling_over (state_of old.core) txn u apart) is.asked))
       refl
     where
       made_now : RecordValue
@@ -142,4 +139,4 @@ module _ {D M : Type 0} (history : D → History) (old new : Engine D M) (same :
       told_item = record { number = ticket.record; deed = Committed (written_by txn (story past.events past.replies).writes) }
 
       item : told_item ≡ counted
-      item = λ i. record { number = numbered i; deed = Committed (is.asked txn i) }
+      item = λ i. record { number = numbered i; deed = Committed (is.asked txn calm i) }

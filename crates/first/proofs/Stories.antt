@@ -29,8 +29,8 @@ survives area frame past handed outbox made s n floor image split has pages reac
   records = take left.count handed;
   holds = left.holds;
   following = subst (AreFollowing past.pages past.last (at_rest past.table)) (sym prefix)
-      (subst (λ p. AreFollowing p past.last (at_rest past.table) (take left.count made)) pages (following-take s.heap.pages past.last (at_rest past.table) made left.count has.follows.in_order));
-  unindexed = ap (λ rs. (cells_after (at_rest past.table) rs).life) prefix ∙ none_so_far left.count (at_rest past.table) made (ap (λ c. c.life) has.follows.cells);
+      (subst (λ p. AreFollowing p past.last (at_rest past.table) (take left.count made)) pages (following-take s.heap.pages past.last (at_rest past.table) made left.count has.in_order));
+  unindexed = ap (λ rs. (cells_after (at_rest past.table) rs).life) prefix ∙ none_so_far left.count (at_rest past.table) made (has.cells.life);
   last = past.last + left.count;
   numbered = omega (arith, length-take left.count handed, left.within);
   floor_is = omega (arith, reached, left.floor);

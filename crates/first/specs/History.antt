@@ -1,5 +1,5 @@
 -- What was committed, read off requests and replies alone.
-use Rattle.std.specs.Prelude.{ℕ, max, Bool, cond, ◌&&◌, List, [], ◌∷◌, ◌++◌, length, filter, map, not, Some, None, ◌==◌}
+use Rattle.std.specs.Prelude.{ℕ, max, List, [], ◌∷◌, ◌++◌, filter, map, not, Some, None, ◌==◌}
 use Rattle.model.specs.declared.write.Write.{Write}
 use Rattle.model.specs.History.{Item, Committed}
 use Rattle.first.specs.declared.event.Event.{Event}
@@ -7,7 +7,7 @@ use Rattle.first.specs.declared.event.Event.TheVariants as event
 use Rattle.first.specs.declared.event.Reply.{Reply}
 use Rattle.first.specs.declared.event.Reply.TheVariants as reply
 
--- the commits so far, and each write that was accepted and neither committed nor taken back, with its transaction, in order
+-- the commits so far, and each write that was accepted of a transaction that neither committed nor ended, with its transaction, in order
 pub record Story : Type 0 where
   pub items : List Item
   pub writes : List (ℕ × Write)
@@ -16,20 +16,12 @@ pub record Story : Type 0 where
 abbrev pub written_by : ℕ → List (ℕ × Write) → List Write
 written_by txn writes = map (λ (w : ℕ × Write). w.1) (filter (λ (w : ℕ × Write). w.0 == txn) writes)
 
-abbrev pub wrote_nothing : ℕ → List (ℕ × Write) → Bool
-wrote_nothing txn writes = length (written_by txn writes) == 0
-
--- without the last write of this transaction
-abbrev pub without_last : ℕ → List (ℕ × Write) → List (ℕ × Write)
-without_last txn [] = []
-without_last txn (w ∷ writes) = cond ((w.0 == txn) && wrote_nothing txn writes) writes (w ∷ without_last txn writes)
-
--- a request and its reply are added; a refusal adds nothing
+-- A request and its reply are added. A refusal adds nothing; nor does an undo, since a transaction that is rolling back never commits.
 abbrev pub told : Story → Event → Reply → Story
 told s (event.Insert txn key body) (reply.Rid rid) = record s { writes = s.writes ++ (txn, record { rid = rid; row = Some (record { key = key; body = body }) }) ∷ [] }
 told s (event.Delete txn rid) reply.Stepped = record s { writes = s.writes ++ (txn, record { rid = rid; row = None }) ∷ [] }
 told s (event.Update txn rid key body) reply.Stepped = record s { writes = s.writes ++ (txn, record { rid = rid; row = Some (record { key = key; body = body }) }) ∷ [] }
-told s (event.Undo txn) reply.Undone = record s { writes = without_last txn s.writes }
+told s (event.End txn) reply.Ended = record s { writes = filter (λ (w : ℕ × Write). not (w.0 == txn)) s.writes }
 told s (event.Commit txn) (reply.Ticket ticket) = record {
   items = s.items ++ record { number = ticket.record; deed = Committed (written_by txn s.writes) } ∷ [];
   writes = filter (λ (w : ℕ × Write). not (w.0 == txn)) s.writes;

@@ -14,6 +14,7 @@ use Rattle.sector_device.specs.Disk.{Image}
 use Rattle.sector_device.specs.History.{History, LeavesOnly, Spans}
 use Rattle.gate_log.specs.Area.{Area}
 use Rattle.nsf_core.specs.State.{State, changes_of}
+use Rattle.nsf_core.specs.Refusals.{is_rolling}
 use Rattle.nsf_core.specs.Follows.{HasMade}
 use Rattle.first.specs.declared.event.Event.{Event}
 use Rattle.first.specs.declared.event.Reply.{Reply}
@@ -58,9 +59,9 @@ pub record Survives (area : Area) (frame : Image) (past : Past) (floor : ℕ) (i
   pub numbered : last ≡ past.last + length records
   pub recovers : recovered past.table records ≡ table_after past.table (up_to last (items_of past))
 
--- Each transaction has on its list what the replies accepted.
+-- Each transaction that isn't rolling back has on its list what the replies accepted.
 abbrev pub HasAsked : List (ℕ × Write) → State → Type 0
-HasAsked writes s = (txn : ℕ) → written_by txn writes ≡ writes_of (changes_of s txn)
+HasAsked writes s = (txn : ℕ) → is_rolling s txn ≡ false → written_by txn writes ≡ writes_of (changes_of s txn)
 
 -- The engine is where this run leaves it.
 pub record IsAt {D M : Type 0} (history : D → History) (area : Area) (frame : Image) (past : Past) (engine : Engine D M) : Type 0 where

@@ -40,7 +40,7 @@ mapped g None active = active
 mapped g (Some x) active = refl
 
 -- a transaction that has a change is active
-has_changes : (o : Option TxnState) (earlier : List ChangeValue) (c : ChangeValue) → changes_at o ≡ earlier ++ c ∷ [] → is_some o ≡ true
+pub has_changes : (o : Option TxnState) (earlier : List ChangeValue) (c : ChangeValue) → changes_at o ≡ earlier ++ c ∷ [] → is_some o ≡ true
 has_changes (Some x) earlier c is = refl
 has_changes None [] c is = absurd cc
 has_changes None (d ∷ earlier) c is = absurd cc

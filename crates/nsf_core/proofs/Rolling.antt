@@ -1,11 +1,11 @@
 -- Which transactions are active and which are rolling back, after each step.
-use Rattle.std.proofs.Common.{◌≡◌, ◌≢◌, ℕ, Bool, true, cond, Option, Some, None, is_some, refl, sym, ap, subst, ◌∙◌, inl, inr}
+use Rattle.std.proofs.Common.{◌≡◌, ◌≢◌, ℕ, Bool, true, false, cond, List, [], ◌∷◌, ◌++◌, eqb, Option, Some, None, is_some, refl, sym, ap, subst, ◌∙◌, inl, inr}
 use Rattle.std.proofs.lemmas.Bool.{cases_eq}
 use Rattle.std.specs.Option.{option_map}
 use Rattle.records.specs.ChangeValue.{ChangeValue}
 use Rattle.txn_table.specs.Table as table
-use Rattle.txn_table.specs.Table.{TxnState}
-use Rattle.nsf_core.proofs.Txns.{Txns, with_state_own, state_other}
+use Rattle.txn_table.specs.Table.{TxnState, new_txn}
+use Rattle.nsf_core.proofs.Txns.{Txns, with_state_own, state_other, state_without}
 
 -- a step that leaves each state's fact f
 kept_by : (f : Option TxnState → Bool) (g : TxnState → TxnState) (txns : Txns) (txn u : ℕ) → ((o : Option TxnState) → f (option_map g o) ≡ f o) → f (table.state_of u (table.with_state g txn txns)) ≡ f (table.state_of u txns)
@@ -40,3 +40,16 @@ rolling_popped txns txn active = ap table.is_rolling (with_state_own table.witho
 
 pub rolling_popped_other : (txns : Txns) (txn u : ℕ) → u ≢ txn → table.is_rolling (table.state_of u (table.with_state table.without_last txn txns)) ≡ table.is_rolling (table.state_of u txns)
 rolling_popped_other txns txn u apart = ap table.is_rolling (state_other table.without_last txns txn u apart)
+
+-- after a beginning
+pub rolling_last : (txns : Txns) (n u : ℕ) → table.is_rolling (table.state_of u (txns ++ (n, new_txn) ∷ [])) ≡ table.is_rolling (table.state_of u txns)
+rolling_last [] n u = elim (eqb u n) as (λ b. table.is_rolling (cond b (Some (new_txn)) None) ≡ false) [ true ↦ refl | false ↦ refl ]
+rolling_last (e ∷ es) n u =
+    elim (eqb u e.0) as (λ b. table.is_rolling (cond b (Some e.1) (table.state_of u (es ++ (n, new_txn) ∷ []))) ≡ table.is_rolling (cond b (Some e.1) (table.state_of u es))) [
+      | true ↦ refl
+      | false ↦ rolling_last es n u
+    ]
+
+-- after another transaction is over
+pub rolling_without : (txns : Txns) (txn u : ℕ) → u ≢ txn → table.is_rolling (table.state_of u (table.without txn txns)) ≡ table.is_rolling (table.state_of u txns)
+rolling_without txns txn u apart = ap table.is_rolling (state_without txns txn u apart)

@@ -1,14 +1,16 @@
 -- What each step does to the records made, and to the changes of each transaction.
-use Rattle.std.proofs.Common.{◌≡◌, ◌≢◌, ℕ, ◌+◌, false, None, List, [], ◌∷◌, ◌++◌, ap, ◌∙◌}
+use Rattle.std.proofs.Common.{◌≡◌, ◌≢◌, ℕ, ◌+◌, true, false, None, List, [], ◌∷◌, ◌++◌, ap, ◌∙◌}
 use Rattle.records.specs.Values.{Place}
 use Rattle.records.specs.ChangeValue.{ChangeValue}
 use Rattle.records.specs.declared.row.Row.{Row}
 use Rattle.model.proofs.CellsLaws.{taken_off_last}
 use Rattle.txn_table.specs.Table as table
 use Rattle.nsf_core.specs.State.{State, changes_of, insertion, deletion, replacement, changed, begun, inserted, deleted, updated, rolling_back, undone, committed, ended}
-use Rattle.nsf_core.specs.Refusals.{CanInsert, CanChange, is_active}
+use Rattle.nsf_core.specs.Refusals.{CanInsert, CanChange, is_active, is_rolling}
 use Rattle.nsf_core.proofs.Txns.{active_of, shorter, last_new, noted_own, popped_own, with_state_other, without_other, no_state}
 use Rattle.nsf_core.proofs.Holders.{first_none}
+use Rattle.nsf_core.proofs.Following.{has_changes}
+use Rattle.nsf_core.proofs.Rolling.{rolling_last, rolling_without}
 pub use Rattle.nsf_core.proofs.Following.{fresh_has_made, begin_has_made, insert_has_made, delete_has_made, update_has_made, undo_has_made, roll_has_made, commit_has_made, end_has_made}
 pub use Rattle.nsf_core.proofs.Rolling.{rolling_noted, active_with_state, rolling_popped, rolling_popped_other}
 
@@ -62,3 +64,17 @@ ended_own s txn over = no_state (table.state_of txn (table.without txn s.txns.ac
 
 pub ended_other : (s : State) (txn u : ℕ) → u ≢ txn → changes_of (ended s txn) u ≡ changes_of s u
 ended_other s txn u apart = without_other s.txns.active txn u apart
+
+-- ---- which transactions are rolling back
+
+pub rolling_begun : (s : State) (u : ℕ) → is_rolling (begun s) u ≡ is_rolling s u
+rolling_begun s u = rolling_last s.txns.active (s.txns.begun + 1) u
+
+pub rolling_changed : (s : State) (txn : ℕ) (c : ChangeValue) (u : ℕ) → is_rolling (changed s txn c) u ≡ is_rolling s u
+rolling_changed s txn c u = rolling_noted s.txns.active txn u c
+
+pub rolling_undone : (s : State) (txn : ℕ) (earlier : List ChangeValue) (c : ChangeValue) → changes_of s txn ≡ earlier ++ c ∷ [] → is_rolling (undone s txn c) txn ≡ true
+rolling_undone s txn earlier c last = rolling_popped s.txns.active txn (has_changes (table.state_of txn s.txns.active) earlier c last)
+
+pub rolling_over : (s : State) (txn u : ℕ) → u ≢ txn → is_rolling (ended s txn) u ≡ is_rolling s u
+rolling_over s txn u apart = rolling_without s.txns.active txn u apart

@@ -11,7 +11,7 @@ returns-then-is_rolling_back-clause-serves g c = served_quiet g.D.Device.history
 pub returns-in-Ok-clause-serves : goal.returns-in-Ok-clause-serves
 returns-in-Ok-clause-serves g c =
     let old = c.args.self.now in
-    served_commit g.D.Device.history old (record old { core = c.commit.new.self }) refl c.args.txn c.in-Ok.ticket c.in-Ok.ensures.ticket
+    served_commit g.D.Device.history old (record old { core = c.commit.new.self }) refl c.args.txn c.in-Ok.ticket c.if-is_rolling_back.false c.in-Ok.ensures.ticket
     (subst (λ s. is_active s c.args.txn ≡ false) c.in-Ok.ensures.ok.1 c.in-Ok.ensures.over) c.in-Ok.ensures.ok.1
 
 pub returns-in-Err-clause-serves : goal.returns-in-Err-clause-serves

@@ -19,7 +19,7 @@ returns-in-Ok-Empty g c =
     let old = c.args.self.now in
     let done : IsUndone (state_of old.core) c.args.txn Empty (state_of c.undo_step.new.self) = subst (λ u. IsUndone (state_of old.core) c.args.txn u (state_of c.undo_step.new.self)) c.in-Ok-Empty.field-0-is c.in-Ok-Empty.ensures.ok in
     record {
-      serves = served_roll g.D.Device.history old (record old { core = c.undo_step.new.self }) refl c.args.txn done.0 done.1;
+      serves = served_roll g.D.Device.history old (record old { core = c.undo_step.new.self }) refl c.args.txn c.in-Ok-Empty.ensures.known done.0 done.1;
       answer = (c.in-Ok-Empty.ensures.known, done.0, record { core_is = done.1; rest = refl });
     }
 
