@@ -1,7 +1,8 @@
 -- What a store holds where it begins, and what a reader refuses.
-use Rattle.std.specs.Prelude.{◌≡◌, ◌⊎◌, ℕ, ◌+◌, ◌<◌, ◌≤◌, List, ◌++◌, length, take, drop, All, slice_index, codes}
+use Rattle.std.specs.Prelude.{◌≡◌, ◌⊎◌, ℕ, ◌+◌, ◌<◌, ◌≤◌, List, ◌++◌, length, take, drop, All, codes}
 use Rattle.sector_device.specs.Disk.{Image, sector}
 use Rattle.sector_device.specs.History.{Rises}
+use Rattle.sector_device.specs.Values.{zero_sector, IsMarked}
 use Rattle.records.specs.declared.geometry.TheConstants.{FRONT_SECTORS, HEADER_SECTORS, HEADS_SECTORS, PAGE_SECTORS}
 use Rattle.records.specs.declared.error.Error.{Error}
 use Rattle.records.specs.declared.error.Error.TheVariants.{DeviceFailed, NotFormatted, Damaged, DeviceTooSmall}
@@ -9,7 +10,7 @@ use Rattle.records.specs.GeometryValue.{GeometryValue, IsGeometry, sectors_of}
 use Rattle.records.specs.Spelling.{u32}
 use Rattle.flip_image.specs.declared.half.Half.{Half}
 use Rattle.flip_image.specs.declared.half.Half.TheVariants.{A, B}
-use Rattle.flip_image.specs.declared.half.TheConstants.{FLIP_SECTOR, MARK}
+use Rattle.flip_image.specs.declared.half.TheConstants.{FLIP_SECTOR}
 use Rattle.flip_image.specs.declared.superblock.TheConstants.{SUPERBLOCK_SECTOR, SUPERBLOCK_SIZE, TITLE_SIZE, VERSION}
 use Rattle.flip_image.specs.Layout.{header_sector, heads_sector, pages_first, entries_first, undo_first, page_sector, gate_sector, IsGate}
 
@@ -29,8 +30,8 @@ pub record IsSuperblock (g : GeometryValue) (bytes : List ℕ) : Type 0 where
 
 -- the half that a flip sector names, by its first byte alone
 abbrev pub Names : List ℕ → Half → Type 0
-Names bytes A = ¬ (slice_index bytes 0 ≡ MARK)
-Names bytes B = slice_index bytes 0 ≡ MARK
+Names bytes A = ¬ IsMarked bytes
+Names bytes B = IsMarked bytes
 
 -- the image is of a store of this geometry, whose current half is this one
 pub record IsStore (g : GeometryValue) (half : Half) (image : Image) : Type 0 where
@@ -58,7 +59,11 @@ pub record IsFormatted (g : GeometryValue) (image : Image) : Type 0 where
 
 -- each gate of the log is closed
 abbrev pub AreGatesClosed : GeometryValue → Half → Image → Type 0
-AreGatesClosed g half image = (slot : ℕ) → slot < g.slots → ¬ (slice_index (sector image (gate_sector g half slot)) 0 ≡ MARK)
+AreGatesClosed g half image = (slot : ℕ) → slot < g.slots → ¬ IsMarked (sector image (gate_sector g half slot))
+
+-- each gate of the log is a sector of zeros
+abbrev pub AreGatesZero : GeometryValue → Half → Image → Type 0
+AreGatesZero g half image = (slot : ℕ) → slot < g.slots → sector image (gate_sector g half slot) ≡ zero_sector
 
 -- a sector that `format` writes: superblock, flip sector, and in half A header, transaction heads, a page, or a gate
 abbrev pub IsFormatSector : GeometryValue → ℕ → Type 0

@@ -7,11 +7,8 @@ use records::{
     UNDO_SECTORS,
 };
 
-/// The sector that names a half (the format document, "Device").
+/// The sector that names a half (the format document, "Device"): half B where it is marked, and else half A.
 pub const FLIP_SECTOR: u64 = 1;
-
-/// The first byte that marks a sector: a flip sector that has it names half B, and a gate that has it is open.
-pub const MARK: u8 = 0xA5;
 
 /// One of the two halves of a store.
 #[derive(Clone, Copy, Debug, PartialEq, Eq)]

@@ -2,17 +2,18 @@
 ghost use Rattle.std.specs.Prelude.{◌≡◌, ◌⊎◌, ◌↔◌, ◌+◌, ◌*◌, ◌^◌, ◌≤◌, ◌<◌, ℕ, length, OnOk, IfOk, IfErr};
 ghost use Rattle.sector_device.specs.Disk.{sector, IsSynced, SameOutside};
 ghost use Rattle.sector_device.specs.History.{OnlyReads, CountsFailure};
+ghost use Rattle.sector_device.specs.Values.{zero_sector};
 ghost use Rattle.records.specs.GeometryValue.{GeometryValue, IsGeometry, sectors_of};
 ghost use Rattle.flip_image.specs.Layout.{log_first};
-ghost use Rattle.flip_image.specs.Store.{Names, IsSuperblock, IsStore, IsFresh, IsFormatted, AreGatesClosed, IsFormatSector, IsRefused, IsFirstUsed, AreZeros, IsDeviceFailure, IsUntitled, IsSuperblockDamaged};
+ghost use Rattle.flip_image.specs.Store.{Names, IsSuperblock, IsStore, IsFresh, IsFormatted, AreGatesClosed, AreGatesZero, IsFormatSector, IsRefused, IsFirstUsed, AreZeros, IsDeviceFailure, IsUntitled, IsSuperblockDamaged};
 
-use crate::half::{FLIP_SECTOR, Half, MARK};
+use crate::half::{FLIP_SECTOR, Half};
 use crate::superblock::{SUPERBLOCK_SECTOR, geometry_of, superblock};
-use crate::zeros::{close_gates, read_zeros, write_zeros};
+use crate::zeros::read_zeros;
 use records::{
     Error, FRONT_SECTORS, Geometry, HEADER_SECTORS, HEADS_SECTORS, PAGE_SECTORS, SLOT_SECTORS,
 };
-use sector_device::{Device, Failed, SECTOR_SIZE};
+use sector_device::{Device, Failed, SECTOR_SIZE, is_marked, write_zeros, zero_sector};
 use std::marker::Model;
 
 /// The two halves of a store, as its superblock and its flip sector say: how large they are, and which one is current.
@@ -34,13 +35,16 @@ impl Model for Halves {
 
 impl Halves {
     /// Makes the device a store of this geometry with no row, no index and no record: half A is current, its image is
-    /// fresh, its log is empty, and all of it is synced. Half B stays as it is.
+    /// fresh, its log is empty, and all of it is synced. The flip sector and the gates of half A are zeros. Half B stays as
+    /// it is.
     ///
     /// `DeviceTooSmall` means that nothing was written. After `DeviceFailed`, and after a crash within the call, the
     /// device must be formatted again.
     pub fn format<D: Device>(device: &mut D, geometry: Geometry) -> Result<(), Error>
         ensures formatted { OnOk result (IsFormatted geometry (D.history device.new).disk.content) }
         ensures closed { OnOk result (AreGatesClosed geometry Half.A (D.history device.new).disk.content) }
+        ensures flip { OnOk result (sector (D.history device.new).disk.content FLIP_SECTOR ≡ zero_sector) }
+        ensures gates { OnOk result (AreGatesZero geometry Half.A (D.history device.new).disk.content) }
         ensures synced { OnOk result (IsSynced (D.history device.new).disk) }
         ensures outside { SameOutside (IsFormatSector geometry) (D.history device.old).disk.content (D.history device.new).disk.content }
         ensures too_small { (result ≡ Err Error.DeviceTooSmall) ↔ (length (D.history device.old).disk.content < sectors_of geometry) }
@@ -49,7 +53,8 @@ impl Halves {
         ensures quiet { OnOk result (D.failures device.new ≡ D.failures device.old) }
         ensures later { D.failures device.old ≤ D.failures device.new }
     {
-        if device.sectors() < geometry.sectors() {
+        let needed = geometry.sectors();
+        if device.sectors() < needed {
             return Err(Error::DeviceTooSmall);
         }
         if write_store(device, geometry).is_err() {
@@ -132,18 +137,21 @@ fn write_store<D: Device>(device: &mut D, geometry: Geometry) -> Result<(), Fail
     requires { sectors_of geometry ≤ length (D.history device.old).disk.content }
     ensures formatted { OnOk result (IsFormatted geometry (D.history device.new).disk.content) }
     ensures closed { OnOk result (AreGatesClosed geometry Half.A (D.history device.new).disk.content) }
+    ensures flip { OnOk result (sector (D.history device.new).disk.content FLIP_SECTOR ≡ zero_sector) }
+    ensures gates { OnOk result (AreGatesZero geometry Half.A (D.history device.new).disk.content) }
     ensures synced { OnOk result (IsSynced (D.history device.new).disk) }
     ensures outside { SameOutside (IsFormatSector geometry) (D.history device.old).disk.content (D.history device.new).disk.content }
     ensures counts { CountsFailure (D.failures device.old) (D.failures device.new) result }
 {
+    let zeros = zero_sector();
     device.write(SUPERBLOCK_SECTOR, &superblock(geometry))?;
-    device.write(FLIP_SECTOR, &[0; SECTOR_SIZE])?;
+    device.write(FLIP_SECTOR, &zeros)?;
     let header = Half::A.header_sector(geometry);
-    write_zeros(device, header, HEADER_SECTORS + HEADS_SECTORS)?;
+    write_zeros(device, header, 1, HEADER_SECTORS + HEADS_SECTORS)?;
     let pages = Half::A.pages_first(geometry);
-    write_zeros(device, pages, PAGE_SECTORS * u64::from(geometry.pages))?;
+    write_zeros(device, pages, 1, PAGE_SECTORS * u64::from(geometry.pages))?;
     let log = Half::A.log_first(geometry);
-    close_gates(device, log, u64::from(geometry.slots))?;
+    write_zeros(device, log, SLOT_SECTORS, u64::from(geometry.slots))?;
     device.sync()
 }
 
@@ -179,7 +187,7 @@ fn read_flip_sector<D: Device>(device: &mut D) -> Result<Half, Error>
     if device.read(FLIP_SECTOR, &mut bytes).is_err() {
         return Err(Error::DeviceFailed);
     }
-    if bytes[0] == MARK {
+    if is_marked(&bytes) {
         Ok(Half::B)
     } else {
         Ok(Half::A)

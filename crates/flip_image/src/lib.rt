@@ -7,7 +7,7 @@ mod laws;
 mod superblock;
 mod zeros;
 
-pub use half::{FLIP_SECTOR, Half, MARK};
+pub use half::{FLIP_SECTOR, Half};
 pub use halves::Halves;
 pub use laws::{log_apart, one_store, one_used_part};
 pub use superblock::{SUPERBLOCK_SECTOR, VERSION};

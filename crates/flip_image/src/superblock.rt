@@ -6,7 +6,7 @@ ghost use Rattle.flip_image.specs.Store.{title, superblock, IsSuperblock};
 
 use byteorder::{BigEndian, ByteOrder};
 use records::{Error, Geometry};
-use sector_device::SECTOR_SIZE;
+use sector_device::{SECTOR_SIZE, are_zeros};
 
 /// The sector of the superblock (the format document, "Device").
 pub const SUPERBLOCK_SECTOR: u64 = 0;
@@ -77,13 +77,6 @@ fn read_front(bytes: &[u8]) -> (u64, u32, u32, u32, u32)
         BigEndian::read_u32(third),
         BigEndian::read_u32(fourth),
     )
-}
-
-/// Whether all bytes are zero.
-pub(crate) fn are_zeros(bytes: &[u8]) -> bool
-    ensures { IsTrue result ↔ All (λ b. b ≡ 0) bytes.now }
-{
-    bytes.iter().all(|byte| *byte == 0)
 }
 
 // Whether it is this version, with nothing but zeros behind its numbers.

@@ -5,10 +5,12 @@ use Rattle.std.proofs.lemmas.Bool.{cases_eq, cases_lt}
 use Rattle.std.proofs.lemmas.List.{get_or_at, get_or_append_left, ext_get_or, take_more, flat_map_more}
 use Rattle.sector_device.specs.Disk.{Image, sector}
 use Rattle.sector_device.proofs.Sectors.{same_part}
+use Rattle.sector_device.specs.Values.{IsMarked}
+use Rattle.sector_device.proofs.KnownSectors.{zero_not_marked}
 use Rattle.records.specs.RecordValue.{RecordValue}
 use Rattle.gate_log.specs.Group.{IsGroup}
 use Rattle.gate_log.proofs.Groups.{one_group}
-use Rattle.gate_log.specs.Area.{Area, gate, body, InArea, IsOpen, HoldsGroups, records_of, IsDamaged, IsFirstDamaged}
+use Rattle.gate_log.specs.Area.{Area, gate, body, InArea, IsOpen, AreGatesZero, HoldsGroups, records_of, IsDamaged, IsFirstDamaged}
 
 -- two images have the same sectors in a slot
 abbrev SameSlot : Area → Image → Image → ℕ → Type 0
@@ -60,6 +62,14 @@ module _ (area : Area) (image c : Image) (groups : List (List RecordValue)) (lon
     where
       size : length (groups ++ records ∷ []) ≡ length groups + 1
       size = omega (arith, length-append {A = List RecordValue} groups (records ∷ []))
+
+-- where each gate is a sector of zeros, there is no group
+pub holds_none : (area : Area) (image : Image) → AreGatesZero area image → HoldsGroups area image []
+holds_none area image zeros = record {
+  room = omega arith;
+  opened = λ slot below. absurd (omega (arith, below));
+  closed = λ slot le below is_open. zero_not_marked (subst IsMarked (zeros slot below) is_open);
+}
 
 -- what an image holds is told by the sectors of the area
 pub holds_same : (area : Area) (image c : Image) (groups : List (List RecordValue)) → length c ≡ length image → ((n : ℕ) → InArea area n → sector c n ≡ sector image n) → HoldsGroups area image groups → HoldsGroups area c groups

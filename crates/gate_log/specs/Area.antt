@@ -1,13 +1,13 @@
 -- What an area of a log holds: slots of eight sectors each, a gate and a body of seven.
-use Rattle.std.specs.Prelude.{◌≡◌, ◌⊎◌, ℕ, ◌+◌, ◌*◌, ◌<◌, ◌≤◌, true, List, [], ◌∷◌, ◌++◌, length, take, slice_index, slice_index_or, slice_range}
+use Rattle.std.specs.Prelude.{◌≡◌, ◌⊎◌, ℕ, ◌+◌, ◌*◌, ◌<◌, ◌≤◌, true, List, [], ◌∷◌, ◌++◌, length, take, slice_index_or, slice_range}
 use Rattle.std.specs.List.{concat, flat_map}
 use Rattle.sector_device.specs.Disk.{Image, sector, Disk, SameOutside}
 use Rattle.sector_device.specs.History.{Rises}
+use Rattle.sector_device.specs.Values.{zero_sector, IsMarked}
 use Rattle.records.specs.declared.geometry.TheConstants.{SLOT_SECTORS}
 use Rattle.records.specs.declared.error.Error.{Error}
 use Rattle.records.specs.declared.error.Error.TheVariants.{NoMemory, DeviceFailed}
 use Rattle.records.specs.RecordValue.{RecordValue}
-use Rattle.gate_log.specs.declared.slot.TheConstants.{OPEN}
 use Rattle.gate_log.specs.Group.{IsGroup}
 
 -- the sector where the slots begin, and how many there are
@@ -46,7 +46,11 @@ IsInside area image = area.first + SLOT_SECTORS * area.slots ≤ length image
 
 -- the gate in this sector is open
 abbrev pub IsOpen : Image → ℕ → Type 0
-IsOpen image n = slice_index (sector image n) 0 ≡ OPEN
+IsOpen image n = IsMarked (sector image n)
+
+-- each gate of the area is a sector of zeros
+abbrev pub AreGatesZero : Area → Image → Type 0
+AreGatesZero area image = (slot : ℕ) → slot < area.slots → sector image (gate area slot) ≡ zero_sector
 
 -- the bytes behind the gate in sector n: those of the other sectors of its slot
 abbrev pub body : Image → ℕ → List ℕ

@@ -1,15 +1,16 @@
 //! The area of a log.
 ghost use Rattle.std.specs.Prelude.{◌≡◌, ◌⊎◌, ◌↔◌, ◌+◌, ◌*◌, ◌^◌, ◌≤◌, ◌<◌, ◌++◌, ◌∷◌, [], ℕ, List, false, true, length, OnOk, OnErr, IfOk, IfErr, MatchOption};
-ghost use Rattle.sector_device.specs.Disk.{Image, IsSynced, IsCrashImage, SameOutside};
+ghost use Rattle.sector_device.specs.Disk.{Image, sector, IsSynced, IsCrashImage, SameOutside};
 ghost use Rattle.sector_device.specs.History.{RunsWithin, OnlyReads, LeavesOnly, CountsFailure, Rises};
+ghost use Rattle.sector_device.specs.Values.{marked_sector};
 ghost use Rattle.records.specs.RecordValue.{RecordValue};
 ghost use Rattle.gate_log.specs.Group.{FitsGroup};
-ghost use Rattle.gate_log.specs.Area.{InArea, InSlot, IsGate, IsInside, IsOpen, HoldsGroups, Stands, records_of, IsGateOf, IsAppended, IsFirstDamaged, Refuses};
+ghost use Rattle.gate_log.specs.Area.{gate, InArea, InSlot, IsGate, IsInside, AreGatesZero, HoldsGroups, Stands, records_of, IsGateOf, IsAppended, IsFirstDamaged, Refuses};
 
 use crate::group::group_body;
 use crate::slot::{is_open, read_group, write_group};
 use records::{Error, Record, SLOT_SECTORS};
-use sector_device::{Device, Failed, SECTOR_SIZE};
+use sector_device::{Device, Failed, write_zeros};
 use std::alloc::Allocator;
 use std::marker::Model;
 
@@ -83,6 +84,8 @@ impl LogArea {
         ensures done { result ≡ Ok Appended.Done → (groups : List (List RecordValue))
             → Stands self.old (D.history device.old).disk.content groups
             → Stands self.new (D.history device.new).disk.content (groups ++ records.now ∷ []) }
+        ensures marked { result ≡ Ok Appended.Done
+            → sector (D.history device.new).disk.content (gate self.old.area self.old.open_slots) ≡ marked_sector }
         ensures synced { result ≡ Ok Appended.Done → IsSynced (D.history device.new).disk }
         ensures survives { result ≡ Ok Appended.Done → (groups : List (List RecordValue)) (image : Image)
             → Stands self.old (D.history device.old).disk.content groups
@@ -162,10 +165,11 @@ impl LogArea {
         gate_of_record(alloc, device, self.first, self.open_slots, index)
     }
 
-    /// Closes every gate, and syncs. Until then the area may hold anything, and after `DeviceFailed` it may too.
+    /// Closes every gate, by a sector of zeros, and syncs. Until then the area may hold anything, and after `DeviceFailed` it may too.
     pub fn clear<D: Device>(&mut self, device: &mut D) -> Result<(), Error>
         requires inside { IsInside self.old.area (D.history device.old).disk.content }
         ensures cleared { OnOk result (Stands self.new (D.history device.new).disk.content []) }
+        ensures zeros { OnOk result (AreGatesZero self.old.area (D.history device.new).disk.content) }
         ensures synced { OnOk result (IsSynced (D.history device.new).disk) }
         ensures outside { SameOutside (IsGate self.old.area) (D.history device.old).disk.content (D.history device.new).disk.content }
         ensures any_moment { LeavesOnly (D.history device.old) (D.history device.new)
@@ -217,11 +221,12 @@ fn read_slots<D: Device, A: Allocator + Copy>(
         if !is_open(device, gate)? {
             continue;
         }
+        let damaged = Error::Damaged { sector: gate };
         if count < slot {
-            return Err(Error::Damaged { sector: gate });
+            return Err(damaged);
         }
         let Some(mut group) = read_group(alloc, device, gate)? else {
-            return Err(Error::Damaged { sector: gate });
+            return Err(damaged);
         };
         records.append(&mut group)?;
         count += 1;
@@ -262,19 +267,16 @@ fn gate_of_record<D: Device, A: Allocator + Copy>(
     Ok(None)
 }
 
-// Closes these gates, and syncs.
+// Closes these gates, by sectors of zeros, and syncs.
 fn close_gates<D: Device>(device: &mut D, first: u64, slots: u64) -> Result<(), Failed>
     requires inside { first + SLOT_SECTORS * slots ≤ length (D.history device.old).disk.content }
     requires number { first + SLOT_SECTORS * slots < 2 ^ 64 }
-    ensures closed { OnOk result ((slot : ℕ) → slot < slots → ¬ IsOpen (D.history device.new).disk.content (first + SLOT_SECTORS * slot)) }
+    ensures zeros { OnOk result (AreGatesZero (record { first = first; slots = slots }) (D.history device.new).disk.content) }
     ensures outside { SameOutside (IsGate (record { first = first; slots = slots })) (D.history device.old).disk.content (D.history device.new).disk.content }
     ensures synced { OnOk result (IsSynced (D.history device.new).disk) }
     ensures within { RunsWithin (λ n. IsGate (record { first = first; slots = slots }) n ⊎ ((D.history device.old).disk.unsynced n ≡ true)) (D.history device.old).disk.content (D.history device.old) (D.history device.new) }
     ensures counts { CountsFailure (D.failures device.old) (D.failures device.new) result }
 {
-    let closed = [0; SECTOR_SIZE];
-    for slot in 0..slots {
-        device.write(first + SLOT_SECTORS * slot, &closed)?;
-    }
+    write_zeros(device, first, SLOT_SECTORS, slots)?;
     device.sync()
 }

@@ -1,5 +1,5 @@
 //! Groups of records, as the bytes of a slot's body.
-ghost use Rattle.std.specs.Prelude.{◌≡◌, ◌↔◌, ◌+◌, ◌-◌, ◌≤◌, ◌<◌, ◌++◌, ℕ, List, length, drop, All, IfOk, OnOk, IfErr, IsTrue, MatchOption};
+ghost use Rattle.std.specs.Prelude.{◌≡◌, ◌↔◌, ◌+◌, ◌-◌, ◌≤◌, ◌<◌, ◌++◌, ℕ, List, length, take, drop, All, IfOk, OnOk, IfErr, IsTrue, MatchOption};
 ghost use Rattle.records.specs.RecordValue.{RecordValue};
 ghost use Rattle.records.specs.Spelling.{Fits};
 ghost use Rattle.gate_log.specs.Group.{spellings, header, FitsGroup, IsGroup};
@@ -7,7 +7,7 @@ ghost use Rattle.gate_log.specs.Steps.{AreSpelled};
 
 use byteorder::{BigEndian, ByteOrder};
 use records::{Error, Record, SLOT_SECTORS};
-use sector_device::SECTOR_SIZE;
+use sector_device::{SECTOR_SIZE, are_zeros};
 use std::alloc::{AllocError, Allocator};
 
 /// The sectors of a slot behind its gate.
@@ -22,19 +22,29 @@ pub(crate) const HEADER_SIZE: usize = 4;
 /// The most bytes that the records of a group take (the format document, "Log").
 pub const GROUP_MAX: usize = BODY_SIZE - HEADER_SIZE;
 
+/// How many of the records, from the front, the longest group of them has: together they take `GROUP_MAX` bytes at
+/// most, and with one more they take more, or there is none. It is 0 only where there is no record.
+pub fn group_len(records: &[Record]) -> usize
+    ensures within { result ≤ length records.now }
+    ensures fits { 0 < length records.now → FitsGroup (take result records.now) }
+    ensures most { result < length records.now → GROUP_MAX < length (spellings (take (result + 1) records.now)) }
+{
+    let mut len = 0;
+    for (count, record) in records.iter().enumerate() {
+        len += record.size();
+        if GROUP_MAX < len {
+            return count;
+        }
+    }
+    records.len()
+}
+
 /// Whether the records can be one group of a log: there is one at least, and together they take `GROUP_MAX` bytes at
 /// most. This is what `LogArea::append` requires.
 pub fn fits(records: &[Record]) -> bool
     ensures { IsTrue result ↔ FitsGroup records.now }
 {
-    let mut len = 0;
-    for record in records {
-        len += record.size();
-        if GROUP_MAX < len {
-            return false;
-        }
-    }
-    !records.is_empty()
+    !records.is_empty() && group_len(records) == records.len()
 }
 
 // The records, spelled one after the other.
@@ -86,12 +96,6 @@ fn read_header(body: &[u8]) -> (u16, u16)
 {
     let (_, behind) = body.split_at(2);
     (BigEndian::read_u16(body), BigEndian::read_u16(behind))
-}
-
-fn are_zeros(bytes: &[u8]) -> bool
-    ensures { IsTrue result ↔ All (λ b. b ≡ 0) bytes.now }
-{
-    bytes.iter().all(|byte| *byte == 0)
 }
 
 // This many records, spelled one after the other with nothing behind them.

@@ -8,6 +8,5 @@ mod laws;
 mod slot;
 
 pub use area::{Appended, LogArea};
-pub use group::{GROUP_MAX, fits};
+pub use group::{GROUP_MAX, fits, group_len};
 pub use laws::one_reading;
-pub use slot::OPEN;

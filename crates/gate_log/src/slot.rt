@@ -1,7 +1,8 @@
 // One slot: how its group is written, and how it is read.
 ghost use Rattle.std.specs.Prelude.{◌≡◌, ◌↔◌, ◌+◌, ◌^◌, ◌≤◌, ◌<◌, List, false, length, OnOk, IfOk, IfErr, IsTrue, MatchOption};
-ghost use Rattle.sector_device.specs.Disk.{IsSynced, SameOutside};
+ghost use Rattle.sector_device.specs.Disk.{sector, IsSynced, SameOutside};
 ghost use Rattle.sector_device.specs.History.{RunsWithin, OnlyReads, LeavesOnly, CountsFailure};
+ghost use Rattle.sector_device.specs.Values.{marked_sector};
 ghost use Rattle.records.specs.RecordValue.{RecordValue};
 ghost use Rattle.gate_log.specs.Group.{IsGroup};
 ghost use Rattle.gate_log.specs.Area.{body, IsOpen, Refuses};
@@ -9,11 +10,8 @@ ghost use Rattle.gate_log.specs.Steps.{MayDiffer, IsPartlyWritten};
 
 use crate::group::{BODY_SECTORS, BODY_SIZE, group_records};
 use records::{Error, Record, SLOT_SECTORS};
-use sector_device::{Device, Failed, SECTOR_SIZE};
+use sector_device::{Device, Failed, SECTOR_SIZE, is_marked, marked_sector};
 use std::alloc::Allocator;
-
-/// The first byte of an open gate (the format document, "Log"). A gate with any other first byte is closed.
-pub const OPEN: u8 = 0xA5;
 
 // Writes the body behind a gate, and syncs. Until then the body's sectors may hold anything.
 fn write_body<D: Device>(device: &mut D, gate: u64, bytes: &[u8]) -> Result<(), Failed>
@@ -37,14 +35,13 @@ fn write_body<D: Device>(device: &mut D, gate: u64, bytes: &[u8]) -> Result<(), 
 fn open_gate<D: Device>(device: &mut D, gate: u64) -> Result<(), Failed>
     requires inside { gate < length (D.history device.old).disk.content }
     requires synced { IsSynced (D.history device.old).disk }
-    ensures opened { OnOk result (IsOpen (D.history device.new).disk.content gate) }
+    ensures opened { OnOk result (sector (D.history device.new).disk.content gate ≡ marked_sector) }
     ensures synced { OnOk result (IsSynced (D.history device.new).disk) }
     ensures within { RunsWithin (λ n. n ≡ gate) (D.history device.old).disk.content (D.history device.old) (D.history device.new) }
     ensures counts { CountsFailure (D.failures device.old) (D.failures device.new) result }
 {
-    let mut open = [0; SECTOR_SIZE];
-    open[0] = OPEN;
-    device.write(gate, &open)?;
+    let opened = marked_sector();
+    device.write(gate, &opened)?;
     device.sync()
 }
 
@@ -54,7 +51,7 @@ pub(crate) fn write_group<D: Device>(device: &mut D, gate: u64, bytes: &[u8]) ->
     requires inside { gate + SLOT_SECTORS ≤ length (D.history device.old).disk.content }
     requires number { gate + SLOT_SECTORS < 2 ^ 64 }
     requires synced { (D.history device.old).disk.unsynced gate ≡ false }
-    ensures opened { OnOk result (IsOpen (D.history device.new).disk.content gate) }
+    ensures opened { OnOk result (sector (D.history device.new).disk.content gate ≡ marked_sector) }
     ensures written { OnOk result (body (D.history device.new).disk.content gate ≡ bytes.now) }
     ensures outside { SameOutside (λ n. (gate ≤ n) × (n < gate + SLOT_SECTORS)) (D.history device.old).disk.content (D.history device.new).disk.content }
     ensures synced { OnOk result (IsSynced (D.history device.new).disk) }
@@ -78,7 +75,7 @@ pub(crate) fn is_open<D: Device>(device: &mut D, gate: u64) -> Result<bool, Erro
     if device.read(gate, &mut sector).is_err() {
         return Err(Error::DeviceFailed);
     }
-    Ok(sector[0] == OPEN)
+    Ok(is_marked(&sector))
 }
 
 // The bytes behind a gate.

@@ -4,3 +4,4 @@ pub mod Record
 pub mod Sectors
 pub mod Tear
 pub mod Within
+pub mod KnownSectors

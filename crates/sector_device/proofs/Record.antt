@@ -12,7 +12,8 @@ use Rattle.sector_device.specs.declared.call.Call.{Call}
 use Rattle.sector_device.specs.declared.call.Call.TheVariants.{Write, Sync}
 use Rattle.sector_device.specs.Disk.{Image, sector, IsSector, IsWhole, Disk, after_write, after_sync}
 use Rattle.sector_device.specs.History.{Elapses}
-use Rattle.sector_device.specs.Memory.{zero_sector, State, initial_state, step, state_after, disk_of, memory_history, unsynced_since, Represents}
+use Rattle.sector_device.specs.Values.{zero_sector}
+use Rattle.sector_device.specs.Memory.{State, initial_state, step, state_after, disk_of, memory_history, unsynced_since, Represents}
 
 -- ---- the record
 

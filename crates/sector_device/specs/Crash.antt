@@ -2,6 +2,7 @@
 use Rattle.std.specs.Prelude.{◌≡◌, ℕ, ◌+◌, ◌*◌, ◌%◌, ◌<◌, Bool, true, false, List, length, take, slice_index, slice_index_or, count_by}
 use Rattle.sector_device.specs.declared.call.Fate.{Fate}
 use Rattle.sector_device.specs.declared.call.Fate.TheVariants.{Old, New, Zero, Gate, Junk}
+use Rattle.sector_device.specs.declared.values.TheConstants.{MARK}
 use Rattle.sector_device.specs.Disk.{Image, sector}
 use Rattle.sector_device.specs.Memory.{State}
 
@@ -15,12 +16,12 @@ pub record IsFilled (byte : ℕ) (bytes : List ℕ) : Type 0 where
   pub size : length bytes ≡ 512
   pub each : (i : ℕ) → i < 512 → slice_index bytes i ≡ byte
 
--- an unsynced sector after the crash: what it held at the last sync, what it held last, zeros, 0xA5 everywhere, or junk
+-- an unsynced sector after the crash: what it held at the last sync, what it held last, zeros, the mark everywhere, or junk
 abbrev pub HasFate : Fate → List ℕ → List ℕ → List ℕ → Type 0
 HasFate Old old new bytes = bytes ≡ old
 HasFate New old new bytes = bytes ≡ new
 HasFate Zero old new bytes = IsFilled 0 bytes
-HasFate Gate old new bytes = IsFilled 165 bytes
+HasFate Gate old new bytes = IsFilled MARK bytes
 HasFate Junk old new bytes = IsJunk bytes
 
 -- the fate of the i-th unsynced sector: the list again and again, and `Old` where it is empty

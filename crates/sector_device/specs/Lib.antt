@@ -6,3 +6,4 @@ pub mod History
 pub mod MemDisk
 pub mod Memory
 pub mod Rows
+pub mod Values

@@ -8,10 +8,6 @@ use Rattle.sector_device.specs.declared.call.Call.TheVariants.{Write, Sync}
 use Rattle.sector_device.specs.Disk.{Image, sector, IsSector, IsWhole, Disk}
 use Rattle.sector_device.specs.History.{History}
 
--- a sector of zeros
-unfoldable pub zero_sector : List ℕ
-zero_sector = replicate 512 0
-
 -- the content, the content at the last sync, and for each sector whether it is unsynced
 pub record State : Type 0 where
   pub content : Image

@@ -3,9 +3,7 @@ ghost use Rattle.std.specs.Prelude.{◌≡◌, length};
 ghost use Rattle.sector_device.specs.Memory.{unsynced_since};
 ghost use Rattle.sector_device.specs.Crash.{IsJunk, IsFilled, HasFate, IsCrashed, fate_at};
 
-use crate::{Fate, SECTOR_SIZE};
-
-const GATE: u8 = 0xA5;
+use crate::{Fate, MARK, SECTOR_SIZE};
 
 fn filled(byte: u8) -> [u8; SECTOR_SIZE]
     ensures { IsFilled byte result }
@@ -40,7 +38,7 @@ fn torn(fate: Fate, before: &[u8; SECTOR_SIZE], content: &[u8; SECTOR_SIZE]) -> 
         Fate::Old => *before,
         Fate::New => *content,
         Fate::Zero => filled(0),
-        Fate::Gate => filled(GATE),
+        Fate::Gate => filled(MARK),
         Fate::Junk => junk(),
     }
 }

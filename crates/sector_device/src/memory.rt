@@ -3,11 +3,12 @@
 ghost use Rattle.std.specs.Prelude.{◌≡◌, ◌+◌, ◌-◌, ◌^◌, ◌<◌, ◌≤◌, length, min, replicate, nat_le, count_by, vec_len, vec_capacity, IfOk, IsOk, OnOk, OnErr};
 ghost use Rattle.sector_device.specs.Disk.{sector, after_write, after_sync, IsCrashImage, IsSynced, IsFailedWrite};
 ghost use Rattle.sector_device.specs.History.{Elapses, CountsFailure};
-ghost use Rattle.sector_device.specs.Memory.{zero_sector, initial_state, state_after, Represents};
+ghost use Rattle.sector_device.specs.Memory.{initial_state, state_after, Represents};
+ghost use Rattle.sector_device.specs.Values.{zero_sector};
 
 use crate::call::Call;
 use crate::crash::tear;
-use crate::{Device, Failed, Fate, SECTOR_SIZE};
+use crate::{Device, Failed, Fate, SECTOR_SIZE, zero_sector};
 use std::alloc::{AllocError, Allocator};
 
 /// A disk in memory, with a record of its writes and syncs.
@@ -37,7 +38,7 @@ fn zeros<A: Allocator>(alloc: A, sectors: usize) -> Result<Vec<[u8; SECTOR_SIZE]
 {
     let mut image = Vec::with_capacity(alloc, sectors)?;
     for _ in 0..sectors {
-        image.push([0; SECTOR_SIZE])?;
+        image.push(zero_sector())?;
     }
     Ok(image)
 }

@@ -1,5 +1,5 @@
 use Rattle.std.proofs.Common.{◌≡◌, replicate}
-use Rattle.sector_device.specs.Memory.{zero_sector}
+use Rattle.sector_device.specs.Values.{zero_sector}
 use Rattle.sector_device.proofs.memory.zeros.Given as goal
 
 abbrev pub invariant-loop : goal.invariant-loop

@@ -1,5 +1,7 @@
-use Rattle.std.proofs.Common.{◌≡◌, ◌+◌, ◌<◌, ◌∷◌, ◌++◌, [], ℕ, List, length, false, inl, sym, subst, ap, ◌∙◌, arith, length-append}
+use Rattle.std.proofs.Common.{rules, ◌≡◌, ◌+◌, ◌<◌, ◌∷◌, ◌++◌, [], ℕ, List, length, false, inl, sym, subst, ap, ◌∙◌, arith, length-append}
 use Rattle.sector_device.specs.History.{LeavesOnly}
+use Rattle.sector_device.specs.Values.{marked_sector, IsMarked}
+use Rattle.sector_device.proofs.KnownSectors.{is_marked}
 use Rattle.sector_device.proofs.Moments.{weaker}
 use Rattle.records.specs.RecordValue.{RecordValue}
 use Rattle.gate_log.specs.Group.{IsGroup}
@@ -7,7 +9,7 @@ use Rattle.gate_log.specs.Area.{Area, Log, gate, InArea, HoldsGroups, Stands, Is
 use Rattle.gate_log.specs.Steps.{MayDiffer, IsPartlyWritten}
 use Rattle.gate_log.proofs.Runs.{from_ok}
 use Rattle.sector_device.proofs.Sectors.{same_outside_wider, crash_synced}
-use Rattle.sector_device.specs.Disk.{Image}
+use Rattle.sector_device.specs.Disk.{Image, sector}
 use Rattle.gate_log.proofs.Slots.{length-group, nothing_appended, appended, is_appended}
 use Rattle.gate_log.proofs.area.LogArea.append.Goals as goal
 
@@ -49,7 +51,7 @@ returns-clause-done g c = λ _ groups stands.
     let done = c.write_group.ensures in
     let outside = same_outside_wider _ (MayDiffer old.disk n (n + 8)) _ _ (λ k inside. inl inside) done.outside in
     record {
-      held = is_appended log old.disk records all_synced room c.deref.result.now new.disk.content groups group outside stood (from_ok _ _ ok done.opened) (from_ok _ _ ok done.written);
+      held = is_appended log old.disk records all_synced room c.deref.result.now new.disk.content groups group outside stood (subst IsMarked (sym (from_ok _ _ ok done.opened)) is_marked) (from_ok _ _ ok done.written);
       counted = omega (arith, stood.counted, length-append {A = List RecordValue} groups (records ∷ []));
     }
 
@@ -73,3 +75,12 @@ returns-clause-survives g c = λ is groups image stands crash.
     let ok = sym c.is_err.ensures.value ∙ c.if-is_err.false in
     let done = returns-clause-done g c is groups stands in
     subst (λ (i : Image). HoldsGroups area i (groups ++ c.args.records.now ∷ [])) (sym (crash_synced disk image (from_ok _ _ ok c.write_group.ensures.synced) crash)) done.held
+
+pub returns-clause-marked : goal.returns-clause-marked
+returns-clause-marked g c = λ _.
+    let disk = (g.D.Device.history c.write_group.new.device).disk in
+    let ok = sym c.is_err.ensures.value ∙ c.if-is_err.false in
+    subst (λ (l : Log). sector disk.content (gate l.area l.open_slots) ≡ marked_sector) c.self.view_is (from_ok _ _ ok c.write_group.ensures.opened)
+
+pub returns-then-self-clause-full : goal.returns-then-self-clause-full
+returns-then-self-clause-full g c = search rules

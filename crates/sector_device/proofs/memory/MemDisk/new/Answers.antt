@@ -1,7 +1,7 @@
 use Rattle.std.proofs.Common.{rules, ◌≡◌, ◌∙◌, ap, sym, subst, arith, ℕ, ◌+◌, ◌≤◌, List, length, replicate, slice_index, vec_len, vec_capacity}
 use Rattle.std.proofs.Math.ListN.{length-replicate}
 use Rattle.sector_device.specs.Disk.{IsWhole}
-use Rattle.sector_device.specs.Memory.{zero_sector}
+use Rattle.sector_device.specs.Values.{zero_sector}
 use Rattle.sector_device.proofs.Record.{represents_crashed, zeros_are_whole, all_zero, synced_count, synced_count_at_most}
 use Rattle.sector_device.proofs.memory.MemDisk.new.Goals as goal
 
