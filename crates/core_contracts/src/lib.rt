@@ -2,30 +2,21 @@
 //! and the core as data.
 #![tactic(auto)]
 
-ghost use Rattle.std.specs.Prelude.{Option, Some, None, sum, map, take, length, ◌≡◌, ◌≤◌, ◌+◌, ◌++◌, [], ◌∷◌, ℕ, List, Bool};
-ghost use Rattle.model.specs.declared.life.Life.TheVariants.{Complete};
-ghost use Rattle.model.specs.History.{AreRising, Item, life_after, table_after};
-ghost use Rattle.records.specs.declared.pair.Pair.{Pair};
-ghost use Rattle.model.specs.Table.{Table, Index};
-ghost use Rattle.core_model.specs.States.{State, Phase};
+ghost use Rattle.std.specs.Prelude.{Option, take, length, ◌≡◌, ◌≤◌, ◌+◌, ◌++◌, [], ◌∷◌, ℕ, List};
+ghost use Rattle.model.specs.History.{AreRising, life_after, table_after};
+ghost use Rattle.core_model.specs.States.{State};
 ghost use Rattle.records.specs.RecordValue.{RecordValue};
-ghost use Rattle.records.specs.declared.error.Error.{Error};
 ghost use Rattle.records.specs.declared.number.TheConstants.{LAST_NUMBER};
 ghost use Rattle.records.specs.declared.txn.TheConstants.{TXNS_MAX};
 ghost use Rattle.model.specs.Given.{IsBeginning, given_after};
-ghost use Rattle.core_contracts.specs.Events.{Event, Reply, Refused, Skipped, Standing, standing_after, standing_at};
+ghost use Rattle.core_contracts.specs.Events.{Event, Reply, Standing, standing_after, standing_at};
 ghost use Rattle.core_contracts.specs.Worked.{script, standing};
-ghost use Rattle.core_model.specs.Example.{opening, last, steps, pair};
+ghost use Rattle.core_model.specs.Example.{opening, last, pair};
 ghost use Rattle.core_contracts.specs.Served.{HasServed, HasStanding, IsMove, Serves, items_of, records_by};
-ghost use Rattle.core_contracts.specs.Replies.{IsAllowed, IsOfNone, IsProper, IsFirst, IsDue, refusals, refusals_of, last_refusals, after_any};
-ghost use Rattle.core_model.specs.Steps.{all_reserved, Step, after, IsEnabled, Start, is_indexed};
+ghost use Rattle.core_contracts.specs.Replies.{IsAllowed, after_any};
+ghost use Rattle.core_model.specs.Steps.{Step, after};
 ghost use Rattle.core_model.specs.Invariants.{IsWellFormed};
-ghost use Rattle.core_model.specs.Histories.{Opened, CanOpen, opened, AreItemsOf, IsFaithful, IsWhole, history, no_writes, life_over};
-ghost use Rattle.records.specs.declared.record.Action.{Action};
-ghost use Rattle.records.specs.RecordValue.{has_rows};
-ghost use Rattle.model.specs.Cells.{Cells};
-ghost use Rattle.core_model.specs.Records.{next_action, undo_action, HasCells, action_of, set_by_any};
-ghost use Rattle.records.specs.ChangeValue.{ChangeValue};
+ghost use Rattle.core_model.specs.Histories.{Opened, CanOpen, opened, IsFaithful, history, no_writes};
 
 /// An event that gets an allowed reply is one enabled step, or none, and makes at most one record,
 /// as the reply says.

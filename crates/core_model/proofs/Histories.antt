@@ -23,10 +23,24 @@ use Rattle.core_model.proofs.Runs.{run_keeps}
 use Rattle.core_model.proofs.Sums.{none_reserved}
 use Rattle.core_model.proofs.Txns.{newest_last}
 use Rattle.core_model.specs.Changes.{new_pair, old_pair, pair_of}
-use Rattle.core_model.specs.Histories.{AreItemsOf, CanOpen, FitsStore, IsCovered, IsTold, IsWhole, Opened, deeds_of, highest_of, history, no_writes, opened, life_over, table_over, write_of, writes_after}
+use Rattle.core_model.specs.Histories.{AreItemsOf, CanOpen, FitsStore, IsCovered, IsWhole, Opened, deeds_of, highest_of, history, no_writes, opened, write_of, writes_after}
 use Rattle.core_model.specs.Invariants.{Invariant, IsAhead, IsCoherent, IsUnfinished, IsWellFormed, Run, no_step, one_step}
 use Rattle.core_model.specs.States.{Active, Made, NewMarked, OldMarked, OldSet, Phase, RowSet, State}
 use Rattle.core_model.specs.Steps.{Attempt, Begin, Checkpoint, Clean, Commit, Create, End, Finish, IsEnabled, Keep, Next, Start, Step, Take, Undo, Wrap, above, after, carried_on, is_indexed, new_txn, row_made, row_undone, started, txn_at, undoing, undone, undone_first, update, with_change, with_phase, without_newest}
+
+-- the table and the life after these deeds
+abbrev pub table_over : Table → List Deed → Table
+table_over table [] = table
+table_over table (deed ∷ deeds) = table_over (table_with table deed) deeds
+
+abbrev pub life_over : Life → List Deed → Life
+life_over life [] = life
+life_over life (deed ∷ deeds) = life_over (life_with life deed) deeds
+
+-- what was asked of each transaction that is not rolling back
+pub record IsTold (txns : ℕ → Option Active) (writes : ℕ → List Write) : Type 0 where
+  pub idle : (t : ℕ) → txns t ≡ None → writes t ≡ []
+  pub active : (t : ℕ) (x : Active) → txns t ≡ Some x → x.rolling ≡ false → writes t ≡ writes_of (reverse x.changes)
 
 -- ---- a core over loaded cells
 module _ (o : Opened) (fits : FitsStore o) where

@@ -10,6 +10,7 @@ mod Insides
 mod Pledged
 mod Fits
 mod Runs
+mod Attempts
 mod Histories
 mod Undone
 mod Restarts

@@ -1,17 +1,16 @@
 -- What a run is to show: the table of its commits, and an index that fits the rows.
 use Rattle.std.specs.FinMap.{empty, get, len}
 use Rattle.std.specs.Ordering.{nat_cmp}
-use Rattle.std.specs.Prelude.{List, None, Option, Some, [], false, map, reverse, ℕ, ◌++◌, ◌+◌, ◌<◌, ◌↔◌, ◌∷◌, ◌≡◌, ◌≢◌, ◌≤◌}
+use Rattle.std.specs.Prelude.{List, None, Option, Some, [], false, map, ℕ, ◌++◌, ◌+◌, ◌<◌, ◌↔◌, ◌∷◌, ◌≡◌, ◌≢◌, ◌≤◌}
 use Rattle.records.specs.ChangeValue.{ChangeValue}
 use Rattle.records.specs.Spelling.{new_row}
 use Rattle.records.specs.Values.{Place}
 use Rattle.records.specs.declared.pair.Mark.TheVariants.{Live, Marked}
 use Rattle.records.specs.declared.pair.Pair.{Pair}
 use Rattle.records.specs.declared.row.Row.{Row}
-use Rattle.model.specs.Committed.{writes_of}
 use Rattle.model.specs.Cells.{Cells}
 use Rattle.model.specs.Given.{Given}
-use Rattle.model.specs.History.{Checkpointed, Committed, Completed, Created, Deed, Item, life_with, table_with}
+use Rattle.model.specs.History.{Checkpointed, Committed, Completed, Created, Deed, Item}
 use Rattle.model.specs.Recovery.{recovered_rows}
 use Rattle.model.specs.Table.{IsPairOf, Table}
 use Rattle.model.specs.declared.life.Life.{Life}
@@ -20,7 +19,7 @@ use Rattle.model.specs.declared.write.Write.{Write}
 use Rattle.core_model.specs.Changes.{pair_of}
 use Rattle.core_model.specs.Invariants.{IsUnfinished}
 use Rattle.core_model.specs.Records.{HasCells}
-use Rattle.core_model.specs.States.{Active, State}
+use Rattle.core_model.specs.States.{State}
 use Rattle.core_model.specs.Steps.{Checkpoint, Commit, Create, End, Finish, Start, Step, above, all_reserved, update}
 
 -- ---- the history of a run, read off the changes that were asked for, the commits, the creation and the end of the build
@@ -52,15 +51,6 @@ history writes (e ∷ es) = deeds_of writes e ++ history (writes_after writes e)
 -- these items have the deeds of the history
 abbrev pub AreItemsOf : List Item → List Step → Type 0
 AreItemsOf items steps = map (λ (item : Item). item.deed) items ≡ history no_writes steps
-
--- the table and the life after these deeds
-abbrev pub table_over : Table → List Deed → Table
-table_over table [] = table
-table_over table (deed ∷ deeds) = table_over (table_with table deed) deeds
-
-abbrev pub life_over : Life → List Deed → Life
-life_over life [] = life
-life_over life (deed ∷ deeds) = life_over (life_with life deed) deeds
 
 -- ---- a core over loaded cells
 
@@ -136,8 +126,3 @@ IsWhole s = (p : Pair) → (get s.entries p ≡ Some Live) ↔ IsPairOf s.rows p
 abbrev pub writes_over : (ℕ → List Write) → List Step → ℕ → List Write
 writes_over writes [] = writes
 writes_over writes (e ∷ es) = writes_over (writes_after writes e) es
-
--- what was asked of each transaction that is not rolling back
-pub record IsTold (txns : ℕ → Option Active) (writes : ℕ → List Write) : Type 0 where
-  pub idle : (t : ℕ) → txns t ≡ None → writes t ≡ []
-  pub active : (t : ℕ) (x : Active) → txns t ≡ Some x → x.rolling ≡ false → writes t ≡ writes_of (reverse x.changes)

@@ -1,7 +1,7 @@
 //! The core as an abstract machine: its steps, and what every order of them keeps.
 #![tactic(auto)]
 
-ghost use Rattle.std.specs.Prelude.{◌≡◌, ◌≤◌, ◌+◌, ◌++◌, [], ℕ, List, Some, None, length, map, take, IsTrue};
+ghost use Rattle.std.specs.Prelude.{◌≡◌, ◌≤◌, ◌+◌, ◌++◌, [], ℕ, List, Option, Some, length, map, take, true, IsTrue};
 ghost use Rattle.records.specs.declared.record.Action.{Action};
 ghost use Rattle.records.specs.RecordValue.{has_rows};
 ghost use Rattle.model.specs.Cells.{Cells};
@@ -16,13 +16,14 @@ ghost use Rattle.model.specs.Given.{IsBeginning, given_after, opening_cells, rec
 ghost use Rattle.core_model.specs.Histories.{deeds_of, no_writes, writes_after};
 ghost use Rattle.core_model.specs.Logs.{HasMade, IsLogOf, Recovers, item_at, items_from, one_record, records_from, records_over};
 ghost use Rattle.model.specs.Images.{IsCopied};
-ghost use Rattle.model.specs.declared.life.Life.TheVariants.{Complete};
+ghost use Rattle.model.specs.declared.life.Life.TheVariants.{Building, Complete};
 ghost use Rattle.model.specs.History.{Item, life_after, table_after};
 ghost use Rattle.std.specs.FinMap.{get};
 ghost use Rattle.records.specs.declared.pair.Mark.TheVariants.{Marked};
+ghost use Rattle.records.specs.declared.pair.Pair.{Pair};
 ghost use Rattle.core_model.specs.Example.{opening, steps, last, pair};
 ghost use Rattle.core_model.specs.States.{State};
-ghost use Rattle.core_model.specs.Steps.{Step, after, IsEnabled};
+ghost use Rattle.core_model.specs.Steps.{Attempt, Step, above, after, IsEnabled};
 ghost use Rattle.core_model.specs.Invariants.{Invariant, IsWellFormed, Run};
 ghost use Rattle.core_model.specs.Histories.{Opened, CanOpen, FitsStore, opened, AreItemsOf, IsFaithful, IsWhole, history};
 
@@ -43,6 +44,14 @@ pub fn every_order()
 /// With a complete index and no transaction, the live entries are just the pairs of the rows.
 pub fn complete_index()
     ensures { (o : Opened) → CanOpen o → (steps : List Step) (s : State) → Run (opened o) steps s → s.life ≡ Complete → ((t : ℕ) → s.txns t ≡ None) → IsWhole s }
+{}
+
+/// The builder attempts pairs in rising order, above the one that was checkpointed last, in this run or before the core was
+/// opened.
+pub fn rising_attempts()
+    ensures rising { (s : State) (p : Pair) → IsEnabled s (Attempt p) → above s.bound p ≡ true }
+    ensures checkpointed { (s : State) (p : Pair) → Invariant s → (highest : Option Pair) → s.life ≡ Building highest → IsEnabled s (Attempt p) → above highest p ≡ true }
+    ensures opened { (o : Opened) (highest : Option Pair) → o.given.life ≡ Building highest → (steps : List Step) (s : State) → Run (opened o) steps s → (p : Pair) → IsEnabled s (Attempt p) → above highest p ≡ true }
 {}
 
 /// Wherever a run stops, what is recovered of its cells, every unfinished transaction taken back whichever of its steps were
