@@ -6,3 +6,6 @@ pub returns-in-Inner-clause-count : goal.returns-in-Inner-clause-count
 returns-in-Inner-clause-count g c =
     let n : length c.in-Inner.row.items ≡ vec_len c.in-Inner.row = search rules in
     c.len-in-Inner.ensures ∙ sym n ∙ sym (count_of _ _ (inner_is _ _ _ c.self.view_is c.in-Inner.is))
+
+pub returns-in-Leaf-clause-count : goal.returns-in-Leaf-clause-count
+returns-in-Leaf-clause-count g c = search rules
