@@ -1,4 +1,4 @@
-use Rattle.std.proofs.Common.{arith, ◌∙◌, sym, ap, subst, refl, ◌≡◌, ◌<◌, length}
+use Rattle.std.proofs.Common.{rules, arith, ◌∙◌, sym, ap, subst, refl, ◌≡◌, ◌<◌, length}
 use Rattle.node_parts.specs.Tree.{entries, depth}
 use Rattle.node_parts.specs.Order.{IsAscending}
 use Rattle.node_parts.proofs.Balance.{at_most_four}
@@ -37,3 +37,6 @@ returns-in-Some-clause-empty g c =
     let some : 0 < length (entries c.in-Some.root.value) = root_some _ _ whole in
     let same : length (entries c.args.self.now) ≡ length (entries c.in-Some.root.value) = ap (λ t. length (entries t)) (sym c.self.view_is ∙ ap tree_at c.in-Some.is) in
     (λ z. absurd (omega (arith, z, c.levels.ensures, ap depth c.deref.ensures, deep)), λ e. absurd (omega (arith, length_of-empty _ up e, same, some)))
+
+pub returns-in-Some-clause-height : goal.returns-in-Some-clause-height
+returns-in-Some-clause-height g c = search rules

@@ -32,3 +32,6 @@ pub returns-in-Inner-clause-visited : goal.returns-in-Inner-clause-visited
 returns-in-Inner-clause-visited g t c =
     let a = at_child _ _ _ _ _ c.index.result.now _ c.node.view_is c.in-Inner.is c.node.invariant c.requires.ascending c.requires.some c.requires.tree c.place-at.ensures c.index.ensures c.deref-in-Inner.ensures in
     omega (arith, at.child_depth a, (at.levels a).0, c.get_in-found.ensures.visited)
+
+pub returns-in-Leaf-clause-visited : goal.returns-in-Leaf-clause-visited
+returns-in-Leaf-clause-visited g t c = search rules

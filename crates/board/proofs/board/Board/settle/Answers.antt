@@ -16,3 +16,9 @@ split_seat-published-requires g c = (search rules, omega arith, tells_flushed _ 
 
 pub join_seat-requires-2 : goal.join_seat-requires-2
 join_seat-requires-2 g c = (search rules, search rules, search rules, omega arith, learns _ _ _ _ (search rules))
+
+pub returns-clause-horizon : goal.returns-clause-horizon
+returns-clause-horizon g c = search rules
+
+pub returns-clause-failed : goal.returns-clause-failed
+returns-clause-failed g c = search rules

@@ -16,3 +16,6 @@ split_seat-published-requires g c = (search rules, omega arith, tells_built _ _ 
 
 pub join_seat-requires-2 : goal.join_seat-requires-2
 join_seat-requires-2 g c = (search rules, search rules, search rules, omega arith, learns _ _ _ _ (search rules))
+
+pub returns-clause-progress : goal.returns-clause-progress
+returns-clause-progress g c = search rules

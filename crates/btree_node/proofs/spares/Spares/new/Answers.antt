@@ -12,3 +12,6 @@ overflow_sub-count g c = search rules
 -- src/lib.rt:271:9
 pub invariant_of-result-2 : goal.invariant_of-result-2
 invariant_of-result-2 g c = search rules
+
+pub returns-clause-enough : goal.returns-clause-enough
+returns-clause-enough g c = search rules

@@ -1,4 +1,4 @@
-use Rattle.std.proofs.Common.{◌<◌, length, refl, ap, arith}
+use Rattle.std.proofs.Common.{rules, ◌<◌, length, refl, ap, arith}
 use Rattle.std.proofs.lemmas.Option.{slice_get_read}
 use Rattle.heap_pages.proofs.Free.{free_place, none_before, none_further, none_further_full}
 use Rattle.heap_pages.proofs.heap.Heap.least_free.Goals as goal
@@ -38,3 +38,6 @@ loop-page-preserved-then-is_full g c =
     let slots = c.index-slots.result.now in
     let page = slice_get_read pages (length pages) n slots refl within c.index-slots.ensures in
     none_further_full pages c.args.self.now c.args.held.now n slots c.self.view_is page c.loop-page.invariant (c.is_full.ensures.0 c.if-is_full.true)
+
+pub returns-clause-heap_full : goal.returns-clause-heap_full
+returns-clause-heap_full g c = search rules

@@ -1,0 +1,7 @@
+use Rattle.std.proofs.Common.{rules}
+use Rattle.records.specs.Reading.{action_at}
+use Rattle.records.proofs.decode.action_of.Goals as goal
+
+pub returns-in-Some-txn_action_of-clause-read : goal.returns-in-Some-txn_action_of-clause-read
+unfolding action_at
+returns-in-Some-txn_action_of-clause-read c = search rules

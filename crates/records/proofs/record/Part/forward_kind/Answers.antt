@@ -1,0 +1,5 @@
+use Rattle.std.proofs.Common.{rules}
+use Rattle.records.proofs.record.Part.forward_kind.Goals as goal
+
+pub returns-in-OldEntry : goal.returns-in-OldEntry
+returns-in-OldEntry c = search rules
