@@ -94,13 +94,3 @@ fn a_used_disk_formatted(rt: HostRuntime) -> Result<(), Fail> {
     check_formatted(&rt, &mut disk);
     check_half(&rt, &mut disk, Half::A, 528)
 }
-
-#[test]
-fn a_disk_one_sector_too_small(rt: HostRuntime) -> Result<(), Fail> {
-    let mut disk = used_disk(&rt, rt.alloc(), SECTORS - 1)?;
-    check_format(&rt, &mut disk, Err(Error::DeviceTooSmall));
-    for n in 0..SECTORS - 1 {
-        check_filled(&rt, &mut disk, n, 7);
-    }
-    Ok(())
-}

@@ -1,6 +1,5 @@
 // The log of a store: what an append writes, and what is read after failures, crashes and damage.
 mod appends;
-mod clients;
 mod crashes;
 mod damage;
 mod recorder;

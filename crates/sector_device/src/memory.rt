@@ -239,7 +239,8 @@ impl<A: Allocator + Copy> Device for MemDisk<A> {
         let sectors = self.content.len();
         make_room(&mut self.calls, sectors, &mut self.failures)?;
         self.calls.push(Call::Sync).unwrap();
-        self.synced_at = self.calls.len();
+        let calls = self.calls.len();
+        self.synced_at = calls;
         Ok(())
     }
 }

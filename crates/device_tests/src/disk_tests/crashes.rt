@@ -81,13 +81,14 @@ fn each_fate(rt: HostRuntime) -> Result<(), Fail> {
         ("gate", Fate::Gate, Byte(0xA5)),
         ("junk", Fate::Junk, Junk),
     ] {
+        let wanted = [Byte(0), wanted, Byte(0)];
         check(
             &rt,
             rt.alloc(),
             name,
             &synced_then_written,
             &[fate],
-            &[Byte(0), wanted, Byte(0)],
+            &wanted,
         )?;
     }
     Ok(())
@@ -95,103 +96,27 @@ fn each_fate(rt: HostRuntime) -> Result<(), Fail> {
 
 #[test]
 fn lists_of_fates(rt: HostRuntime) -> Result<(), Fail> {
+    let cases: [(&str, &[Fate], [Holds; 3]); 4] = [
+        ("none", &[], [Byte(0), Byte(0), Byte(0)]),
+        (
+            "ascending",
+            &[Fate::New, Fate::Junk, Fate::Old],
+            [Byte(3), Junk, Byte(0)],
+        ),
+        (
+            "again",
+            &[Fate::Gate, Fate::New],
+            [Byte(0xA5), Byte(4), Byte(0xA5)],
+        ),
+        (
+            "longer",
+            &[Fate::Old, Fate::Old, Fate::New, Fate::Gate],
+            [Byte(0), Byte(0), Byte(5)],
+        ),
+    ];
     let all_written = [Write(2, 5), Write(0, 3), Write(1, 4)];
-    check(
-        &rt,
-        rt.alloc(),
-        "ascending",
-        &all_written,
-        &[Fate::New, Fate::Junk, Fate::Old],
-        &[Byte(3), Junk, Byte(0)],
-    )?;
-    check(
-        &rt,
-        rt.alloc(),
-        "again",
-        &all_written,
-        &[Fate::Gate, Fate::New],
-        &[Byte(0xA5), Byte(4), Byte(0xA5)],
-    )?;
-    check(
-        &rt,
-        rt.alloc(),
-        "longer",
-        &[Write(2, 7)],
-        &[Fate::New, Fate::Gate],
-        &[Byte(0), Byte(0), Byte(7)],
-    )
-}
-
-#[test]
-fn synced_sectors(rt: HostRuntime) -> Result<(), Fail> {
-    check(
-        &rt,
-        rt.alloc(),
-        "no list",
-        &[Write(0, 1), Sync, Write(0, 2), Write(2, 3)],
-        &[],
-        &[Byte(1), Byte(0), Byte(0)],
-    )?;
-    check(
-        &rt,
-        rt.alloc(),
-        "unsynced alone",
-        &[Write(0, 1), Sync, Write(1, 2), Write(2, 3)],
-        &[Fate::Zero, Fate::New],
-        &[Byte(1), Byte(0), Byte(3)],
-    )?;
-    check(
-        &rt,
-        rt.alloc(),
-        "synced",
-        &[Write(0, 1), Write(2, 2), Sync],
-        &[Fate::Junk],
-        &[Byte(1), Byte(0), Byte(2)],
-    )
-}
-
-#[test]
-fn writes_and_syncs(rt: HostRuntime) -> Result<(), Fail> {
-    check(
-        &rt,
-        rt.alloc(),
-        "nothing",
-        &[],
-        &[Fate::Junk],
-        &[Byte(0), Byte(0), Byte(0)],
-    )?;
-    let two_writes = [Write(0, 1), Write(0, 2)];
-    let zeros = [Byte(0), Byte(0), Byte(0)];
-    check(&rt, rt.alloc(), "twice", &two_writes, &[Fate::Old], &zeros)?;
-    let last = [Byte(2), Byte(0), Byte(0)];
-    check(
-        &rt,
-        rt.alloc(),
-        "the last",
-        &two_writes,
-        &[Fate::New],
-        &last,
-    )?;
-    check(
-        &rt,
-        rt.alloc(),
-        "two syncs",
-        &[Write(0, 1), Sync, Write(0, 2), Sync, Write(0, 3)],
-        &[Fate::Old],
-        &last,
-    )
-}
-
-// The record begins anew: what was written before the crash is what the next one calls old.
-#[test]
-fn a_second_crash(rt: HostRuntime) -> Result<(), Fail> {
-    let mut disk = MemDisk::new(rt.alloc(), 2, 1)?;
-    for byte in 1..5u8 {
-        must_fill(&rt, &mut disk, 0, byte);
-        disk.crash(&[Fate::New]);
-        must_fill(&rt, &mut disk, 0, 0xFF);
-        disk.crash(&[]);
-        check_filled(&rt, &mut disk, 0, byte);
+    for (name, fates, wanted) in cases {
+        check(&rt, rt.alloc(), name, &all_written, fates, &wanted)?;
     }
     Ok(())
 }

@@ -81,21 +81,3 @@ fn each_call_fails_in_turn(rt: HostRuntime) -> Result<(), Fail> {
     }
     Ok(())
 }
-
-// Which of four syncs could be made.
-fn four_syncs<D: Device>(disk: &mut D) -> [bool; 4] {
-    [sync(disk), sync(disk), sync(disk), sync(disk)]
-}
-
-// Over a device that fails too, both failures come.
-#[test]
-fn a_failure_from_below(rt: HostRuntime) -> Result<(), Fail> {
-    let below = FaultDisk::new(MemDisk::new(rt.alloc(), 1, 8)?, Which::All, 2);
-    let mut disk = FaultDisk::new(below, Which::WritesAndSyncs, 3);
-    let synced = four_syncs(&mut disk);
-    let made = disk.made();
-    let made_below = disk.into_inner().made();
-    assert_eq!(rt; synced, [true, false, false, true]);
-    assert!(rt; made == 4 && made_below == 3);
-    Ok(())
-}

@@ -1,7 +1,7 @@
 // What no `format` leaves, and what a reader says of it.
 use super::{check_half, check_refused, formatted};
 use crate::sectors::{check_filled, set_byte};
-use flip_image::{Half, Halves};
+use flip_image::Half;
 use records::Error;
 use sector_device::{Device, Fate, MemDisk};
 use std::alloc::Global;
@@ -28,9 +28,9 @@ fn check(
 }
 
 #[test]
-fn superblocks(rt: HostRuntime) -> Result<(), Fail> {
+fn superblocks_and_parts_of_a_half(rt: HostRuntime) -> Result<(), Fail> {
     let damaged = Error::Damaged { sector: 0 };
-    let cases: [(&str, &[Edit], Error); 13] = [
+    let cases: [(&str, &[Edit], Error); 22] = [
         ("first byte", &[(0, 0, 0)], Error::NotFormatted),
         (
             "last byte of the title",
@@ -56,45 +56,42 @@ fn superblocks(rt: HostRuntime) -> Result<(), Fail> {
             &[(0, 14, 1), (0, 15, 0), (0, 23, 0)],
             damaged,
         ),
+        ("header", &[(2, 0, 3)], Error::Damaged { sector: 2 }),
+        (
+            "header, behind the numbers",
+            &[(2, 45, 1)],
+            Error::Damaged { sector: 2 },
+        ),
+        ("heads", &[(3, 39, 1)], Error::Damaged { sector: 3 }),
+        ("page", &[(516, 64, 2)], Error::Damaged { sector: 516 }),
+        (
+            "the last sector of a page",
+            &[(523, 511, 2)],
+            Error::Damaged { sector: 516 },
+        ),
+        (
+            "header and heads",
+            &[(3, 0, 1), (2, 511, 1)],
+            Error::Damaged { sector: 2 },
+        ),
+        (
+            "header and page",
+            &[(516, 0, 1), (2, 1, 1)],
+            Error::Damaged { sector: 2 },
+        ),
+        (
+            "heads and page",
+            &[(516, 0, 1), (3, 9, 1)],
+            Error::Damaged { sector: 3 },
+        ),
+        (
+            "heads and superblock",
+            &[(3, 9, 1), (0, 24, 1)],
+            Error::Damaged { sector: 0 },
+        ),
     ];
     for (name, edits, wanted) in cases {
         check(&rt, rt.alloc(), name, edits, wanted)?;
-    }
-    Ok(())
-}
-
-#[test]
-fn parts_of_a_half(rt: HostRuntime) -> Result<(), Fail> {
-    let cases: [(&str, &[Edit], u64); 9] = [
-        ("header", &[(2, 0, 3)], 2),
-        ("header, behind the numbers", &[(2, 45, 1)], 2),
-        ("heads", &[(3, 39, 1)], 3),
-        ("page", &[(516, 64, 2)], 516),
-        ("the last sector of a page", &[(523, 511, 2)], 516),
-        ("header and heads", &[(3, 0, 1), (2, 511, 1)], 2),
-        ("header and page", &[(516, 0, 1), (2, 1, 1)], 2),
-        ("heads and page", &[(516, 0, 1), (3, 9, 1)], 3),
-        ("heads and superblock", &[(3, 9, 1), (0, 24, 1)], 0),
-    ];
-    for (name, edits, n) in cases {
-        check(&rt, rt.alloc(), name, edits, Error::Damaged { sector: n })?;
-    }
-    Ok(())
-}
-
-fn check_open<D: Device>(rt: &impl Abort, disk: &mut D, wanted: Error) {
-    assert!(rt; Halves::open(disk) == Err(wanted));
-}
-
-#[test]
-fn a_disk_of_too_few_sectors(rt: HostRuntime) -> Result<(), Fail> {
-    for (sectors, wanted) in [
-        (0, Error::DeviceTooSmall),
-        (1, Error::DeviceTooSmall),
-        (2, Error::NotFormatted),
-    ] {
-        let mut disk = MemDisk::new(rt.alloc(), sectors, 4)?;
-        check_open(&rt, &mut disk, wanted);
     }
     Ok(())
 }

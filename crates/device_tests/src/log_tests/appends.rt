@@ -2,7 +2,6 @@
 use super::recorder::{Call, Recorder};
 use super::{
     FIRST, SECTORS, SLOTS, append, append_group, blank, check_log, commit, example, gate_of,
-    insertion,
 };
 use crate::sectors::{check_filled, check_sector, must_fill, padded};
 use gate_log::{Appended, GROUP_MAX, LogArea, fits};
@@ -11,6 +10,9 @@ use sector_device::{Device, MemDisk};
 use std::alloc::Global;
 use std::process::Abort;
 use std::test::Fail;
+
+// The most bytes of a group, as the format says.
+const _: () = prove!(GROUP_MAX == 3580);
 
 // The first two sectors of a slot with the format's example, in which are the numbers of records and bytes, an insertion
 // and a commit, and the other sectors.
@@ -149,30 +151,4 @@ fn a_full_area(rt: HostRuntime) -> Result<(), Fail> {
     check_full(&rt, rt.alloc(), &mut disk)?;
     check_log(&rt, rt.alloc(), &mut disk, &records, 4)?;
     check_gates(&rt, rt.alloc(), &mut disk)
-}
-
-// This insertion, and behind it 208 commits of 17 bytes.
-fn large_group(alloc: Global, first: Record) -> Result<Vec<Record>, Fail> {
-    let mut records = Vec::new(alloc);
-    records.push(first)?;
-    for number in 2..210 {
-        records.push(commit(number)?)?;
-    }
-    Ok(records)
-}
-
-fn check_too_large(rt: &impl Abort, alloc: Global) -> Result<(), Fail> {
-    let too_large = large_group(alloc, insertion(b"0123456789", b"1234567")?)?;
-    assert!(rt; GROUP_MAX == 3580 && !fits(&[]) && !fits(&too_large));
-    Ok(())
-}
-
-// An insertion takes 28 bytes and its key and body: 3,580 bytes fit, and one more does not.
-#[test]
-fn the_largest_group(rt: HostRuntime) -> Result<(), Fail> {
-    check_too_large(&rt, rt.alloc())?;
-    let largest = large_group(rt.alloc(), insertion(b"0123456789", b"123456")?)?;
-    let mut disk = blank(rt.alloc())?;
-    append_group(&rt, rt.alloc(), &mut disk, &largest)?;
-    check_log(&rt, rt.alloc(), &mut disk, &largest, 1)
 }

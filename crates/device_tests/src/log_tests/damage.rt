@@ -1,33 +1,14 @@
 // What no append leaves, and the sector that a reader names.
-use super::{FIRST, SECTORS, SLOTS, append_group, blank, check_log, commit, example, read_all};
-use crate::sectors::{filled, must_fill, set_byte, write};
-use gate_log::{Appended, LogArea, fits};
-use records::{Error, Record};
-use sector_device::{Device, MemDisk};
+use super::{append_group, blank, commit, example, read_all};
+use crate::sectors::set_byte;
+use records::Error;
+use sector_device::MemDisk;
 use std::alloc::Global;
 use std::process::Abort;
 use std::test::Fail;
 
 // A sector, a byte of it, and its new value.
 type Edit = (u64, usize, u8);
-
-// Clears the area, and adds two groups.
-fn append_two<D: Device>(
-    rt: &impl Abort,
-    alloc: Global,
-    disk: &mut D,
-    first: &[Record],
-    second: &[Record],
-) -> Result<Appended, Error> {
-    assert!(rt; disk.sectors() == SECTORS);
-    assert!(rt; fits(first) && fits(second));
-    let mut log = LogArea::new(FIRST, SLOTS);
-    log.clear(disk)?;
-    match log.append(alloc, disk, first)? {
-        Appended::Done => log.append(alloc, disk, second),
-        Appended::Full => Ok(Appended::Full),
-    }
-}
 
 // The log is refused, by this sector.
 fn check_damaged(
@@ -53,8 +34,8 @@ fn check(
     damaged: u64,
 ) -> Result<(), Fail> {
     let mut disk = blank(alloc)?;
-    let appended = append_two(rt, alloc, &mut disk, &example()?, &[commit(3)?])?;
-    assert!(rt; appended == Appended::Done, "{name}");
+    append_group(rt, alloc, &mut disk, &example()?)?;
+    append_group(rt, alloc, &mut disk, &[commit(3)?])?;
     for (n, at, byte) in edits {
         set_byte(rt, &mut disk, *n, *at, *byte)?;
     }
@@ -87,16 +68,4 @@ fn damaged_slots(rt: HostRuntime) -> Result<(), Fail> {
         check(&rt, rt.alloc(), name, edits, damaged)?;
     }
     Ok(())
-}
-
-// Of a gate only the first byte counts.
-#[test]
-fn the_rest_of_a_gate(rt: HostRuntime) -> Result<(), Fail> {
-    let mut disk = blank(rt.alloc())?;
-    append_group(&rt, rt.alloc(), &mut disk, &example()?)?;
-    let mut opened = filled(7);
-    opened[0] = 0xA5;
-    write(&rt, &mut disk, 1, &opened)?;
-    must_fill(&rt, &mut disk, 9, 7);
-    check_log(&rt, rt.alloc(), &mut disk, &example()?, 1)
 }
