@@ -7,8 +7,7 @@ use Rattle.store_reader.specs.Contents.{log_area}
 use Rattle.first.specs.History.{acknowledged}
 use Rattle.first.specs.Store.{and_then, IsAt, SurvivesAt, GoesOn}
 use Rattle.first.specs.Reopening.{opening, IsLeftByRun}
-use Rattle.first.proofs.Runs.{spans_rise}
-use Rattle.store_tests.proofs.Formatted.{never_unreadable, begun_formatted, refuses_so, not_opened_so}
+use Rattle.store_tests.proofs.Formatted.{spans_rise, never_unreadable, begun_formatted, refuses_so, not_opened_so}
 use Rattle.store_tests.proofs.rehearsal.rehearse.Goals as goal
 
 pub returns-in-Err-clause-refused : goal.returns-in-Err-clause-refused

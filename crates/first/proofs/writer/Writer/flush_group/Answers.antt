@@ -1,8 +1,9 @@
-use Rattle.std.proofs.Common.{true, ◌≡◌, ◌≢◌, ◌≤◌, ◌<◌, ◌+◌, ◌-◌, List, [], Ok, refl, sym, ap, subst, ◌∙◌, take, length, arith}
+use Rattle.std.proofs.Common.{rules, ⊎_elim, true, ◌≡◌, ◌≢◌, ◌≤◌, ◌<◌, ◌+◌, ◌-◌, List, [], Ok, refl, sym, ap, subst, ◌∙◌, take, length, arith}
 use Rattle.records.specs.RecordValue.{RecordValue}
 use Rattle.gate_log.specs.declared.area.Appended.TheVariants.{Done}
 use Rattle.first.specs.declared.writer.Writer.{Writer}
-use Rattle.std.proofs.lemmas.Bool.{false≢true}
+use Rattle.std.proofs.lemmas.Bool.{false≢true, cases_lt}
+use Rattle.std.proofs.lemmas.List.{nil_from_length}
 use Rattle.first.specs.Writer.{FillsGroup}
 use Rattle.first.proofs.Writing.{stood, leaves, appended_one, failed_one}
 use Rattle.first.proofs.writer.Writer.flush_group.Goals as goal
@@ -48,3 +49,14 @@ returns-in-Ok-Done-clause-flushed g c =
     let is_count : (old.synced + count) - old.synced ≡ count = omega arith in
     let most : FillsGroup old.waiting.items count = subst (λ (rs : List RecordValue). FillsGroup rs count) c.deref.ensures.value c.group_len-count.ensures.most in
     ((omega arith), (λ none. omega (arith, ap length none, c.group_len-count.ensures.within, length_is)), subst (FillsGroup old.waiting.items) (sym is_count) most)
+
+pub append-requires-clause-fits : goal.append-requires-clause-fits
+append-requires-clause-fits g c = search rules
+
+pub returns-then-count-eq0-clause-flushed : goal.returns-then-count-eq0-clause-flushed
+returns-then-count-eq0-clause-flushed g c =
+    let none : length c.deref.result.now ≡ 0 = ⊎_elim (λ some. absurd (omega (arith, c.group_len-count.ensures.some some, c.if-count-eq0.true))) (λ none. omega (arith, none)) (cases_lt 0 (length c.deref.result.now)) in
+    (refl, nil_from_length c.args.self.now.waiting.items (omega (arith, ap length c.deref.ensures.value, none)))
+
+pub returns-in-Err-clause-err : goal.returns-in-Err-clause-err
+returns-in-Err-clause-err g c = search rules
