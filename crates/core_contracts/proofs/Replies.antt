@@ -16,7 +16,7 @@ use Rattle.core_contracts.specs.Served.{HasStanding, IsEnabledAny}
 use Rattle.core_model.proofs.Laws.{nat_decided, not_none}
 use Rattle.core_model.specs.Invariants.{IsWellFormed}
 use Rattle.core_model.specs.States.{Active, State}
-use Rattle.core_model.specs.Steps.{Attempt, CanStart, HasRoom, IsActive, IsEnabled, IsReady, Start, Step, all_reserved, is_indexed, new_txn, txn_at}
+use Rattle.core_model.specs.Steps.{Attempt, CanStart, HasFreePlaces, IsActive, IsEnabled, IsReady, Start, Step, all_reserved, is_indexed, new_txn, txn_at}
 
 -- ---- a step that is not refused is enabled
 not_refused : {A B : Type 0} {e : Error} → (A × (◌≡◌ {A = Option Error} None (Some e))) ⊎ ((A → ⊥) × B) → (A → ⊥) × B
@@ -36,7 +36,7 @@ last_room s k e f = (not_refused f).0
 least_more : (n m : ℕ) → (m < n → ⊥) → n ≤ m
 least_more n m h = omega (arith, h)
 
-start_room : (s : State) (k : Standing) (t : ℕ) (c : ChangeValue) → IsFirst (last_refusals s k (Start t c)) None → HasRoom s
+start_room : (s : State) (k : Standing) (t : ℕ) (c : ChangeValue) → IsFirst (last_refusals s k (Start t c)) None → HasFreePlaces s
 start_room s k t c f e = least_more _ _ (λ less. last_room s k (Start t c) f (e, less))
 
 attempt_room : (s : State) (k : Standing) (p : Pair) → IsFirst (last_refusals s k (Attempt p)) None → get s.entries p ≡ None → len s.entries + all_reserved s.pledges < s.places

@@ -23,7 +23,7 @@ use Rattle.core_model.proofs.Sums.{left_apart, reserved_apart, reserved_insert, 
 use Rattle.core_model.specs.Changes.{gone, new_pair, old_pair}
 use Rattle.core_model.specs.Invariants.{HasPlaces, IsHolderOf, lacking, lacks}
 use Rattle.core_model.specs.States.{Active, Made, NewMarked, OldMarked, OldSet, Phase, RowSet, State}
-use Rattle.core_model.specs.Steps.{Attempt, Begin, CanAttempt, CanClean, Checkpoint, Clean, Commit, Create, End, Finish, HasRoom, IsEnabled, Keep, Next, Start, Step, Take, Undo, Wrap, after, all_reserved, attempted, carried_on, is_indexed, left, new_txn, places_of, reserved, row_made, row_undone, started, txn_at, undoing, undone, undone_first, update, with_change, with_entry, with_phase, with_places, with_txn, without_newest}
+use Rattle.core_model.specs.Steps.{Attempt, Begin, CanAttempt, CanClean, Checkpoint, Clean, Commit, Create, End, Finish, HasFreePlaces, IsEnabled, Keep, Next, Start, Step, Take, Undo, Wrap, after, all_reserved, attempted, carried_on, is_indexed, left, new_txn, places_of, reserved, row_made, row_undone, started, txn_at, undoing, undone, undone_first, update, with_change, with_entry, with_phase, with_places, with_txn, without_newest}
 
 -- ---- an entry is set
 
@@ -158,7 +158,7 @@ room_by true n m h k = h refl
 room_by false n m h k = omega (arith, k)
 
 -- ---- the first step of a change
-module _ (s : State) (p : HasPlaces s) (t : ℕ) (x : Active) (c : ChangeValue) (active : s.txns t ≡ Some x) (room : HasRoom s) where
+module _ (s : State) (p : HasPlaces s) (t : ℕ) (x : Active) (c : ChangeValue) (active : s.txns t ≡ Some x) (room : HasFreePlaces s) where
   more : ℕ
   more = places_of (is_indexed s.life)
 

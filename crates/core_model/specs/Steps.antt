@@ -17,6 +17,7 @@ use Rattle.model.specs.Table.{Index, Table, applied}
 use Rattle.model.specs.declared.key_action.KeyAction.TheVariants.{BuildPut}
 use Rattle.model.specs.declared.life.Life.{Life}
 use Rattle.model.specs.declared.life.Life.TheVariants.{Absent, Building, Complete}
+pub use Rattle.model.specs.Following.{IsBuilding}
 pub use Rattle.model.specs.Pairs.{is_indexed, with_entry}
 use Rattle.core_model.specs.Changes.{new_pair, old_pair}
 use Rattle.records.specs.declared.limits.TheConstants.{PLACES_PER_CHANGE}
@@ -227,8 +228,8 @@ abbrev pub IsReady : Active → Type 0
 IsReady x = (x.phase ≡ Made) × (x.rolling ≡ false)
 
 -- there is room for the places that a change reserves
-abbrev pub HasRoom : State → Type 0
-HasRoom s = is_indexed s.life ≡ true → len s.entries + all_reserved s.pledges + places_of true ≤ s.places
+abbrev pub HasFreePlaces : State → Type 0
+HasFreePlaces s = is_indexed s.life ≡ true → len s.entries + all_reserved s.pledges + places_of true ≤ s.places
 
 pub record CanStart (s : State) (t : ℕ) (c : ChangeValue) : Type 0 where
   pub active : IsActive s t
@@ -237,10 +238,7 @@ pub record CanStart (s : State) (t : ℕ) (c : ChangeValue) : Type 0 where
   pub before : get s.rows c.rid ≡ old_row c.rows
   pub mine : (s.holder c.rid ≡ None) ⊎ (s.holder c.rid ≡ Some t)
   pub inside : c.rid.page < s.pages
-  pub room : HasRoom s
-
-abbrev pub IsBuilding : Life → Type 0
-IsBuilding life = (highest : Option Pair) × (life ≡ Building highest)
+  pub room : HasFreePlaces s
 
 -- every page was taken, and of the pairs that every taking of their page gave, none above the last one attempted is left below this one
 pub record CanAttempt (s : State) (p : Pair) : Type 0 where

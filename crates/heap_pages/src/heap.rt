@@ -66,7 +66,8 @@ impl<A: Allocator + Copy> Heap<A> {
 
     /// The row at the place: none where it is empty, or on a page that the heap does not have.
     pub fn get(&self, rid: Rid) -> Option<Row>
-        ensures { result ≡ get self.now.rows rid }
+        ensures row { result ≡ get self.now.rows rid }
+        ensures inside { IsSome result → IsInside self.now rid }
     {
         match self.pages.get(rid.page as usize) {
             Some(page) => page.get(rid.slot),

@@ -1,5 +1,5 @@
 pub mod MapLaws
-mod PairLaws
+pub mod PairLaws
 pub mod TableLaws
 pub mod CellsLaws
 pub mod HistoryLaws

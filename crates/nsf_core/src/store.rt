@@ -8,8 +8,8 @@ ghost use Rattle.nsf_core.specs.Changes.{EachIsInside};
 use heap_pages::Heap;
 use model::Life;
 use records::{
-    Action, Body, Change, Error, Geometry, Key, Part, Record, RecordNumber, Rid, Row,
-    Rows, Sink, Txn, TxnAction,
+    Action, Body, Change, Error, Geometry, Key, Part, Record, RecordNumber, Rid, Row, Rows, Sink,
+    Txn, TxnAction,
 };
 use std::alloc::Allocator;
 use std::collections::VecDeque;
@@ -96,7 +96,7 @@ impl<A: Allocator + Copy> Core<A> {
     pub fn ready(&self, txn: Txn) -> bool
         ensures { result ≡ is_ready (state_of self.now) txn }
     {
-        self.txns.is_active(txn) && !self.txns.is_rolling_back(txn)
+        self.is_active(txn) && !self.is_rolling_back(txn)
     }
 
     /// Whether the transaction is active and rolling back: an undo of it began.
@@ -328,17 +328,14 @@ impl<A: Allocator + Copy> Core<A> {
         ensures err { IfErr result (λ e. option_or (table.touch_refusal txn rid (state_of self.now).txns.active) (no_row_refusal (map.get (state_of self.now).heap.rows rid)) ≡ Some e) }
     {
         self.txns.check_touch(txn, rid)?;
-        if rid.page >= self.heap.pages() {
-            return Err(Error::NoSuchRow);
-        }
-        self.get(rid).ok_or(Error::NoSuchRow)
+        self.heap.get(rid).ok_or(Error::NoSuchRow)
     }
 
     fn check_active(&self, txn: Txn) -> Result<(), Error>
         ensures ok { OnOk result (is_active (state_of self.now) txn ≡ true) }
         ensures err { IfErr result (λ e. (e ≡ Error.NoSuchTxn) × (is_active (state_of self.now) txn ≡ false)) }
     {
-        if !self.txns.is_active(txn) {
+        if !self.is_active(txn) {
             return Err(Error::NoSuchTxn);
         }
         Ok(())

@@ -1,4 +1,4 @@
-use Rattle.std.proofs.Common.{◌≡◌, ◌+◌, ◌≤◌, cond, true, false, suc, drop, length, slice_get, Some, sym, ap, subst, ◌∙◌, arith}
+use Rattle.std.proofs.Common.{rules, ◌≡◌, ◌+◌, ◌≤◌, cond, true, false, suc, drop, length, slice_get, Some, sym, ap, subst, ◌∙◌, arith}
 use Rattle.std.proofs.Math.ListN.{drop_of_length-le}
 use Rattle.txn_table.specs.Table.{TableValue, is_among, holder_of}
 use Rattle.txn_table.specs.Sound.{OneHolder}
@@ -37,3 +37,6 @@ returns-clause-holder g c =
 pub returns-clause-only : goal.returns-clause-only
 returns-clause-only g c = λ txn s known at.
     returns-clause-holder g c ∙ holder_is txn s c.args.rid c.args.self.now.active (subst (λ (v : TableValue). OneHolder v.active) c.self.view_is c.self.invariant.sound.one_holder) known (among_from-Contains c.args.rid s.rows at)
+
+pub loop-i-init : goal.loop-i-init
+loop-i-init g c = search rules

@@ -1,0 +1,5 @@
+use Rattle.std.proofs.Common.{rules}
+use Rattle.txn_table.proofs.table.TxnTable.is_active.Goals as goal
+
+pub returns : goal.returns
+returns g c = search rules
