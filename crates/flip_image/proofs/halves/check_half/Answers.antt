@@ -1,4 +1,4 @@
-use Rattle.std.proofs.Common.{◌∙◌, sym, ap, subst}
+use Rattle.std.proofs.Common.{rules, ◌∙◌, sym, ap, subst}
 use Rattle.std.proofs.lemmas.Result.{err_from_is_err_and}
 use Rattle.records.specs.GeometryValue.{GeometryValue}
 use Rattle.sector_device.specs.Disk.{Disk, Image}
@@ -25,3 +25,6 @@ returns-clause-refused g c =
     (λ e is. pages_refused c.args.geometry c.args.half image _ _ _ _ _ _ _ _ e c.header_sector-header.ensures c.heads_sector-heads.ensures c.pages_first-pages.ensures pages same c.in_ok-check_zeros.ensures.zeros heads
     (c.in_ok-check_zeros-2.ensures.quiet ∙ c.in_ok-check_zeros.ensures.quiet) is)
     c.check_pages.ensures.refused
+
+pub returns-clause-fresh : goal.returns-clause-fresh
+returns-clause-fresh g c = search rules
