@@ -36,11 +36,11 @@ fn start<D: Device, A: Allocator + Copy>(alloc: A, device: D) -> Result<Engine<D
     restart(alloc, device)
 }
 
-fn reply_to<D: Device, A: Allocator + Copy>(engine: &mut Engine<D, A>, event: Event) -> Reply
+fn reply_to<D: Device, A: Allocator + Copy>(engine: &mut Engine<D, A>, event: &Event) -> Reply
     requires { CanRun D.history engine.old }
     ensures { CanRun D.history engine.new }
 {
-    engine.serve(event)
+    engine.serve(*event)
 }
 
 /// Opens the store, if need be a second time, with more memory.
@@ -64,7 +64,7 @@ pub(crate) fn open<'a, D: Device>(
 fn answer<D: Device>(
     memory: &Memory,
     engine: &mut Engine<D, &Memory>,
-    event: Event,
+    event: &Event,
     refused: &mut Option<usize>,
 ) -> Reply
     requires { CanRun D.history engine.old }
@@ -91,7 +91,7 @@ fn serve<D: Device>(
     ensures { CanRun D.history engine.new }
 {
     for (event, wanted) in script {
-        let reply = answer(memory, engine, *event, refused);
+        let reply = answer(memory, engine, event, refused);
         assert_eq!(rt; reply, *wanted, "{event:?}");
     }
 }

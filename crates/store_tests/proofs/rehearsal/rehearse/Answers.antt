@@ -45,8 +45,8 @@ returns-in-Ok-restart-clause-prefix c =
     let left = c.in_ok-replies.ensures.any_crash g frame [] [] c.in_ok-format.ensures.formatted (begun c) new.moment image (spans_rise new.disk_at (SurvivesAt (log_area g A) frame (opening g.pages) c.args.events.now replies) 0 old.moment ran.borders new.moment ran.spans) (omega arith) crash in
     (left.0, left.1, c.in-Ok-restart.ensures.recovers g frame _ _ _ left.2)
 
-pub returns-clause-refused : goal.returns-clause-refused
-returns-clause-refused c =
+pub returns-in-Err-restart-clause-refused : goal.returns-in-Err-restart-clause-refused
+returns-in-Err-restart-clause-refused c =
     let g = c.args.geometry in
     let frame : Image = (history_of c.format.new.device).disk.content in
     let replies = c.in_ok-replies.replies.items in
