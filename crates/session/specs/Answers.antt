@@ -3,8 +3,8 @@ use Rattle.std.specs.Prelude.{ℕ, Option, Some, None}
 use Rattle.records.specs.declared.row.Row.{Row}
 use Rattle.first.specs.declared.event.Reply.{Reply}
 use Rattle.first.specs.declared.event.Reply.TheVariants as reply
-use Rattle.session.specs.declared.answer.Answer.{Answer}
-use Rattle.session.specs.declared.answer.Answer.TheVariants as answer
+use Rattle.replay_values.specs.declared.answer.Answer.{Answer}
+use Rattle.replay_values.specs.declared.answer.Answer.TheVariants as answer
 
 abbrev pub row_answer : Option Row → Answer
 row_answer (Some row) = answer.Row row

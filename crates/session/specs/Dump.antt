@@ -7,8 +7,8 @@ use Rattle.records.specs.declared.rid.TheConstants.{SLOTS_PER_PAGE}
 use Rattle.model.specs.Table.{Table}
 use Rattle.model.specs.declared.life.Life.TheVariants.{Absent}
 use Rattle.session.specs.Session.{rows_of}
-use Rattle.session.specs.Texts.{line_of}
-use Rattle.session.specs.declared.answer.Answer.TheVariants.{RowAt, Life}
+use Rattle.replay_values.specs.Texts.{line_of}
+use Rattle.replay_values.specs.declared.answer.Answer.TheVariants.{RowAt, Life}
 use Rattle.session.specs.declared.session.Session.{Session}
 
 -- the line of the row at a place, if one is there

@@ -2,7 +2,6 @@ pub mod Disk
 pub mod Session
 pub mod Requests
 pub mod Answers
-pub mod Texts
 pub mod Dump
 pub mod Runs
 pub mod Plays

@@ -1,5 +1,5 @@
 -- What becomes of a whole script: what is printed, and the status of the program.
-use Rattle.std.specs.Prelude.{◌≡◌, ◌⊎◌, ◌≤◌, ◌<◌, ◌+◌, ℕ, false, length, Option, Some, None, List, Result, Ok, Err}
+use Rattle.std.specs.Prelude.{◌≡◌, ◌⊎◌, ◌≤◌, ◌<◌, ◌+◌, ℕ, false, length, Option, Some, None, IfSome, List, Result, Ok, Err}
 use Rattle.std.specs.Io.KnownBytes.{Appends}
 use Rattle.std.specs.declared.alloc.Global.{Global}
 use Rattle.records.specs.GeometryValue.{GeometryValue, IsGeometry, sectors_of}
@@ -18,8 +18,8 @@ use Rattle.session.specs.Disk.{disk_history, disk_failures, LosesPower}
 use Rattle.session.specs.Session.{has_crashed, OpensOn}
 use Rattle.session.specs.Dump.{dump_text}
 use Rattle.session.specs.Runs.{Prints, RunsCommands}
-use Rattle.session.specs.declared.answer.Answer.TheVariants as answer
-use Rattle.session.specs.declared.arguments.Arguments.{Arguments}
+use Rattle.replay_values.specs.declared.answer.Answer.TheVariants as answer
+use Rattle.replay_values.specs.declared.given.Arguments.{Arguments}
 use Rattle.session.specs.declared.session.Session.{Session}
 use Rattle.session.specs.declared.session.End.{End}
 use Rattle.session.specs.declared.session.End.TheVariants as end
@@ -67,6 +67,10 @@ IsFault arguments text e =
     × (((e ≡ BadGeometry) × ¬ IsGeometry (geometry_of arguments))
     ⊎ (IsGeometry (geometry_of arguments) × IsNoStart (sectors_asked arguments.sectors (geometry_of arguments)) (geometry_of arguments) e)))
 
+-- the text is all that the input has, where that is known
+abbrev pub IsWhole : Option (List ℕ) → List ℕ → Type 0
+IsWhole input text = IfSome input (λ bytes. text ≡ bytes)
+
 module _ {W : Type 0} (contents : W → Option (List ℕ)) where
   -- the refusal was printed, and the status says so
   abbrev pub IsRefused : Error → ℕ → W → W → Type 0
@@ -99,3 +103,15 @@ module _ {W : Type 0} (contents : W → Option (List ℕ)) where
       ⊎ ((commands : List Command) × (session : Session) × (last : Result (Unit {0}) End) × (between : W)
       × IsScript (lines text) commands × StartsFor arguments session
       × RunsCommands contents commands session last before between × Ends arguments last status between after)
+
+  -- The whole input was played as a script.
+  abbrev pub PlaysInput : Arguments → Option (List ℕ) → ℕ → W → W → Type 0
+  PlaysInput arguments input status before after =
+      (text : List ℕ) × IsWhole input text × Plays arguments text status before after
+
+  -- The whole input was played under some arguments. Or nothing of it was read: help was printed, with the status 0, or
+  -- nothing, with the status 2.
+  abbrev pub RunsWords : {R : Type 0} → (R → Option (List ℕ)) → R → R → ℕ → W → W → Type 0
+  RunsWords remaining input input' status before after =
+      ((arguments : Arguments) × PlaysInput arguments (remaining input) status before after)
+      ⊎ ((input' ≡ input) × ((status ≡ 0) ⊎ ((status ≡ 2) × (after ≡ before))))

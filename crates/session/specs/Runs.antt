@@ -11,10 +11,10 @@ use Rattle.script.specs.declared.command.Command.{Command}
 use Rattle.session.specs.Disk.{LosesPower}
 use Rattle.session.specs.Session.{has_crashed, disk_of, last_made, outcome_of, Serves, Flushes, calls_to_stop, Reopens}
 use Rattle.session.specs.Requests.{request_of, only_reads}
-use Rattle.session.specs.Texts.{line_of}
+use Rattle.replay_values.specs.Texts.{line_of}
 use Rattle.session.specs.Dump.{dump_text}
-use Rattle.session.specs.declared.answer.Answer.{Answer}
-use Rattle.session.specs.declared.answer.Answer.TheVariants as answer
+use Rattle.replay_values.specs.declared.answer.Answer.{Answer}
+use Rattle.replay_values.specs.declared.answer.Answer.TheVariants as answer
 use Rattle.session.specs.declared.request.Request.{Request}
 use Rattle.session.specs.declared.request.Request.TheVariants as request
 use Rattle.session.specs.declared.session.Session.{Session}

@@ -1,18 +1,19 @@
 -- A store under a script.
-use Rattle.std.specs.Prelude.{◌≡◌, ◌⊎◌, ◌-◌, ◌&&◌, ℕ, nat_lt, Bool, true, false, List, [], ◌∷◌, Result, Ok, Err, if◌then◌else◌}
+use Rattle.std.specs.Prelude.{◌≡◌, ◌-◌, ◌&&◌, ℕ, nat_lt, Bool, true, false, List, [], ◌∷◌, Result, Ok, Err, if◌then◌else◌}
 use Rattle.std.specs.declared.alloc.Global.{Global}
 use Rattle.records.specs.GeometryValue.{GeometryValue}
 use Rattle.records.specs.declared.error.Error.{Error}
-use Rattle.records.specs.declared.error.Error.TheVariants.{NoMemory, DeviceFailed}
+use Rattle.records.specs.declared.error.Error.TheVariants.{DeviceFailed}
 use Rattle.sector_device.specs.FaultDisk.{made_of}
 use Rattle.sector_device.specs.declared.fault.FaultDisk.{FaultDisk}
 use Rattle.sector_device.specs.declared.memory.MemDisk.{MemDisk}
 use Rattle.model.specs.Table.{Table}
-use Rattle.first.specs.Lawful.{AreLawful}
+use Rattle.first.specs.Lawful.{IsLawful}
 use Rattle.first.specs.Parts.{core_of, device_of}
 use Rattle.first.specs.Parts as engine
 use Rattle.first.specs.Reopening.{IsOpened, IsNotOpened}
 use Rattle.first.specs.Store.{CanRun}
+use Rattle.first.specs.Store as store
 use Rattle.first.specs.declared.engine.Engine.{Engine}
 use Rattle.first.specs.declared.event.Event.{Event}
 use Rattle.first.specs.declared.event.Event.TheVariants.{Flush}
@@ -20,7 +21,7 @@ use Rattle.first.specs.declared.event.Reply.{Reply}
 use Rattle.first.specs.declared.event.Reply.TheVariants.{Horizon, Refused}
 use Rattle.session.specs.Answers.{answer_of}
 use Rattle.session.specs.Disk.{disk_history, disk_failures}
-use Rattle.session.specs.declared.answer.Answer.{Answer}
+use Rattle.replay_values.specs.declared.answer.Answer.{Answer}
 use Rattle.session.specs.declared.session.Session.{Session}
 use Rattle.session.specs.declared.session.Stopped.{Stopped}
 use Rattle.session.specs.declared.session.End.{End}
@@ -78,11 +79,11 @@ horizon_of session = session.horizon
 abbrev pub last_made : Session → ℕ
 last_made session = (core_of session.engine).last
 
--- The engine ran the one event, and this is its lawful reply; or there was no memory for a reply, and nothing was done.
+-- The engine served the event with this lawful reply. At whatever run it was, it now is at that run with the event and the
+-- reply behind it, and a crash of the disk at any moment of it leaves what a prefix of the run committed, with all that an
+-- earlier reply has told to be safe.
 abbrev pub IsReply : Event → Reply → Engine (FaultDisk (MemDisk Global)) Global → Engine (FaultDisk (MemDisk Global)) Global → Type 0
-IsReply event reply old new =
-    AreLawful disk_failures (event ∷ []) (reply ∷ []) old new
-    ⊎ ((reply ≡ Refused NoMemory) × (new ≡ old))
+IsReply event reply old new = IsLawful disk_failures event reply old new × store.Serves disk_history event reply old new
 
 -- whether the reply tells that the write or sync that was to be cut short was made
 abbrev pub is_stop : Session → Reply → Bool

@@ -2,12 +2,10 @@
 //! to the lines that it prints.
 #![tactic(auto)]
 
-mod answer;
-mod arguments;
 mod program;
+mod reply;
 mod request;
 mod session;
-mod text;
 
-pub use arguments::Arguments;
-pub use program::{run, run_script};
+pub use program::{run, run_input, run_script};
+pub use replay_values::Arguments;

@@ -1,16 +1,16 @@
 //! The program over what it reads and writes.
-ghost use Rattle.std.specs.Prelude.{◌≡◌, ◌≤◌, IfOk, IfErr, OnOk};
+ghost use Rattle.std.specs.Prelude.{◌≡◌, ◌⊎◌, IfOk, IfErr, OnOk};
 ghost use Rattle.script.specs.Grammar.{lines, IsScript};
 ghost use Rattle.session.specs.Session.{IsOpen};
 ghost use Rattle.session.specs.Runs.{Prints, GoesOn, Restarts, Runs, RunsRequest, RunsCommand, RunsCommands};
-ghost use Rattle.session.specs.Plays.{geometry_of, sectors_asked, Starts, IsNoStart, IsCutAt, StartsFor, IsFault, IsRefused, IsStopped, Ends, Plays};
+ghost use Rattle.session.specs.Plays.{geometry_of, sectors_asked, Starts, IsNoStart, IsCutAt, StartsFor, IsFault, IsRefused, IsStopped, Ends, Plays, IsWhole, PlaysInput, RunsWords};
 
-use crate::answer::Answer;
-use crate::arguments::Arguments;
 use crate::request::Request;
 use crate::session::{Disk, End, Session, Stopped};
+use arguments::NoArguments;
 use flip_image::Halves;
 use records::{Error, Geometry};
+use replay_values::{Answer, Arguments};
 use script::Command;
 use sector_device::{Fate, FaultDisk, MemDisk, Which};
 use std::alloc::Global;
@@ -277,54 +277,52 @@ pub fn run_script<W: Write>(
 }
 
 // The whole of the input.
-fn all_of(alloc: Global, input: &mut impl Read) -> io::Result<Vec<u8>> {
+fn all_of<R: Read>(alloc: Global, input: &mut R) -> io::Result<Vec<u8>>
+    ensures { IfOk result (λ text. IsWhole (R.remaining input.old) text.items) }
+{
     let mut bytes = Vec::new(alloc);
     input.read_to_end(&mut bytes)?;
     Ok(bytes)
 }
 
-// Prints what clap has to say, and answers the exit status.
-fn usage(error: &clap::Error, output: &mut impl Write, errors: &mut impl Write) -> u8
-    ensures { result ≤ 2 }
+/// Runs the script that the input holds, as the arguments ask, and answers the exit status: that of `run_script`, or 1
+/// where the input can't be read or the output can't be written.
+pub fn run_input<R: Read, W: Write>(
+    alloc: Global,
+    arguments: &Arguments,
+    input: &mut R,
+    output: &mut W,
+    errors: &mut impl Write,
+) -> u8
+    ensures { (result ≡ 1) ⊎ PlaysInput W.contents arguments.now (R.remaining input.old) result output.old output.new }
 {
-    if error.use_stderr() {
-        let _ = write!(errors, "{error}");
-        return 2;
-    }
-    match write!(output, "{error}") {
-        Ok(()) => 0,
-        Err(_) => 1,
+    match all_of(alloc, input) {
+        Ok(text) => run_script(alloc, arguments, &text, output).unwrap_or(1),
+        Err(error) if error.kind() == ErrorKind::OutOfMemory => {
+            refused(output, Error::NoMemory).unwrap_or(1)
+        }
+        Err(_) => {
+            let _ = writeln!(errors, "nsf: cannot read standard input");
+            1
+        }
     }
 }
 
 /// Runs the program on these words, the first of them its own name, and answers its exit status:
-/// 0 where the script ran, 1 where input, output, script or device failed or was refused, 2 for bad
+/// 0 where the script ran or help was asked for, 1 where input, output, script or device failed or was refused, 2 for bad
 /// arguments.
-pub fn run<S: AsStr>(
+pub fn run<S: AsStr, R: Read, W: Write>(
     alloc: Global,
     words: &[S],
-    input: &mut impl Read,
-    output: &mut impl Write,
+    input: &mut R,
+    output: &mut W,
     errors: &mut impl Write,
 ) -> u8
-    ensures { result ≤ 2 }
+    ensures { (result ≡ 1) ⊎ RunsWords W.contents R.remaining input.old input.new result output.old output.new }
 {
-    let arguments = match Arguments::read(alloc, words) {
-        Ok(arguments) => arguments,
-        Err(error) if error.kind() == clap::error::ErrorKind::OutOfMemory => {
-            return refused(output, Error::NoMemory).unwrap_or(1);
-        }
-        Err(error) => return usage(&error, output, errors),
-    };
-    let text = match all_of(alloc, input) {
-        Ok(text) => text,
-        Err(error) if error.kind() == ErrorKind::OutOfMemory => {
-            return refused(output, Error::NoMemory).unwrap_or(1);
-        }
-        Err(_) => {
-            let _ = writeln!(errors, "nsf: cannot read standard input");
-            return 1;
-        }
-    };
-    run_script(alloc, &arguments, &text, output).unwrap_or(1)
+    match arguments::read(alloc, words, output, errors) {
+        Ok(arguments) => run_input(alloc, &arguments, input, output, errors),
+        Err(NoArguments::NoMemory) => refused(output, Error::NoMemory).unwrap_or(1),
+        Err(NoArguments::Told(status)) => status,
+    }
 }

@@ -10,10 +10,11 @@ ghost use Rattle.session.specs.Disk.{disk_history, disk_failures, LosesPower};
 ghost use Rattle.session.specs.Session.{asks_again, tells_stop};
 ghost use Rattle.session.specs.Dump.{row_line, slot_lines, dump_text};
 
-use crate::answer::Answer;
+use crate::reply::answer_of;
 use first::{Engine, Event, Reply, restart};
 use model::Life;
 use records::{Error, Geometry, Rid, SLOTS_PER_PAGE};
+use replay_values::Answer;
 use sector_device::{Fate, FaultDisk, MemDisk, Which};
 use std::alloc::Global;
 use std::io;
@@ -164,13 +165,7 @@ impl Session {
         ensures serves { Serves event result self.old self.new }
         ensures open { IsOpen self.new }
     {
-        match self.engine.run(&[event]) {
-            Ok(replies) => match replies.as_slice() {
-                [reply] => *reply,
-                _ => unreachable!(),
-            },
-            Err(error) => Reply::Refused(error),
-        }
+        self.engine.serve(event)
     }
 
     // What is answered for the reply.
@@ -180,7 +175,7 @@ impl Session {
         if self.is_stop(&reply) {
             return Err(Stopped);
         }
-        Ok(Answer::of(reply, self.horizon))
+        Ok(answer_of(reply, self.horizon))
     }
 
     /// Serves one event.

@@ -1,7 +1,7 @@
-use Rattle.std.proofs.Common.{◌≡◌, inl, inr, ℕ, refl, subst}
+use Rattle.std.proofs.Common.{inl, inr, ℕ, refl, subst}
 use Rattle.std.proofs.lemmas.Result.{IfOk-weaker}
 use Rattle.model.specs.declared.life.Life.{Life}
-use Rattle.session.specs.declared.answer.Answer.TheVariants.{Restart}
+use Rattle.replay_values.specs.declared.answer.Answer.TheVariants.{Restart}
 use Rattle.session.specs.Runs.{Prints}
 use Rattle.session.specs.Plays.{IsRefused, IsStopped}
 use Rattle.session.proofs.program.after_stop.Goals as goal

@@ -1,7 +1,7 @@
 use Rattle.std.proofs.Common.{subst}
 use Rattle.model.specs.declared.life.Life.{Life}
 use Rattle.session.specs.Runs.{Prints}
-use Rattle.session.specs.declared.answer.Answer.TheVariants.{Restart}
+use Rattle.replay_values.specs.declared.answer.Answer.TheVariants.{Restart}
 use Rattle.session.proofs.program.crash.Goals as goal
 
 pub returns-in_ok-print-in-Ok-clause-restarts : goal.returns-in_ok-print-in-Ok-clause-restarts

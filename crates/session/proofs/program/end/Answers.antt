@@ -1,4 +1,4 @@
-use Rattle.std.proofs.Common.{◌≡◌, ℕ, Result, Err, IfOk, sym, subst}
+use Rattle.std.proofs.Common.{ℕ, Result, Err, IfOk, sym, subst}
 use Rattle.records.specs.GeometryValue.{GeometryValue}
 use Rattle.session.specs.declared.session.End.{End}
 use Rattle.session.specs.Plays.{IsStopped, Ends}

@@ -1,4 +1,4 @@
-use Rattle.std.proofs.Common.{◌≡◌, inl, inr, ℕ, sym, subst}
+use Rattle.std.proofs.Common.{inl, inr, ℕ, sym, subst}
 use Rattle.std.proofs.lemmas.Result.{IfOk-weaker}
 use Rattle.script.specs.Grammar.{lines, IsScript}
 use Rattle.session.specs.Plays.{IsRefused, Ends, Plays}

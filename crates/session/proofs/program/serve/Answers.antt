@@ -3,7 +3,7 @@ use Rattle.first.specs.declared.event.Event.{Event}
 use Rattle.first.specs.declared.event.Reply.{Reply}
 use Rattle.session.specs.Session.{Serves, Flushes, last_made, outcome_of}
 use Rattle.session.specs.Runs.{GoesOn, Runs}
-use Rattle.session.specs.declared.answer.Answer.{Answer}
+use Rattle.replay_values.specs.declared.answer.Answer.{Answer}
 use Rattle.session.specs.declared.request.Request.{Request}
 use Rattle.session.specs.declared.request.Request.TheVariants as request
 use Rattle.session.specs.declared.session.Session.{Session}

@@ -10,8 +10,8 @@ use Rattle.records.specs.declared.pair.Pair.{Pair}
 use Rattle.model.specs.declared.life.Life.{Life}
 use Rattle.model.specs.declared.life.Life.TheVariants.{Absent, Building, Complete}
 use Rattle.script.specs.Grammar.{rid_text}
-use Rattle.session.specs.declared.answer.Answer.{Answer}
-use Rattle.session.specs.declared.answer.Answer.TheVariants as answer
+use Rattle.replay_values.specs.declared.answer.Answer.{Answer}
+use Rattle.replay_values.specs.declared.answer.Answer.TheVariants as answer
 
 -- `:` and two lower-case hexadecimal digits for each byte
 abbrev pub bytes_text : List ℕ → List ℕ

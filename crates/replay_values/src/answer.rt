@@ -1,8 +1,5 @@
 //! The lines that the program prints.
-ghost use Rattle.std.specs.Prelude.{◌≡◌};
-
 use crate::text::{LifeText, Place, Refusal, RowText};
-use first::Reply;
 use model::Life;
 use records::{Error, Rid, Row, Txn};
 use std::fmt;
@@ -42,42 +39,9 @@ pub enum Answer {
     Refused(Error),
 }
 
-impl Answer {
-    ghost use Rattle.session.specs.Answers.{answer_of, row_answer};
-
-    /// The line for this reply, where all records up to the horizon were synced before it.
-    pub fn of(reply: Reply, horizon: u64) -> Self
-        ensures { result ≡ answer_of horizon reply }
-    {
-        match reply {
-            Reply::Txn(txn) => Answer::Txn(txn),
-            Reply::Rid(rid) => Answer::Rid(rid),
-            Reply::Stepped | Reply::Ended => Answer::Done,
-            Reply::Undone => Answer::Undone,
-            Reply::Empty => Answer::Empty,
-            Reply::Ticket(ticket) => Answer::Ticket(ticket.record.get()),
-            Reply::Horizon(number) => Answer::Horizon(number),
-            Reply::LogFull => Answer::Horizon(horizon),
-            Reply::Row(row) => Answer::of_row(row),
-            Reply::Life(life) => Answer::Life(life),
-            Reply::Skipped => Answer::Skipped,
-            Reply::Refused(error) => Answer::Refused(error),
-        }
-    }
-
-    fn of_row(row: Option<Row>) -> Self
-        ensures { result ≡ row_answer row }
-    {
-        match row {
-            Some(row) => Answer::Row(row),
-            None => Answer::NoRow,
-        }
-    }
-}
-
 impl fmt::Display for Answer {
     ghost use Rattle.std.specs.Prelude.{Some};
-    ghost use Rattle.session.specs.Texts.{answer_text};
+    ghost use Rattle.replay_values.specs.Texts.{answer_text};
 
     ghost output = { λ a. Some (answer_text a) };
 

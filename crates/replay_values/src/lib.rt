@@ -1,0 +1,9 @@
+//! The values of the program `nsf-replay`: what its arguments ask for, and the lines that it prints.
+#![tactic(auto)]
+
+mod answer;
+mod given;
+mod text;
+
+pub use answer::Answer;
+pub use given::{Arguments, FATES, Given, fate_named};
