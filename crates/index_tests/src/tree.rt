@@ -51,10 +51,6 @@ fn found_is(rt: &impl Abort, tree: &BTree<Global>, number: u32, want: (Option<Ma
     assert_eq!(rt; tree.get(&pair), want);
 }
 
-fn least_is(rt: &impl Abort, tree: &BTree<Global>, want: Option<(Pair, Mark)>) {
-    assert_eq!(rt; tree.above(None), want);
-}
-
 fn above_is(rt: &impl Abort, tree: &BTree<Global>, number: u32, want: Option<(Pair, Mark)>) {
     let pair = pair_of(rt, number);
     assert_eq!(rt; tree.above(Some(&pair)), want);
@@ -83,21 +79,9 @@ fn walk(tree: &BTree<Global>) -> usize {
     ENTRIES_MAX + 1
 }
 
-#[test]
-fn an_empty_tree_has_no_node(rt: HostRuntime) {
-    let tree = BTree::new(rt.alloc());
-    height_is(&rt, &tree, 0, 0);
-    assert!(rt; tree.len() == 0 && tree.is_empty());
-    found_is(&rt, &tree, 1, (None, 0));
-    least_is(&rt, &tree, None);
-    above_is(&rt, &tree, 1, None);
-}
-
 fn two_entries_are_found(rt: &impl Abort, tree: &BTree<Global>) {
-    let low = pair_of(rt, 1);
     let high = pair_of(rt, 2);
     found_is(rt, tree, 1, (Some(Mark::Live), 1));
-    least_is(rt, tree, Some((low, Mark::Live)));
     above_is(rt, tree, 1, Some((high, Mark::Marked)));
     above_is(rt, tree, 2, None);
 }
@@ -105,6 +89,7 @@ fn two_entries_are_found(rt: &impl Abort, tree: &BTree<Global>) {
 #[test]
 fn marks_are_found_and_changed(rt: HostRuntime) {
     let mut tree = BTree::new(rt.alloc());
+    assert!(rt; tree.is_empty());
     put(&rt, &mut tree, 2, Mark::Marked);
     put(&rt, &mut tree, 1, Mark::Live);
     two_entries_are_found(&rt, &tree);
@@ -149,15 +134,6 @@ fn is_full_and_low(rt: &impl Abort, tree: &BTree<Global>) {
 fn ascending_pairs_give_few_levels(rt: HostRuntime) {
     let mut tree = BTree::new(rt.alloc());
     for number in 0..65_536u32 {
-        put(&rt, &mut tree, number, Mark::Live);
-    }
-    is_full_and_low(&rt, &tree);
-}
-
-#[test]
-fn descending_pairs_give_few_levels(rt: HostRuntime) {
-    let mut tree = BTree::new(rt.alloc());
-    for number in (0..65_536u32).rev() {
         put(&rt, &mut tree, number, Mark::Live);
     }
     is_full_and_low(&rt, &tree);

@@ -1,8 +1,9 @@
 use heap_pages::Heap;
 use linked_list_allocator::LocalHeap;
 use records::{Body, Error, Key, Pair, Rid, Row, SLOTS_PER_PAGE};
-use std::alloc::{Allocator, Global};
 use std::process::Abort;
+
+const LOW: Rid = Rid { page: 0, slot: 5 };
 
 fn row(rt: &impl Abort, key: &[u8]) -> Row {
     Row {
@@ -11,112 +12,27 @@ fn row(rt: &impl Abort, key: &[u8]) -> Row {
     }
 }
 
-fn pair(rt: &impl Abort, key: &[u8], rid: Rid) -> Pair {
-    let key = Key::new(key).expect(rt, "a key");
-    Pair { key, rid }
-}
-
 // The calls of a heap. None says anything before it runs.
 
-fn new_heap(rt: &impl Abort, alloc: Global) -> Heap<Global> {
-    let heap = Heap::new(alloc, 2).expect(rt, "a heap");
-    assert!(rt; heap.pages() == 2);
-    heap
-}
-
-fn put<A: Allocator + Copy>(rt: &impl Abort, heap: &mut Heap<A>, rid: Rid, row: Option<Row>) {
+fn put(rt: &impl Abort, heap: &mut Heap<&LocalHeap>, rid: Rid, row: Option<Row>) {
     assert!(rt; rid.page < heap.pages());
     heap.set(rid, row);
 }
 
-fn put_row<A: Allocator + Copy>(rt: &impl Abort, heap: &mut Heap<A>, rid: Rid, key: &[u8]) {
-    let row = row(rt, key);
-    put(rt, heap, rid, Some(row));
-}
-
-fn pairs_of<A: Allocator + Copy>(
-    rt: &impl Abort,
-    heap: &Heap<A>,
-    page: u32,
-) -> Result<Vec<Pair, A>, Error> {
-    assert!(rt; page < heap.pages());
-    heap.page_pairs(page)
-}
-
-fn free_is<A: Allocator + Copy>(
-    rt: &impl Abort,
-    heap: &Heap<A>,
-    held: &[Rid],
-    want: Result<Rid, Error>,
-) {
-    assert_eq!(rt; heap.least_free(held), want);
-}
-
-fn row_is<A: Allocator + Copy>(rt: &impl Abort, heap: &Heap<A>, rid: Rid, want: Option<Row>) {
+fn row_is(rt: &impl Abort, heap: &Heap<&LocalHeap>, rid: Rid, want: Option<Row>) {
     assert_eq!(rt; heap.get(rid), want);
 }
 
-fn has_row<A: Allocator + Copy>(rt: &impl Abort, heap: &Heap<A>, rid: Rid, key: &[u8]) {
-    let want = row(rt, key);
-    row_is(rt, heap, rid, Some(want));
+fn free_is(rt: &impl Abort, heap: &Heap<&LocalHeap>, held: &[Rid], want: Result<Rid, Error>) {
+    assert_eq!(rt; heap.least_free(held), want);
 }
 
-fn pairs_are(rt: &impl Abort, heap: &Heap<Global>, page: u32, want: &[Pair]) {
-    let pairs = pairs_of(rt, heap, page).expect(rt, "the pairs");
-    assert_eq!(rt; pairs.as_slice(), want);
-}
-
-// Fills each slot of two pages, in order.
-fn fill(rt: &impl Abort, heap: &mut Heap<Global>) {
-    for page in 0..2 {
-        for slot in 0..SLOTS_PER_PAGE {
-            let rid = Rid { page, slot };
-            free_is(rt, heap, &[], Ok(rid));
-            put_row(rt, heap, rid, b"ant");
-        }
-    }
-    free_is(rt, heap, &[], Err(Error::HeapFull));
-}
-
-const LOW: Rid = Rid { page: 0, slot: 5 };
-
-const HIGH: Rid = Rid { page: 1, slot: 62 };
-
-// With two holes, each of which may be held.
-fn holes_are_found(rt: &impl Abort, heap: &Heap<Global>) {
-    free_is(rt, heap, &[], Ok(LOW));
-    free_is(rt, heap, &[LOW], Ok(HIGH));
-    free_is(rt, heap, &[Rid { page: 1, slot: 5 }, HIGH], Ok(LOW));
-    free_is(rt, heap, &[HIGH, LOW], Err(Error::HeapFull));
-}
-
-#[test]
-fn two_pages_are_filled_and_holes_are_found(rt: HostRuntime) {
-    let mut heap = new_heap(&rt, rt.alloc());
-    fill(&rt, &mut heap);
-    put(&rt, &mut heap, HIGH, None);
-    put(&rt, &mut heap, LOW, None);
-    holes_are_found(&rt, &heap);
-    put_row(&rt, &mut heap, LOW, b"bee");
-    free_is(&rt, &heap, &[], Ok(HIGH));
-    has_row(&rt, &heap, LOW, b"bee");
-    row_is(&rt, &heap, HIGH, None);
-    row_is(&rt, &heap, Rid { page: 2, slot: 0 }, None);
-}
-
-#[test]
-fn pairs_of_a_page_come_in_the_order_of_their_slots(rt: HostRuntime) {
-    let mut heap = new_heap(&rt, rt.alloc());
+fn first_pairs(rt: &impl Abort, heap: &Heap<&LocalHeap>) -> Result<usize, Error> {
+    assert!(rt; 0 < heap.pages());
+    let pairs = heap.page_pairs(0)?;
     let last = Rid { page: 0, slot: 62 };
-    let first = Rid { page: 0, slot: 0 };
-    let other = Rid { page: 1, slot: 1 };
-    put_row(&rt, &mut heap, last, b"a");
-    put_row(&rt, &mut heap, other, b"b");
-    put_row(&rt, &mut heap, first, b"c");
-    let want = [pair(&rt, b"c", first), pair(&rt, b"a", last)];
-    pairs_are(&rt, &heap, 0, &want);
-    let want = [pair(&rt, b"b", other)];
-    pairs_are(&rt, &heap, 1, &want);
+    assert!(rt; pairs.last().map(|pair: &Pair| pair.rid) == Some(last));
+    Ok(pairs.len())
 }
 
 #[derive(Clone, Copy, PartialEq, Eq)]
@@ -126,33 +42,30 @@ enum Listed {
     Done,
 }
 
-// Whether the pairs of this full page were listed: memory may be wanting.
-fn is_listed<A: Allocator + Copy>(rt: &impl Abort, heap: &Heap<A>) -> bool {
-    match pairs_of(rt, heap, 0) {
-        Ok(pairs) => {
-            assert!(rt; pairs.len() == 63);
-            true
+// Fills the one page but for a slot that is emptied again, and lists its pairs.
+fn fill_and_list(rt: &impl Abort, heap: &mut Heap<&LocalHeap>) -> Listed {
+    let there = Some(row(rt, b"ant"));
+    for slot in 0..SLOTS_PER_PAGE {
+        put(rt, heap, Rid { page: 0, slot }, there);
+    }
+    free_is(rt, heap, &[], Err(Error::HeapFull));
+    put(rt, heap, LOW, None);
+    let listed = first_pairs(rt, heap);
+    for slot in 0..SLOTS_PER_PAGE {
+        let rid = Rid { page: 0, slot };
+        row_is(rt, heap, rid, if rid == LOW { None } else { there });
+    }
+    free_is(rt, heap, &[], Ok(LOW));
+    free_is(rt, heap, &[LOW], Err(Error::HeapFull));
+    match listed {
+        Ok(count) => {
+            assert!(rt; count == 62);
+            Listed::Done
         }
         Err(error) => {
             assert!(rt; error == Error::NoMemory);
-            false
+            Listed::WithoutPairs
         }
-    }
-}
-
-fn fill_and_list<A: Allocator + Copy>(rt: &impl Abort, heap: &mut Heap<A>) -> Listed {
-    for slot in 0..SLOTS_PER_PAGE {
-        put_row(rt, heap, Rid { page: 0, slot }, b"ant");
-    }
-    let listed = is_listed(rt, heap);
-    for slot in 0..SLOTS_PER_PAGE {
-        has_row(rt, heap, Rid { page: 0, slot }, b"ant");
-    }
-    free_is(rt, heap, &[], Err(Error::HeapFull));
-    if listed {
-        Listed::Done
-    } else {
-        Listed::WithoutPairs
     }
 }
 

@@ -2,7 +2,7 @@
 use linked_list_allocator::LocalHeap;
 use records::{
     Action, Body, Change, Error, Geometry, IndexAction, Key, Pair, Part, Record, RecordNumber, Rid,
-    Row, Rows, Sink, Txn, TxnAction, compare_pairs, compare_rids,
+    Row, Rows, SLOTS_PER_PAGE, Sink, Txn, TxnAction, compare_pairs, compare_rids,
 };
 use std::alloc::Global;
 use std::process::Abort;
@@ -74,26 +74,7 @@ fn decoded(bytes: &[u8]) -> Option<(Record, usize)> {
     Record::decode(bytes)
 }
 
-fn size(record: &Record) -> usize {
-    record.size()
-}
-
-// No prefix of the spelling is a record's.
-fn check_prefixes(rt: &impl Abort, spelled: &[u8]) {
-    for len in 0..spelled.len() {
-        assert_eq!(rt; decoded(&spelled[..len]), None, "of {len} bytes");
-    }
-}
-
-// The spelling with a byte behind it.
-fn longer(alloc: Global, spelled: &[u8]) -> Result<Vec<u8>, Fail> {
-    let mut bytes = spelled.to_vec(alloc)?;
-    bytes.push(1)?;
-    Ok(bytes)
-}
-
-// The record has this spelling, which is read back to it, and each prefix of
-// the spelling is of no record.
+// The record has this spelling, which is read back to it.
 fn check_spelling(
     rt: &impl Abort,
     alloc: Global,
@@ -101,14 +82,11 @@ fn check_spelling(
     spelled: &[u8],
 ) -> Result<(), Fail> {
     assert_eq!(rt; encoded(alloc, &record)?.as_slice(), spelled);
-    assert_eq!(rt; size(&record), spelled.len());
-    let found = decoded(&longer(alloc, spelled)?);
-    assert_eq!(rt; found, Some((record, spelled.len())));
-    check_prefixes(rt, spelled);
+    assert_eq!(rt; decoded(spelled), Some((record, spelled.len())));
     Ok(())
 }
 
-// The vectors of the format document, both ways, and each prefix of them.
+// The vectors of the format document, both ways.
 #[test]
 fn records_of_transactions(rt: HostRuntime) -> Result<(), Fail> {
     let inserted = insertion(b"ant", b"x")?;
@@ -161,79 +139,46 @@ fn spellings_of_no_record(rt: HostRuntime) -> Result<(), Fail> {
     Ok(())
 }
 
-// These bytes are those of a key.
-fn check_key(rt: &impl Abort, bytes: &[u8]) -> Result<(), Fail> {
-    assert_eq!(rt; Key::new(bytes)?.as_slice(), bytes);
-    Ok(())
-}
-
 #[test]
-fn lengths_of_keys(rt: HostRuntime) -> Result<(), Fail> {
-    check_key(&rt, b"")?;
-    check_key(&rt, &[7; 24])?;
-    assert_eq!(rt; Key::new(&[7; 25]), Err(Error::KeyTooLong));
-    Ok(())
+fn lengths_of_keys_and_bodies(rt: HostRuntime) {
+    assert!(rt; Key::new(&[7; 24]).is_ok());
+    assert!(rt; Key::new(&[7; 25]) == Err(Error::KeyTooLong));
+    assert!(rt; Body::new(&[7; 37]).is_ok());
+    assert!(rt; Body::new(&[7; 38]) == Err(Error::BodyTooLong));
 }
 
-// These bytes are those of a body.
-fn check_body(rt: &impl Abort, bytes: &[u8]) -> Result<(), Fail> {
-    assert_eq!(rt; Body::new(bytes)?.as_slice(), bytes);
-    Ok(())
+fn pair(key: &[u8], page: u32, slot: u16) -> Result<Pair, Fail> {
+    let key = Key::new(key)?;
+    let slot = slot % SLOTS_PER_PAGE;
+    Ok(Pair {
+        key,
+        rid: Rid { page, slot },
+    })
 }
 
+// Keys in the order of their bytes, and then pages and slots.
 #[test]
-fn lengths_of_bodies(rt: HostRuntime) -> Result<(), Fail> {
-    check_body(&rt, b"")?;
-    check_body(&rt, &[7; 37])?;
-    assert_eq!(rt; Body::new(&[7; 38]), Err(Error::BodyTooLong));
-    Ok(())
-}
-
-// Whether the keys of these bytes stand in this order.
-fn are_in_order(low: &[u8], high: &[u8]) -> Result<bool, Fail> {
-    Ok(Key::new(low)? < Key::new(high)?)
-}
-
-#[test]
-fn keys_in_order(rt: HostRuntime) -> Result<(), Fail> {
-    assert!(rt; are_in_order(b"", b"\0")?);
-    assert!(rt; are_in_order(b"\0", b"a")?);
-    assert!(rt; are_in_order(b"a", b"a\0")?);
-    assert!(rt; are_in_order(b"a\0", b"b")?);
-    Ok(())
-}
-
-#[test]
-fn places_in_order(rt: HostRuntime) -> Result<(), Fail> {
-    let last = Rid { page: 0, slot: 62 };
-    let next = Rid { page: 1, slot: 0 };
-    assert!(rt; compare_rids(&last, &next).is_lt());
-    let key = Key::new(b"a")?;
-    let high = Pair {
-        key: Key::new(b"a\0")?,
-        rid: last,
-    };
-    assert!(rt; compare_pairs(&Pair { key, rid: next }, &high).is_lt());
-    assert!(rt; compare_pairs(&Pair { key, rid: last }, &Pair { key, rid: next }).is_lt());
+fn pairs_in_order(rt: HostRuntime) -> Result<(), Fail> {
+    let mut last = pair(b"", 0, 0)?;
+    let pairs = [
+        (b"\0".as_slice(), 0, 62),
+        (b"\0", 1, 0),
+        (b"a", 0, 0),
+        (b"a\0", 0, 0),
+        (b"b", 0, 0),
+    ];
+    for (key, page, slot) in pairs {
+        let next = pair(key, page, slot)?;
+        assert!(rt; compare_pairs(&last, &next).is_lt(), "{next:?}");
+        last = next;
+    }
+    let low = Rid { page: 0, slot: 62 };
+    assert!(rt; compare_rids(&low, &Rid { page: 1, slot: 0 }).is_lt());
     Ok(())
 }
 
 fn printed(alloc: Global, error: Error) -> Result<String, Fail> {
     Ok(format!(in alloc; "{error}")?)
-}
-
-fn number_and_name(alloc: Global, error: Error) -> Result<String, Fail> {
-    let number = error.number();
-    let name = error.name();
-    Ok(format!(in alloc; "{number} {name}")?)
-}
-
-// The refusal is printed so, and that begins with its number and its name.
-fn check_text(rt: &impl Abort, alloc: Global, error: Error, text: &str) -> Result<(), Fail> {
-    assert_eq!(rt; printed(alloc, error)?.as_str(), text);
-    let head = number_and_name(alloc, error)?;
-    assert!(rt; text.starts_with(head.as_str()), "{text}");
-    Ok(())
 }
 
 #[test]
@@ -250,16 +195,6 @@ fn refusals_printed(rt: HostRuntime) -> Result<(), Fail> {
         (Error::NoSuchTxn, "9 NoSuchTxn"),
         (Error::NoSuchRow, "10 NoSuchRow"),
         (Error::RowBusy, "11 RowBusy"),
-    ];
-    for (error, text) in texts {
-        check_text(&rt, rt.alloc(), error, text)?;
-    }
-    Ok(())
-}
-
-#[test]
-fn later_refusals_printed(rt: HostRuntime) -> Result<(), Fail> {
-    let texts = [
         (Error::HeapFull, "12 HeapFull"),
         (Error::IndexFull, "13 IndexFull"),
         (Error::KeyTooLong, "14 KeyTooLong"),
@@ -273,7 +208,7 @@ fn later_refusals_printed(rt: HostRuntime) -> Result<(), Fail> {
         (Error::BadScript { line: 2 }, "22 BadScript 2"),
     ];
     for (error, text) in texts {
-        check_text(&rt, rt.alloc(), error, text)?;
+        assert_eq!(rt; printed(rt.alloc(), error)?.as_str(), text);
     }
     Ok(())
 }
@@ -336,22 +271,15 @@ fn an_encoding_without_memory(rt: HostRuntime) -> Result<(), Fail> {
     Ok(())
 }
 
+// A vector takes a record where memory lets it grow, and gives it back where not.
 #[test]
-fn a_record_taken(rt: HostRuntime) -> Result<(), Fail> {
+fn a_record_taken_or_given_back(rt: HostRuntime) -> Result<(), Fail> {
     let record = insertion(b"a", b"")?;
-    let mut records = Vec::new(rt.alloc());
-    assert_eq!(rt; records.take(record), Ok(()));
-    assert_eq!(rt; records.as_slice(), [record].as_slice());
-    Ok(())
-}
-
-// A vector of no memory gives a record back.
-#[test]
-fn a_record_given_back(rt: HostRuntime) -> Result<(), Fail> {
-    let record = insertion(b"a", b"")?;
-    let heap = LocalHeap::new(rt.alloc(), 64)?;
-    let mut records = Vec::new(&heap);
-    assert_eq!(rt; records.take(record), Err(record));
-    assert_eq!(rt; records.len(), 0);
+    for (size, answer, len) in [(64, Err(record), 0), (4096, Ok(()), 1)] {
+        let heap = LocalHeap::new(rt.alloc(), size)?;
+        let mut records = Vec::new(&heap);
+        assert_eq!(rt; records.take(record), answer);
+        assert_eq!(rt; records.len(), len);
+    }
     Ok(())
 }

@@ -28,13 +28,6 @@ fn check_line(rt: &impl Abort, alloc: Global, line: &[u8], command: &Command) ->
     Ok(())
 }
 
-#[test]
-fn commands_of_one_word(rt: HostRuntime) -> Result<(), Fail> {
-    check_line(&rt, rt.alloc(), b"begin", &Command::Begin)?;
-    check_line(&rt, rt.alloc(), b"flush", &Command::Flush)?;
-    check_line(&rt, rt.alloc(), b"dump", &Command::Dump)
-}
-
 // The line is an insertion.
 fn check_insertion(
     rt: &impl Abort,
@@ -69,25 +62,6 @@ fn insertions(rt: HostRuntime) -> Result<(), Fail> {
     )
 }
 
-#[test]
-fn deletions(rt: HostRuntime) -> Result<(), Fail> {
-    let deletion = Command::Delete {
-        txn: txn(1)?,
-        rid: LOW,
-    };
-    check_line(&rt, rt.alloc(), b"delete 1 0.0", &deletion)?;
-    let deletion = Command::Delete {
-        txn: txn(4_294_967_295)?,
-        rid: HIGH,
-    };
-    check_line(
-        &rt,
-        rt.alloc(),
-        b"delete 4294967295 4294967295.62",
-        &deletion,
-    )
-}
-
 // The line is an update.
 fn check_update(
     rt: &impl Abort,
@@ -117,22 +91,24 @@ fn updates(rt: HostRuntime) -> Result<(), Fail> {
 }
 
 #[test]
-fn steps_and_ends(rt: HostRuntime) -> Result<(), Fail> {
-    let first = txn(1)?;
-    let alloc = rt.alloc();
-    check_line(&rt, alloc, b"step 1", &Command::Step { txn: first })?;
-    check_line(&rt, alloc, b"undo 2", &Command::Undo { txn: txn(2)? })?;
-    check_line(&rt, alloc, b"end 3", &Command::End { txn: txn(3)? })
-}
-
-#[test]
-fn commits(rt: HostRuntime) -> Result<(), Fail> {
-    let commit = Command::Commit { txn: txn(1)? };
-    check_line(&rt, rt.alloc(), b"commit 1", &commit)?;
-    let commit = Command::Commit {
-        txn: txn(4_294_967_295)?,
-    };
-    check_line(&rt, rt.alloc(), b"commit 4294967295", &commit)
+fn commands_without_bytes(rt: HostRuntime) -> Result<(), Fail> {
+    let txn = txn(4_294_967_295)?;
+    let commands = [
+        (b"begin".as_slice(), Command::Begin),
+        (b"flush", Command::Flush),
+        (b"dump", Command::Dump),
+        (b"step 4294967295", Command::Step { txn }),
+        (b"undo 4294967295", Command::Undo { txn }),
+        (b"end 4294967295", Command::End { txn }),
+        (b"commit 4294967295", Command::Commit { txn }),
+        (b"delete 4294967295 0.0", Command::Delete { txn, rid: LOW }),
+        (b"get 0.0", Command::Get { rid: LOW }),
+        (b"get 4294967295.62", Command::Get { rid: HIGH }),
+    ];
+    for (line, command) in &commands {
+        check_line(&rt, rt.alloc(), line, command)?;
+    }
+    Ok(())
 }
 
 #[test]
@@ -150,17 +126,6 @@ fn crashes(rt: HostRuntime) -> Result<(), Fail> {
     Ok(())
 }
 
-#[test]
-fn gets(rt: HostRuntime) -> Result<(), Fail> {
-    check_line(&rt, rt.alloc(), b"get 0.0", &Command::Get { rid: LOW })?;
-    check_line(
-        &rt,
-        rt.alloc(),
-        b"get 4294967295.62",
-        &Command::Get { rid: HIGH },
-    )
-}
-
 // None of the lines is a command, and each is named.
 fn check_bad_lines(rt: &impl Abort, alloc: Global, lines: &[&[u8]]) {
     for line in lines {
@@ -170,7 +135,7 @@ fn check_bad_lines(rt: &impl Abort, alloc: Global, lines: &[&[u8]]) {
 }
 
 #[test]
-fn words_of_no_command(rt: HostRuntime) {
+fn lines_of_no_command(rt: HostRuntime) {
     let lines = [
         b" ".as_slice(),
         b" #",
@@ -184,12 +149,44 @@ fn words_of_no_command(rt: HostRuntime) {
         b"\xff",
         b"\xef\xbb\xbfbegin",
         b"find =a",
+        b"step",
+        b"step 0",
+        b"step 1 1",
+        b"step 1 ",
+        b"steps 1",
+        b"undo",
+        b"undo 01",
+        b"undo 1 1",
+        b"undone 1",
+        b"end",
+        b"end +1",
+        b"end 1 1",
+        b"END 1",
+        b"commit",
+        b"commit 1 ",
+        b"commit 4294967296",
+        b"commit 18446744073709551617",
+        b"commit 1a",
+        b"commit -1",
+        b"crash",
+        b"crash OLD",
+        b"crash a5 a5",
+        b"get 0",
+        b"get 0.63",
+        b"get 0.00",
+        b"get 00.0",
+        b"get 0.0.0",
+        b"get .0",
+        b"get 0.",
+        b"get 4294967296.0",
+        b"get 0.4294967296",
+        b"get 0.65536",
     ];
     check_bad_lines(&rt, rt.alloc(), &lines);
 }
 
 #[test]
-fn bad_insertions(rt: HostRuntime) {
+fn bad_changes(rt: HostRuntime) {
     let lines = [
         b"insert".as_slice(),
         b"insert 1",
@@ -206,14 +203,7 @@ fn bad_insertions(rt: HostRuntime) {
         b"insert 1 a =",
         b"insert 1 =\x7f =",
         b"insert 1 =\x80 =",
-    ];
-    check_bad_lines(&rt, rt.alloc(), &lines);
-}
-
-#[test]
-fn bad_deletions(rt: HostRuntime) {
-    let lines = [
-        b"delete".as_slice(),
+        b"delete",
         b"delete 1",
         b"delete 0.0",
         b"delete 0 0.0",
@@ -223,14 +213,7 @@ fn bad_deletions(rt: HostRuntime) {
         b"delete 1 0.0 =a",
         b"delete 1 0.0 ",
         b"Delete 1 0.0",
-    ];
-    check_bad_lines(&rt, rt.alloc(), &lines);
-}
-
-#[test]
-fn bad_updates(rt: HostRuntime) {
-    let lines = [
-        b"update".as_slice(),
+        b"update",
         b"update 1",
         b"update 1 0.0",
         b"update 1 0.0 =a",
@@ -244,59 +227,6 @@ fn bad_updates(rt: HostRuntime) {
         b"update 1 0.63 =a =",
         b"update 1 0.0 a =",
         b"update 1 0.0 =a :6",
-    ];
-    check_bad_lines(&rt, rt.alloc(), &lines);
-}
-
-#[test]
-fn bad_steps_and_ends(rt: HostRuntime) {
-    let lines = [
-        b"step".as_slice(),
-        b"step 0",
-        b"step 1 1",
-        b"step 1 ",
-        b"steps 1",
-        b"undo",
-        b"undo 01",
-        b"undo 1 1",
-        b"undone 1",
-        b"end",
-        b"end +1",
-        b"end 1 1",
-        b"END 1",
-    ];
-    check_bad_lines(&rt, rt.alloc(), &lines);
-}
-
-#[test]
-fn bad_commits_and_crashes(rt: HostRuntime) {
-    let lines = [
-        b"commit".as_slice(),
-        b"commit 1 ",
-        b"commit 4294967296",
-        b"commit 18446744073709551617",
-        b"commit 1a",
-        b"commit -1",
-        b"crash",
-        b"crash OLD",
-        b"crash a5 a5",
-    ];
-    check_bad_lines(&rt, rt.alloc(), &lines);
-}
-
-#[test]
-fn bad_gets(rt: HostRuntime) {
-    let lines = [
-        b"get 0".as_slice(),
-        b"get 0.63",
-        b"get 0.00",
-        b"get 00.0",
-        b"get 0.0.0",
-        b"get .0",
-        b"get 0.",
-        b"get 4294967296.0",
-        b"get 0.4294967296",
-        b"get 0.65536",
     ];
     check_bad_lines(&rt, rt.alloc(), &lines);
 }

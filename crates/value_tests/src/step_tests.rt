@@ -40,18 +40,15 @@ fn slot(row: Option<Row>) -> Cell {
     Cell::Slot { rid: PLACE, row }
 }
 
-// The change has these steps.
-fn check_steps(rt: &impl Abort, change: Change, indexed: bool, steps: &[(Part, Cell)]) {
+// With an index the change has these steps.
+fn check_steps(rt: &impl Abort, change: Change, steps: &[(Part, Cell)]) {
     for (made, (part, cell)) in steps.iter().enumerate() {
         let part = *part;
         let cell = *cell;
         let action = TxnAction::Forward { part, change };
-        assert_eq!(rt;
-            forward(&change, indexed, made),
-            Some(Step { cell, action })
-        );
+        assert_eq!(rt; forward(&change, true, made), Some(Step { cell, action }));
     }
-    assert_eq!(rt; forward(&change, indexed, steps.len()), None);
+    assert_eq!(rt; forward(&change, true, steps.len()), None);
 }
 
 // The undo of the change has these steps.
@@ -66,14 +63,6 @@ fn check_undo(rt: &impl Abort, change: Change, steps: &[(Part, Cell)]) {
     assert_eq!(rt; undo(&change, true, steps.len()), None);
 }
 
-// Without an index the change has one step, on the row, and so has its undo.
-fn check_one_step(rt: &impl Abort, change: Change) {
-    let row = slot(change.rows.new());
-    check_steps(rt, change, false, &[(Part::Slot, row)]);
-    assert!(rt; undo(&change, false, 0).is_some());
-    assert!(rt; undo(&change, false, 1).is_none());
-}
-
 #[test]
 fn an_insertion(rt: HostRuntime) -> Result<(), Fail> {
     let new = row(b"q")?;
@@ -82,10 +71,9 @@ fn an_insertion(rt: HostRuntime) -> Result<(), Fail> {
     let marked = entry(b"q", Mark::Marked)?;
     let there = there(b"q")?;
     let steps = [(Part::Slot, there), (Part::NewEntry, put)];
-    check_steps(&rt, inserted, true, &steps);
+    check_steps(&rt, inserted, &steps);
     let steps = [(Part::NewEntry, marked), (Part::Slot, slot(None))];
     check_undo(&rt, inserted, &steps);
-    check_one_step(&rt, inserted);
     Ok(())
 }
 
@@ -97,10 +85,9 @@ fn a_deletion(rt: HostRuntime) -> Result<(), Fail> {
     let marked = entry(b"p", Mark::Marked)?;
     let there = there(b"p")?;
     let steps = [(Part::OldEntry, marked), (Part::Slot, slot(None))];
-    check_steps(&rt, deleted, true, &steps);
+    check_steps(&rt, deleted, &steps);
     let steps = [(Part::Slot, there), (Part::OldEntry, put)];
     check_undo(&rt, deleted, &steps);
-    check_one_step(&rt, deleted);
     Ok(())
 }
 
@@ -114,16 +101,7 @@ fn an_update(rt: HostRuntime) -> Result<(), Fail> {
         (Part::Slot, there(b"q")?),
         (Part::NewEntry, entry(b"q", Mark::Live)?),
     ];
-    check_steps(&rt, updated, true, &steps);
-    check_one_step(&rt, updated);
-    Ok(())
-}
-
-#[test]
-fn an_update_undone(rt: HostRuntime) -> Result<(), Fail> {
-    let old = row(b"p")?;
-    let new = row(b"q")?;
-    let updated = change(Rows::Updated { old, new });
+    check_steps(&rt, updated, &steps);
     let steps = [
         (Part::NewEntry, entry(b"q", Mark::Marked)?),
         (Part::Slot, there(b"p")?),
@@ -141,8 +119,7 @@ fn an_update_that_keeps_the_key(rt: HostRuntime) -> Result<(), Fail> {
         body: Body::new(b"y")?,
     };
     let updated = change(Rows::Updated { old, new });
-    check_steps(&rt, updated, true, &[(Part::Slot, slot(Some(new)))]);
+    check_steps(&rt, updated, &[(Part::Slot, slot(Some(new)))]);
     check_undo(&rt, updated, &[(Part::Slot, there(b"p")?)]);
-    check_one_step(&rt, updated);
     Ok(())
 }
