@@ -1,4 +1,3 @@
-mod Groups
 mod Writing
 mod Told
 mod Lives

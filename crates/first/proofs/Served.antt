@@ -77,7 +77,7 @@ module _ {D M : Type 0} (history : D → History) (old new : Engine D M) (same :
       served_step (event.Undo txn) reply.Undone (record { number = s.last + 1; action = OfTxn txn (Undo Slot back.change true) }) (undone s txn back.change) back.made refl refl
       (λ table base made items has. undo_has_made table base made items s has txn back.earlier back.change back.last) (λ t. refl)
       (λ t is. asked_rolling t.writes s (undone s txn back.change) txn (rolling_undone s txn back.earlier back.change back.last) (λ u apart. undone_other s txn back.change u apart)
-        (λ u apart. rolling_popped_other s.txns.active txn u apart) is) (λ n. refl)
+      (λ u apart. rolling_popped_other s.txns.active txn u apart) is) (λ n. refl)
 
   pub served_end : (txn : ℕ) → changes_of (state_of old.core) txn ≡ [] → is_active (ended (state_of old.core) txn) txn ≡ false → state_of new.core ≡ ended (state_of old.core) txn → Serves history (event.End txn) reply.Ended old new
   served_end txn none over core =

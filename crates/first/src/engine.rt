@@ -26,7 +26,6 @@ pub struct Engine<D, A: Allocator> {
 impl<D: Device, A: Allocator + Copy> Engine<D, A> {
     ghost use Rattle.first.specs.declared.event.Event.TheVariants.{Begin, Insert, Delete, Update, Step, Undo, End, Commit, Flush};
     ghost use Rattle.nsf_core.specs.State.{state_of};
-    ghost use Rattle.nsf_core.specs.Refusals.{is_active};
     ghost use Rattle.first.specs.declared.event.Reply.TheVariants.{Horizon, Refused};
     ghost use Rattle.first.specs.Parts.{core_of, device_of, horizon_of, is_read_only};
     ghost use Rattle.first.specs.Lawful.{is_read, IsAnswer, IsLawful, AreLawful};
@@ -168,17 +167,11 @@ impl<D: Device, A: Allocator + Copy> Engine<D, A> {
         ensures serves { Serves D.history (Step txn) result self.now self.now }
         ensures answer { IsAnswer D.failures (Step txn) result self.now self.now }
     {
-        if self.is_active(txn) {
+        if self.core.is_active(txn) {
             Reply::Skipped
         } else {
             Reply::Refused(Error::NoSuchTxn)
         }
-    }
-
-    fn is_active(&self, txn: Txn) -> bool
-        ensures { result ≡ is_active (core_of self.now) txn }
-    {
-        self.core.ready(txn) || self.core.is_rolling_back(txn)
     }
 
     fn undo(&mut self, txn: Txn) -> Reply

@@ -3,11 +3,9 @@ ghost use Rattle.std.specs.Prelude.{◌≡◌, ◌⊎◌, ◌+◌, ◌<◌, ◌�
 ghost use Rattle.records.specs.RecordValue.{RecordValue};
 ghost use Rattle.sector_device.specs.Disk.{Image};
 ghost use Rattle.sector_device.specs.History.{LeavesOnly};
-ghost use Rattle.gate_log.specs.declared.group.TheConstants.{GROUP_MAX};
-ghost use Rattle.gate_log.specs.Group.{spellings};
 ghost use Rattle.gate_log.specs.Area.{Area};
 
-use gate_log::{Appended, GROUP_MAX, LogArea};
+use gate_log::{Appended, LogArea, group_len};
 use records::{Error, Record};
 use sector_device::Device;
 use std::alloc::Allocator;
@@ -36,25 +34,6 @@ pub(crate) struct Writer<D, A: Allocator> {
     pub(crate) synced: u64,
     // Whether the device has failed.
     pub(crate) failed: bool,
-}
-
-// How many of the records fit one group, taken from the front.
-fn group_len(records: &[Record]) -> usize
-    ensures within { result ≤ length records.now }
-    ensures some { 0 < length records.now → 0 < result }
-    ensures short { length (spellings (take result records.now)) ≤ GROUP_MAX }
-    ensures most { result < length records.now → GROUP_MAX < length (spellings (take (result + 1) records.now)) }
-{
-    let mut len = 0;
-    let mut count = 0;
-    for record in records {
-        len += record.size();
-        if GROUP_MAX < len {
-            return count;
-        }
-        count += 1;
-    }
-    count
 }
 
 impl<D: Device, A: Allocator + Copy> Writer<D, A> {

@@ -1,4 +1,4 @@
-use Rattle.std.proofs.Common.{rules, ⊎_elim, true, ◌≡◌, ◌≢◌, ◌≤◌, ◌<◌, ◌+◌, ◌-◌, List, [], Ok, refl, sym, ap, subst, ◌∙◌, take, length, arith}
+use Rattle.std.proofs.Common.{rules, ⊎_elim, true, ◌≡◌, ◌≢◌, ◌≤◌, ◌<◌, ◌+◌, ◌-◌, List, [], Ok, refl, sym, ap, subst, ◌∙◌, take, length, length-take, arith}
 use Rattle.records.specs.RecordValue.{RecordValue}
 use Rattle.gate_log.specs.declared.area.Appended.TheVariants.{Done}
 use Rattle.first.specs.declared.writer.Writer.{Writer}
@@ -55,7 +55,7 @@ append-requires-clause-fits g c = search rules
 
 pub returns-then-count-eq0-clause-flushed : goal.returns-then-count-eq0-clause-flushed
 returns-then-count-eq0-clause-flushed g c =
-    let none : length c.deref.result.now ≡ 0 = ⊎_elim (λ some. absurd (omega (arith, c.group_len-count.ensures.some some, c.if-count-eq0.true))) (λ none. omega (arith, none)) (cases_lt 0 (length c.deref.result.now)) in
+    let none : length c.deref.result.now ≡ 0 = ⊎_elim (λ some. absurd (omega (arith, (c.group_len-count.ensures.fits some).some, length-take c.group_len-count.result c.deref.result.now, c.if-count-eq0.true))) (λ none. omega (arith, none)) (cases_lt 0 (length c.deref.result.now)) in
     (refl, nil_from_length c.args.self.now.waiting.items (omega (arith, ap length c.deref.ensures.value, none)))
 
 pub returns-in-Err-clause-err : goal.returns-in-Err-clause-err
