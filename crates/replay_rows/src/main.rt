@@ -1,0 +1,33 @@
+//! Runs the program `nsf-replay` on each case of a table, and prints whether it gives what the table says.
+//!
+//! The table is the standard input. The first byte of a line says what the line is:
+//!
+//! - `#` a comment;
+//! - `=` the name of a case;
+//! - `<` a line of its script, `+` the same without a line feed behind it, and `*` a number and a line that stands so often;
+//! - `~` the script cannot be read;
+//! - `>` a line of its output;
+//! - `!` a line with which its errors begin: with none there are no errors;
+//! - `?` its exit status, 0 where this line is missing;
+//! - `$` the words of a run, parted by spaces;
+//! - `%` a run with no words at each output that is too narrow, and at one that is just wide enough;
+//! - an empty line ends the case.
+#![tactic(auto)]
+
+mod case;
+mod streams;
+
+use case::Case;
+use std::io;
+use std::io::Read;
+
+fn main(rt: HostRuntime) -> io::Result<()> {
+    let mut table = Vec::new(rt.alloc());
+    rt.reader().read_to_end(&mut table)?;
+    let mut report = io::writer(&rt);
+    let mut case = Case::new(rt.alloc());
+    for line in table.split(|byte| *byte == b'\n') {
+        case.follow(line, &mut report)?;
+    }
+    Ok(())
+}
