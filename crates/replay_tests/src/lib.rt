@@ -1,4 +1,4 @@
-//! Tests of the program `nsf-replay`, as `session` runs it.
+//! Tests of the program `nsf-replay`, as `session` runs it, where memory is refused.
 #![tactic(auto)]
 
 #[cfg(test)]

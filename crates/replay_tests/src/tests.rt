@@ -1,70 +1,103 @@
-mod arguments;
-mod changes;
-mod memory;
-mod rows;
-mod scripts;
-mod stops;
-
+//! Allocations that are refused: the tests of this file hold whichever one is.
 use session::run;
 use std::alloc::{AllocError, Global};
-use std::io;
-use std::io::Read;
 use std::process::Abort;
 
 // Room for what a test expects: the output takes no memory while the program runs.
 const OUTPUT_MAX: usize = 4096;
 
-/// What a run of the program left.
-#[derive(Drop)]
-struct Outcome {
-    output: Vec<u8>,
-    errors: Vec<u8>,
-    status: u8,
-}
+// Each command stands twice, so that the second does what the first could not.
+const COMMIT: [&str; 10] = [
+    "begin",
+    "begin",
+    "insert 1 =ant =x",
+    "insert 1 =ant =x",
+    "commit 1",
+    "commit 1",
+    "flush",
+    "flush",
+    "crash junk",
+    "get 0.0",
+];
 
-fn text_of(bytes: &[u8]) -> &str {
-    std::str::from_utf8(bytes).unwrap_or("no text")
-}
+const ROLLBACK: [&str; 18] = [
+    "begin",
+    "insert 1 =p =1",
+    "commit 1",
+    "begin",
+    "update 2 0.0 =q =2",
+    "update 2 0.0 =q =2",
+    "begin",
+    "delete 3 0.0",
+    "step 2",
+    "undo 2",
+    "undo 2",
+    "undo 2",
+    "end 2",
+    "end 2",
+    "delete 3 0.0",
+    "delete 3 0.0",
+    "flush",
+    "get 0.0",
+];
 
-// Runs the program on these words behind its name.
-fn play(alloc: Global, words: &[&str], input: &mut impl Read) -> Result<Outcome, AllocError> {
-    let mut all = Vec::new(alloc);
-    all.push("nsf-replay")?;
-    for word in words {
-        all.push(*word)?;
+// The lines that the program prints for the commands but for one, and its status.
+fn lines_without(
+    alloc: Global,
+    commands: &[&str],
+    skipped: Option<usize>,
+) -> Result<(Vec<String>, u8), AllocError> {
+    let mut script = Vec::new(alloc);
+    for (i, command) in commands.iter().enumerate() {
+        if Some(i) != skipped {
+            script.extend_from_slice(command.as_bytes())?;
+            script.push(b'\n')?;
+        }
     }
+    let mut input = script.as_slice();
     let mut output = Vec::with_capacity(alloc, OUTPUT_MAX)?;
     let mut errors = Vec::new(alloc);
-    let status = run(alloc, all.as_slice(), input, &mut output, &mut errors);
-    Ok(Outcome {
-        output,
-        errors,
-        status,
-    })
+    let status = run(alloc, &["nsf-replay"], &mut input, &mut output, &mut errors);
+    let mut lines = Vec::new(alloc);
+    for line in std::str::from_utf8(&output).unwrap_or("no text").lines() {
+        lines.push(String::from_str(alloc, line)?)?;
+    }
+    Ok((lines, status))
 }
 
-// Runs the program, and expects this output and status, and nothing on the error stream.
-fn expect(
-    rt: &(impl Abort + AllocGlobal),
-    words: &[&str],
-    script: &[u8],
-    output: &str,
-    status: u8,
-) -> Result<(), AllocError> {
-    let mut input = script;
-    let outcome = play(rt.alloc(), words, &mut input)?;
-    assert_eq!(rt; text_of(&outcome.output), output);
-    assert_eq!(rt; text_of(&outcome.errors), "");
-    assert_eq!(rt; outcome.status, status);
+// Expects that a refused command changed nothing: the other answers are those of the script
+// without it. An allocation of its own that is refused is its error.
+fn compare(rt: &(impl Abort + AllocGlobal), commands: &[&str]) -> Result<(), AllocError> {
+    let (lines, status) = lines_without(rt.alloc(), commands, None)?;
+    let refused = lines
+        .iter()
+        .position(|line| line.as_str() == "refused 1 NoMemory");
+    match refused {
+        None => {
+            assert_eq!(rt; status, 0);
+            assert_eq!(rt; lines.len(), commands.len());
+        }
+        Some(at) if status == 1 => assert_eq!(rt; lines.len(), at + 1),
+        Some(at) => {
+            let (others, status) = lines_without(rt.alloc(), commands, Some(at))?;
+            assert_eq!(rt; status, 0);
+            assert_eq!(rt; lines.len(), commands.len());
+            assert_eq!(rt; others.len() + 1, commands.len());
+            for (i, line) in others.iter().enumerate() {
+                let j = if i < at { i } else { i + 1 };
+                assert!(rt; Some(line) == lines.get(j));
+            }
+        }
+    }
     Ok(())
 }
 
-/// A reader that fails.
-#[derive(Drop)]
-struct Broken;
+#[test]
+fn a_refused_command_changes_nothing(rt: HostRuntime) {
+    let _ = compare(&rt, &COMMIT);
+}
 
-impl Read for Broken {
-    fn read(&mut self, _buffer: &mut [u8]) -> io::Result<usize> {
-        Err(io::Error::from(io::ErrorKind::BrokenPipe))
-    }
+#[test]
+fn a_refused_step_of_a_rollback_changes_nothing(rt: HostRuntime) {
+    let _ = compare(&rt, &ROLLBACK);
 }

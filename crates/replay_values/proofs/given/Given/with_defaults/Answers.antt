@@ -1,0 +1,5 @@
+use Rattle.std.proofs.Common.{rules}
+use Rattle.replay_values.proofs.given.Given.with_defaults.Goals as goal
+
+pub returns : goal.returns
+returns c = search rules
