@@ -109,8 +109,8 @@ module _ {W : Type 0} (contents : W → Option (List ℕ)) where
   PlaysInput arguments input status before after =
       (text : List ℕ) × IsWhole input text × Plays arguments text status before after
 
-  -- The whole input was played under some arguments. Or nothing of it was read: help was printed, with the status 0, or
-  -- nothing, with the status 2.
+  -- The whole input was played under some arguments. Or nothing of it was read, and the status is 0, or it is 2 and nothing
+  -- was printed. Which words give which of these is not said.
   abbrev pub RunsWords : {R : Type 0} → (R → Option (List ℕ)) → R → R → ℕ → W → W → Type 0
   RunsWords remaining input input' status before after =
       ((arguments : Arguments) × PlaysInput arguments (remaining input) status before after)
