@@ -7,7 +7,7 @@ ghost use Rattle.arguments.specs.Words.{IsStatusOf, Tells};
 use clap::error::ErrorKind;
 use clap::{Arg, Command, Error, value_parser};
 use records::{ENTRIES_MAX, ENTRIES_MIN, LOG_SLOTS_MAX, LOG_SLOTS_MIN, PAGES_MAX};
-use replay_values::{Arguments, FATES, Given, fate_named};
+use replay_values::{Arguments, FATES, Options, fate_named};
 use std::alloc::{AllocError, Global};
 use std::convert::AsStr;
 use std::io::Write;
@@ -64,7 +64,7 @@ fn command<'a>(alloc: Global) -> Result<Command<'a>, AllocError> {
 // The arguments that the words give, or what clap says of them.
 fn arguments_of<S: AsStr>(alloc: Global, words: &[S]) -> Result<Arguments, Error> {
     let matches = command(alloc)?.try_get_matches_from(words)?;
-    let given = Given {
+    let given = Options {
         pages: matches.get_one::<u32>("pages"),
         entries: matches.get_one::<u32>("entries"),
         slots: matches.get_one::<u32>("slots"),

@@ -5,10 +5,10 @@ use Rattle.records.specs.declared.geometry.TheConstants.{ENTRIES_MIN, LOG_SLOTS_
 use Rattle.sector_device.specs.declared.call.Fate.{Fate}
 use Rattle.sector_device.specs.declared.call.Fate.TheVariants.{Old, New, Zero, Gate, Junk}
 use Rattle.replay_values.specs.declared.given.Arguments.{Arguments}
-use Rattle.replay_values.specs.declared.given.Given.{Given}
+use Rattle.replay_values.specs.declared.given.Options.{Options}
 
 -- what is asked for, where any of it may be left out
-abbrev pub with_defaults : Given → Arguments
+abbrev pub with_defaults : Options → Arguments
 with_defaults given = record {
   pages = unwrap_or given.pages 1;
   entries = unwrap_or given.entries ENTRIES_MIN;

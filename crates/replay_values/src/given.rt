@@ -27,7 +27,7 @@ pub struct Arguments {
 
 /// The arguments as they are given, each of which may be left out.
 #[derive(Clone, Copy, Debug, PartialEq, Eq)]
-pub struct Given {
+pub struct Options {
     /// The pages of the store.
     pub pages: Option<u32>,
     /// The entries that its index has room for.
@@ -42,7 +42,7 @@ pub struct Given {
     pub fate: Option<Fate>,
 }
 
-impl Given {
+impl Options {
     ghost use Rattle.replay_values.specs.Arguments.{with_defaults};
 
     /// What is asked for: one page, the fewest entries, the fewest slots and the fate `old` where they are left out.

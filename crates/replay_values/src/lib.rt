@@ -6,4 +6,4 @@ mod given;
 mod text;
 
 pub use answer::Answer;
-pub use given::{Arguments, FATES, Given, fate_named};
+pub use given::{Arguments, FATES, Options, fate_named};
