@@ -14,7 +14,7 @@ use Rattle.model.specs.History.{AreRising, Deed, Item, life_after, table_after}
 use Rattle.model.specs.declared.life.Life.TheVariants.{Building, Complete}
 use Rattle.model.specs.declared.write.Write.{Write}
 use Rattle.core_contracts.proofs.Replies.{due_enabled, is_active}
-use Rattle.core_contracts.specs.Events.{BuildReply, Refused, Skipped, Txn, Built, CleanReply, Cleaned, Cleaner, Done, Empty, Event, Idle, Kept, Placed, Rejected, Reply, Scanned, Standing, Stepped, Undone, Wrapped, after_build, after_clean, standing_after, standing_at}
+use Rattle.core_contracts.specs.Events.{BuildReply, Txn, Built, CleanReply, Cleaned, Cleaner, Done, Empty, Event, Idle, Kept, Placed, Rejected, Reply, Scanned, Standing, Stepped, Undone, Wrapped, after_build, after_clean, standing_after, standing_at}
 use Rattle.core_model.specs.Records.{action_of, next_action, place_action, undo_action}
 use Rattle.core_model.specs.Logs.{HasMade, item_at, next_number, one_record}
 use Rattle.records.specs.RecordValue.{RecordValue}
@@ -515,6 +515,13 @@ asked_last : (writes : ℕ → List Write) (pairs : List (Event × Reply)) (e : 
 asked_last writes [] e reply = refl
 asked_last writes (p ∷ pairs) e reply = asked_last (asked_after writes p.1 p.0) pairs e reply
 
+-- one allowed reply more
+serves_last : (s : State) (k : Standing) (pairs : List (Event × Reply)) (s' : State) (k' : Standing) (e : Event) (reply : Reply) (step : Option Step) → Serves s k pairs s' k' → IsAllowed s' k' e reply step
+    → Serves s k (pairs ++ (e, reply) ∷ []) (after_any s' step) (standing_after k' reply)
+serves_last s k pairs s' k' e reply step nothing allowed = served e reply step [] allowed nothing
+serves_last s k pairs s' k' e reply step (served first_event first_reply first_step rest first_allowed r) allowed =
+    served first_event first_reply first_step (rest ++ (e, reply) ∷ []) first_allowed (serves_last (after_any s first_step) (standing_after k first_reply) rest s' k' e reply step r allowed)
+
 module _ (o : Opened) (can : CanOpen o) (made : List RecordValue) (pairs : List (Event × Reply)) (s : State) (k : Standing) (h : HasServed o made pairs s k) where
   abbrev asked : ℕ → List Write
   asked = asked_over no_writes pairs
@@ -529,9 +536,10 @@ module _ (o : Opened) (can : CanOpen o) (made : List RecordValue) (pairs : List 
       let more : length (made ++ one_record k.made (Some action)) ≡ length made + 1 = length-append made (one_record k.made (Some action)) in
       omega (arith, e, number, more)
 
-  go_on : (e : Event) (reply : Reply) (k' : Standing) (step : Option Step) → IsEnabledAny s step → HasStanding (after_any s step) k' → Tells asked k.made e reply step → k'.made ≡ number_after s k.made step
-      → HasServed o (made ++ records_by s k.made step) (pairs ++ (e, reply) ∷ []) (after_any s step) k'
-  go_on e reply k' None a standing t m = record {
+  go_on : (e : Event) (reply : Reply) (step : Option Step) → IsAllowed s k e reply step → IsEnabledAny s step → HasStanding (after_any s step) (standing_after k reply) → Tells asked k.made e reply step → (standing_after k reply).made ≡ number_after s k.made step
+      → HasServed o (made ++ records_by s k.made step) (pairs ++ (e, reply) ∷ []) (after_any s step) (standing_after k reply)
+  go_on e reply None allowed a standing t m = record {
+    served = serves_last (opened o) (standing_at o.given.last) pairs s k e reply None h.served allowed;
     log =
         subst (λ rs. HasMade o rs (items_of no_writes (pairs ++ (e, reply) ∷ [])) (asked_over no_writes (pairs ++ (e, reply) ∷ [])) s) (sym (append-nil made))
         (subst (λ items. HasMade o made items (asked_over no_writes (pairs ++ (e, reply) ∷ [])) s) (sym (items_last no_writes pairs e reply ∙ ap (λ l. items_of no_writes pairs ++ l) t.items ∙ append-nil (items_of no_writes pairs)))
@@ -539,16 +547,17 @@ module _ (o : Opened) (can : CanOpen o) (made : List RecordValue) (pairs : List 
     number = m ∙ h.number ∙ ap (λ (rs : List RecordValue). o.given.last + length rs) (sym (append-nil made));
     standing = standing;
   }
-  go_on e reply k' (Some step) a standing t m =
+  go_on e reply (Some step) allowed a standing t m =
       let few : len s.pledges ≤ TXNS_MAX = few_pledged h.standing.counts.active h.standing.counts.few in
       let more : HasMade o (made ++ one_record (o.given.last + length made) (action_of s step)) (items_of no_writes pairs ++ map (item_at (o.given.last + length made)) (deeds_of asked step)) (writes_after asked step) (after s step) =
       made_more o can made (items_of no_writes pairs) asked s h.log step a few in
       record {
+        served = serves_last (opened o) (standing_at o.given.last) pairs s k e reply (Some step) h.served allowed;
         log =
             subst (λ items. HasMade o (made ++ one_record k.made (action_of s step)) items (asked_over no_writes (pairs ++ (e, reply) ∷ [])) (after s step)) (sym (items_last no_writes pairs e reply ∙ ap (λ l. items_of no_writes pairs ++ l) t.items))
             (subst (λ w. HasMade o (made ++ one_record k.made (action_of s step)) (items_of no_writes pairs ++ map (item_at k.made) (deeds_of asked step)) w (after s step)) (sym (asked_last no_writes pairs e reply ∙ t.asked))
             (subst (λ n. HasMade o (made ++ one_record n (action_of s step)) (items_of no_writes pairs ++ map (item_at n) (deeds_of asked step)) (writes_after asked step) (after s step)) (sym h.number) more));
-        number = longer_number k'.made (action_of s step) m;
+        number = longer_number (standing_after k reply).made (action_of s step) m;
         standing = standing;
       }
     where
@@ -556,29 +565,22 @@ module _ (o : Opened) (can : CanOpen o) (made : List RecordValue) (pairs : List 
       few_pledged e l = omega (arith, e, l)
 
   -- the reply that is due
-  pub served_due : (e : Event) (reply : Reply) (step : Option Step) → (IsOfNone s e → ⊥) → IsProper s e → IsFirst (refusals s k e) None → IsDue s k e reply step → IsFirst (refusals_of s k step) None
+  served_due : (e : Event) (reply : Reply) (step : Option Step) → (IsOfNone s e → ⊥) → IsProper s e → IsFirst (refusals s k e) None → IsDue s k e reply step → IsFirst (refusals_of s k step) None
       → HasServed o (made ++ records_by s k.made step) (pairs ++ (e, reply) ∷ []) (after_any s step) (standing_after k reply)
   served_due e reply step known proper first due last =
       let i : IsWellFormed s = served_holds.fit in
-      go_on e reply (standing_after k reply) step (due_enabled s k i h.standing e reply step known proper first due last) (due_standing s k i h.standing e reply step known proper first due last) (due_tells s k asked e reply step due) (due_made s k i e reply step known proper due)
-
-  without_step : (e : Event) (reply : Reply) → items_at asked reply e ≡ [] → asked_after asked reply e ≡ asked → HasServed o made (pairs ++ (e, reply) ∷ []) s k
-  without_step e reply none same =
-      subst (λ rs. HasServed o rs (pairs ++ (e, reply) ∷ []) s k) (append-nil made) (go_on e reply k None tt h.standing (record { items = none; asked = same }) refl)
+      go_on e reply step (accepted known proper first reply step due last) (due_enabled s k i h.standing e reply step known proper first due last) (due_standing s k i h.standing e reply step known proper first due last) (due_tells s k asked e reply step due) (due_made s k i e reply step known proper due)
 
   -- a refusal, or an event that is skipped
-  pub served_refused : (e : Event) (error : Error) → HasServed o made (pairs ++ (e, Refused error) ∷ []) s k
-  served_refused e error = without_step e (Refused error) refl refl
-
-  pub served_skipped : (e : Event) → HasServed o made (pairs ++ (e, Skipped) ∷ []) s k
-  served_skipped e = without_step e Skipped refl refl
+  without_step : (e : Event) (reply : Reply) → IsAllowed s k e reply None → standing_after k reply ≡ k → items_at asked reply e ≡ [] → asked_after asked reply e ≡ asked → HasServed o (made ++ []) (pairs ++ (e, reply) ∷ []) s (standing_after k reply)
+  without_step e reply allowed stays none same = go_on e reply None allowed tt (subst (HasStanding s) (sym stays) h.standing) (record { items = none; asked = same }) (ap (λ (n : Standing). n.made) stays)
 
   pub served_allowed : (e : Event) (reply : Reply) (step : Option Step) → IsAllowed s k e reply step → HasServed o (made ++ records_by s k.made step) (pairs ++ (e, reply) ∷ []) (after_any s step) (standing_after k reply)
-  served_allowed e reply step (unknown a) = go_on e _ k None tt h.standing (record { items = refl; asked = refl }) refl
-  served_allowed e reply step (skipped a b) = go_on e _ k None tt h.standing (record { items = refl; asked = refl }) refl
-  served_allowed e reply step (refused a b error c) = go_on e _ k None tt h.standing (record { items = refl; asked = refl }) refl
-  served_allowed e reply step (refused_last a b c r x d error f) = go_on e _ k None tt h.standing (record { items = refl; asked = refl }) refl
-  served_allowed e reply step (no_memory a b c r x d f w) = go_on e _ k None tt h.standing (record { items = refl; asked = refl }) refl
+  served_allowed e reply step (unknown a) = without_step e _ (unknown a) refl refl refl
+  served_allowed e reply step (skipped a b) = without_step e _ (skipped a b) refl refl refl
+  served_allowed e reply step (refused a b error c) = without_step e _ (refused a b error c) refl refl refl
+  served_allowed e reply step (refused_last a b c r x d error f) = without_step e _ (refused_last a b c r x d error f) refl refl refl
+  served_allowed e reply step (no_memory a b c r x d f w) = without_step e _ (no_memory a b c r x d f w) refl refl refl
   served_allowed e reply step (accepted a b c r x d f) = served_due e r x a b c d f
 
 served_on : (o : Opened) (can : CanOpen o) (before : List (Event × Reply)) (s : State) (k : Standing) (pairs : List (Event × Reply)) (s' : State) (k' : Standing) → Serves s k pairs s' k' → (made : List RecordValue) → HasServed o made before s k
@@ -600,7 +602,7 @@ opened_standing o last le = record {
 }
 
 pub served_nothing : (o : Opened) → o.given.last ≤ LAST_NUMBER → HasServed o [] [] (opened o) (standing_at o.given.last)
-served_nothing o le = record { log = made_nothing o; number = no_more o.given.last; standing = opened_standing o o.given.last le }
+served_nothing o le = record { served = nothing; log = made_nothing o; number = no_more o.given.last; standing = opened_standing o o.given.last le }
   where
     no_more : (n : ℕ) → n ≡ n + 0
     no_more n = omega arith

@@ -9,11 +9,11 @@ use Rattle.records.specs.declared.txn.TheConstants.{TXNS_MAX}
 use Rattle.records.specs.declared.row.Row.{Row}
 use Rattle.model.specs.History.{Deed, Item}
 use Rattle.model.specs.declared.write.Write.{Write}
-use Rattle.core_contracts.specs.Events.{BuildReply, Built, Done, Ended, Event, Reply, Standing, Stepped, standing_after}
+use Rattle.core_contracts.specs.Events.{BuildReply, Built, Done, Ended, Event, Reply, Standing, Stepped, standing_after, standing_at}
 use Rattle.core_model.specs.Records.{action_of}
 use Rattle.core_contracts.specs.Replies.{IsAllowed, after_any}
 use Rattle.core_model.specs.Logs.{HasMade, next_number, one_record}
-use Rattle.core_model.specs.Histories.{Opened, no_writes}
+use Rattle.core_model.specs.Histories.{Opened, no_writes, opened}
 use Rattle.core_model.specs.Invariants.{IsWellFormed}
 use Rattle.core_model.specs.States.{Active, State}
 use Rattle.core_model.specs.Steps.{IsBuilding, IsEnabled, Step, update}
@@ -73,8 +73,10 @@ abbrev pub asked_over : (ℕ → List Write) → List (Event × Reply) → ℕ �
 asked_over writes [] = writes
 asked_over writes (p ∷ rest) = asked_over (asked_after writes p.1 p.0) rest
 
--- The core has replied to these events so since it was opened, and made these records, of which the history is theirs.
+-- The core has replied to these events so since it was opened, each reply one that was allowed then; and it made these
+-- records, of which the history is theirs.
 pub record HasServed (o : Opened) (made : List RecordValue) (pairs : List (Event × Reply)) (s : State) (k : Standing) : Type 0 where
+  pub served : Serves (opened o) (standing_at o.given.last) pairs s k
   pub log : HasMade o made (items_of no_writes pairs) (asked_over no_writes pairs) s
   pub number : k.made ≡ o.given.last + length made
   pub standing : HasStanding s k

@@ -1,6 +1,7 @@
 -- A flush leaves the engine where the run says.
-use Rattle.std.proofs.Common.{◌≡◌, ◌≢◌, ℕ, ◌+◌, ◌≤◌, ◌<◌, List, [], ◌∷◌, ◌++◌, length, take, drop, sym, ◌∙◌, ap, subst, arith, append_assoc, append-nil, length-append, length-drop}
+use Rattle.std.proofs.Common.{◌≡◌, ◌≢◌, ℕ, ◌+◌, ◌≤◌, ◌<◌, List, [], ◌∷◌, ◌++◌, length, take, drop, sym, ◌∙◌, ap, subst, arith, append_assoc, length-append, length-drop}
 use Rattle.std.proofs.lemmas.List.{nil_from_length, take-append-le, drop-append-le, drop-drop}
+use Rattle.std.proofs.Math.Seq.{take-append_seam}
 use Rattle.records.specs.RecordValue.{RecordValue}
 use Rattle.sector_device.specs.Disk.{Image}
 use Rattle.sector_device.specs.History.{History, LeavesOnly}
@@ -16,7 +17,7 @@ use Rattle.first.specs.History.{acknowledged}
 use Rattle.first.specs.Writer.{HoldsRecords, LeftBy, StandsFor, FillsGroup, IsWriter}
 use Rattle.first.specs.Store.{Past, items_of, acknowledged_by, and_then, Survives, IsAt, Serves}
 use Rattle.first.specs.Parts.{unwritten}
-use Rattle.first.specs.Lawful.{Writes}
+use Rattle.first.specs.Lawful.{Writes, handed_over}
 use Rattle.first.proofs.Asked.{asked_same}
 use Rattle.first.proofs.Stories.{survives, core_next, at_next}
 
@@ -135,9 +136,14 @@ module _ {D M : Type 0} (history : D → History) (old : Engine D M) (new_core :
     outbox_is : (state_of new.core).outbox ≡ hands.kept
     outbox_is = ap (λ (s : State). s.outbox) (core ∙ hands.same)
 
-    -- where all was handed over, what fills a group of what waits does so of all that was unwritten
-    pub fills : (count : ℕ) → FillsGroup mid.waiting.items count → (state_of new.core).outbox ≡ [] → FillsGroup (unwritten old) count
-    fills count most none = subst (λ (rs : List RecordValue). FillsGroup rs count) (sym (was ∙ ap (λ (o : List RecordValue). mid.waiting.items ++ o) (sym outbox_is ∙ none) ∙ append-nil mid.waiting.items)) most
+    handed_is : handed_over old new ≡ mid.waiting.items
+    handed_is =
+        ap (λ n. take n (unwritten old)) (omega (arith, unwritten_size, ap length outbox_is)) ∙ ap (take (length mid.waiting.items)) was
+        ∙ take-append_seam mid.waiting.items hands.kept
+
+    -- what fills a group of the records that wait does so of those that were handed over
+    pub fills : (count : ℕ) → FillsGroup mid.waiting.items count → FillsGroup (handed_over old new) count
+    fills count most = subst (λ (rs : List RecordValue). FillsGroup rs count) (sym handed_is) most
 
   -- what was written is the first of what was not
   module _ (new : Engine D M) (core : state_of new.core ≡ new_core) (area : Area) (frame : Image) (past : Past) (is : IsAt history area frame past old) (after : IsWriter history area frame (handed_now area frame past is) new.writer) (count : ℕ)

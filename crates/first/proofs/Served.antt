@@ -1,6 +1,6 @@
 -- Each request that the core alone serves leaves the engine where the run says.
 use Rattle.model.specs.Table.{Table}
-use Rattle.std.proofs.Common.{true, inl, inr, ◌≡◌, ℕ, ◌+◌, false, List, [], ◌∷◌, ◌++◌, refl, sym, ◌∙◌, ap, subst, append_assoc}
+use Rattle.std.proofs.Common.{true, ◌≡◌, ℕ, ◌+◌, false, List, [], ◌∷◌, ◌++◌, refl, sym, ◌∙◌, ap, subst, append_assoc}
 use Rattle.records.specs.RecordValue.{RecordValue}
 use Rattle.records.specs.declared.error.Error.{Error}
 use Rattle.records.specs.declared.row.Row.{Row}

@@ -1,8 +1,9 @@
 -- Which replies a request may have, and what each leaves.
-use Rattle.std.specs.Prelude.{◌≡◌, ◌≢◌, ◌⊎◌, ◌<◌, ◌≤◌, ◌+◌, ℕ, Bool, true, false, List, [], ◌∷◌, length, drop, None}
+use Rattle.std.specs.Prelude.{◌≡◌, ◌≢◌, ◌⊎◌, ◌<◌, ◌≤◌, ◌+◌, ◌-◌, ℕ, Bool, true, false, List, [], ◌∷◌, length, take, drop, None}
 use Rattle.std.specs.FinMap as map
 use Rattle.records.specs.declared.error.Error.TheVariants.{NoMemory, DeviceFailed, NoSuchTxn}
 use Rattle.records.specs.declared.row.Row.{Row}
+use Rattle.records.specs.RecordValue.{RecordValue}
 use Rattle.model.specs.declared.life.Life.TheVariants.{Absent}
 use Rattle.sector_device.specs.History.{Rises}
 use Rattle.nsf_core.specs.State.{State, changes_of, begun, inserted, deleted, updated, rolling_back, committed, ended, TakesBack}
@@ -44,6 +45,10 @@ pub record Writes {D M : Type 0} (failures : D → ℕ) (old new : Engine D M) (
   pub mode : is_read_only new ≡ is_read_only old
   pub later : failures (device_of old) ≤ failures (device_of new)
 
+-- the records that were not in the log and that the core keeps no more, in order
+abbrev pub handed_over : {D M : Type 0} → Engine D M → Engine D M → List RecordValue
+handed_over old new = take (length (unwritten old) - length (core_of new).outbox) (unwritten old)
+
 -- what is answered where requests of this kind are served
 abbrev pub IsAnswer : {D M : Type 0} → (D → ℕ) → Event → Reply → Engine D M → Engine D M → Type 0
 IsAnswer failures event.Begin (reply.Txn n) old new = (begin_refusal (core_of old) ≡ None) × OnlyCore old new (begun (core_of old)) × (n ≡ (core_of old).txns.begun + 1)
@@ -73,10 +78,10 @@ IsAnswer failures (event.Commit txn) (reply.Refused e) old new = (is_rolling (co
 IsAnswer failures (event.Commit txn) reply.Skipped old new = (is_rolling (core_of old) txn ≡ true) × (new ≡ old)
 IsAnswer failures (event.Get rid) (reply.Row row) old new = (row ≡ map.get (core_of old).heap.rows rid) × (new ≡ old)
 IsAnswer failures event.Life (reply.Life life) old new = (life ≡ Absent) × (new ≡ old)
--- A flush that succeeds writes a record at least, where there is one to write, and as many as fill a group, where all of
--- them could be handed over.
+-- A flush that succeeds writes a record at least, where there is one to write, and of those that were handed over as many
+-- as fill a group.
 IsAnswer failures event.Flush (reply.Horizon n) old new = (has_failed old ≡ false) × (has_failed new ≡ false) × (n ≡ horizon_of new) × (unwritten old ≢ [] → horizon_of old < n)
-    × ((written : ℕ) × Writes failures old new written × ((core_of new).outbox ≡ [] → FillsGroup (unwritten old) written))
+    × ((written : ℕ) × Writes failures old new written × FillsGroup (handed_over old new) written)
 IsAnswer failures event.Flush reply.LogFull old new = (has_failed old ≡ false) × (has_failed new ≡ false) × ((log_of old).open_slots ≡ (log_of old).area.slots) × (unwritten old ≢ []) × Writes failures old new 0
 -- There was no memory for a record that waits; or the device failed, and a writer whose device failed answers so from then on.
 IsAnswer failures event.Flush (reply.Refused e) old new =

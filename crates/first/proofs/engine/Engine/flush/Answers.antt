@@ -72,7 +72,7 @@ returns-in-Ok-Nothing g c =
           let written : unwritten old ≡ [] = all_written history old (state_of c.take_outbox.new.self) mid hands refl numbered new c.requires.0 c.requires.1 c.requires.2 c.requires.3 flushed.0 flushed.1 (omega (arith, reached, c.last-last.ensures.value)) in
           record {
             serves = subst (λ (r : Reply). Serves history Flush r old new) (sym is) (tells (Horizon (horizon_of new)) (λ n le. omega (arith, le)));
-            answer = subst (λ (r : Reply). IsAnswer g.D.Device.failures Flush r old new) (sym is) (c.in-Ok-Nothing.ensures.sound.0, c.in-Ok-Nothing.ensures.sound.1, refl, (λ some. absurd (some written)), (0, wrote, (λ _ below. absurd (omega (arith, below, ap length written)))));
+            answer = subst (λ (r : Reply). IsAnswer g.D.Device.failures Flush r old new) (sym is) (c.in-Ok-Nothing.ensures.sound.0, c.in-Ok-Nothing.ensures.sound.1, refl, (λ some. absurd (some written)), (0, wrote, fills history old (state_of c.take_outbox.new.self) mid hands refl numbered new refl 0 (λ below. absurd (omega (arith, below, ap length flushed.1)))));
           }
       | inl over ↦
           let is : c.told_up_to.result ≡ Refused NoMemory = c.told_up_to.ensures.some over in

@@ -1,4 +1,4 @@
-use Rattle.std.proofs.Common.{rules, ⊎_elim, true, ◌≡◌, ◌≢◌, ◌≤◌, ◌<◌, ◌+◌, ◌-◌, List, [], Ok, refl, sym, ap, subst, ◌∙◌, take, length, length-take, arith}
+use Rattle.std.proofs.Common.{rules, ⊎_elim, true, ◌≡◌, ◌≤◌, ◌+◌, ◌-◌, List, Ok, refl, sym, ap, subst, ◌∙◌, take, length, length-take, arith}
 use Rattle.records.specs.RecordValue.{RecordValue}
 use Rattle.gate_log.specs.declared.area.Appended.TheVariants.{Done}
 use Rattle.first.specs.declared.writer.Writer.{Writer}
