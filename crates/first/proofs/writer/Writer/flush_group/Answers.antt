@@ -1,10 +1,12 @@
-use Rattle.std.proofs.Common.{rules, ⊎_elim, true, ◌≡◌, ◌≤◌, ◌+◌, ◌-◌, List, Ok, refl, sym, ap, subst, ◌∙◌, take, length, length-take, arith}
+use Rattle.std.proofs.Common.{rules, ⊎_elim, true, ◌≡◌, ◌≤◌, ◌+◌, ◌-◌, List, Ok, refl, sym, ap, subst, ◌∙◌, take, length, length-take, arith, inl}
 use Rattle.records.specs.RecordValue.{RecordValue}
-use Rattle.gate_log.specs.declared.area.Appended.TheVariants.{Done}
+use Rattle.sector_device.specs.History.{LeavesOnly}
+use Rattle.sector_device.proofs.Moments.{started}
+use Rattle.gate_log.specs.declared.area.Appended.TheVariants.{Done, Full}
 use Rattle.first.specs.declared.writer.Writer.{Writer}
 use Rattle.std.proofs.lemmas.Bool.{false≢true, cases_lt}
 use Rattle.std.proofs.lemmas.List.{nil_from_length}
-use Rattle.first.specs.Writer.{FillsGroup}
+use Rattle.first.specs.Writer.{LeftBy, FillsGroup}
 use Rattle.first.proofs.Writing.{stood, leaves, appended_one, failed_one}
 use Rattle.first.proofs.writer.Writer.flush_group.Goals as goal
 
@@ -60,3 +62,10 @@ returns-then-count-eq0-clause-flushed g c =
 
 pub returns-in-Err-clause-err : goal.returns-in-Err-clause-err
 returns-in-Err-clause-err g c = search rules
+
+pub returns-in-Ok-Full-clause-images : goal.returns-in-Ok-Full-clause-images
+returns-in-Ok-Full-clause-images g c = λ area frame handed is.
+    let history = g.D.Device.history in
+    let old = c.args.self.now in
+    let full : c.append.result ≡ Ok Full = cc (c.in-Ok-Full.is, c.in-Ok-Full.field-0-is) in
+    subst (λ d. LeavesOnly (history old.device) (history d) (LeftBy area frame handed old.synced)) (sym (c.append.ensures.unchanged (inl full)).1) (started (history old.device) (LeftBy area frame handed old.synced) is.images)
