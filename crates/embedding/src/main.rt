@@ -2,9 +2,9 @@
 #![tactic(auto)]
 
 use anyhow::{Result, anyhow};
-use first::{Event, Reply, restart};
+use first::{Event, restart};
 use flip_image::Halves;
-use records::{Body, Geometry, Key};
+use records::{Body, Geometry, Key, Rid, Txn};
 use sector_device::{Fate, MemDisk};
 
 fn main(rt: HostRuntime) -> Result<()> {
@@ -13,21 +13,22 @@ fn main(rt: HostRuntime) -> Result<()> {
     Halves::format(&mut disk, geometry)?;
 
     let mut engine = restart(rt.alloc(), disk).map_err(|(error, _)| error)?;
-    let Reply::Txn(txn) = engine.serve(Event::Begin) else {
-        return Err(anyhow!("no transaction"));
-    };
+    let txn = Txn::new(1).ok_or(anyhow!("no such transaction"))?;
     let (key, body) = (Key::new(b"ant")?, Body::new(b"x")?);
-    let Reply::Rid(rid) = engine.serve(Event::Insert { txn, key, body }) else {
-        return Err(anyhow!("no place for the row"));
-    };
-    let committed = engine.serve(Event::Commit { txn });
-    let flushed = engine.serve(Event::Flush);
-    println!(rt; "{committed:?}, {flushed:?}")?;
+    let replies = engine.run(&[
+        Event::Begin,
+        Event::Insert { txn, key, body },
+        Event::Commit { txn },
+        Event::Flush,
+    ])?;
+    for reply in &replies {
+        println!(rt; "{reply:?}")?;
+    }
 
     let mut disk = engine.into_device();
     disk.crash(&[Fate::Junk]);
-    let mut engine = restart(rt.alloc(), disk).map_err(|(error, _)| error)?;
-    let found = engine.serve(Event::Get { rid });
-    println!(rt; "{found:?}")?;
+    let engine = restart(rt.alloc(), disk).map_err(|(error, _)| error)?;
+    let row = engine.core().get(Rid { page: 0, slot: 0 });
+    println!(rt; "{row:?}")?;
     Ok(())
 }

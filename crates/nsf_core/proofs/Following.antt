@@ -1,6 +1,5 @@
 -- Each step of the core follows the record that it makes.
-use Rattle.std.proofs.Common.{◌≡◌, ◌≢◌, ℕ, ◌+◌, Option, Some, None, unwrap_or, option_map, ◌<◌, ◌≤◌, true, false, List, [], ◌∷◌, ◌++◌, length, is_some, refl, sym, ap, subst, ◌∙◌, inl, inr, arith, length-append}
-use Rattle.std.proofs.lemmas.Bool.{cases_eq}
+use Rattle.std.proofs.Common.{◌≡◌, ◌≢◌, ℕ, ◌+◌, Option, Some, None, unwrap_or, option_map, ◌<◌, ◌≤◌, true, false, List, [], ◌∷◌, ◌++◌, length, is_some, refl, sym, ap, subst, ◌∙◌, inl, arith, length-append}
 use Rattle.std.specs.FinMap as map
 use Rattle.std.specs.Ordering.{nat_cmp}
 use Rattle.records.specs.Values.{Place}
@@ -14,14 +13,13 @@ use Rattle.records.specs.declared.record.Part.TheVariants.{Slot}
 use Rattle.records.specs.declared.record.TxnAction.TheVariants.{Forward, Undo, Commit, End}
 use Rattle.records.specs.declared.record.Action.{Action}
 use Rattle.records.specs.declared.record.Action.TheVariants.{OfTxn}
-use Rattle.model.specs.declared.life.Life.TheVariants.{Absent}
 use Rattle.model.specs.Table.{Table}
-use Rattle.model.specs.Cells.{Cells, Pending, cells_after, set_by, list_of, with_list, noted, taken_off}
+use Rattle.model.specs.Cells.{Cells, cells_after, set_by, list_of, with_list, noted, taken_off}
 use Rattle.model.specs.Committed.{touches, writes_of}
 use Rattle.model.specs.Prefixes.{at_rest, TellsHistory}
 use Rattle.model.specs.History.{Item, Committed}
 use Rattle.model.specs.Following.{CanFollowBy, AreFollowing, ArePlaced}
-use Rattle.model.proofs.CellsLaws.{cells_after_one_more, noted_first, taken_off_last}
+use Rattle.model.proofs.CellsLaws.{cells_after_one_more, noted_first}
 use Rattle.model.proofs.FollowingLaws.{following_push}
 use Rattle.model.proofs.PlacedLaws.{following_placed, placed_last}
 use Rattle.model.proofs.PrefixLaws.{at_first, row_step, commit_step, undo_step, end_step}
@@ -32,7 +30,7 @@ use Rattle.nsf_core.specs.State.{State, changes_of, insertion, deletion, replace
 use Rattle.nsf_core.specs.Refusals.{CanInsert, CanChange, is_active}
 use Rattle.nsf_core.specs.Follows.{HasCells, HasMade, IsListOf}
 use Rattle.nsf_core.proofs.Txns.{Txns, changes_at, list_at, shorter, active_of, noted_own, popped_own, state_other, state_without, with_state_own}
-use Rattle.nsf_core.proofs.Lists.{AreListsOf, has_room, list_is, new_list, no_list, one_list, own_list, same_list}
+use Rattle.nsf_core.proofs.Lists.{has_room, list_is, new_list, no_list, one_list, own_list, same_list}
 use Rattle.nsf_core.proofs.Holders.{untouched, first_none, touched_by_none}
 
 mapped : (g : TxnState → TxnState) (o : Option TxnState) → is_some o ≡ true → is_some (option_map g o) ≡ true

@@ -1,6 +1,6 @@
 -- The lists that records leave, and the changes of the active transactions.
-use Rattle.std.proofs.Common.{◌≡◌, ◌≢◌, ℕ, suc, ◌+◌, ◌-◌, ◌<◌, ◌≤◌, Bool, true, false, cond, List, [], ◌∷◌, ◌++◌, length, Option, Some, None, unwrap_or, is_some, eqb, refl, sym, ap, subst, ◌∙◌, inl, inr, arith}
-use Rattle.std.proofs.lemmas.Bool.{cases_eq, false≢true, eqb-true}
+use Rattle.std.proofs.Common.{◌≡◌, ◌≢◌, ℕ, ◌+◌, ◌-◌, ◌<◌, ◌≤◌, Bool, true, false, cond, List, [], ◌∷◌, ◌++◌, length, Option, Some, None, unwrap_or, is_some, eqb, refl, sym, ap, subst, ◌∙◌, inl, inr, arith}
+use Rattle.std.proofs.lemmas.Bool.{cases_eq, false≢true}
 use Rattle.std.specs.Ordering.{nat_cmp}
 use Rattle.std.specs.Cmp.{nat_cmp_total}
 use Rattle.std.specs.FinMap as map
@@ -13,7 +13,7 @@ use Rattle.model.specs.Following.{HasRoom}
 use Rattle.txn_table.specs.Table as table
 use Rattle.txn_table.specs.Table.{TxnState, new_txn}
 use Rattle.nsf_core.specs.Follows.{IsListOf}
-use Rattle.nsf_core.proofs.Txns.{Txns, changes_at, list_at, same_number, other_number}
+use Rattle.nsf_core.proofs.Txns.{Txns, changes_at, list_at, other_number}
 
 -- the lists are those of these transactions
 abbrev pub AreListsOf : Pending → Txns → Type 0
