@@ -1,5 +1,4 @@
-//! What the contracts of a core speak of: the record of each step, the replies that an event may get,
-//! and the core as data.
+//! What the contracts of a core speak of: events, the replies that each may get, and a core that has served them.
 #![tactic(auto)]
 
 ghost use Rattle.std.specs.Prelude.{Option, take, length, ◌≡◌, ◌≤◌, ◌+◌, ◌++◌, [], ◌∷◌, ℕ, List};

@@ -11,7 +11,7 @@ use Rattle.first.specs.declared.event.Reply.{Reply}
 use Rattle.first.specs.declared.engine.Engine.{Engine}
 use Rattle.first.specs.Store.{Past, acknowledged_by, and_then, Survives, IsAt, SurvivesAt, GoesOn}
 use Rattle.first.specs.Reopening.{opening, SurvivesAnyCrash}
-use Rattle.first.proofs.Runs.{and_then_none}
+use Rattle.first.proofs.Runs.{and_then_none, spans_rise}
 use Rattle.first.proofs.Stories.{crash_now}
 
 -- a moment is between two of the borders
@@ -47,7 +47,19 @@ module _ {D M : Type 0} (history : D → History) (area : Area) (frame : Image) 
 
 pub survives_any_crash : {D M : Type 0} (history : D → History) (events : List Event) (replies : List Reply) (old new : Engine D M)
     → ((area : Area) (frame : Image) (past : Past) → IsAt history area frame past old → GoesOn history area frame past events replies old new) → SurvivesAnyCrash history events replies old new
-survives_any_crash history events replies old new ran geometry frame earlier answered formatted is t image low high crash =
-    let past : Past = and_then (opening geometry.pages) earlier answered in
-    let it = crash_within history (log_area geometry A) frame past old new is events replies (ran (log_area geometry A) frame past is) t image low high crash in
-    (it.0, it.1, record { formatted = formatted; survives = it.2 })
+survives_any_crash history events replies old new ran geometry frame earlier answered formatted is = record {
+  later = spans_rise (history new.writer.device).disk_at (SurvivesAt area frame past events replies) 0 (history old.writer.device).moment goes.borders (history new.writer.device).moment goes.spans;
+  kept = goes.kept;
+  each = λ t image low high crash.
+      let it = crash_within history area frame past old new is events replies goes t image low high crash in
+      (it.0, it.1, record { formatted = formatted; survives = it.2 });
+}
+  where
+    past : Past
+    past = and_then (opening geometry.pages) earlier answered
+
+    area : Area
+    area = log_area geometry A
+
+    goes : GoesOn history area frame past events replies old new
+    goes = ran area frame past is

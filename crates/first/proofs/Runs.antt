@@ -13,7 +13,7 @@ use Rattle.first.specs.Lawful.{is_read, IsLawful, AreLawful}
 use Rattle.first.specs.Parts.{is_read_only}
 use Rattle.first.specs.Store.{CanRun, Past, acknowledged_by, and_then, Survives, IsAt, Serves, SurvivesAt, GoesOn, AreServed}
 
-spans_rise : (disk_at : ℕ → Disk) (P : ℕ → Image → Type 0) (j from : ℕ) (borders : List ℕ) (to : ℕ) → Spans disk_at P j from borders to → from ≤ to
+pub spans_rise : (disk_at : ℕ → Disk) (P : ℕ → Image → Type 0) (j from : ℕ) (borders : List ℕ) (to : ℕ) → Spans disk_at P j from borders to → from ≤ to
 spans_rise disk_at P j from [] to is = omega (arith, is)
 spans_rise disk_at P j from (next ∷ borders) to spans = omega (arith, spans.0, spans_rise disk_at P (j + 1) next borders to spans.2)
 

@@ -7,7 +7,7 @@ use Rattle.records.specs.declared.error.Error.{Error}
 use Rattle.model.specs.Table.{Table}
 use Rattle.model.specs.History.{table_after, up_to}
 use Rattle.sector_device.specs.Disk.{Image, IsSynced, IsCrashImage}
-use Rattle.sector_device.specs.History.{History, LeavesOnly, Between}
+use Rattle.sector_device.specs.History.{History, LeavesOnly}
 use Rattle.gate_log.specs.Area.{Refuses}
 use Rattle.flip_image.specs.declared.half.Half.{Half}
 use Rattle.flip_image.specs.declared.half.Half.TheVariants.{A}
@@ -79,5 +79,5 @@ abbrev pub SurvivesAnyCrash : {D M : Type 0} → (D → History) → List Event 
 SurvivesAnyCrash history events replies old new =
     (geometry : GeometryValue) (frame : Image) (earlier : List Event) (answered : List Reply) → IsFormatted geometry frame
     → IsAt history (log_area geometry A) frame (and_then (opening geometry.pages) earlier answered) old
-    → Between (history (device_of new)).disk_at (history (device_of old)).moment (history (device_of new)).moment
-    (λ image. (j : ℕ) × (j ≤ length events) × IsLeftByRun geometry frame (earlier ++ take (j + 1) events) (answered ++ take (j + 1) replies) (acknowledged 0 (answered ++ take j replies)) image)
+    → LeavesOnly (history (device_of old)) (history (device_of new))
+      (λ image. (j : ℕ) × (j ≤ length events) × IsLeftByRun geometry frame (earlier ++ take (j + 1) events) (answered ++ take (j + 1) replies) (acknowledged 0 (answered ++ take j replies)) image)
