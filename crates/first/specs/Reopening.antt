@@ -80,4 +80,4 @@ SurvivesAnyCrash history events replies old new =
     (geometry : GeometryValue) (frame : Image) (earlier : List Event) (answered : List Reply) → IsFormatted geometry frame
     → IsAt history (log_area geometry A) frame (and_then (opening geometry.pages) earlier answered) old
     → LeavesOnly (history (device_of old)) (history (device_of new))
-      (λ image. (j : ℕ) × (j ≤ length events) × IsLeftByRun geometry frame (earlier ++ take (j + 1) events) (answered ++ take (j + 1) replies) (acknowledged 0 (answered ++ take j replies)) image)
+    (λ image. (j : ℕ) × (j ≤ length events) × IsLeftByRun geometry frame (earlier ++ take (j + 1) events) (answered ++ take (j + 1) replies) (acknowledged 0 (answered ++ take j replies)) image)

@@ -5,8 +5,8 @@ use Rattle.records.specs.RecordValue.{RecordValue}
 use Rattle.records.specs.GeometryValue.{GeometryValue}
 use Rattle.records.specs.declared.error.Error.{Error}
 use Rattle.records.specs.declared.error.Error.TheVariants.{DeviceTooSmall, DeviceFailed, NoMemory}
-use Rattle.sector_device.specs.Disk.{Image, Disk}
-use Rattle.sector_device.specs.History.{History, Spans}
+use Rattle.sector_device.specs.Disk.{Image}
+use Rattle.sector_device.specs.History.{History}
 use Rattle.gate_log.specs.Area.{Refuses}
 use Rattle.flip_image.specs.declared.half.Half.{Half}
 use Rattle.flip_image.specs.declared.half.Half.TheVariants.{A}
@@ -42,11 +42,6 @@ module _ (g : GeometryValue) (image : Image) (formatted : IsFormatted g image) (
 module _ {D : Type 0} (history : D → History) (before : D) (g : GeometryValue) (formatted : IsFormatted g (history before).disk.content) (closed : AreGatesClosed g A (history before).disk.content) where
   pub begun_formatted : {M : Type 0} (engine : Engine D M) → IsOpened history before engine → IsAt history (log_area g A) (history before).disk.content (opening g.pages) engine
   begun_formatted engine is = begun_of g (history before).disk.content formatted closed history engine is.geometry is.half is.records is.gives is.begins
-
--- the borders of a run rise
-pub spans_rise : (disk_at : ℕ → Disk) (P : ℕ → Image → Type 0) (j from : ℕ) (borders : List ℕ) (to : ℕ) → Spans disk_at P j from borders to → from ≤ to
-spans_rise disk_at P j from [] to is = omega (arith, is)
-spans_rise disk_at P j from (next ∷ borders) to spans = omega (arith, spans.0, spans_rise disk_at P (j + 1) next borders to spans.2)
 
 abbrev pub MayRefuse : Error → Type 0
 MayRefuse e = (e ≡ DeviceTooSmall) ⊎ (e ≡ DeviceFailed) ⊎ (e ≡ NoMemory)

@@ -5,9 +5,9 @@ use Rattle.sector_device.specs.MemDisk.{history_of, failures_of}
 use Rattle.flip_image.specs.declared.half.Half.TheVariants.{A}
 use Rattle.store_reader.specs.Contents.{log_area}
 use Rattle.first.specs.History.{acknowledged}
-use Rattle.first.specs.Store.{and_then, IsAt, SurvivesAt, GoesOn}
+use Rattle.first.specs.Store.{and_then, IsAt, GoesOn}
 use Rattle.first.specs.Reopening.{opening, IsLeftByRun}
-use Rattle.store_tests.proofs.Formatted.{spans_rise, never_unreadable, begun_formatted, refuses_so, not_opened_so}
+use Rattle.store_tests.proofs.Formatted.{never_unreadable, begun_formatted, refuses_so, not_opened_so}
 use Rattle.store_tests.proofs.rehearsal.rehearse.Goals as goal
 
 pub returns-in-Err-clause-refused : goal.returns-in-Err-clause-refused
@@ -37,12 +37,11 @@ returns-in-Ok-restart-clause-prefix c =
     let g = c.args.geometry in
     let frame : Image = (history_of c.format.new.device).disk.content in
     let replies = c.in_ok-replies.replies.items in
-    let old : History = history_of c.in-Ok.engine.writer.device in
     let new : History = history_of c.run.new.self.writer.device in
-    let ran = went c in
     let image : Image = (history_of c.crash.new.self).disk.content in
     let crash : IsCrashImage (new.disk_at new.moment) image = subst (λ (d : Disk). IsCrashImage d image) (sym new.now) (subst (λ d. IsCrashImage (history_of d).disk image) c.into_device-disk.ensures.device c.crash.ensures.crash) in
-    let left = c.in_ok-replies.ensures.any_crash g frame [] [] c.in_ok-format.ensures.formatted (begun c) new.moment image (spans_rise new.disk_at (SurvivesAt (log_area g A) frame (opening g.pages) c.args.events.now replies) 0 old.moment ran.borders new.moment ran.spans) (omega arith) crash in
+    let kept = c.in_ok-replies.ensures.any_crash g frame [] [] c.in_ok-format.ensures.formatted (begun c) in
+    let left = kept.each new.moment image kept.later (omega arith) crash in
     (left.0, left.1, c.in-Ok-restart.ensures.recovers g frame _ _ _ left.2)
 
 pub returns-in-Err-restart-clause-refused : goal.returns-in-Err-restart-clause-refused
