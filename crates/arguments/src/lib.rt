@@ -1,13 +1,17 @@
 //! The arguments of the program `nsf-replay`, read from its words.
 #![tactic(auto)]
 
-ghost use Rattle.std.specs.Prelude.{◌≡◌, IfErr, OnOk};
-ghost use Rattle.arguments.specs.Words.{IsStatusOf, Tells};
+ghost use Rattle.std.specs.Prelude.{◌≡◌, ◌⊎◌, false, map, IfErr, IfOk, OnOk};
+ghost use Rattle.clap.specs.Words.{app_of, found_of, kind_of, rows_of, rule_of};
+ghost use Rattle.arguments.specs.CommandLine.{Ask, AreInRange, FailBy, IsCommandLine, fate_in, option_of};
+ghost use Rattle.arguments.specs.Words.{IsTold, Tells};
 
+use clap::builder::ValueParser;
 use clap::error::ErrorKind;
-use clap::{Arg, Command, Error, value_parser};
+use clap::{Arg, ArgMatches, Command, Error, value_parser};
 use records::{ENTRIES_MAX, ENTRIES_MIN, LOG_SLOTS_MAX, LOG_SLOTS_MIN, PAGES_MAX};
 use replay_values::{Arguments, FATES, Options, fate_named};
+use sector_device::Fate;
 use std::alloc::{AllocError, Global};
 use std::convert::AsStr;
 use std::io::Write;
@@ -24,45 +28,50 @@ pub enum NoArguments {
     Told(u8),
 }
 
+// The option `--name`, with one value.
+fn option_named<'a>(alloc: Global, name: &'a str, value: &'a str, takes: ValueParser<'a>) -> Arg<'a>
+    ensures rule { rule_of result ≡ option_of name.entry.now takes.entry }
+    ensures local { result.global ≡ false }
+{
+    Arg::new(alloc, name)
+        .long(name)
+        .value_name(value)
+        .value_parser(takes)
+}
+
 // The command line, with the ranges of its numbers.
-fn command<'a>(alloc: Global) -> Result<Command<'a>, AllocError> {
-    let pages = Arg::new(alloc, "pages")
-        .long("pages")
-        .value_name("P")
-        .value_parser(value_parser!(u32).range(1..=i64::from(PAGES_MAX)));
-    let entries = Arg::new(alloc, "entries")
-        .long("entries")
-        .value_name("E")
-        .value_parser(value_parser!(u32).range(i64::from(ENTRIES_MIN)..=i64::from(ENTRIES_MAX)));
-    let slots = Arg::new(alloc, "slots")
-        .long("slots")
-        .value_name("S")
-        .value_parser(value_parser!(u32).range(
-            i64::from(LOG_SLOTS_MIN)..=i64::from(LOG_SLOTS_MAX),
-        ));
-    let sectors = Arg::new(alloc, "sectors")
-        .long("sectors")
-        .value_name("N")
-        .value_parser(value_parser!(u32).range(0..=i64::from(SECTORS_MAX)));
-    let stop = Arg::new(alloc, "stop")
-        .long("stop")
-        .value_name("K")
-        .value_parser(value_parser!(u32).range(1..));
-    let fate = Arg::new(alloc, "fate")
-        .long("fate")
-        .value_name("F")
-        .value_parser(FATES.as_slice());
+fn command<'a>(alloc: Global) -> Result<Command<'a>, AllocError>
+    ensures { IfOk result (λ command. IsCommandLine (app_of command)) }
+{
+    let pages = value_parser!(u32).range(1..=i64::from(PAGES_MAX));
+    let entries = value_parser!(u32).range(i64::from(ENTRIES_MIN)..=i64::from(ENTRIES_MAX));
+    let slots = value_parser!(u32).range(i64::from(LOG_SLOTS_MIN)..=i64::from(LOG_SLOTS_MAX));
+    let sectors = value_parser!(u32).range(0..=i64::from(SECTORS_MAX));
+    let stop = value_parser!(u32).range(1..);
+    let fate = ValueParser::from(FATES.as_slice());
     Command::new(alloc, "nsf-replay")
-        .arg(pages)?
-        .arg(entries)?
-        .arg(slots)?
-        .arg(sectors)?
-        .arg(stop)?
-        .arg(fate)
+        .arg(option_named(alloc, "pages", "P", pages))?
+        .arg(option_named(alloc, "entries", "E", entries))?
+        .arg(option_named(alloc, "slots", "S", slots))?
+        .arg(option_named(alloc, "sectors", "N", sectors))?
+        .arg(option_named(alloc, "stop", "K", stop))?
+        .arg(option_named(alloc, "fate", "F", fate))
+}
+
+// The fate that was given, where it was.
+fn fate_found(matches: &ArgMatches<'_>) -> Option<Fate>
+    ensures { result ≡ fate_in (rows_of (found_of matches.now)) }
+{
+    fate_named(matches.get_str("fate")?)
 }
 
 // The arguments that the words give, or what clap says of them.
-fn arguments_of<S: AsStr>(alloc: Global, words: &[S]) -> Result<Arguments, Error> {
+fn arguments_of<S: AsStr>(alloc: Global, words: &[S]) -> Result<Arguments, Error>
+    ensures asked { IfOk result (Ask (map S.text words.now)) }
+    ensures in_range { IfOk result AreInRange }
+    ensures fault { IfErr result (λ error. (kind_of error ≡ ErrorKind.OutOfMemory)
+        ⊎ FailBy (map S.text words.now) (kind_of error)) }
+{
     let matches = command(alloc)?.try_get_matches_from(words)?;
     let given = Options {
         pages: matches.get_one::<u32>("pages"),
@@ -70,25 +79,24 @@ fn arguments_of<S: AsStr>(alloc: Global, words: &[S]) -> Result<Arguments, Error
         slots: matches.get_one::<u32>("slots"),
         sectors: matches.get_one::<u32>("sectors"),
         stop: matches.get_one::<u32>("stop"),
-        fate: match matches.get_str("fate") {
-            Some(name) => fate_named(name),
-            None => None,
-        },
+        fate: fate_found(&matches),
     };
     Ok(given.with_defaults())
 }
 
 // Prints what clap says, and answers the program's status.
 fn tell<O: Write, E: Write>(error: &Error, output: &mut O, errors: &mut E) -> u8
-    ensures { IsStatusOf result output.old output.new errors.old errors.new }
+    ensures { IsTold (kind_of error.now) result output.old output.new errors.old errors.new }
 {
-    if error.use_stderr() {
-        let _ = write!(errors, "{error}");
-        return 2;
-    }
-    match write!(output, "{error}") {
-        Ok(()) => 0,
-        Err(_) => 1,
+    match error.kind() {
+        ErrorKind::DisplayHelp => match write!(output, "{error}") {
+            Ok(()) => 0,
+            Err(_) => 1,
+        },
+        _ => {
+            let _ = write!(errors, "{error}");
+            2
+        }
     }
 }
 
@@ -101,13 +109,18 @@ pub fn read<S: AsStr, O: Write, E: Write>(
     output: &mut O,
     errors: &mut E,
 ) -> Result<Arguments, NoArguments>
+    ensures asked { IfOk result (Ask (map S.text words.now)) }
+    ensures in_range { IfOk result AreInRange }
     ensures output { OnOk result (output.new ≡ output.old) }
     ensures errors { OnOk result (errors.new ≡ errors.old) }
-    ensures none { IfErr result (λ none. Tells none output.old output.new errors.old errors.new) }
+    ensures none { IfErr result (λ none.
+        Tells (map S.text words.now) none output.old output.new errors.old errors.new) }
 {
     match arguments_of(alloc, words) {
         Ok(arguments) => Ok(arguments),
-        Err(error) if error.kind() == ErrorKind::OutOfMemory => Err(NoArguments::NoMemory),
-        Err(error) => Err(NoArguments::Told(tell(&error, output, errors))),
+        Err(error) => match error.kind() {
+            ErrorKind::OutOfMemory => Err(NoArguments::NoMemory),
+            _ => Err(NoArguments::Told(tell(&error, output, errors))),
+        },
     }
 }

@@ -18,6 +18,7 @@ use Rattle.session.specs.Disk.{disk_history, disk_failures, LosesPower}
 use Rattle.session.specs.Session.{has_crashed, OpensOn}
 use Rattle.session.specs.Dump.{dump_text}
 use Rattle.session.specs.Runs.{Prints, RunsCommands}
+use Rattle.arguments.specs.CommandLine.{Ask, AskForHelp, HaveFault}
 use Rattle.replay_values.specs.declared.answer.Answer.TheVariants as answer
 use Rattle.replay_values.specs.declared.given.Arguments.{Arguments}
 use Rattle.session.specs.declared.session.Session.{Session}
@@ -109,9 +110,11 @@ module _ {W : Type 0} (contents : W → Option (List ℕ)) where
   PlaysInput arguments input status before after =
       (text : List ℕ) × IsWhole input text × Plays arguments text status before after
 
-  -- The whole input was played under some arguments. Or nothing of it was read, and the status is 0, or it is 2 and nothing
-  -- was printed. Which words give which of these is not said.
-  abbrev pub RunsWords : {R : Type 0} → (R → Option (List ℕ)) → R → R → ℕ → W → W → Type 0
-  RunsWords remaining input input' status before after =
-      ((arguments : Arguments) × PlaysInput arguments (remaining input) status before after)
-      ⊎ ((input' ≡ input) × ((status ≡ 0) ⊎ ((status ≡ 2) × (after ≡ before))))
+  -- The words ask for these arguments, and the whole input was played under them. Or nothing of it was read: the words ask
+  -- for help, which has the status 0, or 1 where it can't be written; or they have a fault, which has the status 2 and
+  -- prints nothing; or there was no memory for the arguments, and that was printed.
+  abbrev pub RunsWords : {R : Type 0} → (R → Option (List ℕ)) → List (List ℕ) → R → R → ℕ → W → W → Type 0
+  RunsWords remaining words input input' status before after =
+      ((arguments : Arguments) × Ask words arguments × PlaysInput arguments (remaining input) status before after)
+      ⊎ ((input' ≡ input)
+      × ((AskForHelp words × (status ≤ 1)) ⊎ (HaveFault words × (status ≡ 2) × (after ≡ before)) ⊎ IsRefused NoMemory status before after))

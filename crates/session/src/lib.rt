@@ -7,5 +7,5 @@ mod reply;
 mod request;
 mod session;
 
-pub use program::{run, run_input, run_script};
+pub use program::{run, run_input, run_script, run_words};
 pub use replay_values::Arguments;

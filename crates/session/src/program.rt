@@ -1,5 +1,5 @@
 //! The program over what it reads and writes.
-ghost use Rattle.std.specs.Prelude.{◌≡◌, ◌⊎◌, IfOk, IfErr, OnOk};
+ghost use Rattle.std.specs.Prelude.{◌≡◌, ◌⊎◌, map, IfOk, IfErr, OnOk};
 ghost use Rattle.script.specs.Grammar.{lines, IsScript};
 ghost use Rattle.session.specs.Session.{IsOpen};
 ghost use Rattle.session.specs.Runs.{Prints, GoesOn, Restarts, Runs, RunsRequest, RunsCommand, RunsCommands};
@@ -286,31 +286,51 @@ fn all_of<R: Read>(alloc: Global, input: &mut R) -> io::Result<Vec<u8>>
 }
 
 /// Runs the script that the input holds, as the arguments ask, and answers the exit status: that of `run_script`, or 1
-/// where the input can't be read or the output can't be written.
+/// where there is no memory for the input. The error is the input's, and then the error stream says so, or the output's.
 pub fn run_input<R: Read, W: Write>(
     alloc: Global,
     arguments: &Arguments,
     input: &mut R,
     output: &mut W,
     errors: &mut impl Write,
-) -> u8
-    ensures { (result ≡ 1) ⊎ PlaysInput W.contents arguments.now (R.remaining input.old) result output.old output.new }
+) -> io::Result<u8>
+    ensures { IfOk result (λ status.
+        PlaysInput W.contents arguments.now (R.remaining input.old) status output.old output.new) }
 {
     match all_of(alloc, input) {
-        Ok(text) => run_script(alloc, arguments, &text, output).unwrap_or(1),
-        Err(error) if error.kind() == ErrorKind::OutOfMemory => {
-            refused(output, Error::NoMemory).unwrap_or(1)
-        }
-        Err(_) => {
-            let _ = writeln!(errors, "nsf: cannot read standard input");
-            1
-        }
+        Ok(text) => run_script(alloc, arguments, &text, output),
+        Err(error) => match error.kind() {
+            ErrorKind::OutOfMemory => refused(output, Error::NoMemory),
+            _ => {
+                let _ = writeln!(errors, "nsf: cannot read standard input");
+                Err(error)
+            }
+        },
     }
 }
 
 /// Runs the program on these words, the first of them its own name, and answers its exit status:
-/// 0 where the script ran or help was asked for, 1 where input, output, script or device failed or was refused, 2 for bad
-/// arguments.
+/// 0 where the script ran or help was asked for, 1 where script or device failed or was refused, 2 for bad arguments. The
+/// error is that of the input or of the output.
+pub fn run_words<S: AsStr, R: Read, W: Write>(
+    alloc: Global,
+    words: &[S],
+    input: &mut R,
+    output: &mut W,
+    errors: &mut impl Write,
+) -> io::Result<u8>
+    ensures { IfOk result (λ status. RunsWords W.contents R.remaining (map S.text words.now)
+        input.old input.new status output.old output.new) }
+{
+    match arguments::read(alloc, words, output, errors) {
+        Ok(arguments) => run_input(alloc, &arguments, input, output, errors),
+        Err(NoArguments::NoMemory) => refused(output, Error::NoMemory),
+        Err(NoArguments::Told(status)) => Ok(status),
+    }
+}
+
+/// Runs the program on these words as `run_words` does, and answers its exit status, which is 1 where the input can't be
+/// read or the output can't be written.
 pub fn run<S: AsStr, R: Read, W: Write>(
     alloc: Global,
     words: &[S],
@@ -318,11 +338,8 @@ pub fn run<S: AsStr, R: Read, W: Write>(
     output: &mut W,
     errors: &mut impl Write,
 ) -> u8
-    ensures { (result ≡ 1) ⊎ RunsWords W.contents R.remaining input.old input.new result output.old output.new }
+    ensures { (result ≡ 1) ⊎ RunsWords W.contents R.remaining (map S.text words.now)
+        input.old input.new result output.old output.new }
 {
-    match arguments::read(alloc, words, output, errors) {
-        Ok(arguments) => run_input(alloc, &arguments, input, output, errors),
-        Err(NoArguments::NoMemory) => refused(output, Error::NoMemory).unwrap_or(1),
-        Err(NoArguments::Told(status)) => status,
-    }
+    run_words(alloc, words, input, output, errors).unwrap_or(1)
 }

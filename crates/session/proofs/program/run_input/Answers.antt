@@ -1,24 +1,22 @@
-use Rattle.std.proofs.Common.{◌≡◌, ◌⊎◌, inl, inr, ℕ, List, Result, Ok, Err, IfOk, refl, sym, subst}
-use Rattle.std.specs.Result.{result_unwrap_or}
-use Rattle.session.specs.Plays.{IsWhole, Plays, PlaysInput}
+use Rattle.std.proofs.Common.{inl, ℕ, List, [], Option, Some, None, refl, sym, subst}
+use Rattle.std.proofs.lemmas.Result.{IfOk-weaker}
+use Rattle.session.specs.Plays.{IsWhole}
 use Rattle.session.proofs.program.run_input.Goals as goal
 
--- the status of what is played, or 1
-status_of : {F : Type 0} (P : ℕ → Type 0) (played : Result ℕ F) → IfOk played P
-    → (result_unwrap_or played 1 ≡ 1) ⊎ P (result_unwrap_or played 1)
-status_of P (Ok status) holds = inr holds
-status_of P (Err e) holds = inl refl
+-- a text that the input may have
+some_text : (input : Option (List ℕ)) → (text : List ℕ) × IsWhole input text
+some_text (Some bytes) = (bytes, refl)
+some_text None = ([], tt)
 
 pub returns-in-Ok : goal.returns-in-Ok
 returns-in-Ok g c =
     let contents = g.W.Write.contents in
+    let input = g.R.Read.remaining c.args.input.now in
     let text = c.deref.result.now in
-    let whole : IsWhole (g.R.Read.remaining c.args.input.now) text =
-    subst (λ (t : List ℕ). IsWhole (g.R.Read.remaining c.args.input.now) t) (sym c.deref.ensures.value) c.in-Ok.ensures in
-    let plays : ℕ → Type 0 = λ status. Plays contents c.args.arguments.now text status c.args.output.now c.run_script.new.output in
-    subst (λ (status : ℕ). (status ≡ 1) ⊎ PlaysInput contents c.args.arguments.now (g.R.Read.remaining c.args.input.now) status c.args.output.now c.run_script.new.output)
-    (sym c.unwrap_or.ensures)
-    (elim (status_of plays c.run_script.result c.run_script.ensures) [
-      | inl one ↦ inl one
-      | inr holds ↦ inr (text, whole, holds)
-    ])
+    let whole : IsWhole input text = subst (λ (t : List ℕ). IsWhole input t) (sym c.deref.ensures.value) c.in-Ok.ensures in
+    IfOk-weaker c.run_script.result _ _ (λ status plays. (text, whole, plays)) c.run_script.ensures
+
+pub returns-in-OutOfMemory : goal.returns-in-OutOfMemory
+returns-in-OutOfMemory g c =
+    let some = some_text (g.R.Read.remaining c.args.input.now) in
+    IfOk-weaker c.refused.result _ _ (λ status told. (some.0, some.1, inl (_, inl refl, told))) c.refused.ensures
