@@ -1,8 +1,8 @@
 -- What a caller of a log may conclude: an image has one reading, and a log that was read stands for it.
-use Rattle.std.proofs.Common.{◌≡◌, ℕ, List, length, ◌∙◌, ap}
-use Rattle.sector_device.specs.Disk.{Image}
+use Rattle.std.proofs.Common.{◌≡◌, ℕ, List, [], ◌∷◌, ◌++◌, length, ◌∙◌, ap, refl, sym, append_assoc, append-nil}
+use Rattle.sector_device.specs.Disk.{Image, sector}
 use Rattle.records.specs.RecordValue.{RecordValue}
-use Rattle.gate_log.specs.Area.{Area, Log, HoldsGroups, Stands, IsFirstDamaged}
+use Rattle.gate_log.specs.Area.{Area, Log, InArea, records_of, HoldsGroups, Stands, IsFirstDamaged}
 use Rattle.gate_log.proofs.Areas as areas
 
 -- an image holds one list of groups at most
@@ -20,3 +20,16 @@ not_damaged = areas.not_damaged
 -- a log that stands for some groups stands for any that its area holds
 pub stands_for : (log : Log) (image : Image) (found groups : List (List RecordValue)) → Stands log image found → HoldsGroups log.area image groups → Stands log image groups
 stands_for log image found groups stands held = record { held = held; counted = stands.counted ∙ ap length (one_reading log.area image found groups stands.held held) }
+
+-- ---- records of groups
+
+pub records_of-append : (groups later : List (List RecordValue)) → records_of (groups ++ later) ≡ records_of groups ++ records_of later
+records_of-append [] later = refl
+records_of-append (group ∷ groups) later = ap (λ (t : List RecordValue). group ++ t) (records_of-append groups later) ∙ sym (append_assoc group (records_of groups) (records_of later))
+
+pub records_of_one_more : (groups : List (List RecordValue)) (group : List RecordValue) → records_of (groups ++ group ∷ []) ≡ records_of groups ++ group
+records_of_one_more groups group = records_of-append groups (group ∷ []) ∙ ap (λ (t : List RecordValue). records_of groups ++ t) (append-nil group)
+
+-- what an image holds is told by the sectors of the area
+pub told_by_its_sectors : (area : Area) (image other : Image) (groups : List (List RecordValue)) → length other ≡ length image → ((n : ℕ) → InArea area n → sector other n ≡ sector image n) → HoldsGroups area image groups → HoldsGroups area other groups
+told_by_its_sectors = areas.holds_same

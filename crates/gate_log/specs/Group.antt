@@ -23,3 +23,7 @@ pub record IsGroup (records : List RecordValue) (body : List ℕ) : Type 0 where
   pub fits : FitsGroup records
   pub each : All Fits records
   pub spelled : body ≡ header (length records) (length (spellings records)) ++ (spellings records ++ replicate (GROUP_MAX - length (spellings records)) 0)
+
+-- the body is some group
+abbrev pub IsSpelledGroup : List ℕ → Type 0
+IsSpelledGroup body = (records : List RecordValue) × IsGroup records body

@@ -4,10 +4,10 @@ ghost use Rattle.sector_device.specs.Disk.{Image, sector, IsSynced, IsCrashImage
 ghost use Rattle.sector_device.specs.History.{RunsWithin, OnlyReads, LeavesOnly, CountsFailure, Rises};
 ghost use Rattle.sector_device.specs.Values.{marked_sector};
 ghost use Rattle.records.specs.RecordValue.{RecordValue};
-ghost use Rattle.gate_log.specs.Group.{FitsGroup};
+ghost use Rattle.gate_log.specs.Group.{FitsGroup, IsGroup, IsSpelledGroup};
 ghost use Rattle.gate_log.specs.Area.{gate, InArea, InSlot, IsGate, IsInside, AreGatesZero, HoldsGroups, Stands, records_of, IsGateOf, IsAppended, IsFirstDamaged, Refuses};
 
-use crate::group::group_body;
+use crate::group::spell;
 use crate::slot::{is_open, read_group, write_group};
 use records::{Error, Record, SLOT_SECTORS};
 use sector_device::{Device, Failed, write_zeros};
@@ -104,12 +104,54 @@ impl LogArea {
         ensures quiet { OnOk result (D.failures device.new ≡ D.failures device.old) }
         ensures later { D.failures device.old ≤ D.failures device.new }
     {
+        if self.open_slots < self.slots {
+            let body = spell(alloc, records)?;
+            self.append_spelled(device, &body)
+        } else {
+            Ok(Appended::Full)
+        }
+    }
+
+    /// Adds a group whose body `spell` has made, as `append` does, and takes no memory.
+    pub fn append_spelled<D: Device>(
+        &mut self,
+        device: &mut D,
+        body: &[u8],
+    ) -> Result<Appended, Error>
+        requires spelled { IsSpelledGroup body.now }
+        requires inside { IsInside self.old.area (D.history device.old).disk.content }
+        requires synced { (n : ℕ) → InArea self.old.area n → (D.history device.old).disk.unsynced n ≡ false }
+
+        // The records are those that the body spells.
+        ensures done { result ≡ Ok Appended.Done → (records : List RecordValue) (groups : List (List RecordValue)) → IsGroup records body.now
+            → Stands self.old (D.history device.old).disk.content groups
+            → Stands self.new (D.history device.new).disk.content (groups ++ records ∷ []) }
+        ensures marked { result ≡ Ok Appended.Done
+            → sector (D.history device.new).disk.content (gate self.old.area self.old.open_slots) ≡ marked_sector }
+        ensures synced { result ≡ Ok Appended.Done → IsSynced (D.history device.new).disk }
+        ensures survives { result ≡ Ok Appended.Done → (records : List RecordValue) (groups : List (List RecordValue)) (image : Image) → IsGroup records body.now
+            → Stands self.old (D.history device.old).disk.content groups
+            → IsCrashImage (D.history device.new).disk image
+            → HoldsGroups self.new.area image (groups ++ records ∷ []) }
+        ensures full { (result ≡ Ok Appended.Full) ↔ (self.old.open_slots ≡ self.old.area.slots) }
+
+        // A crash at any moment of the call, whatever it answers.
+        ensures any_moment { (records : List RecordValue) → IsGroup records body.now
+            → LeavesOnly (D.history device.old) (D.history device.new) (IsAppended self.old (D.history device.old).disk records) }
+
+        ensures outside { SameOutside (InSlot self.old.area self.old.open_slots) (D.history device.old).disk.content (D.history device.new).disk.content }
+        ensures area { self.new.area ≡ self.old.area }
+        ensures err { OnErr result (self.new ≡ self.old) }
+        ensures unchanged { result ≡ Ok Appended.Full → (self.new ≡ self.old) × (device.new ≡ device.old) }
+        ensures refused { IfErr result (λ e. (e ≡ Error.DeviceFailed) × Rises (D.failures device.old) (D.failures device.new)) }
+        ensures quiet { OnOk result (D.failures device.new ≡ D.failures device.old) }
+        ensures later { D.failures device.old ≤ D.failures device.new }
+    {
         if self.open_slots == self.slots {
             return Ok(Appended::Full);
         }
-        let body = group_body(alloc, records)?;
         let gate = self.first + SLOT_SECTORS * self.open_slots;
-        if write_group(device, gate, &body).is_err() {
+        if write_group(device, gate, body).is_err() {
             return Err(Error::DeviceFailed);
         }
         self.open_slots += 1;

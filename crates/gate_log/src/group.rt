@@ -71,11 +71,9 @@ fn header(count: u16, len: u16) -> [u8; HEADER_SIZE]
     bytes
 }
 
-/// The body of a group of these records.
-pub(crate) fn group_body<A: Allocator + Copy>(
-    alloc: A,
-    records: &[Record],
-) -> Result<Vec<u8, A>, Error>
+/// The body of a group of these records, as `LogArea::append_spelled` writes it. `fits` tells whether the records can be a
+/// group. So the memory for a group is taken before the first write, also of several.
+pub fn spell<A: Allocator + Copy>(alloc: A, records: &[Record]) -> Result<Vec<u8, A>, Error>
     requires { FitsGroup records.now }
     ensures ok { IfOk result (λ body. IsGroup records.now body.items) }
     ensures no_memory { IfErr result (λ e. e ≡ Error.NoMemory) }

@@ -1,8 +1,8 @@
 // Laws of what an area holds.
-ghost use Rattle.std.specs.Prelude.{◌≡◌, ℕ, List};
-ghost use Rattle.sector_device.specs.Disk.{Image};
+ghost use Rattle.std.specs.Prelude.{◌≡◌, ◌++◌, ◌∷◌, [], ℕ, List, length};
+ghost use Rattle.sector_device.specs.Disk.{Image, sector};
 ghost use Rattle.records.specs.RecordValue.{RecordValue};
-ghost use Rattle.gate_log.specs.Area.{Area, HoldsGroups, IsFirstDamaged};
+ghost use Rattle.gate_log.specs.Area.{Area, InArea, HoldsGroups, IsFirstDamaged, records_of};
 
 /// A law: an image has one reading at most. It holds one list of groups, or it is damaged first at one sector, and
 /// never both.
@@ -10,4 +10,16 @@ pub fn one_reading()
     ensures groups { (area : Area) (image : Image) (a b : List (List RecordValue)) → HoldsGroups area image a → HoldsGroups area image b → a ≡ b }
     ensures sector { (area : Area) (image : Image) (a b : ℕ) → IsFirstDamaged area image a → IsFirstDamaged area image b → a ≡ b }
     ensures either { (area : Area) (image : Image) (sector : ℕ) (groups : List (List RecordValue)) → IsFirstDamaged area image sector → ¬ HoldsGroups area image groups }
+{}
+
+/// A law: which groups an image holds, its sectors in the area tell.
+pub fn told_by_its_sectors()
+    ensures { (area : Area) (image other : Image) (groups : List (List RecordValue)) → length other ≡ length image → ((n : ℕ) → InArea area n → sector other n ≡ sector image n)
+        → HoldsGroups area image groups → HoldsGroups area other groups }
+{}
+
+/// A law: the records of groups are those of the first of them, and behind them those of the others.
+pub fn records_of_groups()
+    ensures more { (groups later : List (List RecordValue)) → records_of (groups ++ later) ≡ records_of groups ++ records_of later }
+    ensures one_more { (groups : List (List RecordValue)) (group : List RecordValue) → records_of (groups ++ group ∷ []) ≡ records_of groups ++ group }
 {}

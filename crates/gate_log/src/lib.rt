@@ -8,5 +8,5 @@ mod laws;
 mod slot;
 
 pub use area::{Appended, LogArea};
-pub use group::{GROUP_MAX, fits, group_len};
-pub use laws::one_reading;
+pub use group::{GROUP_MAX, fits, group_len, spell};
+pub use laws::{one_reading, records_of_groups, told_by_its_sectors};

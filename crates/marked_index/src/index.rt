@@ -254,11 +254,20 @@ impl<A: Allocator + Clone> MarkedIndex<A> {
         ensures taken_out { IsTrue result ↔
             (IsTrue allowed × (map.get self.old.entries pair.now ≡ Some Mark.Marked)) }
     {
-        let takes_out = allowed && self.get(pair) == Some(Mark::Marked);
+        let is_marked = self.get(pair) == Some(Mark::Marked);
+        let takes_out = is_marked && allowed;
         if takes_out {
             self.tree.remove(pair);
         }
         takes_out
+    }
+
+    /// Whether there is room for the places of one more change, so that `pledge` won't refuse.
+    pub fn can_pledge(&self) -> bool
+        ensures { IsTrue result ↔
+            (map.len self.now.entries + self.now.pledged + PLACES_PER_CHANGE ≤ self.now.capacity) }
+    {
+        self.taken() + PLACES_PER_CHANGE as usize <= self.capacity
     }
 
     /// Pledges the places of one more change.

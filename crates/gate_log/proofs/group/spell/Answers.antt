@@ -1,6 +1,6 @@
 use Rattle.std.proofs.Common.{arith}
 use Rattle.gate_log.proofs.Groups.{count-spellings, extended, group_filled}
-use Rattle.gate_log.proofs.group.group_body.Goals as goal
+use Rattle.gate_log.proofs.group.spell.Goals as goal
 
 pub overflow_cast-records : goal.overflow_cast-records
 overflow_cast-records g c = omega (arith, count-spellings c.args.records.now, c.requires.short)
