@@ -27,7 +27,7 @@ use Rattle.std.proofs.lemmas.Bool.{cases_lt}
 use Rattle.core_contracts.specs.Replies.{IsAllowed, IsBuildDue, IsDue, IsFirst, IsOfNone, IsProper, accepted, after_any, build_step, change_of, clean_step, last_refusals, refusals_of, no_memory, refusals, refused, refused_last, skipped, unknown}
 use Rattle.core_contracts.specs.Served.{HasCounts, HasServed, HasStanding, asked_over, records_by, IsEnabledAny, IsMove, Serves, asked_after, items_at, items_of, nothing, number_after, served}
 use Rattle.core_model.proofs.Laws.{fit_step, interleaved, items_deeds, deeds, made_holds, made_more, made_nothing, made_recovers, nat_decided, not_none, txn_apart, update_apart, update_here}
-use Rattle.core_model.specs.Changes.{new_pair, old_pair}
+use Rattle.core_model.specs.Changes.{Changes, Unchanged, new_pair, old_pair, ◌▹◌}
 use Rattle.core_model.specs.Histories.{CanOpen, IsFaithful, Opened, deeds_of, no_writes, opened, writes_after}
 use Rattle.core_model.specs.Invariants.{Invariant, IsShaped, IsWellFormed}
 use Rattle.core_model.specs.States.{Active, Made, NewMarked, OldMarked, OldSet, Phase, Pledges, RowSet, State}
@@ -47,25 +47,25 @@ scan_started : (s : State) (t : ℕ) (x : Active) (c : ChangeValue) (o : Option 
 scan_started s t x c None = record { pages = refl; bound = refl; taken = refl; life = refl }
 scan_started s t x c (Some p) = record { pages = refl; bound = refl; taken = refl; life = refl }
 
-scan_carried : (s : State) (t : ℕ) (x : Active) (cs : List ChangeValue) (phase : Phase) → SameScan s (carried_on s t x cs phase)
-scan_carried s t x [] phase = same_self s
-scan_carried s t x (c ∷ older) OldMarked = record { pages = refl; bound = refl; taken = refl; life = refl }
-scan_carried s t x (c ∷ older) RowSet = record { pages = refl; bound = refl; taken = refl; life = refl }
-scan_carried s t x (c ∷ older) Made = same_self s
-scan_carried s t x (c ∷ older) (NewMarked b) = same_self s
-scan_carried s t x (c ∷ older) OldSet = same_self s
+scan_carried : (s : State) (t : ℕ) (x : Active) (cs : Changes) (phase : Phase) → SameScan s (carried_on s t x cs phase)
+scan_carried s t x Unchanged phase = same_self s
+scan_carried s t x (older ▹ c) OldMarked = record { pages = refl; bound = refl; taken = refl; life = refl }
+scan_carried s t x (older ▹ c) RowSet = record { pages = refl; bound = refl; taken = refl; life = refl }
+scan_carried s t x (older ▹ c) Made = same_self s
+scan_carried s t x (older ▹ c) (NewMarked b) = same_self s
+scan_carried s t x (older ▹ c) OldSet = same_self s
 
-scan_first : (s : State) (t : ℕ) (x : Active) (c : ChangeValue) (older : List ChangeValue) (b : Bool) (o : Option Pair) → SameScan s (undone_first s t x c older b o)
+scan_first : (s : State) (t : ℕ) (x : Active) (c : ChangeValue) (older : Changes) (b : Bool) (o : Option Pair) → SameScan s (undone_first s t x c older b o)
 scan_first s t x c older b None = record { pages = refl; bound = refl; taken = refl; life = refl }
 scan_first s t x c older b (Some p) = record { pages = refl; bound = refl; taken = refl; life = refl }
 
-scan_undone : (s : State) (t : ℕ) (x : Active) (cs : List ChangeValue) (phase : Phase) → SameScan s (undone s t x cs phase)
-scan_undone s t x [] phase = record { pages = refl; bound = refl; taken = refl; life = refl }
-scan_undone s t x (c ∷ older) OldMarked = scan_first s t x c older false (new_pair (is_indexed s.life) c)
-scan_undone s t x (c ∷ older) RowSet = scan_first s t x c older true (new_pair (is_indexed s.life) c)
-scan_undone s t x (c ∷ older) Made = scan_first s t x c older true (new_pair (is_indexed s.life) c)
-scan_undone s t x (c ∷ older) (NewMarked b) = record { pages = refl; bound = refl; taken = refl; life = refl }
-scan_undone s t x (c ∷ older) OldSet = record { pages = refl; bound = refl; taken = refl; life = refl }
+scan_undone : (s : State) (t : ℕ) (x : Active) (cs : Changes) (phase : Phase) → SameScan s (undone s t x cs phase)
+scan_undone s t x Unchanged phase = record { pages = refl; bound = refl; taken = refl; life = refl }
+scan_undone s t x (older ▹ c) OldMarked = scan_first s t x c older false (new_pair (is_indexed s.life) c)
+scan_undone s t x (older ▹ c) RowSet = scan_first s t x c older true (new_pair (is_indexed s.life) c)
+scan_undone s t x (older ▹ c) Made = scan_first s t x c older true (new_pair (is_indexed s.life) c)
+scan_undone s t x (older ▹ c) (NewMarked b) = record { pages = refl; bound = refl; taken = refl; life = refl }
+scan_undone s t x (older ▹ c) OldSet = record { pages = refl; bound = refl; taken = refl; life = refl }
 
 -- no transaction has a greater number
 module _ (s : State) (n : ℕ) (le : (u : ℕ) (y : Active) → s.txns u ≡ Some y → u ≤ n) where
@@ -92,25 +92,25 @@ module _ (s : State) (n : ℕ) (le : (u : ℕ) (y : Active) → s.txns u ≡ Som
     started_le c (Some p) u y e = put_le (with_change x c OldMarked) u y e
     started_le c None u y e = put_le (with_change x c (row_made (new_pair (is_indexed s.life) c))) u y e
 
-    carried_le : (cs : List ChangeValue) (phase : Phase) (u : ℕ) (y : Active) → (carried_on s t x cs phase).txns u ≡ Some y → u ≤ n
-    carried_le [] phase u y e = le u y e
-    carried_le (c ∷ older) OldMarked u y e = put_le (with_phase x (row_made (new_pair (is_indexed s.life) c))) u y e
-    carried_le (c ∷ older) RowSet u y e = put_le (with_phase x Made) u y e
-    carried_le (c ∷ older) Made u y e = le u y e
-    carried_le (c ∷ older) (NewMarked b) u y e = le u y e
-    carried_le (c ∷ older) OldSet u y e = le u y e
+    carried_le : (cs : Changes) (phase : Phase) (u : ℕ) (y : Active) → (carried_on s t x cs phase).txns u ≡ Some y → u ≤ n
+    carried_le Unchanged phase u y e = le u y e
+    carried_le (older ▹ c) OldMarked u y e = put_le (with_phase x (row_made (new_pair (is_indexed s.life) c))) u y e
+    carried_le (older ▹ c) RowSet u y e = put_le (with_phase x Made) u y e
+    carried_le (older ▹ c) Made u y e = le u y e
+    carried_le (older ▹ c) (NewMarked b) u y e = le u y e
+    carried_le (older ▹ c) OldSet u y e = le u y e
 
-    first_le : (c : ChangeValue) (older : List ChangeValue) (b : Bool) (o : Option Pair) (u : ℕ) (y : Active) → (undone_first s t x c older b o).txns u ≡ Some y → u ≤ n
+    first_le : (c : ChangeValue) (older : Changes) (b : Bool) (o : Option Pair) (u : ℕ) (y : Active) → (undone_first s t x c older b o).txns u ≡ Some y → u ≤ n
     first_le c older b (Some p) u y e = put_le (undoing x (NewMarked b)) u y e
     first_le c older b None u y e = put_le (row_undone x older (old_pair (is_indexed s.life) c)) u y e
 
-    undone_le : (cs : List ChangeValue) (phase : Phase) (u : ℕ) (y : Active) → (undone s t x cs phase).txns u ≡ Some y → u ≤ n
-    undone_le [] phase u y e = put_le (undoing x phase) u y e
-    undone_le (c ∷ older) OldMarked u y e = first_le c older false (new_pair (is_indexed s.life) c) u y e
-    undone_le (c ∷ older) RowSet u y e = first_le c older true (new_pair (is_indexed s.life) c) u y e
-    undone_le (c ∷ older) Made u y e = first_le c older true (new_pair (is_indexed s.life) c) u y e
-    undone_le (c ∷ older) (NewMarked b) u y e = put_le (row_undone x older (old_pair (is_indexed s.life) c)) u y e
-    undone_le (c ∷ older) OldSet u y e = put_le (without_newest older) u y e
+    undone_le : (cs : Changes) (phase : Phase) (u : ℕ) (y : Active) → (undone s t x cs phase).txns u ≡ Some y → u ≤ n
+    undone_le Unchanged phase u y e = put_le (undoing x phase) u y e
+    undone_le (older ▹ c) OldMarked u y e = first_le c older false (new_pair (is_indexed s.life) c) u y e
+    undone_le (older ▹ c) RowSet u y e = first_le c older true (new_pair (is_indexed s.life) c) u y e
+    undone_le (older ▹ c) Made u y e = first_le c older true (new_pair (is_indexed s.life) c) u y e
+    undone_le (older ▹ c) (NewMarked b) u y e = put_le (row_undone x older (old_pair (is_indexed s.life) c)) u y e
+    undone_le (older ▹ c) OldSet u y e = put_le (without_newest older) u y e
 
 -- all that the standing says but the counts
 record Stands (s : State) (k : Standing) : Type 0 where
@@ -384,29 +384,29 @@ due_tells s k writes (Event.Find key) reply step d = tells_by writes k.made (Eve
 due_tells s k writes Event.Life reply step d = tells_by writes k.made Event.Life _ reply step _ d.0 d.1 (record { items = refl; asked = refl })
 
 -- ---- the numbers of records
-next_made : (t : ℕ) (cs : List ChangeValue) (phase : Phase) (indexed : Bool) → IsShaped indexed cs phase → (phase ≡ OldMarked) ⊎ (phase ≡ RowSet) → (n : ℕ) → n + 1 ≡ next_number n (next_action t cs phase)
-next_made t [] phase indexed h o n = absurd (made_owes phase h o)
+next_made : (t : ℕ) (cs : Changes) (phase : Phase) (indexed : Bool) → IsShaped indexed cs phase → (phase ≡ OldMarked) ⊎ (phase ≡ RowSet) → (n : ℕ) → n + 1 ≡ next_number n (next_action t cs phase)
+next_made t Unchanged phase indexed h o n = absurd (made_owes phase h o)
   where
     made_owes : (phase : Phase) → phase ≡ Made → (phase ≡ OldMarked) ⊎ (phase ≡ RowSet) → ⊥
     made_owes phase h (inl a) = absurd (cc)
     made_owes phase h (inr a) = absurd (cc)
-next_made t (c ∷ older) OldMarked indexed h o n = refl
-next_made t (c ∷ older) RowSet indexed h o n = refl
-next_made t (c ∷ older) Made indexed h o n = absurd (elim o [ inl a ↦ made_marked a | inr a ↦ made_set a ])
+next_made t (older ▹ c) OldMarked indexed h o n = refl
+next_made t (older ▹ c) RowSet indexed h o n = refl
+next_made t (older ▹ c) Made indexed h o n = absurd (elim o [ inl a ↦ made_marked a | inr a ↦ made_set a ])
   where
     made_marked : Made ≡ OldMarked → ⊥
     made_marked a = absurd (cc)
 
     made_set : Made ≡ RowSet → ⊥
     made_set a = absurd (cc)
-next_made t (c ∷ older) (NewMarked b) indexed h o n = absurd (elim o [ inl a ↦ new_marked a | inr a ↦ new_set a ])
+next_made t (older ▹ c) (NewMarked b) indexed h o n = absurd (elim o [ inl a ↦ new_marked a | inr a ↦ new_set a ])
   where
     new_marked : NewMarked b ≡ OldMarked → ⊥
     new_marked a = absurd (cc)
 
     new_set : NewMarked b ≡ RowSet → ⊥
     new_set a = absurd (cc)
-next_made t (c ∷ older) OldSet indexed h o n = absurd (elim o [ inl a ↦ old_marked a | inr a ↦ old_set a ])
+next_made t (older ▹ c) OldSet indexed h o n = absurd (elim o [ inl a ↦ old_marked a | inr a ↦ old_set a ])
   where
     old_marked : OldSet ≡ OldMarked → ⊥
     old_marked a = absurd (cc)
@@ -414,15 +414,15 @@ next_made t (c ∷ older) OldSet indexed h o n = absurd (elim o [ inl a ↦ old_
     old_set : OldSet ≡ RowSet → ⊥
     old_set a = absurd (cc)
 
-undo_made : (t : ℕ) (cs : List ChangeValue) (phase : Phase) (indexed : Bool) → (cs ≡ [] → ⊥) → (n : ℕ) → n + 1 ≡ next_number n (undo_action indexed t cs phase)
-undo_made t [] phase indexed h n = absurd (h refl)
-undo_made t (c ∷ older) OldMarked indexed h n = refl
-undo_made t (c ∷ older) RowSet indexed h n = refl
-undo_made t (c ∷ older) Made indexed h n = refl
-undo_made t (c ∷ older) (NewMarked b) indexed h n = refl
-undo_made t (c ∷ older) OldSet indexed h n = refl
+undo_made : (t : ℕ) (cs : Changes) (phase : Phase) (indexed : Bool) → (cs ≡ Unchanged → ⊥) → (n : ℕ) → n + 1 ≡ next_number n (undo_action indexed t cs phase)
+undo_made t Unchanged phase indexed h n = absurd (h refl)
+undo_made t (older ▹ c) OldMarked indexed h n = refl
+undo_made t (older ▹ c) RowSet indexed h n = refl
+undo_made t (older ▹ c) Made indexed h n = refl
+undo_made t (older ▹ c) (NewMarked b) indexed h n = refl
+undo_made t (older ▹ c) OldSet indexed h n = refl
 
-undo_none : (t : ℕ) (cs : List ChangeValue) (phase : Phase) (indexed : Bool) → cs ≡ [] → (n : ℕ) → n ≡ next_number n (undo_action indexed t cs phase)
+undo_none : (t : ℕ) (cs : Changes) (phase : Phase) (indexed : Bool) → cs ≡ Unchanged → (n : ℕ) → n ≡ next_number n (undo_action indexed t cs phase)
 undo_none t cs phase indexed e n = ap (λ cs. next_number n (undo_action indexed t cs phase)) (sym e)
 
 place_made : (p : Pair) (o : Option Mark) → o ≡ None → (n : ℕ) → n + 1 ≡ next_number n (place_action p o)

@@ -23,6 +23,7 @@ use Rattle.records.specs.declared.limits.TheConstants.{ATTEMPTS_PER_CHECKPOINT}
 use Rattle.records.specs.declared.txn.TheConstants.{TXNS_MAX}
 use Rattle.core_model.specs.States.{Active, OldMarked, RowSet, State}
 use Rattle.core_model.specs.Steps.{Attempt, CanClean, CanFinish, Checkpoint, Finish, IsBuilding, IsReady, Keep, Next, Start, Step, Take, Wrap, above, after, all_reserved, is_indexed, places_of, txn_at}
+use Rattle.core_model.specs.Changes.{Unchanged, listed}
 
 -- ---- what an event asks for first
 
@@ -48,7 +49,7 @@ IsProper s (Event.Delete t rid) = IsReady (txn_at s t)
 IsProper s (Event.Update t rid row) = IsReady (txn_at s t)
 IsProper s (Event.Step t) = Owes (txn_at s t)
 IsProper s (Event.Commit t) = IsReady (txn_at s t)
-IsProper s (Event.End t) = (txn_at s t).changes ≡ []
+IsProper s (Event.End t) = (txn_at s t).changes ≡ Unchanged
 IsProper s _ = Unit {0}
 
 -- ---- refusals
@@ -73,7 +74,7 @@ abbrev pub IsHeldByOther : State → ℕ → Place → Type 0
 IsHeldByOther s t r = (u : ℕ) × (s.holder r ≡ Some u) × (u ≢ t)
 
 abbrev pub HasNoMoreChanges : State → ℕ → Type 0
-HasNoMoreChanges s t = CHANGES_MAX ≤ length (txn_at s t).changes
+HasNoMoreChanges s t = CHANGES_MAX ≤ length (listed (txn_at s t).changes)
 
 abbrev pub IsAnyActive : State → Type 0
 IsAnyActive s = (t : ℕ) × (x : Active) × (s.txns t ≡ Some x)
@@ -111,7 +112,7 @@ pub record IsLeastFree (s : State) (r : Place) : Type 0 where
   pub least : (q : Place) → IsFree s q → is_lt (rid_cmp q r) ≡ false
 
 abbrev pub change_of : State → ℕ → Place → Rows → ChangeValue
-change_of s t rid rows = record { position = length (txn_at s t).changes; rid = rid; rows = rows }
+change_of s t rid rows = record { position = length (listed (txn_at s t).changes); rid = rid; rows = rows }
 
 -- the builder is not to make a checkpoint
 abbrev pub IsBetween : State → Standing → Type 0
@@ -168,7 +169,7 @@ IsDue s k (Event.Insert t row) reply step = (r : Place) × IsLeastFree s r × (r
 IsDue s k (Event.Delete t r) reply step = (old : Row) × (get s.rows r ≡ Some old) × (reply ≡ Stepped) × (step ≡ Some (Start t (change_of s t r (Deleted old))))
 IsDue s k (Event.Update t r row) reply step = (old : Row) × (get s.rows r ≡ Some old) × (reply ≡ Stepped) × (step ≡ Some (Start t (change_of s t r (Updated old row))))
 IsDue s k (Event.Step t) reply step = (reply ≡ Stepped) × (step ≡ Some (Next t))
-IsDue s k (Event.Undo t) reply step = ((((txn_at s t).changes ≡ []) × (reply ≡ Empty)) ⊎ (((txn_at s t).changes ≢ []) × (reply ≡ Undone))) × (step ≡ Some (Step.Undo t))
+IsDue s k (Event.Undo t) reply step = ((((txn_at s t).changes ≡ Unchanged) × (reply ≡ Empty)) ⊎ (((txn_at s t).changes ≢ Unchanged) × (reply ≡ Undone))) × (step ≡ Some (Step.Undo t))
 IsDue s k (Event.End t) reply step = (reply ≡ Ended) × (step ≡ Some (Step.End t))
 IsDue s k (Event.Commit t) reply step = (reply ≡ Reply.Committed (k.made + 1) (k.commits + 1)) × (step ≡ Some (Step.Commit t))
 IsDue s k Event.Create reply step = (reply ≡ Reply.Created (k.made + 1)) × (step ≡ Some Step.Create)

@@ -1,10 +1,10 @@
 -- The builder's attempts lie above the pair that was checkpointed last, also where that was before the core was opened.
-use Rattle.std.proofs.Common.{Bool, ℕ, List, None, Option, Some, [], ap, subst, sym, true, ◌∙◌, ◌∷◌, ◌≡◌, ◌≢◌}
+use Rattle.std.proofs.Common.{Bool, ℕ, List, None, Option, Some, ap, subst, sym, true, ◌∙◌, ◌≡◌, ◌≢◌}
 use Rattle.records.specs.ChangeValue.{ChangeValue}
 use Rattle.records.specs.declared.pair.Pair.{Pair}
 use Rattle.model.specs.declared.life.Life.TheVariants.{Absent, Building, Complete}
 use Rattle.core_model.proofs.Orders.{above_trans}
-use Rattle.core_model.specs.Changes.{new_pair, old_pair}
+use Rattle.core_model.specs.Changes.{Changes, Unchanged, new_pair, old_pair, ◌▹◌}
 use Rattle.core_model.specs.Histories.{Opened, highest_of, opened}
 use Rattle.core_model.specs.Invariants.{Invariant, Run, no_step, one_step}
 use Rattle.core_model.specs.States.{Active, Made, NewMarked, OldMarked, OldSet, Phase, RowSet, State}
@@ -31,28 +31,28 @@ module _ (highest : Option Pair) where
     started_past c (Some p) = record { indexed = h.indexed; past = h.past }
     started_past c None = record { indexed = h.indexed; past = h.past }
 
-    carried_past : (cs : List ChangeValue) (phase : Phase) → IsPast (carried_on s t x cs phase)
-    carried_past [] phase = h
-    carried_past (c ∷ older) OldMarked = record { indexed = h.indexed; past = h.past }
-    carried_past (c ∷ older) RowSet = record { indexed = h.indexed; past = h.past }
-    carried_past (c ∷ older) Made = h
-    carried_past (c ∷ older) (NewMarked b) = h
-    carried_past (c ∷ older) OldSet = h
+    carried_past : (cs : Changes) (phase : Phase) → IsPast (carried_on s t x cs phase)
+    carried_past Unchanged phase = h
+    carried_past (older ▹ c) OldMarked = record { indexed = h.indexed; past = h.past }
+    carried_past (older ▹ c) RowSet = record { indexed = h.indexed; past = h.past }
+    carried_past (older ▹ c) Made = h
+    carried_past (older ▹ c) (NewMarked b) = h
+    carried_past (older ▹ c) OldSet = h
 
-    row_past : (c : ChangeValue) (older : List ChangeValue) → IsPast (undone_row s t x c older)
+    row_past : (c : ChangeValue) (older : Changes) → IsPast (undone_row s t x c older)
     row_past c older = record { indexed = h.indexed; past = h.past }
 
-    first_past : (c : ChangeValue) (older : List ChangeValue) (b : Bool) (o : Option Pair) → IsPast (undone_first s t x c older b o)
+    first_past : (c : ChangeValue) (older : Changes) (b : Bool) (o : Option Pair) → IsPast (undone_first s t x c older b o)
     first_past c older b (Some p) = record { indexed = h.indexed; past = h.past }
     first_past c older b None = row_past c older
 
-    undone_past : (cs : List ChangeValue) (phase : Phase) → IsPast (undone s t x cs phase)
-    undone_past [] phase = record { indexed = h.indexed; past = h.past }
-    undone_past (c ∷ older) OldMarked = first_past c older _ (new_pair (is_indexed s.life) c)
-    undone_past (c ∷ older) RowSet = first_past c older _ (new_pair (is_indexed s.life) c)
-    undone_past (c ∷ older) Made = first_past c older _ (new_pair (is_indexed s.life) c)
-    undone_past (c ∷ older) (NewMarked b) = row_past c older
-    undone_past (c ∷ older) OldSet = record { indexed = h.indexed; past = h.past }
+    undone_past : (cs : Changes) (phase : Phase) → IsPast (undone s t x cs phase)
+    undone_past Unchanged phase = record { indexed = h.indexed; past = h.past }
+    undone_past (older ▹ c) OldMarked = first_past c older _ (new_pair (is_indexed s.life) c)
+    undone_past (older ▹ c) RowSet = first_past c older _ (new_pair (is_indexed s.life) c)
+    undone_past (older ▹ c) Made = first_past c older _ (new_pair (is_indexed s.life) c)
+    undone_past (older ▹ c) (NewMarked b) = row_past c older
+    undone_past (older ▹ c) OldSet = record { indexed = h.indexed; past = h.past }
 
   moved_past : (s : State) (e : Step) → IsPast s → IsEnabled s e → IsPast (moved_by s e)
   moved_past s (Begin t) h a = record { indexed = h.indexed; past = h.past }

@@ -1,5 +1,5 @@
 -- Every step keeps a core well formed, whatever rows and entries it began with.
-use Rattle.std.proofs.Common.{Bool, List, None, Option, Some, [], ap, cond, inl, inr, length, refl, subst, sym, ℕ, ◌<◌, ◌∙◌, ◌∷◌, ◌≡◌, ◌≢◌, ◌⊎◌}
+use Rattle.std.proofs.Common.{Bool, None, Option, Some, ap, cond, inl, inr, length, refl, subst, sym, ℕ, ◌<◌, ◌∙◌, ◌≡◌, ◌≢◌, ◌⊎◌}
 use Rattle.std.specs.Cmp.{nat_cmp_total}
 use Rattle.std.specs.FinMap.{get, nat_cmp-IsAntisymmetric}
 use Rattle.std.specs.Ordering.{nat_cmp}
@@ -16,7 +16,7 @@ use Rattle.core_model.proofs.Latest.{holds_more, not_none}
 use Rattle.core_model.proofs.Orders.{apart, update_apart, update_here}
 use Rattle.core_model.proofs.Places.{places_step}
 use Rattle.core_model.proofs.Pledged.{pledged_step}
-use Rattle.core_model.specs.Changes.{new_pair, old_pair}
+use Rattle.core_model.specs.Changes.{Changes, Unchanged, listed, new_pair, old_pair, ◌▹◌}
 use Rattle.core_model.specs.Invariants.{HasShape, IsFit, IsHolderOf, IsNumbered, IsShaped, IsWellFormed}
 use Rattle.core_model.specs.States.{Active, Made, NewMarked, OldMarked, OldSet, Phase, RowSet, State}
 use Rattle.core_model.specs.Steps.{Attempt, Begin, Checkpoint, Clean, Commit, Create, End, Finish, IsEnabled, Keep, Next, Start, Step, Take, Undo, Wrap, after, carried_on, freed, is_indexed, new_txn, row_made, row_undone, started, txn_at, undoing, undone, undone_first, update, with_change, with_phase, with_txn, without_newest}
@@ -26,9 +26,9 @@ row_shape : (indexed : Bool) (c : ChangeValue) (o : Option Pair) → new_pair in
 row_shape indexed c None e = tt
 row_shape indexed c (Some p) e = record { it = p; is = e; holds = tt }
 
-made_shape : (indexed : Bool) (cs : List ChangeValue) → IsShaped indexed cs Made
-made_shape indexed [] = refl
-made_shape indexed (c ∷ older) = tt
+made_shape : (indexed : Bool) (cs : Changes) → IsShaped indexed cs Made
+made_shape indexed Unchanged = refl
+made_shape indexed (older ▹ c) = tt
 
 module _ (s : State) (w : IsWellFormed s) (t : ℕ) where
   abbrev indexed : Bool
@@ -60,7 +60,7 @@ module _ (s : State) (w : IsWellFormed s) (t : ℕ) where
     now : IsFit s.holder indexed t x
     now = w.txns t x active
 
-    module _ (c : ChangeValue) (mine : (s.holder c.rid ≡ None) ⊎ (s.holder c.rid ≡ Some t)) (position : c.position ≡ length x.changes) where
+    module _ (c : ChangeValue) (mine : (s.holder c.rid ≡ None) ⊎ (s.holder c.rid ≡ Some t)) (position : c.position ≡ length (listed x.changes)) where
       abbrev held_too : Place → Option ℕ
       held_too = update rid_cmp s.holder c.rid (Some t)
 
@@ -87,43 +87,43 @@ module _ (s : State) (w : IsWellFormed s) (t : ℕ) where
       started_fit (Some p) e u y a = put_fit held_too (with_change x c OldMarked) others_hold (change_fit OldMarked (record { it = p; is = e; holds = tt })) u y a
       started_fit None e u y a = put_fit held_too (with_change x c (row_made (new_pair indexed c))) others_hold (change_fit (row_made (new_pair indexed c)) (row_shape indexed c (new_pair indexed c) refl)) u y a
 
-    phase_fit : (c : ChangeValue) (older : List ChangeValue) → x.changes ≡ c ∷ older → (phase : Phase) → HasShape indexed c phase → IsFit s.holder indexed t (with_phase x phase)
+    phase_fit : (c : ChangeValue) (older : Changes) → x.changes ≡ older ▹ c → (phase : Phase) → HasShape indexed c phase → IsFit s.holder indexed t (with_phase x phase)
     phase_fit c older e phase shape = record { names = now.names; shaped = subst (λ cs. IsShaped indexed cs phase) (sym e) shape; numbered = now.numbered }
 
-    carried_fit : (cs : List ChangeValue) → x.changes ≡ cs → (phase : Phase) (u : ℕ) (y : Active) → (carried_on s t x cs phase).txns u ≡ Some y → IsFit (carried_on s t x cs phase).holder (is_indexed (carried_on s t x cs phase).life) u y
-    carried_fit [] e phase u y a = w.txns u y a
-    carried_fit (c ∷ older) e OldMarked u y a = same_fit (with_phase x (row_made (new_pair indexed c))) (phase_fit c older e (row_made (new_pair indexed c)) (row_shape indexed c (new_pair indexed c) refl)) u y a
-    carried_fit (c ∷ older) e RowSet u y a = same_fit (with_phase x Made) (phase_fit c older e Made tt) u y a
-    carried_fit (c ∷ older) e Made u y a = w.txns u y a
-    carried_fit (c ∷ older) e (NewMarked b) u y a = w.txns u y a
-    carried_fit (c ∷ older) e OldSet u y a = w.txns u y a
+    carried_fit : (cs : Changes) → x.changes ≡ cs → (phase : Phase) (u : ℕ) (y : Active) → (carried_on s t x cs phase).txns u ≡ Some y → IsFit (carried_on s t x cs phase).holder (is_indexed (carried_on s t x cs phase).life) u y
+    carried_fit Unchanged e phase u y a = w.txns u y a
+    carried_fit (older ▹ c) e OldMarked u y a = same_fit (with_phase x (row_made (new_pair indexed c))) (phase_fit c older e (row_made (new_pair indexed c)) (row_shape indexed c (new_pair indexed c) refl)) u y a
+    carried_fit (older ▹ c) e RowSet u y a = same_fit (with_phase x Made) (phase_fit c older e Made tt) u y a
+    carried_fit (older ▹ c) e Made u y a = w.txns u y a
+    carried_fit (older ▹ c) e (NewMarked b) u y a = w.txns u y a
+    carried_fit (older ▹ c) e OldSet u y a = w.txns u y a
 
-    older_fit : (c : ChangeValue) (older : List ChangeValue) → x.changes ≡ c ∷ older → IsFit s.holder indexed t (without_newest older)
+    older_fit : (c : ChangeValue) (older : Changes) → x.changes ≡ older ▹ c → IsFit s.holder indexed t (without_newest older)
     older_fit c older e = record {
       names = (subst (λ cs. IsHolderOf s.holder t cs) e now.names).1;
       shaped = made_shape indexed older;
       numbered = (subst IsNumbered e now.numbered).1;
     }
 
-    undoing_fit : (c : ChangeValue) (older : List ChangeValue) → x.changes ≡ c ∷ older → (phase : Phase) → HasShape indexed c phase → IsFit s.holder indexed t (undoing x phase)
+    undoing_fit : (c : ChangeValue) (older : Changes) → x.changes ≡ older ▹ c → (phase : Phase) → HasShape indexed c phase → IsFit s.holder indexed t (undoing x phase)
     undoing_fit c older e phase shape = record { names = now.names; shaped = subst (λ cs. IsShaped indexed cs phase) (sym e) shape; numbered = now.numbered }
 
-    row_fit : (c : ChangeValue) (older : List ChangeValue) → x.changes ≡ c ∷ older → (o : Option Pair) → old_pair indexed c ≡ o → IsFit s.holder indexed t (row_undone x older o)
+    row_fit : (c : ChangeValue) (older : Changes) → x.changes ≡ older ▹ c → (o : Option Pair) → old_pair indexed c ≡ o → IsFit s.holder indexed t (row_undone x older o)
     row_fit c older e None k = older_fit c older e
     row_fit c older e (Some p) k = undoing_fit c older e OldSet (record { it = p; is = k; holds = tt })
 
-    first_fit : (c : ChangeValue) (older : List ChangeValue) → x.changes ≡ c ∷ older → (b : Bool) (o : Option Pair) → new_pair indexed c ≡ o → (u : ℕ) (y : Active) → (undone_first s t x c older b o).txns u ≡ Some y
+    first_fit : (c : ChangeValue) (older : Changes) → x.changes ≡ older ▹ c → (b : Bool) (o : Option Pair) → new_pair indexed c ≡ o → (u : ℕ) (y : Active) → (undone_first s t x c older b o).txns u ≡ Some y
         → IsFit (undone_first s t x c older b o).holder (is_indexed (undone_first s t x c older b o).life) u y
     first_fit c older e b (Some p) k u y a = same_fit (undoing x (NewMarked b)) (undoing_fit c older e (NewMarked b) (record { it = p; is = k; holds = tt })) u y a
     first_fit c older e b None k u y a = same_fit (row_undone x older (old_pair indexed c)) (row_fit c older e (old_pair indexed c) refl) u y a
 
-    undone_fit : (cs : List ChangeValue) → x.changes ≡ cs → (phase : Phase) → x.phase ≡ phase → (u : ℕ) (y : Active) → (undone s t x cs phase).txns u ≡ Some y → IsFit (undone s t x cs phase).holder (is_indexed (undone s t x cs phase).life) u y
-    undone_fit [] e phase k u y a = same_fit (undoing x phase) (record { names = now.names; shaped = subst (λ ph. IsShaped indexed x.changes ph) k now.shaped; numbered = now.numbered }) u y a
-    undone_fit (c ∷ older) e OldMarked k u y a = first_fit c older e _ (new_pair indexed c) refl u y a
-    undone_fit (c ∷ older) e RowSet k u y a = first_fit c older e _ (new_pair indexed c) refl u y a
-    undone_fit (c ∷ older) e Made k u y a = first_fit c older e _ (new_pair indexed c) refl u y a
-    undone_fit (c ∷ older) e (NewMarked b) k u y a = same_fit (row_undone x older (old_pair indexed c)) (row_fit c older e (old_pair indexed c) refl) u y a
-    undone_fit (c ∷ older) e OldSet k u y a = same_fit (without_newest older) (older_fit c older e) u y a
+    undone_fit : (cs : Changes) → x.changes ≡ cs → (phase : Phase) → x.phase ≡ phase → (u : ℕ) (y : Active) → (undone s t x cs phase).txns u ≡ Some y → IsFit (undone s t x cs phase).holder (is_indexed (undone s t x cs phase).life) u y
+    undone_fit Unchanged e phase k u y a = same_fit (undoing x phase) (record { names = now.names; shaped = subst (λ ph. IsShaped indexed x.changes ph) k now.shaped; numbered = now.numbered }) u y a
+    undone_fit (older ▹ c) e OldMarked k u y a = first_fit c older e _ (new_pair indexed c) refl u y a
+    undone_fit (older ▹ c) e RowSet k u y a = first_fit c older e _ (new_pair indexed c) refl u y a
+    undone_fit (older ▹ c) e Made k u y a = first_fit c older e _ (new_pair indexed c) refl u y a
+    undone_fit (older ▹ c) e (NewMarked b) k u y a = same_fit (row_undone x older (old_pair indexed c)) (row_fit c older e (old_pair indexed c) refl) u y a
+    undone_fit (older ▹ c) e OldSet k u y a = same_fit (without_newest older) (older_fit c older e) u y a
 
 indexed_same : (s : State) → IsWellFormed s → (b : Bool) → is_indexed s.life ≡ b → (t : ℕ) (x : Active) → s.txns t ≡ Some x → IsFit s.holder b t x
 indexed_same s w b e t x a = subst (λ i. IsFit s.holder i t x) e (w.txns t x a)
@@ -160,25 +160,25 @@ module _ (s : State) (w : IsWellFormed s) (t : ℕ) (x : Active) where
   started_rows c l None = set_rows s.pages s.rows c.rid _ l w.rows
 
   module _ (active : s.txns t ≡ Some x) where
-    carried_rows : (cs : List ChangeValue) → x.changes ≡ cs → (phase : Phase) → RowsInside (carried_on s t x cs phase).pages (carried_on s t x cs phase).rows
-    carried_rows [] e phase = w.rows
-    carried_rows (c ∷ older) e OldMarked = set_rows s.pages s.rows c.rid _ (change_inside s w t x active c older e) w.rows
-    carried_rows (c ∷ older) e RowSet = w.rows
-    carried_rows (c ∷ older) e Made = w.rows
-    carried_rows (c ∷ older) e (NewMarked b) = w.rows
-    carried_rows (c ∷ older) e OldSet = w.rows
+    carried_rows : (cs : Changes) → x.changes ≡ cs → (phase : Phase) → RowsInside (carried_on s t x cs phase).pages (carried_on s t x cs phase).rows
+    carried_rows Unchanged e phase = w.rows
+    carried_rows (older ▹ c) e OldMarked = set_rows s.pages s.rows c.rid _ (change_inside s w t x active c older e) w.rows
+    carried_rows (older ▹ c) e RowSet = w.rows
+    carried_rows (older ▹ c) e Made = w.rows
+    carried_rows (older ▹ c) e (NewMarked b) = w.rows
+    carried_rows (older ▹ c) e OldSet = w.rows
 
-    first_rows : (c : ChangeValue) (older : List ChangeValue) → x.changes ≡ c ∷ older → (b : Bool) (o : Option Pair) → RowsInside (undone_first s t x c older b o).pages (undone_first s t x c older b o).rows
+    first_rows : (c : ChangeValue) (older : Changes) → x.changes ≡ older ▹ c → (b : Bool) (o : Option Pair) → RowsInside (undone_first s t x c older b o).pages (undone_first s t x c older b o).rows
     first_rows c older e b (Some p) = w.rows
     first_rows c older e b None = set_rows s.pages s.rows c.rid _ (change_inside s w t x active c older e) w.rows
 
-    undone_rows : (cs : List ChangeValue) → x.changes ≡ cs → (phase : Phase) → RowsInside (undone s t x cs phase).pages (undone s t x cs phase).rows
-    undone_rows [] e phase = w.rows
-    undone_rows (c ∷ older) e OldMarked = first_rows c older e _ (new_pair (is_indexed s.life) c)
-    undone_rows (c ∷ older) e RowSet = first_rows c older e _ (new_pair (is_indexed s.life) c)
-    undone_rows (c ∷ older) e Made = first_rows c older e _ (new_pair (is_indexed s.life) c)
-    undone_rows (c ∷ older) e (NewMarked b) = set_rows s.pages s.rows c.rid _ (change_inside s w t x active c older e) w.rows
-    undone_rows (c ∷ older) e OldSet = w.rows
+    undone_rows : (cs : Changes) → x.changes ≡ cs → (phase : Phase) → RowsInside (undone s t x cs phase).pages (undone s t x cs phase).rows
+    undone_rows Unchanged e phase = w.rows
+    undone_rows (older ▹ c) e OldMarked = first_rows c older e _ (new_pair (is_indexed s.life) c)
+    undone_rows (older ▹ c) e RowSet = first_rows c older e _ (new_pair (is_indexed s.life) c)
+    undone_rows (older ▹ c) e Made = first_rows c older e _ (new_pair (is_indexed s.life) c)
+    undone_rows (older ▹ c) e (NewMarked b) = set_rows s.pages s.rows c.rid _ (change_inside s w t x active c older e) w.rows
+    undone_rows (older ▹ c) e OldSet = w.rows
 
 rows_step : (s : State) (e : Step) → IsWellFormed s → IsEnabled s e → RowsInside (after s e).pages (after s e).rows
 rows_step s (Begin t) w a = w.rows
@@ -219,25 +219,25 @@ module _ (s : State) (w : IsWellFormed s) (t : ℕ) (x : Active) where
       same_holder None = refl
       same_holder (Some p) = refl
 
-  carried_held : (cs : List ChangeValue) (phase : Phase) → HeldInside (carried_on s t x cs phase).pages (carried_on s t x cs phase).holder
-  carried_held [] phase = w.held
-  carried_held (c ∷ older) OldMarked = w.held
-  carried_held (c ∷ older) RowSet = w.held
-  carried_held (c ∷ older) Made = w.held
-  carried_held (c ∷ older) (NewMarked b) = w.held
-  carried_held (c ∷ older) OldSet = w.held
+  carried_held : (cs : Changes) (phase : Phase) → HeldInside (carried_on s t x cs phase).pages (carried_on s t x cs phase).holder
+  carried_held Unchanged phase = w.held
+  carried_held (older ▹ c) OldMarked = w.held
+  carried_held (older ▹ c) RowSet = w.held
+  carried_held (older ▹ c) Made = w.held
+  carried_held (older ▹ c) (NewMarked b) = w.held
+  carried_held (older ▹ c) OldSet = w.held
 
-  first_held : (c : ChangeValue) (older : List ChangeValue) (b : Bool) (o : Option Pair) → HeldInside (undone_first s t x c older b o).pages (undone_first s t x c older b o).holder
+  first_held : (c : ChangeValue) (older : Changes) (b : Bool) (o : Option Pair) → HeldInside (undone_first s t x c older b o).pages (undone_first s t x c older b o).holder
   first_held c older b (Some p) = w.held
   first_held c older b None = w.held
 
-  undone_held : (cs : List ChangeValue) (phase : Phase) → HeldInside (undone s t x cs phase).pages (undone s t x cs phase).holder
-  undone_held [] phase = w.held
-  undone_held (c ∷ older) OldMarked = first_held c older _ (new_pair (is_indexed s.life) c)
-  undone_held (c ∷ older) RowSet = first_held c older _ (new_pair (is_indexed s.life) c)
-  undone_held (c ∷ older) Made = first_held c older _ (new_pair (is_indexed s.life) c)
-  undone_held (c ∷ older) (NewMarked b) = w.held
-  undone_held (c ∷ older) OldSet = w.held
+  undone_held : (cs : Changes) (phase : Phase) → HeldInside (undone s t x cs phase).pages (undone s t x cs phase).holder
+  undone_held Unchanged phase = w.held
+  undone_held (older ▹ c) OldMarked = first_held c older _ (new_pair (is_indexed s.life) c)
+  undone_held (older ▹ c) RowSet = first_held c older _ (new_pair (is_indexed s.life) c)
+  undone_held (older ▹ c) Made = first_held c older _ (new_pair (is_indexed s.life) c)
+  undone_held (older ▹ c) (NewMarked b) = w.held
+  undone_held (older ▹ c) OldSet = w.held
 
 held_step : (s : State) (e : Step) → IsWellFormed s → IsEnabled s e → HeldInside (after s e).pages (after s e).holder
 held_step s (Begin t) w a = w.held

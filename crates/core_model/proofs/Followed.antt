@@ -1,12 +1,11 @@
 -- Each record of a run can follow the ones before it.
-use Rattle.std.proofs.Common.{List, None, Option, Some, [], ap, append-nil, arith, cond, inl, inr, is_some, length, refl, reverse, subst, suc, sym, take, true, true≢false, zero, ℕ, ◌++◌, ◌+◌, ◌-◌, ◌<◌, ◌∙◌, ◌∷◌, ◌≡◌, ◌≢◌, ◌≤◌}
-use Rattle.std.proofs.lemmas.List.{append_assoc, length-reverse}
+use Rattle.std.proofs.Common.{List, None, Option, Some, [], ap, append-nil, arith, cond, inl, inr, is_some, length, refl, subst, suc, sym, take, true, true≢false, zero, ℕ, ◌++◌, ◌+◌, ◌-◌, ◌<◌, ◌∙◌, ◌∷◌, ◌≡◌, ◌≢◌, ◌≤◌}
+use Rattle.std.proofs.lemmas.List.{append_assoc}
 use Rattle.std.specs.Cmp.{nat_cmp_total}
 use Rattle.std.specs.FinMap.{FinMap, empty_of_len, entries, entries_sorted, get, get-empty, get-entries, get-remove, len, len-remove, nat_cmp-IsAntisymmetric, remove}
 use Rattle.std.specs.FinMap.Entries.{find, is_sorted}
 use Rattle.std.specs.Ordering.{nat_cmp}
 use Rattle.std.specs.Prelude.{T, map}
-use mathlib.Core.List.{reverse-cons}
 use Rattle.records.specs.ChangeValue.{ChangeValue}
 use Rattle.records.specs.RecordValue.{RecordValue}
 use Rattle.records.specs.Spelling.{new_row, old_row}
@@ -30,7 +29,7 @@ use Rattle.core_model.proofs.Logs.{found_apart, found_here, left, none_below, op
 use Rattle.core_model.proofs.Orders.{apart}
 use Rattle.core_model.proofs.Records.{list_is, no_list, step_follows}
 use Rattle.core_model.proofs.Runs.{run_keeps}
-use Rattle.core_model.specs.Changes.{new_pair, old_pair}
+use Rattle.core_model.specs.Changes.{Changes, Unchanged, listed, new_pair, old_pair, ◌▹◌}
 use Rattle.core_model.specs.Histories.{CanOpen, Opened, deeds_of, no_writes, opened, writes_after, writes_over}
 use Rattle.core_model.specs.Invariants.{Invariant, IsNumbered, IsShaped, IsWellFormed, Run, no_step, one_step}
 use Rattle.core_model.specs.Logs.{HasMade, IsLogOf, Recovers, item_at, items_from, items_over, next_number, one_record, records_from, records_over}
@@ -93,7 +92,7 @@ module _ (s : State) (i : IsWellFormed s) (cells : Cells) (k : HasCells s cells)
   there : s.life ≢ Absent → cells.life ≢ Absent
   there h a = h (sym k.life ∙ a)
 
-  list_at : (t : ℕ) (x : Active) → s.txns t ≡ Some x → list_of cells.pending t ≡ reverse x.changes
+  list_at : (t : ℕ) (x : Active) → s.txns t ≡ Some x → list_of cells.pending t ≡ listed x.changes
   list_at t x active = list_is (get cells.pending t) x (subst (IsListOf (get cells.pending t)) active (k.pending t))
 
   -- a transaction with a list is active
@@ -116,14 +115,14 @@ module _ (s : State) (i : IsWellFormed s) (cells : Cells) (k : HasCells s cells)
     room : HasRoom cells.pending t
     room = room_by (get cells.pending t) refl
 
-    next_on : (c : ChangeValue) → c.position ≡ length x.changes → IsNextOn (list_of cells.pending t) c
-    next_on c e = inl (e ∙ sym (length-reverse x.changes) ∙ ap length (sym (list_at t x active)))
+    next_on : (c : ChangeValue) → c.position ≡ length (listed x.changes) → IsNextOn (list_of cells.pending t) c
+    next_on c e = inl (e ∙ ap length (sym (list_at t x active)))
 
-  module _ (t : ℕ) (x : Active) (active : s.txns t ≡ Some x) (c : ChangeValue) (older : List ChangeValue) (e : x.changes ≡ c ∷ older) where
+  module _ (t : ℕ) (x : Active) (active : s.txns t ≡ Some x) (c : ChangeValue) (older : Changes) (e : x.changes ≡ older ▹ c) where
     last_of : IsLastOf (list_of cells.pending t) c
     last_of =
-        let position : c.position ≡ length older = (subst IsNumbered e (i.txns t x active).numbered).0 in
-        (reverse older, list_at t x active ∙ ap reverse e ∙ reverse-cons c older, position ∙ sym (length-reverse older))
+        let position : c.position ≡ length (listed older) = (subst IsNumbered e (i.txns t x active).numbered).0 in
+        (listed older, list_at t x active ∙ ap listed e, position)
 
     inside : c.rid.page < s.pages
     inside = change_inside s i t x active c older e
@@ -138,7 +137,7 @@ module _ (s : State) (i : IsWellFormed s) (cells : Cells) (k : HasCells s cells)
     begun_follows None h = (inside, tt, last_of)
     begun_follows (Some p) h = (inside, new_there p h, last_of)
 
-  start_follows : len s.pledges ≤ TXNS_MAX → (t : ℕ) (x : Active) → s.txns t ≡ Some x → (c : ChangeValue) → c.position ≡ length x.changes → c.rid.page < s.pages → (o : Option Pair) → old_pair (is_indexed s.life) c ≡ o
+  start_follows : len s.pledges ≤ TXNS_MAX → (t : ℕ) (x : Active) → s.txns t ≡ Some x → (c : ChangeValue) → c.position ≡ length (listed x.changes) → c.rid.page < s.pages → (o : Option Pair) → old_pair (is_indexed s.life) c ≡ o
       → MayFollow s.pages cells (Some (first_action t c o))
   start_follows few t x active c e l None h = (l, tt, next_on few t x active c e, room few t x active)
   start_follows few t x active c e l (Some p) h = (
@@ -148,21 +147,21 @@ module _ (s : State) (i : IsWellFormed s) (cells : Cells) (k : HasCells s cells)
     room few t x active,
   )
 
-  next_follows : len s.pledges ≤ TXNS_MAX → (t : ℕ) (x : Active) → s.txns t ≡ Some x → (cs : List ChangeValue) → x.changes ≡ cs → (phase : Phase) → IsShaped (is_indexed s.life) cs phase → MayFollow s.pages cells (next_action t cs phase)
-  next_follows few t x active [] e phase h = tt
-  next_follows few t x active (c ∷ older) e OldMarked h = (inside t x active c older e, tt, inr (last_of t x active c older e), room few t x active)
-  next_follows few t x active (c ∷ older) e RowSet h = (inside t x active c older e, new_there t x active c older e h.it h.is, inr (last_of t x active c older e), room few t x active)
-  next_follows few t x active (c ∷ older) e Made h = tt
-  next_follows few t x active (c ∷ older) e (NewMarked b) h = tt
-  next_follows few t x active (c ∷ older) e OldSet h = tt
+  next_follows : len s.pledges ≤ TXNS_MAX → (t : ℕ) (x : Active) → s.txns t ≡ Some x → (cs : Changes) → x.changes ≡ cs → (phase : Phase) → IsShaped (is_indexed s.life) cs phase → MayFollow s.pages cells (next_action t cs phase)
+  next_follows few t x active Unchanged e phase h = tt
+  next_follows few t x active (older ▹ c) e OldMarked h = (inside t x active c older e, tt, inr (last_of t x active c older e), room few t x active)
+  next_follows few t x active (older ▹ c) e RowSet h = (inside t x active c older e, new_there t x active c older e h.it h.is, inr (last_of t x active c older e), room few t x active)
+  next_follows few t x active (older ▹ c) e Made h = tt
+  next_follows few t x active (older ▹ c) e (NewMarked b) h = tt
+  next_follows few t x active (older ▹ c) e OldSet h = tt
 
-  undo_follows : (t : ℕ) (x : Active) → s.txns t ≡ Some x → (cs : List ChangeValue) → x.changes ≡ cs → (phase : Phase) → IsShaped (is_indexed s.life) cs phase → MayFollow s.pages cells (undo_action (is_indexed s.life) t cs phase)
-  undo_follows t x active [] e phase h = tt
-  undo_follows t x active (c ∷ older) e OldMarked h = begun_follows t x active c older e _ refl
-  undo_follows t x active (c ∷ older) e RowSet h = begun_follows t x active c older e _ refl
-  undo_follows t x active (c ∷ older) e Made h = begun_follows t x active c older e _ refl
-  undo_follows t x active (c ∷ older) e (NewMarked b) h = (inside t x active c older e, tt, last_of t x active c older e)
-  undo_follows t x active (c ∷ older) e OldSet h = (inside t x active c older e, old_there t x active c older e h.it h.is, last_of t x active c older e)
+  undo_follows : (t : ℕ) (x : Active) → s.txns t ≡ Some x → (cs : Changes) → x.changes ≡ cs → (phase : Phase) → IsShaped (is_indexed s.life) cs phase → MayFollow s.pages cells (undo_action (is_indexed s.life) t cs phase)
+  undo_follows t x active Unchanged e phase h = tt
+  undo_follows t x active (older ▹ c) e OldMarked h = begun_follows t x active c older e _ refl
+  undo_follows t x active (older ▹ c) e RowSet h = begun_follows t x active c older e _ refl
+  undo_follows t x active (older ▹ c) e Made h = begun_follows t x active c older e _ refl
+  undo_follows t x active (older ▹ c) e (NewMarked b) h = (inside t x active c older e, tt, last_of t x active c older e)
+  undo_follows t x active (older ▹ c) e OldSet h = (inside t x active c older e, old_there t x active c older e h.it h.is, last_of t x active c older e)
 
   place_follows : (p : Pair) → p.rid.page < s.pages → IsBuilding s.life → (o : Option Mark) → MayFollow s.pages cells (place_action p o)
   place_follows p l b None = (l, (b.0, k.life ∙ b.1))

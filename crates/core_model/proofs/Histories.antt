@@ -1,5 +1,5 @@
 -- Every run has the history of its steps.
-use Rattle.std.proofs.Common.{Bool, List, None, Option, Some, [], ap, arith, false, inl, inr, is_some, refl, reverse, subst, sym, true, true≢false, ℕ, ◌++◌, ◌<◌, ◌∙◌, ◌∷◌, ◌≡◌, ◌≢◌, ◌≤◌, ◌⊎◌}
+use Rattle.std.proofs.Common.{Bool, List, None, Option, Some, [], ap, arith, false, inl, inr, is_some, refl, subst, sym, true, true≢false, ℕ, ◌++◌, ◌<◌, ◌∙◌, ◌∷◌, ◌≡◌, ◌≢◌, ◌≤◌, ◌⊎◌}
 use Rattle.std.specs.Cmp.{nat_cmp_total}
 use Rattle.std.specs.FinMap.{get, get-empty, len, nat_cmp-IsAntisymmetric}
 use Rattle.std.specs.Ordering.{nat_cmp}
@@ -22,7 +22,7 @@ use Rattle.core_model.proofs.Orders.{update_apart, update_here}
 use Rattle.core_model.proofs.Runs.{run_keeps}
 use Rattle.core_model.proofs.Sums.{none_reserved}
 use Rattle.core_model.proofs.Txns.{newest_last}
-use Rattle.core_model.specs.Changes.{new_pair, old_pair, pair_of}
+use Rattle.core_model.specs.Changes.{Changes, Unchanged, listed, new_pair, old_pair, pair_of, ◌▹◌}
 use Rattle.core_model.specs.Histories.{AreItemsOf, CanOpen, FitsStore, IsCovered, IsWhole, Opened, deeds_of, highest_of, history, no_writes, opened, write_of, writes_after}
 use Rattle.core_model.specs.Invariants.{Invariant, IsAhead, IsCoherent, IsUnfinished, IsWellFormed, Run, no_step, one_step}
 use Rattle.core_model.specs.States.{Active, Made, NewMarked, OldMarked, OldSet, Phase, RowSet, State}
@@ -40,7 +40,7 @@ life_over life (deed ∷ deeds) = life_over (life_with life deed) deeds
 -- what was asked of each transaction that is not rolling back
 pub record IsTold (txns : ℕ → Option Active) (writes : ℕ → List Write) : Type 0 where
   pub idle : (t : ℕ) → txns t ≡ None → writes t ≡ []
-  pub active : (t : ℕ) (x : Active) → txns t ≡ Some x → x.rolling ≡ false → writes t ≡ writes_of (reverse x.changes)
+  pub active : (t : ℕ) (x : Active) → txns t ≡ Some x → x.rolling ≡ false → writes t ≡ writes_of (listed x.changes)
 
 -- ---- a core over loaded cells
 module _ (o : Opened) (fits : FitsStore o) where
@@ -113,7 +113,7 @@ module _ (txns : ℕ → Option Active) (writes writes' : ℕ → List Write) (t
   other_idle : (o : Option Active) (u : ℕ) → u ≢ t → update nat_cmp txns t o u ≡ None → writes' u ≡ []
   other_idle o u n e = same u n ∙ told.idle u (sym (update_apart nat_cmp-IsAntisymmetric txns t o u n) ∙ e)
 
-  other_active : (o : Option Active) (u : ℕ) (x : Active) → u ≢ t → update nat_cmp txns t o u ≡ Some x → x.rolling ≡ false → writes' u ≡ writes_of (reverse x.changes)
+  other_active : (o : Option Active) (u : ℕ) (x : Active) → u ≢ t → update nat_cmp txns t o u ≡ Some x → x.rolling ≡ false → writes' u ≡ writes_of (listed x.changes)
   other_active o u x n e f = same u n ∙ told.active u x (sym (update_apart nat_cmp-IsAntisymmetric txns t o u n) ∙ e) f
 
   at_txn : (o : Option Active) (u : ℕ) → u ≡ t → update nat_cmp txns t o u ≡ o
@@ -125,13 +125,13 @@ module _ (txns : ℕ → Option Active) (writes writes' : ℕ → List Write) (t
     active = λ u x e f. elim (nat_decided u t) [ inl is ↦ absurd (not_none e (at_txn None u is)) | inr n ↦ other_active None u x n e f ];
   }
 
-  pub told_now : (x' : Active) → (x'.rolling ≡ false → writes' t ≡ writes_of (reverse x'.changes)) → IsTold (update nat_cmp txns t (Some x')) writes'
+  pub told_now : (x' : Active) → (x'.rolling ≡ false → writes' t ≡ writes_of (listed x'.changes)) → IsTold (update nat_cmp txns t (Some x')) writes'
   told_now x' now = record {
     idle = λ u e. elim (nat_decided u t) [ inl is ↦ absurd (not_none (at_txn (Some x') u is) e) | inr n ↦ other_idle (Some x') u n e ];
     active = λ u x e f. elim (nat_decided u t) [
       | inl is ↦
           let who : x' ≡ x = same_some (at_txn (Some x') u is) e in
-          ap writes' is ∙ now (ap (λ (y : Active). y.rolling) who ∙ f) ∙ ap (λ (y : Active). writes_of (reverse y.changes)) who
+          ap writes' is ∙ now (ap (λ (y : Active). y.rolling) who ∙ f) ∙ ap (λ (y : Active). writes_of (listed y.changes)) who
       | inr n ↦ other_active (Some x') u x n e f
     ];
   }
@@ -139,7 +139,7 @@ module _ (txns : ℕ → Option Active) (writes writes' : ℕ → List Write) (t
 -- the same writes, where the transaction goes on with its changes or rolls back
 told_on : (txns : ℕ → Option Active) (writes : ℕ → List Write) → IsTold txns writes → (t : ℕ) (x x' : Active) → txns t ≡ Some x → (x'.rolling ≡ false → (x.rolling ≡ false) × (x'.changes ≡ x.changes)) → IsTold (update nat_cmp txns t (Some x')) writes
 told_on txns writes told t x x' active on =
-    told_now txns writes writes told t (λ u n. refl) x' (λ f. told.active t x active (on f).0 ∙ ap (λ cs. writes_of (reverse cs)) (sym (on f).1))
+    told_now txns writes writes told t (λ u n. refl) x' (λ f. told.active t x active (on f).0 ∙ ap (λ cs. writes_of (listed cs)) (sym (on f).1))
 
 rolls : (x x' : Active) → x'.rolling ≡ true → x'.rolling ≡ false → (x.rolling ≡ false) × (x'.changes ≡ x.changes)
 rolls x x' e f = absurd (true≢false (sym e ∙ f))
@@ -153,29 +153,29 @@ told_started s writes told t x c active forward None =
     told_now s.txns writes (update nat_cmp writes t (writes t ++ write_of c ∷ [])) told t (λ u n. update_apart nat_cmp-IsAntisymmetric writes t _ u n) (with_change x c (row_made (new_pair (is_indexed s.life) c)))
     (λ f. update_here nat_cmp_total writes t _ ∙ ap (λ w. w ++ write_of c ∷ []) (told.active t x active forward) ∙ sym (newest_last c x.changes))
 
-told_carried : (s : State) (writes : ℕ → List Write) → IsTold s.txns writes → (t : ℕ) (x : Active) → s.txns t ≡ Some x → (cs : List ChangeValue) (phase : Phase) → IsTold (carried_on s t x cs phase).txns writes
-told_carried s writes told t x active [] phase = told
-told_carried s writes told t x active (c ∷ older) OldMarked = told_on s.txns writes told t x (with_phase x (row_made (new_pair (is_indexed s.life) c))) active (λ f. (f, refl))
-told_carried s writes told t x active (c ∷ older) RowSet = told_on s.txns writes told t x (with_phase x Made) active (λ f. (f, refl))
-told_carried s writes told t x active (c ∷ older) Made = told
-told_carried s writes told t x active (c ∷ older) (NewMarked b) = told
-told_carried s writes told t x active (c ∷ older) OldSet = told
+told_carried : (s : State) (writes : ℕ → List Write) → IsTold s.txns writes → (t : ℕ) (x : Active) → s.txns t ≡ Some x → (cs : Changes) (phase : Phase) → IsTold (carried_on s t x cs phase).txns writes
+told_carried s writes told t x active Unchanged phase = told
+told_carried s writes told t x active (older ▹ c) OldMarked = told_on s.txns writes told t x (with_phase x (row_made (new_pair (is_indexed s.life) c))) active (λ f. (f, refl))
+told_carried s writes told t x active (older ▹ c) RowSet = told_on s.txns writes told t x (with_phase x Made) active (λ f. (f, refl))
+told_carried s writes told t x active (older ▹ c) Made = told
+told_carried s writes told t x active (older ▹ c) (NewMarked b) = told
+told_carried s writes told t x active (older ▹ c) OldSet = told
 
-undone_rolls : (x : Active) (older : List ChangeValue) (o : Option Pair) → (row_undone x older o).rolling ≡ true
+undone_rolls : (x : Active) (older : Changes) (o : Option Pair) → (row_undone x older o).rolling ≡ true
 undone_rolls x older None = refl
 undone_rolls x older (Some p) = refl
 
-told_first : (s : State) (writes : ℕ → List Write) → IsTold s.txns writes → (t : ℕ) (x : Active) → s.txns t ≡ Some x → (c : ChangeValue) (older : List ChangeValue) (b : Bool) (o : Option Pair) → IsTold (undone_first s t x c older b o).txns writes
+told_first : (s : State) (writes : ℕ → List Write) → IsTold s.txns writes → (t : ℕ) (x : Active) → s.txns t ≡ Some x → (c : ChangeValue) (older : Changes) (b : Bool) (o : Option Pair) → IsTold (undone_first s t x c older b o).txns writes
 told_first s writes told t x active c older b (Some p) = told_on s.txns writes told t x (undoing x (NewMarked b)) active (rolls x (undoing x (NewMarked b)) refl)
 told_first s writes told t x active c older b None = told_on s.txns writes told t x (row_undone x older (old_pair (is_indexed s.life) c)) active (rolls x (row_undone x older (old_pair (is_indexed s.life) c)) (undone_rolls x older (old_pair (is_indexed s.life) c)))
 
-told_undone : (s : State) (writes : ℕ → List Write) → IsTold s.txns writes → (t : ℕ) (x : Active) → s.txns t ≡ Some x → (cs : List ChangeValue) (phase : Phase) → IsTold (undone s t x cs phase).txns writes
-told_undone s writes told t x active [] phase = told_on s.txns writes told t x (undoing x phase) active (rolls x (undoing x phase) refl)
-told_undone s writes told t x active (c ∷ older) OldMarked = told_first s writes told t x active c older false (new_pair (is_indexed s.life) c)
-told_undone s writes told t x active (c ∷ older) RowSet = told_first s writes told t x active c older true (new_pair (is_indexed s.life) c)
-told_undone s writes told t x active (c ∷ older) Made = told_first s writes told t x active c older true (new_pair (is_indexed s.life) c)
-told_undone s writes told t x active (c ∷ older) (NewMarked b) = told_on s.txns writes told t x (row_undone x older (old_pair (is_indexed s.life) c)) active (rolls x (row_undone x older (old_pair (is_indexed s.life) c)) (undone_rolls x older (old_pair (is_indexed s.life) c)))
-told_undone s writes told t x active (c ∷ older) OldSet = told_on s.txns writes told t x (without_newest older) active (rolls x (without_newest older) refl)
+told_undone : (s : State) (writes : ℕ → List Write) → IsTold s.txns writes → (t : ℕ) (x : Active) → s.txns t ≡ Some x → (cs : Changes) (phase : Phase) → IsTold (undone s t x cs phase).txns writes
+told_undone s writes told t x active Unchanged phase = told_on s.txns writes told t x (undoing x phase) active (rolls x (undoing x phase) refl)
+told_undone s writes told t x active (older ▹ c) OldMarked = told_first s writes told t x active c older false (new_pair (is_indexed s.life) c)
+told_undone s writes told t x active (older ▹ c) RowSet = told_first s writes told t x active c older true (new_pair (is_indexed s.life) c)
+told_undone s writes told t x active (older ▹ c) Made = told_first s writes told t x active c older true (new_pair (is_indexed s.life) c)
+told_undone s writes told t x active (older ▹ c) (NewMarked b) = told_on s.txns writes told t x (row_undone x older (old_pair (is_indexed s.life) c)) active (rolls x (row_undone x older (old_pair (is_indexed s.life) c)) (undone_rolls x older (old_pair (is_indexed s.life) c)))
+told_undone s writes told t x active (older ▹ c) OldSet = told_on s.txns writes told t x (without_newest older) active (rolls x (without_newest older) refl)
 
 emptied : (writes : ℕ → List Write) (t u : ℕ) → u ≢ t → update nat_cmp writes t [] u ≡ writes u
 emptied writes t u n = update_apart nat_cmp-IsAntisymmetric writes t [] u n
@@ -187,25 +187,25 @@ pub same_started : (s : State) (t : ℕ) (x : Active) (c : ChangeValue) (o : Opt
 same_started s t x c None = refl
 same_started s t x c (Some p) = refl
 
-pub same_carried : (s : State) (t : ℕ) (x : Active) (cs : List ChangeValue) (phase : Phase) → (carried_on s t x cs phase).committed ≡ s.committed
-same_carried s t x [] phase = refl
-same_carried s t x (c ∷ older) OldMarked = refl
-same_carried s t x (c ∷ older) RowSet = refl
-same_carried s t x (c ∷ older) Made = refl
-same_carried s t x (c ∷ older) (NewMarked b) = refl
-same_carried s t x (c ∷ older) OldSet = refl
+pub same_carried : (s : State) (t : ℕ) (x : Active) (cs : Changes) (phase : Phase) → (carried_on s t x cs phase).committed ≡ s.committed
+same_carried s t x Unchanged phase = refl
+same_carried s t x (older ▹ c) OldMarked = refl
+same_carried s t x (older ▹ c) RowSet = refl
+same_carried s t x (older ▹ c) Made = refl
+same_carried s t x (older ▹ c) (NewMarked b) = refl
+same_carried s t x (older ▹ c) OldSet = refl
 
-same_first : (s : State) (t : ℕ) (x : Active) (c : ChangeValue) (older : List ChangeValue) (b : Bool) (o : Option Pair) → (undone_first s t x c older b o).committed ≡ s.committed
+same_first : (s : State) (t : ℕ) (x : Active) (c : ChangeValue) (older : Changes) (b : Bool) (o : Option Pair) → (undone_first s t x c older b o).committed ≡ s.committed
 same_first s t x c older b None = refl
 same_first s t x c older b (Some p) = refl
 
-pub same_undone : (s : State) (t : ℕ) (x : Active) (cs : List ChangeValue) (phase : Phase) → (undone s t x cs phase).committed ≡ s.committed
-same_undone s t x [] phase = refl
-same_undone s t x (c ∷ older) OldMarked = same_first s t x c older false (new_pair (is_indexed s.life) c)
-same_undone s t x (c ∷ older) RowSet = same_first s t x c older true (new_pair (is_indexed s.life) c)
-same_undone s t x (c ∷ older) Made = same_first s t x c older true (new_pair (is_indexed s.life) c)
-same_undone s t x (c ∷ older) (NewMarked b) = refl
-same_undone s t x (c ∷ older) OldSet = refl
+pub same_undone : (s : State) (t : ℕ) (x : Active) (cs : Changes) (phase : Phase) → (undone s t x cs phase).committed ≡ s.committed
+same_undone s t x Unchanged phase = refl
+same_undone s t x (older ▹ c) OldMarked = same_first s t x c older false (new_pair (is_indexed s.life) c)
+same_undone s t x (older ▹ c) RowSet = same_first s t x c older true (new_pair (is_indexed s.life) c)
+same_undone s t x (older ▹ c) Made = same_first s t x c older true (new_pair (is_indexed s.life) c)
+same_undone s t x (older ▹ c) (NewMarked b) = refl
+same_undone s t x (older ▹ c) OldSet = refl
 
 -- a commit adds just what its transaction set
 pub table_step : (s : State) (writes : ℕ → List Write) → IsTold s.txns writes → (e : Step) → IsEnabled s e → (after s e).committed ≡ table_over s.committed (deeds_of writes e)
@@ -244,25 +244,25 @@ life_started : (s : State) (t : ℕ) (x : Active) (c : ChangeValue) (o : Option 
 life_started s t x c None = refl
 life_started s t x c (Some p) = refl
 
-life_carried : (s : State) (t : ℕ) (x : Active) (cs : List ChangeValue) (phase : Phase) → (carried_on s t x cs phase).life ≡ s.life
-life_carried s t x [] phase = refl
-life_carried s t x (c ∷ older) OldMarked = refl
-life_carried s t x (c ∷ older) RowSet = refl
-life_carried s t x (c ∷ older) Made = refl
-life_carried s t x (c ∷ older) (NewMarked b) = refl
-life_carried s t x (c ∷ older) OldSet = refl
+life_carried : (s : State) (t : ℕ) (x : Active) (cs : Changes) (phase : Phase) → (carried_on s t x cs phase).life ≡ s.life
+life_carried s t x Unchanged phase = refl
+life_carried s t x (older ▹ c) OldMarked = refl
+life_carried s t x (older ▹ c) RowSet = refl
+life_carried s t x (older ▹ c) Made = refl
+life_carried s t x (older ▹ c) (NewMarked b) = refl
+life_carried s t x (older ▹ c) OldSet = refl
 
-life_first : (s : State) (t : ℕ) (x : Active) (c : ChangeValue) (older : List ChangeValue) (b : Bool) (o : Option Pair) → (undone_first s t x c older b o).life ≡ s.life
+life_first : (s : State) (t : ℕ) (x : Active) (c : ChangeValue) (older : Changes) (b : Bool) (o : Option Pair) → (undone_first s t x c older b o).life ≡ s.life
 life_first s t x c older b None = refl
 life_first s t x c older b (Some p) = refl
 
-life_undone : (s : State) (t : ℕ) (x : Active) (cs : List ChangeValue) (phase : Phase) → (undone s t x cs phase).life ≡ s.life
-life_undone s t x [] phase = refl
-life_undone s t x (c ∷ older) OldMarked = life_first s t x c older false (new_pair (is_indexed s.life) c)
-life_undone s t x (c ∷ older) RowSet = life_first s t x c older true (new_pair (is_indexed s.life) c)
-life_undone s t x (c ∷ older) Made = life_first s t x c older true (new_pair (is_indexed s.life) c)
-life_undone s t x (c ∷ older) (NewMarked b) = refl
-life_undone s t x (c ∷ older) OldSet = refl
+life_undone : (s : State) (t : ℕ) (x : Active) (cs : Changes) (phase : Phase) → (undone s t x cs phase).life ≡ s.life
+life_undone s t x Unchanged phase = refl
+life_undone s t x (older ▹ c) OldMarked = life_first s t x c older false (new_pair (is_indexed s.life) c)
+life_undone s t x (older ▹ c) RowSet = life_first s t x c older true (new_pair (is_indexed s.life) c)
+life_undone s t x (older ▹ c) Made = life_first s t x c older true (new_pair (is_indexed s.life) c)
+life_undone s t x (older ▹ c) (NewMarked b) = refl
+life_undone s t x (older ▹ c) OldSet = refl
 
 pub life_step : (s : State) (writes : ℕ → List Write) (e : Step) → IsEnabled s e → (after s e).life ≡ life_over s.life (deeds_of writes e)
 life_step s writes (Begin t) a = refl

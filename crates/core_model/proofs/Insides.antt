@@ -1,5 +1,5 @@
 -- Entries, the builder's places and the pairs that pages gave stay in the store's pages.
-use Rattle.std.proofs.Common.{Bool, List, None, Option, Some, [], ap, inl, inr, nat_eq, refl, subst, sym, true, true≢false, ℕ, ◌&&◌, ◌<◌, ◌||◌, ◌∙◌, ◌∷◌, ◌≡◌, ◌≢◌}
+use Rattle.std.proofs.Common.{Bool, None, Option, Some, ap, inl, inr, nat_eq, refl, subst, sym, true, true≢false, ℕ, ◌&&◌, ◌<◌, ◌||◌, ◌∙◌, ◌≡◌, ◌≢◌}
 use Rattle.std.specs.FinMap.{get}
 use Rattle.records.specs.ChangeValue.{ChangeValue}
 use Rattle.records.specs.Maps.{get-set_at_other, get-set_at_same, pair_exact, set_at}
@@ -12,7 +12,7 @@ use Rattle.model.specs.declared.life.Life.TheVariants.{Building, Complete}
 use Rattle.core_model.proofs.Builds.{and_right, or_true, pair_by_test}
 use Rattle.core_model.proofs.Cells.{pair_decided}
 use Rattle.core_model.proofs.Latest.{Gone, gone_is, not_none}
-use Rattle.core_model.specs.Changes.{new_pair, old_pair}
+use Rattle.core_model.specs.Changes.{Changes, Unchanged, new_pair, old_pair, ◌▹◌}
 use Rattle.core_model.specs.Invariants.{IsHolderOf, IsInside, IsWellFormed}
 use Rattle.core_model.specs.States.{Active, Made, NewMarked, OldMarked, OldSet, Phase, RowSet, State}
 use Rattle.core_model.specs.Steps.{Attempt, Begin, Checkpoint, Clean, Commit, Create, End, Finish, IsEnabled, Keep, Next, Start, Step, Take, Undo, Wrap, after, carried_on, is_indexed, is_pair_of, moved_by, started, txn_at, undone, undone_first, undone_row, with_entry}
@@ -39,8 +39,8 @@ pub new_inside : (pages : ℕ) (indexed : Bool) (c : ChangeValue) → c.rid.page
 new_inside pages indexed c l p e = let g : Gone indexed c.rid (new_row c.rows) p = gone_is indexed c.rid (new_row c.rows) (old_row c.rows) p e in subst (λ (w : Pair). w.rid.page < pages) (sym g.pair) l
 
 -- the newest change of an active transaction is of the store's pages
-pub change_inside : (s : State) → IsWellFormed s → (t : ℕ) (x : Active) → s.txns t ≡ Some x → (c : ChangeValue) (older : List ChangeValue) → x.changes ≡ c ∷ older → c.rid.page < s.pages
-change_inside s i t x active c older e = let names : IsHolderOf s.holder t (c ∷ older) = subst (λ cs. IsHolderOf s.holder t cs) e (i.txns t x active).names in i.held c.rid t names.0
+pub change_inside : (s : State) → IsWellFormed s → (t : ℕ) (x : Active) → s.txns t ≡ Some x → (c : ChangeValue) (older : Changes) → x.changes ≡ older ▹ c → c.rid.page < s.pages
+change_inside s i t x active c older e = let names : IsHolderOf s.holder t (older ▹ c) = subst (λ cs. IsHolderOf s.holder t cs) e (i.txns t x active).names in i.held c.rid t names.0
 
 module _ (s : State) (i : IsWellFormed s) (h : IsInside s) (t : ℕ) (x : Active) where
   started_inside : (c : ChangeValue) → c.rid.page < s.pages → (o : Option Pair) → old_pair (is_indexed s.life) c ≡ o → IsInside (started s t x c o)
@@ -48,23 +48,23 @@ module _ (s : State) (i : IsWellFormed s) (h : IsInside s) (t : ℕ) (x : Active
   started_inside c l None e = record { entries = h.entries; bound = h.bound; highest = h.highest; given = h.given }
 
   module _ (active : s.txns t ≡ Some x) where
-    carried_inside : (cs : List ChangeValue) → x.changes ≡ cs → (phase : Phase) → IsInside (carried_on s t x cs phase)
-    carried_inside [] e phase = h
-    carried_inside (c ∷ older) e OldMarked = record { entries = h.entries; bound = h.bound; highest = h.highest; given = h.given }
-    carried_inside (c ∷ older) e RowSet = record {
+    carried_inside : (cs : Changes) → x.changes ≡ cs → (phase : Phase) → IsInside (carried_on s t x cs phase)
+    carried_inside Unchanged e phase = h
+    carried_inside (older ▹ c) e OldMarked = record { entries = h.entries; bound = h.bound; highest = h.highest; given = h.given }
+    carried_inside (older ▹ c) e RowSet = record {
       entries = with_inside s.pages s.entries (new_pair (is_indexed s.life) c) Live (new_inside s.pages (is_indexed s.life) c (change_inside s i t x active c older e)) h.entries;
       bound = h.bound;
       highest = h.highest;
       given = h.given;
     }
-    carried_inside (c ∷ older) e Made = h
-    carried_inside (c ∷ older) e (NewMarked b) = h
-    carried_inside (c ∷ older) e OldSet = h
+    carried_inside (older ▹ c) e Made = h
+    carried_inside (older ▹ c) e (NewMarked b) = h
+    carried_inside (older ▹ c) e OldSet = h
 
-    row_inside : (c : ChangeValue) (older : List ChangeValue) → IsInside (undone_row s t x c older)
+    row_inside : (c : ChangeValue) (older : Changes) → IsInside (undone_row s t x c older)
     row_inside c older = record { entries = h.entries; bound = h.bound; highest = h.highest; given = h.given }
 
-    first_inside : (c : ChangeValue) (older : List ChangeValue) → x.changes ≡ c ∷ older → (b : Bool) (o : Option Pair) → new_pair (is_indexed s.life) c ≡ o → IsInside (undone_first s t x c older b o)
+    first_inside : (c : ChangeValue) (older : Changes) → x.changes ≡ older ▹ c → (b : Bool) (o : Option Pair) → new_pair (is_indexed s.life) c ≡ o → IsInside (undone_first s t x c older b o)
     first_inside c older e b (Some p) k = record {
       entries = set_inside s.pages s.entries p (Some Marked) (λ n. new_inside s.pages (is_indexed s.life) c (change_inside s i t x active c older e) p k) h.entries;
       bound = h.bound;
@@ -73,13 +73,13 @@ module _ (s : State) (i : IsWellFormed s) (h : IsInside s) (t : ℕ) (x : Active
     }
     first_inside c older e b None k = row_inside c older
 
-    undone_inside : (cs : List ChangeValue) → x.changes ≡ cs → (phase : Phase) → IsInside (undone s t x cs phase)
-    undone_inside [] e phase = record { entries = h.entries; bound = h.bound; highest = h.highest; given = h.given }
-    undone_inside (c ∷ older) e OldMarked = first_inside c older e _ (new_pair (is_indexed s.life) c) refl
-    undone_inside (c ∷ older) e RowSet = first_inside c older e _ (new_pair (is_indexed s.life) c) refl
-    undone_inside (c ∷ older) e Made = first_inside c older e _ (new_pair (is_indexed s.life) c) refl
-    undone_inside (c ∷ older) e (NewMarked b) = row_inside c older
-    undone_inside (c ∷ older) e OldSet = record {
+    undone_inside : (cs : Changes) → x.changes ≡ cs → (phase : Phase) → IsInside (undone s t x cs phase)
+    undone_inside Unchanged e phase = record { entries = h.entries; bound = h.bound; highest = h.highest; given = h.given }
+    undone_inside (older ▹ c) e OldMarked = first_inside c older e _ (new_pair (is_indexed s.life) c) refl
+    undone_inside (older ▹ c) e RowSet = first_inside c older e _ (new_pair (is_indexed s.life) c) refl
+    undone_inside (older ▹ c) e Made = first_inside c older e _ (new_pair (is_indexed s.life) c) refl
+    undone_inside (older ▹ c) e (NewMarked b) = row_inside c older
+    undone_inside (older ▹ c) e OldSet = record {
       entries = with_inside s.pages s.entries (old_pair (is_indexed s.life) c) Live (old_inside s.pages (is_indexed s.life) c (change_inside s i t x active c older e)) h.entries;
       bound = h.bound;
       highest = h.highest;

@@ -1,5 +1,5 @@
 -- What changes make of a row, and what taking them back gives.
-use Rattle.std.proofs.Common.{Bool, List, None, Option, Some, [], ap, cond, false, refl, sym, true, ℕ, ◌∙◌, ◌∷◌, ◌≡◌, ◌≢◌}
+use Rattle.std.proofs.Common.{Bool, None, Option, Some, ap, cond, false, refl, sym, true, ℕ, ◌∙◌, ◌≡◌, ◌≢◌}
 use Rattle.std.specs.FinMap.{entries, get, nat_cmp-IsAntisymmetric, slice_cmp-IsAntisymmetric}
 use Rattle.records.specs.ChangeValue.{ChangeValue}
 use Rattle.records.specs.Orders.{rid_cmp-IsAntisymmetric, rid_cmp_total}
@@ -10,7 +10,7 @@ use Rattle.records.specs.declared.pair.Pair.{Pair}
 use Rattle.records.specs.declared.row.Row.{Row}
 use Rattle.model.specs.Table.{Index, Table}
 use Rattle.core_model.proofs.Orders.{apart, by_test, level}
-use Rattle.core_model.specs.Changes.{gone, latest, pair_of, same_key}
+use Rattle.core_model.specs.Changes.{Changes, Unchanged, gone, latest, pair_of, same_key, ◌▹◌}
 use Rattle.core_model.specs.Invariants.{IsChained, IsHolderOf, IsInPhase, IsPhaseOf}
 use Rattle.core_model.specs.States.{Made, NewMarked, OldMarked, OldSet, Phase, RowSet}
 
@@ -52,30 +52,30 @@ stays rid row None e = absurd (not_none refl e)
 stays rid row (Some other) e = stays_by rid row other _ refl e
 
 -- changes that name other rows leave this one
-pub latest_unnamed : (holder : Place → Option ℕ) (t : ℕ) (cs : List ChangeValue) (r : Place) (v : Option Row) → IsHolderOf holder t cs → holder r ≢ Some t → latest cs r v ≡ v
-latest_unnamed holder t [] r v h n = refl
-latest_unnamed holder t (c ∷ older) r v h n =
+pub latest_unnamed : (holder : Place → Option ℕ) (t : ℕ) (cs : Changes) (r : Place) (v : Option Row) → IsHolderOf holder t cs → holder r ≢ Some t → latest cs r v ≡ v
+latest_unnamed holder t Unchanged r v h n = refl
+latest_unnamed holder t (older ▹ c) r v h n =
     rw (apart rid_cmp-IsAntisymmetric r c.rid (λ e. n (ap holder e ∙ h.0))) (latest_unnamed holder t older r v h.1 n)
 
-pub latest_other : (c : ChangeValue) (older : List ChangeValue) (q : Place) (v : Option Row) → q ≢ c.rid → latest (c ∷ older) q v ≡ latest older q v
+pub latest_other : (c : ChangeValue) (older : Changes) (q : Place) (v : Option Row) → q ≢ c.rid → latest (older ▹ c) q v ≡ latest older q v
 latest_other c older q v n = rw (apart rid_cmp-IsAntisymmetric q c.rid n)
 
-pub latest_here : (c : ChangeValue) (older : List ChangeValue) (v : Option Row) → latest (c ∷ older) c.rid v ≡ (new_row c.rows)
+pub latest_here : (c : ChangeValue) (older : Changes) (v : Option Row) → latest (older ▹ c) c.rid v ≡ (new_row c.rows)
 latest_here c older v = rw (level rid_cmp_total c.rid)
 
 pub chained_same : (holder : Place → Option ℕ) (t : ℕ) (committed other : Table) → ((r : Place) → holder r ≡ Some t → get other r ≡ get committed r)
-    → (cs : List ChangeValue) → IsHolderOf holder t cs → IsChained committed cs → IsChained other cs
-chained_same holder t committed other same [] h k = tt
-chained_same holder t committed other same (c ∷ older) h k =
+    → (cs : Changes) → IsHolderOf holder t cs → IsChained committed cs → IsChained other cs
+chained_same holder t committed other same Unchanged h k = tt
+chained_same holder t committed other same (older ▹ c) h k =
     (k.0 ∙ ap (latest older c.rid) (sym (same c.rid h.0)), chained_same holder t committed other same older h.1 k.1)
 
-pub holds_more : (holder other : Place → Option ℕ) (t : ℕ) → ((r : Place) → holder r ≡ Some t → other r ≡ Some t) → (cs : List ChangeValue) → IsHolderOf holder t cs → IsHolderOf other t cs
-holds_more holder other t same [] h = tt
-holds_more holder other t same (c ∷ older) h = (same c.rid h.0, holds_more holder other t same older h.1)
+pub holds_more : (holder other : Place → Option ℕ) (t : ℕ) → ((r : Place) → holder r ≡ Some t → other r ≡ Some t) → (cs : Changes) → IsHolderOf holder t cs → IsHolderOf other t cs
+holds_more holder other t same Unchanged h = tt
+holds_more holder other t same (older ▹ c) h = (same c.rid h.0, holds_more holder other t same older h.1)
 
 -- what a phase says of an entry stays, where no entry of its row changes
 phase_by : (indexed : Bool) (c : ChangeValue) (entries other : Index) → ((p : Pair) → p.rid ≡ c.rid → get other p ≡ get entries p)
-    → (older : List ChangeValue) (phase : Phase) (rolling : Bool) → IsPhaseOf indexed entries (c ∷ older) phase rolling → IsPhaseOf indexed other (c ∷ older) phase rolling
+    → (older : Changes) (phase : Phase) (rolling : Bool) → IsPhaseOf indexed entries (older ▹ c) phase rolling → IsPhaseOf indexed other (older ▹ c) phase rolling
 phase_by indexed c entries other same older OldMarked rolling h =
     record { it = h.it; is = h.is; holds = λ e. same h.it (ap (λ p. p.rid) (gone_is indexed c.rid (old_row c.rows) (new_row c.rows) h.it h.is).pair) ∙ h.holds e }
 phase_by indexed c entries other same older RowSet rolling h = record { it = h.it; is = h.is; holds = tt }
@@ -85,9 +85,9 @@ phase_by indexed c entries other same older (NewMarked b) rolling h =
 phase_by indexed c entries other same older OldSet rolling h = record { it = h.it; is = h.is; holds = tt }
 
 pub phase_same : (indexed : Bool) (holder : Place → Option ℕ) (t : ℕ) (entries other : Index) → ((p : Pair) → holder p.rid ≡ Some t → get other p ≡ get entries p)
-    → (cs : List ChangeValue) (phase : Phase) (rolling : Bool) → IsHolderOf holder t cs → IsPhaseOf indexed entries cs phase rolling → IsPhaseOf indexed other cs phase rolling
-phase_same indexed holder t entries other same [] phase rolling n h = h
-phase_same indexed holder t entries other same (c ∷ older) phase rolling n h =
+    → (cs : Changes) (phase : Phase) (rolling : Bool) → IsHolderOf holder t cs → IsPhaseOf indexed entries cs phase rolling → IsPhaseOf indexed other cs phase rolling
+phase_same indexed holder t entries other same Unchanged phase rolling n h = h
+phase_same indexed holder t entries other same (older ▹ c) phase rolling n h =
     phase_by indexed c entries other (λ p e. same p (ap holder e ∙ n.0)) older phase rolling h
 
 -- or where what is marked stays marked
@@ -100,6 +100,6 @@ kept_by indexed c entries other same (NewMarked b) rolling h = record { it = h.i
 kept_by indexed c entries other same OldSet rolling h = record { it = h.it; is = h.is; holds = tt }
 
 pub phase_kept : (indexed : Bool) (entries other : Index) → ((p : Pair) → get entries p ≡ Some Marked → get other p ≡ Some Marked)
-    → (cs : List ChangeValue) (phase : Phase) (rolling : Bool) → IsPhaseOf indexed entries cs phase rolling → IsPhaseOf indexed other cs phase rolling
-phase_kept indexed entries other same [] phase rolling h = h
-phase_kept indexed entries other same (c ∷ older) phase rolling h = kept_by indexed c entries other same phase rolling h
+    → (cs : Changes) (phase : Phase) (rolling : Bool) → IsPhaseOf indexed entries cs phase rolling → IsPhaseOf indexed other cs phase rolling
+phase_kept indexed entries other same Unchanged phase rolling h = h
+phase_kept indexed entries other same (older ▹ c) phase rolling h = kept_by indexed c entries other same phase rolling h

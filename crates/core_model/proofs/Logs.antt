@@ -1,22 +1,20 @@
 -- What is recovered of the records of a run, wherever they stop.
-use Rattle.std.proofs.Common.{Bool, List, None, Option, Some, [], ap, arith, cond, false, inl, inr, length, refl, reverse, subst, suc, sym, take, true, zero, ℕ, ◌&&◌, ◌++◌, ◌+◌, ◌<◌, ◌∙◌, ◌∷◌, ◌≡◌, ◌≢◌, ◌≤◌}
+use Rattle.std.proofs.Common.{Bool, List, None, Option, Some, [], ap, arith, cond, false, inl, inr, length, refl, subst, suc, sym, take, true, zero, ℕ, ◌&&◌, ◌++◌, ◌+◌, ◌<◌, ◌∙◌, ◌∷◌, ◌≡◌, ◌≢◌, ◌≤◌}
 use Rattle.std.proofs.lemmas.Bool.{le-leb, lt-leb}
-use Rattle.std.proofs.lemmas.List.{map-append, reverse-reverse}
+use Rattle.std.proofs.lemmas.List.{map-append}
 use Rattle.std.specs.Cmp.{nat_cmp_total, tied_itself}
 use Rattle.std.specs.FinMap.{entries, entries_sorted, get-empty, get-entries, nat_cmp-IsAntisymmetric}
 use Rattle.std.specs.FinMap.Entries.{below_all, find, is_sorted}
 use Rattle.std.specs.Ordering.{is_lt, nat_cmp}
 use Rattle.std.specs.Prelude.{T, map}
-use mathlib.Core.List.{reverse-cons}
 use Rattle.records.specs.ChangeValue.{ChangeValue}
-use Rattle.records.specs.Maps.{alike, nat_exact, other_key, rid_exact, same_key, set_at}
+use Rattle.records.specs.Maps.{alike, nat_exact, other_key, rid_exact, same_key}
 use Rattle.records.specs.RecordValue.{RecordValue}
-use Rattle.records.specs.Spelling.{old_row}
 use Rattle.records.specs.declared.pair.Pair.{Pair}
 use Rattle.records.specs.declared.record.Action.{Action}
 use Rattle.model.proofs.HistoryLaws.{up_to-append}
 use Rattle.model.specs.Cells.{Cells, cells_after, reverted}
-use Rattle.model.specs.Given.{Given, IsBeginning, all_entries_reverted, entries_reverted, entries_without, given_after, opening_cells, recovered}
+use Rattle.model.specs.Given.{Given, IsBeginning, all_entries_reverted, entries_reverted, given_after, opening_cells, recovered}
 use Rattle.model.specs.History.{Deed, Item, life_after, table_after, up_to}
 use Rattle.model.specs.Recovery.{all_reverted}
 use Rattle.model.specs.Table.{Index, Table}
@@ -28,7 +26,7 @@ use Rattle.core_model.proofs.Orders.{update_apart, update_here}
 use Rattle.core_model.proofs.Records.{step_follows}
 use Rattle.core_model.proofs.Restarts.{CanRestart, can_restart}
 use Rattle.core_model.proofs.Runs.{run_keeps, step_keeps}
-use Rattle.core_model.specs.Changes.{new_pair, old_pair}
+use Rattle.core_model.specs.Changes.{Changes, Unchanged, listed, new_pair, old_pair, ◌▹◌}
 use Rattle.core_model.specs.Histories.{AreItemsOf, CanOpen, IsFaithful, Opened, deeds_of, history, no_writes, opened, writes_after}
 use Rattle.core_model.specs.Invariants.{Invariant, Run, no_step, one_step}
 use Rattle.core_model.specs.Logs.{Recovers, item_at, items_from, items_over, next_number, one_record, records_from, records_over}
@@ -37,40 +35,45 @@ use Rattle.core_model.proofs.Undone.{IsListing, entries_back, entries_undone, re
 use Rattle.core_model.specs.States.{Active, Made, NewMarked, OldMarked, OldSet, Phase, RowSet, State}
 use Rattle.core_model.specs.Steps.{Attempt, Begin, Checkpoint, Clean, Commit, Create, End, Finish, IsEnabled, Keep, Next, Start, Step, Take, Undo, Wrap, after, carried_on, is_indexed, started, txn_at, undone, undone_first, update}
 
--- ---- the newest first, or the oldest first
-undone-append : (cs ds : List ChangeValue) (rows : Table) → rows_undone (cs ++ ds) rows ≡ rows_undone ds (rows_undone cs rows)
-undone-append [] ds rows = refl
-undone-append (c ∷ cs) ds rows = undone-append cs ds (set_at rows c.rid (old_row c.rows))
+-- ---- a list of changes, as a transaction has it
+abbrev behind : Changes → List ChangeValue → Changes
+behind cs [] = cs
+behind cs (d ∷ ds) = behind (cs ▹ d) ds
 
-rows_same : (cs : List ChangeValue) (rows : Table) → rows_undone (reverse cs) rows ≡ reverted rows cs
-rows_same [] rows = refl
-rows_same (c ∷ cs) rows =
-    ap (λ l. rows_undone l rows) (reverse-cons c cs) ∙ undone-append (reverse cs) (c ∷ []) rows ∙ ap (λ m. set_at m c.rid (old_row c.rows)) (rows_same cs rows)
+abbrev changes_of : List ChangeValue → Changes
+changes_of list = behind Unchanged list
 
-module _ (indexed : Bool) where
-  entries-append : (cs ds : List ChangeValue) (entries : Index) → entries_undone indexed (cs ++ ds) entries ≡ entries_undone indexed ds (entries_undone indexed cs entries)
-  entries-append [] ds entries = refl
-  entries-append (c ∷ cs) ds entries = entries-append cs ds (entries_without indexed entries c)
+behind-append : (cs : Changes) (xs ys : List ChangeValue) → behind cs (xs ++ ys) ≡ behind (behind cs xs) ys
+behind-append cs [] ys = refl
+behind-append cs (x ∷ xs) ys = behind-append (cs ▹ x) xs ys
 
-  entries_same : (cs : List ChangeValue) (entries : Index) → entries_undone indexed (reverse cs) entries ≡ entries_reverted indexed entries cs
-  entries_same [] entries = refl
-  entries_same (c ∷ cs) entries =
-      ap (λ l. entries_undone indexed l entries) (reverse-cons c cs) ∙ entries-append (reverse cs) (c ∷ []) entries ∙ ap (λ m. entries_without indexed m c) (entries_same cs entries)
+changes_of-listed : (cs : Changes) → changes_of (listed cs) ≡ cs
+changes_of-listed Unchanged = refl
+changes_of-listed (older ▹ c) = behind-append Unchanged (listed older) (c ∷ []) ∙ ap (λ cs. cs ▹ c) (changes_of-listed older)
+
+-- ---- taken back as a list, or as a transaction has them
+rows_same : (cs : Changes) (ds : List ChangeValue) (rows : Table) → rows_undone (behind cs ds) rows ≡ rows_undone cs (reverted rows ds)
+rows_same cs [] rows = refl
+rows_same cs (d ∷ ds) rows = rows_same (cs ▹ d) ds rows
+
+entries_same : (indexed : Bool) (cs : Changes) (ds : List ChangeValue) (entries : Index) → entries_undone indexed (behind cs ds) entries ≡ entries_undone indexed cs (entries_reverted indexed entries ds)
+entries_same indexed cs [] entries = refl
+entries_same indexed cs (d ∷ ds) entries = entries_same indexed (cs ▹ d) ds entries
 
 abbrev Lists : Type 0
 Lists = List (ℕ × List ChangeValue)
 
-abbrev newest_first : Lists → Lists
-newest_first [] = []
-newest_first (l ∷ ls) = (l.0, reverse l.1) ∷ newest_first ls
+abbrev as_changes : Lists → List (ℕ × Changes)
+as_changes [] = []
+as_changes (l ∷ ls) = (l.0, changes_of l.1) ∷ as_changes ls
 
-rows_all : (ls : Lists) (rows : Table) → rows_back (newest_first ls) rows ≡ all_reverted rows ls
+rows_all : (ls : Lists) (rows : Table) → rows_back (as_changes ls) rows ≡ all_reverted rows ls
 rows_all [] rows = refl
-rows_all (l ∷ ls) rows = rows_all ls (rows_undone (reverse l.1) rows) ∙ ap (λ m. all_reverted m ls) (rows_same l.1 rows)
+rows_all (l ∷ ls) rows = rows_all ls (rows_undone (changes_of l.1) rows) ∙ ap (λ m. all_reverted m ls) (rows_same Unchanged l.1 rows)
 
-entries_all : (indexed : Bool) (ls : Lists) (entries : Index) → entries_back indexed (newest_first ls) entries ≡ all_entries_reverted indexed entries ls
+entries_all : (indexed : Bool) (ls : Lists) (entries : Index) → entries_back indexed (as_changes ls) entries ≡ all_entries_reverted indexed entries ls
 entries_all indexed [] entries = refl
-entries_all indexed (l ∷ ls) entries = entries_all indexed ls (entries_undone indexed (reverse l.1) entries) ∙ ap (λ m. all_entries_reverted indexed m ls) (entries_same indexed l.1 entries)
+entries_all indexed (l ∷ ls) entries = entries_all indexed ls (entries_undone indexed (changes_of l.1) entries) ∙ ap (λ m. all_entries_reverted indexed m ls) (entries_same indexed Unchanged l.1 entries)
 
 -- ---- the lists of the cells are those of the active transactions
 pub left : (a b : Bool) → T (a && b) → T a
@@ -94,11 +97,11 @@ found_here l ls = ap (λ b. cond b (Some l.1) (find nat_cmp l.0 ls)) (same_key n
 pub found_apart : {X : Type 0} (l : ℕ × X) (ls : List (ℕ × X)) (k : ℕ) → k ≢ l.0 → find nat_cmp k (l ∷ ls) ≡ find nat_cmp k ls
 found_apart l ls k n = ap (λ b. cond b (Some l.1) (find nat_cmp k ls)) (other_key nat_exact k l.0 n)
 
-first_listed : (o : Option Active) (l : List ChangeValue) → IsListOf (Some l) o → (x : Active) × (o ≡ Some x) × (x.changes ≡ reverse l)
+first_listed : (o : Option Active) (l : List ChangeValue) → IsListOf (Some l) o → (x : Active) × (o ≡ Some x) × (x.changes ≡ changes_of l)
 first_listed None l h = absurd h
-first_listed (Some x) l h = (x, refl, sym (reverse-reverse x.changes) ∙ ap reverse (sym h))
+first_listed (Some x) l h = (x, refl, sym (changes_of-listed x.changes) ∙ ap changes_of (sym h))
 
-lists : (ls : Lists) (txns : ℕ → Option Active) → T (is_sorted nat_cmp ls) → ((t : ℕ) → IsListOf (find nat_cmp t ls) (txns t)) → IsListing txns (newest_first ls)
+lists : (ls : Lists) (txns : ℕ → Option Active) → T (is_sorted nat_cmp ls) → ((t : ℕ) → IsListOf (find nat_cmp t ls) (txns t)) → IsListing txns (as_changes ls)
 lists [] txns sorted h = λ t x e. subst (IsListOf None) e (h t)
 lists (l ∷ ls) txns sorted h = (
   first_listed (txns l.0) l.1 (subst (λ f. IsListOf f (txns l.0)) (found_here l ls) (h l.0)),
@@ -113,8 +116,8 @@ lists (l ∷ ls) txns sorted h = (
 )
 
 module _ (s : State) (cells : Cells) (k : HasCells s cells) where
-  abbrev listing : Lists
-  listing = newest_first (entries cells.pending)
+  abbrev listing : List (ℕ × Changes)
+  listing = as_changes (entries cells.pending)
 
   pub is_listing : IsListing s.txns listing
   is_listing = lists (entries cells.pending) s.txns (entries_sorted cells.pending) (λ t. subst (λ f. IsListOf f (s.txns t)) (get-entries cells.pending t) (k.pending t))
@@ -168,25 +171,25 @@ store_started : (s : State) (t : ℕ) (x : Active) (c : ChangeValue) (o : Option
 store_started s t x c None = record { pages = refl; places = refl }
 store_started s t x c (Some p) = record { pages = refl; places = refl }
 
-store_carried : (s : State) (t : ℕ) (x : Active) (cs : List ChangeValue) (phase : Phase) → SameStore s (carried_on s t x cs phase)
-store_carried s t x [] phase = record { pages = refl; places = refl }
-store_carried s t x (c ∷ older) OldMarked = record { pages = refl; places = refl }
-store_carried s t x (c ∷ older) RowSet = record { pages = refl; places = refl }
-store_carried s t x (c ∷ older) Made = record { pages = refl; places = refl }
-store_carried s t x (c ∷ older) (NewMarked b) = record { pages = refl; places = refl }
-store_carried s t x (c ∷ older) OldSet = record { pages = refl; places = refl }
+store_carried : (s : State) (t : ℕ) (x : Active) (cs : Changes) (phase : Phase) → SameStore s (carried_on s t x cs phase)
+store_carried s t x Unchanged phase = record { pages = refl; places = refl }
+store_carried s t x (older ▹ c) OldMarked = record { pages = refl; places = refl }
+store_carried s t x (older ▹ c) RowSet = record { pages = refl; places = refl }
+store_carried s t x (older ▹ c) Made = record { pages = refl; places = refl }
+store_carried s t x (older ▹ c) (NewMarked b) = record { pages = refl; places = refl }
+store_carried s t x (older ▹ c) OldSet = record { pages = refl; places = refl }
 
-store_first : (s : State) (t : ℕ) (x : Active) (c : ChangeValue) (older : List ChangeValue) (b : Bool) (o : Option Pair) → SameStore s (undone_first s t x c older b o)
+store_first : (s : State) (t : ℕ) (x : Active) (c : ChangeValue) (older : Changes) (b : Bool) (o : Option Pair) → SameStore s (undone_first s t x c older b o)
 store_first s t x c older b None = record { pages = refl; places = refl }
 store_first s t x c older b (Some p) = record { pages = refl; places = refl }
 
-store_undone : (s : State) (t : ℕ) (x : Active) (cs : List ChangeValue) (phase : Phase) → SameStore s (undone s t x cs phase)
-store_undone s t x [] phase = record { pages = refl; places = refl }
-store_undone s t x (c ∷ older) OldMarked = store_first s t x c older _ (new_pair (is_indexed s.life) c)
-store_undone s t x (c ∷ older) RowSet = store_first s t x c older _ (new_pair (is_indexed s.life) c)
-store_undone s t x (c ∷ older) Made = store_first s t x c older _ (new_pair (is_indexed s.life) c)
-store_undone s t x (c ∷ older) (NewMarked b) = record { pages = refl; places = refl }
-store_undone s t x (c ∷ older) OldSet = record { pages = refl; places = refl }
+store_undone : (s : State) (t : ℕ) (x : Active) (cs : Changes) (phase : Phase) → SameStore s (undone s t x cs phase)
+store_undone s t x Unchanged phase = record { pages = refl; places = refl }
+store_undone s t x (older ▹ c) OldMarked = store_first s t x c older _ (new_pair (is_indexed s.life) c)
+store_undone s t x (older ▹ c) RowSet = store_first s t x c older _ (new_pair (is_indexed s.life) c)
+store_undone s t x (older ▹ c) Made = store_first s t x c older _ (new_pair (is_indexed s.life) c)
+store_undone s t x (older ▹ c) (NewMarked b) = record { pages = refl; places = refl }
+store_undone s t x (older ▹ c) OldSet = record { pages = refl; places = refl }
 
 store_step : (s : State) (e : Step) → SameStore s (after s e)
 store_step s (Begin t) = record { pages = refl; places = refl }

@@ -1,5 +1,5 @@
 -- Entries and reserved places stay within the geometry.
-use Rattle.std.proofs.Common.{Bool, List, None, Option, Some, [], ap, arith, cond, false, inl, inr, is_some, refl, subst, sym, true, ℕ, ◌+◌, ◌-◌, ◌<◌, ◌∙◌, ◌∷◌, ◌≡◌, ◌≢◌, ◌≤◌, ◌⊎◌}
+use Rattle.std.proofs.Common.{Bool, None, Option, Some, ap, arith, cond, false, inl, inr, is_some, refl, subst, sym, true, ℕ, ◌+◌, ◌-◌, ◌<◌, ◌∙◌, ◌≡◌, ◌≢◌, ◌≤◌, ◌⊎◌}
 use Rattle.std.specs.Cmp.{nat_cmp_total}
 use Rattle.std.specs.FinMap.{entries, get, insert, len, len-insert, len-remove, nat_cmp-IsAntisymmetric, remove}
 use Rattle.std.specs.Ordering.{nat_cmp}
@@ -20,7 +20,7 @@ use Rattle.core_model.proofs.Frames.{nat_decided, same_some, txn_apart, txn_here
 use Rattle.core_model.proofs.Latest.{Gone, gone_is, not_none}
 use Rattle.core_model.proofs.Orders.{update_apart, update_here}
 use Rattle.core_model.proofs.Sums.{left_apart, reserved_apart, reserved_insert, reserved_left, reserved_now}
-use Rattle.core_model.specs.Changes.{gone, new_pair, old_pair}
+use Rattle.core_model.specs.Changes.{Changes, Unchanged, gone, new_pair, old_pair, ◌▹◌}
 use Rattle.core_model.specs.Invariants.{HasPlaces, IsHolderOf, lacking, lacks}
 use Rattle.core_model.specs.States.{Active, Made, NewMarked, OldMarked, OldSet, Phase, RowSet, State}
 use Rattle.core_model.specs.Steps.{Attempt, Begin, CanAttempt, CanClean, Checkpoint, Clean, Commit, Create, End, Finish, HasFreePlaces, IsEnabled, Keep, Next, Start, Step, Take, Undo, Wrap, after, all_reserved, attempted, carried_on, is_indexed, left, new_txn, places_of, reserved, row_made, row_undone, started, txn_at, undoing, undone, undone_first, update, with_change, with_entry, with_phase, with_places, with_txn, without_newest}
@@ -63,17 +63,17 @@ module _ (entries : Index) (mark : Mark) where
   fewer_lacking (Some p) None = omega arith
   fewer_lacking (Some p) (Some q) = same_lacks p q (pair_decided q p)
 
-pub lacking_less : (indexed : Bool) (entries other : Index) → ((q : Option Pair) → lacks other q ≤ lacks entries q) → (cs : List ChangeValue) → lacking indexed other cs ≤ lacking indexed entries cs
-lacking_less indexed entries other less [] = omega arith
-lacking_less indexed entries other less (c ∷ older) =
+pub lacking_less : (indexed : Bool) (entries other : Index) → ((q : Option Pair) → lacks other q ≤ lacks entries q) → (cs : Changes) → lacking indexed other cs ≤ lacking indexed entries cs
+lacking_less indexed entries other less Unchanged = omega arith
+lacking_less indexed entries other less (older ▹ c) =
     let old : lacks other (old_pair indexed c) ≤ lacks entries (old_pair indexed c) = less (old_pair indexed c) in
     let new : lacks other (new_pair indexed c) ≤ lacks entries (new_pair indexed c) = less (new_pair indexed c) in
     let rest : lacking indexed other older ≤ lacking indexed entries older = lacking_less indexed entries other less older in
     omega (arith, old, new, rest)
 
-module _ (indexed : Bool) (entries : Index) (mark : Mark) (c : ChangeValue) (older : List ChangeValue) where
+module _ (indexed : Bool) (entries : Index) (mark : Mark) (c : ChangeValue) (older : Changes) where
   -- the pair of a change is set
-  pub set_old : lacking indexed (with_entry entries (old_pair indexed c) mark) (c ∷ older) + lacks entries (old_pair indexed c) ≤ lacking indexed entries (c ∷ older)
+  pub set_old : lacking indexed (with_entry entries (old_pair indexed c) mark) (older ▹ c) + lacks entries (old_pair indexed c) ≤ lacking indexed entries (older ▹ c)
   set_old =
       let e' = with_entry entries (old_pair indexed c) mark in
       let old : lacks e' (old_pair indexed c) ≡ 0 = none_lacking entries mark (old_pair indexed c) in
@@ -81,7 +81,7 @@ module _ (indexed : Bool) (entries : Index) (mark : Mark) (c : ChangeValue) (old
       let rest : lacking indexed e' older ≤ lacking indexed entries older = lacking_less indexed entries e' (fewer_lacking entries mark (old_pair indexed c)) older in
       omega (arith, old, new, rest)
 
-  pub set_new : lacking indexed (with_entry entries (new_pair indexed c) mark) (c ∷ older) + lacks entries (new_pair indexed c) ≤ lacking indexed entries (c ∷ older)
+  pub set_new : lacking indexed (with_entry entries (new_pair indexed c) mark) (older ▹ c) + lacks entries (new_pair indexed c) ≤ lacking indexed entries (older ▹ c)
   set_new =
       let e' = with_entry entries (new_pair indexed c) mark in
       let old : lacks e' (old_pair indexed c) ≤ lacks entries (old_pair indexed c) = fewer_lacking entries mark (new_pair indexed c) (old_pair indexed c) in
@@ -89,7 +89,7 @@ module _ (indexed : Bool) (entries : Index) (mark : Mark) (c : ChangeValue) (old
       let rest : lacking indexed e' older ≤ lacking indexed entries older = lacking_less indexed entries e' (fewer_lacking entries mark (new_pair indexed c)) older in
       omega (arith, old, new, rest)
 
-  pub set_last : lacking indexed (with_entry entries (old_pair indexed c) mark) older + lacks entries (old_pair indexed c) ≤ lacking indexed entries (c ∷ older)
+  pub set_last : lacking indexed (with_entry entries (old_pair indexed c) mark) older + lacks entries (old_pair indexed c) ≤ lacking indexed entries (older ▹ c)
   set_last =
       let e' = with_entry entries (old_pair indexed c) mark in
       let rest : lacking indexed e' older ≤ lacking indexed entries older = lacking_less indexed entries e' (fewer_lacking entries mark (old_pair indexed c)) older in
@@ -104,7 +104,7 @@ enough_for true entries c =
     omega (arith, old, new)
 
 -- ---- a step of a transaction
-record IsOneTxn (s s' : State) (t : ℕ) (cs : List ChangeValue) : Type 0 where
+record IsOneTxn (s s' : State) (t : ℕ) (cs : Changes) : Type 0 where
   pub here : (u : ℕ) (y : Active) → s'.txns u ≡ Some y → ((u ≡ t) × (y.changes ≡ cs)) ⊎ ((u ≢ t) × (s.txns u ≡ Some y))
 
 one_txn : (s : State) (t : ℕ) (x : Active) (u : ℕ) (y : Active) → with_txn s t x u ≡ Some y → ((u ≡ t) × (y.changes ≡ x.changes)) ⊎ ((u ≢ t) × (s.txns u ≡ Some y))
@@ -113,7 +113,7 @@ one_txn s t x u y e = elim (nat_decided u t) [
   | inr n ↦ inr (n, sym (txn_apart s t x u n) ∙ e)
 ]
 
-module _ (s : State) (p : HasPlaces s) (t : ℕ) (cs : List ChangeValue) (more : ℕ) (entries' : Index) (n : ℕ)
+module _ (s : State) (p : HasPlaces s) (t : ℕ) (cs : Changes) (more : ℕ) (entries' : Index) (n : ℕ)
     (grown : len entries' ≡ len s.entries + n) (less : (q : Option Pair) → lacks entries' q ≤ lacks s.entries q)
     (paid : lacking (is_indexed s.life) entries' cs + n ≤ reserved s.pledges t + more) (room : len s.entries + all_reserved s.pledges + more ≤ s.places) where
   abbrev now : ℕ
@@ -135,7 +135,7 @@ module _ (s : State) (p : HasPlaces s) (t : ℕ) (cs : List ChangeValue) (more :
       rw (reserved_apart s.pledges t now u other.0) (omega (arith, before, after))
 
 -- the state after such a step
-record Uses (s s' : State) (t : ℕ) (cs : List ChangeValue) (more n : ℕ) : Type 0 where
+record Uses (s s' : State) (t : ℕ) (cs : Changes) (more n : ℕ) : Type 0 where
   pub life : s'.life ≡ s.life
   pub places : s'.places ≡ s.places
   pub pledges : s'.pledges ≡ with_places s t more s'.entries
@@ -144,7 +144,7 @@ record Uses (s s' : State) (t : ℕ) (cs : List ChangeValue) (more n : ℕ) : Ty
   pub less : (q : Option Pair) → lacks s'.entries q ≤ lacks s.entries q
   pub paid : lacking (is_indexed s.life) s'.entries cs + n ≤ reserved s.pledges t + more
 
-uses_places : (s s' : State) (t : ℕ) (cs : List ChangeValue) (more n : ℕ) → HasPlaces s → Uses s s' t cs more n → len s.entries + all_reserved s.pledges + more ≤ s.places → HasPlaces s'
+uses_places : (s s' : State) (t : ℕ) (cs : Changes) (more n : ℕ) → HasPlaces s → Uses s s' t cs more n → len s.entries + all_reserved s.pledges + more ≤ s.places → HasPlaces s'
 uses_places s s' t cs more n p u room = record {
   fits = rw (u.pledges, u.places) (uses_fits s p t cs more s'.entries n u.grown u.less u.paid room);
   enough = λ w y e. rw (u.pledges, u.life) (uses_enough s p t cs more s'.entries n u.grown u.less u.paid room w y (u.txns w y e));
@@ -165,7 +165,7 @@ module _ (s : State) (p : HasPlaces s) (t : ℕ) (x : Active) (c : ChangeValue) 
   abbrev begun : Option Pair → State
   begun o = record (started s t x c o) { pledges = with_places s t (places_of (is_indexed s.life)) (started s t x c o).entries }
 
-  start_paid : lacking (is_indexed s.life) s.entries (c ∷ x.changes) ≤ reserved s.pledges t + places_of (is_indexed s.life)
+  start_paid : lacking (is_indexed s.life) s.entries (x.changes ▹ c) ≤ reserved s.pledges t + places_of (is_indexed s.life)
   start_paid =
       let pairs : lacks s.entries (old_pair (is_indexed s.life) c) + lacks s.entries (new_pair (is_indexed s.life) c) ≤ places_of (is_indexed s.life) = enough_for (is_indexed s.life) s.entries c in
       let rest : lacking (is_indexed s.life) s.entries x.changes ≤ reserved s.pledges t = p.enough t x active in
@@ -174,7 +174,7 @@ module _ (s : State) (p : HasPlaces s) (t : ℕ) (x : Active) (c : ChangeValue) 
   start_room : len s.entries + all_reserved s.pledges + places_of (is_indexed s.life) ≤ s.places
   start_room = room_by (is_indexed s.life) (len s.entries + all_reserved s.pledges) s.places room p.fits
 
-  start_uses : (o : Option Pair) → old_pair (is_indexed s.life) c ≡ o → Uses s (begun o) t (c ∷ x.changes) (places_of (is_indexed s.life)) (lacks s.entries o)
+  start_uses : (o : Option Pair) → old_pair (is_indexed s.life) c ≡ o → Uses s (begun o) t (x.changes ▹ c) (places_of (is_indexed s.life)) (lacks s.entries o)
   start_uses (Some q) e = record {
     life = refl;
     places = refl;
@@ -183,9 +183,9 @@ module _ (s : State) (p : HasPlaces s) (t : ℕ) (x : Active) (c : ChangeValue) 
     grown = grown_by s.entries Marked (Some q);
     less = fewer_lacking s.entries Marked (Some q);
     paid =
-        let set : lacking (is_indexed s.life) (with_entry s.entries (Some q) Marked) (c ∷ x.changes) + lacks s.entries (Some q) ≤ lacking (is_indexed s.life) s.entries (c ∷ x.changes) =
-        subst (λ (o : Option Pair). lacking (is_indexed s.life) (with_entry s.entries o Marked) (c ∷ x.changes) + lacks s.entries o ≤ lacking (is_indexed s.life) s.entries (c ∷ x.changes)) e (set_old (is_indexed s.life) s.entries Marked c x.changes) in
-        let paid : lacking (is_indexed s.life) s.entries (c ∷ x.changes) ≤ reserved s.pledges t + places_of (is_indexed s.life) = start_paid in
+        let set : lacking (is_indexed s.life) (with_entry s.entries (Some q) Marked) (x.changes ▹ c) + lacks s.entries (Some q) ≤ lacking (is_indexed s.life) s.entries (x.changes ▹ c) =
+        subst (λ (o : Option Pair). lacking (is_indexed s.life) (with_entry s.entries o Marked) (x.changes ▹ c) + lacks s.entries o ≤ lacking (is_indexed s.life) s.entries (x.changes ▹ c)) e (set_old (is_indexed s.life) s.entries Marked c x.changes) in
+        let paid : lacking (is_indexed s.life) s.entries (x.changes ▹ c) ≤ reserved s.pledges t + places_of (is_indexed s.life) = start_paid in
         omega (arith, set, paid);
   }
   start_uses None e = record {
@@ -195,11 +195,11 @@ module _ (s : State) (p : HasPlaces s) (t : ℕ) (x : Active) (c : ChangeValue) 
     txns = one_txn s t (with_change x c (row_made (new_pair (is_indexed s.life) c)));
     grown = no_more (len s.entries);
     less = λ q. omega arith;
-    paid = let paid : lacking (is_indexed s.life) s.entries (c ∷ x.changes) ≤ reserved s.pledges t + places_of (is_indexed s.life) = start_paid in omega (arith, paid);
+    paid = let paid : lacking (is_indexed s.life) s.entries (x.changes ▹ c) ≤ reserved s.pledges t + places_of (is_indexed s.life) = start_paid in omega (arith, paid);
   }
 
   start_places : (o : Option Pair) → old_pair (is_indexed s.life) c ≡ o → HasPlaces (begun o)
-  start_places o e = uses_places s (begun o) t (c ∷ x.changes) (places_of (is_indexed s.life)) (lacks s.entries o) p (start_uses o e) start_room
+  start_places o e = uses_places s (begun o) t (x.changes ▹ c) (places_of (is_indexed s.life)) (lacks s.entries o) p (start_uses o e) start_room
 
 -- ---- its later steps, and those that take it back
 module _ (s : State) (p : HasPlaces s) (t : ℕ) (x : Active) (active : s.txns t ≡ Some x) where
@@ -209,13 +209,13 @@ module _ (s : State) (p : HasPlaces s) (t : ℕ) (x : Active) (active : s.txns t
   later_room : len s.entries + all_reserved s.pledges + 0 ≤ s.places
   later_room = let fits : len s.entries + all_reserved s.pledges ≤ s.places = p.fits in omega (arith, fits)
 
-  paid_before : (cs : List ChangeValue) → x.changes ≡ cs → lacking (is_indexed s.life) s.entries cs + 0 ≤ reserved s.pledges t + 0
+  paid_before : (cs : Changes) → x.changes ≡ cs → lacking (is_indexed s.life) s.entries cs + 0 ≤ reserved s.pledges t + 0
   paid_before cs e =
       let enough : lacking (is_indexed s.life) s.entries cs ≤ reserved s.pledges t = subst (λ cs. lacking (is_indexed s.life) s.entries cs ≤ reserved s.pledges t) e (p.enough t x active) in
       omega (arith, enough)
 
   -- a step that sets no entry
-  row_places : (rows : Table) (x' : Active) (cs : List ChangeValue) → x.changes ≡ cs → x'.changes ≡ cs → HasPlaces (used (record s { rows = rows; txns = with_txn s t x' }))
+  row_places : (rows : Table) (x' : Active) (cs : Changes) → x.changes ≡ cs → x'.changes ≡ cs → HasPlaces (used (record s { rows = rows; txns = with_txn s t x' }))
   row_places rows x' cs e e' = uses_places s _ t cs 0 0 p (record {
     life = refl;
     places = refl;
@@ -226,10 +226,10 @@ module _ (s : State) (p : HasPlaces s) (t : ℕ) (x : Active) (active : s.txns t
     paid = paid_before cs e;
   }) later_room
 
-  older_paid : (c : ChangeValue) (older : List ChangeValue) → x.changes ≡ c ∷ older → lacking (is_indexed s.life) s.entries older + 0 ≤ reserved s.pledges t + 0
-  older_paid c older e = let all : lacking (is_indexed s.life) s.entries (c ∷ older) + 0 ≤ reserved s.pledges t + 0 = paid_before (c ∷ older) e in omega (arith, all)
+  older_paid : (c : ChangeValue) (older : Changes) → x.changes ≡ older ▹ c → lacking (is_indexed s.life) s.entries older + 0 ≤ reserved s.pledges t + 0
+  older_paid c older e = let all : lacking (is_indexed s.life) s.entries (older ▹ c) + 0 ≤ reserved s.pledges t + 0 = paid_before (older ▹ c) e in omega (arith, all)
 
-  popped_places : (rows : Table) (c : ChangeValue) (older : List ChangeValue) → x.changes ≡ c ∷ older → HasPlaces (used (record s { rows = rows; txns = with_txn s t (without_newest older) }))
+  popped_places : (rows : Table) (c : ChangeValue) (older : Changes) → x.changes ≡ older ▹ c → HasPlaces (used (record s { rows = rows; txns = with_txn s t (without_newest older) }))
   popped_places rows c older e = uses_places s _ t older 0 0 p (record {
     life = refl;
     places = refl;
@@ -255,7 +255,7 @@ module _ (s : State) (p : HasPlaces s) (t : ℕ) (x : Active) (active : s.txns t
   }) later_room
 
   -- a step that sets the entry of this pair
-  entry_places : (o : Option Pair) (mark : Mark) (x' : Active) (cs : List ChangeValue) → x'.changes ≡ cs → lacking (is_indexed s.life) (with_entry s.entries o mark) cs + lacks s.entries o ≤ reserved s.pledges t
+  entry_places : (o : Option Pair) (mark : Mark) (x' : Active) (cs : Changes) → x'.changes ≡ cs → lacking (is_indexed s.life) (with_entry s.entries o mark) cs + lacks s.entries o ≤ reserved s.pledges t
       → HasPlaces (used (record s { entries = with_entry s.entries o mark; txns = with_txn s t x' }))
   entry_places o mark x' cs e' paid = uses_places s _ t cs 0 (lacks s.entries o) p (record {
     life = refl;
@@ -267,49 +267,49 @@ module _ (s : State) (p : HasPlaces s) (t : ℕ) (x : Active) (active : s.txns t
     paid = omega (arith, paid);
   }) later_room
 
-  module _ (c : ChangeValue) (older : List ChangeValue) (e : x.changes ≡ c ∷ older) where
-    all_paid : lacking (is_indexed s.life) s.entries (c ∷ older) ≤ reserved s.pledges t
+  module _ (c : ChangeValue) (older : Changes) (e : x.changes ≡ older ▹ c) where
+    all_paid : lacking (is_indexed s.life) s.entries (older ▹ c) ≤ reserved s.pledges t
     all_paid = subst (λ cs. lacking (is_indexed s.life) s.entries cs ≤ reserved s.pledges t) e (p.enough t x active)
 
-    new_places : (o : Option Pair) → new_pair (is_indexed s.life) c ≡ o → (mark : Mark) (x' : Active) → x'.changes ≡ c ∷ older → HasPlaces (used (record s { entries = with_entry s.entries o mark; txns = with_txn s t x' }))
-    new_places o k mark x' e' = entry_places o mark x' (c ∷ older) e' (
-        let set : lacking (is_indexed s.life) (with_entry s.entries o mark) (c ∷ older) + lacks s.entries o ≤ lacking (is_indexed s.life) s.entries (c ∷ older) =
-        subst (λ (o : Option Pair). lacking (is_indexed s.life) (with_entry s.entries o mark) (c ∷ older) + lacks s.entries o ≤ lacking (is_indexed s.life) s.entries (c ∷ older)) k (set_new (is_indexed s.life) s.entries mark c older) in
-        let all : lacking (is_indexed s.life) s.entries (c ∷ older) ≤ reserved s.pledges t = all_paid in
+    new_places : (o : Option Pair) → new_pair (is_indexed s.life) c ≡ o → (mark : Mark) (x' : Active) → x'.changes ≡ older ▹ c → HasPlaces (used (record s { entries = with_entry s.entries o mark; txns = with_txn s t x' }))
+    new_places o k mark x' e' = entry_places o mark x' (older ▹ c) e' (
+        let set : lacking (is_indexed s.life) (with_entry s.entries o mark) (older ▹ c) + lacks s.entries o ≤ lacking (is_indexed s.life) s.entries (older ▹ c) =
+        subst (λ (o : Option Pair). lacking (is_indexed s.life) (with_entry s.entries o mark) (older ▹ c) + lacks s.entries o ≤ lacking (is_indexed s.life) s.entries (older ▹ c)) k (set_new (is_indexed s.life) s.entries mark c older) in
+        let all : lacking (is_indexed s.life) s.entries (older ▹ c) ≤ reserved s.pledges t = all_paid in
         omega (arith, set, all)
         )
 
     old_places : HasPlaces (used (record s { entries = with_entry s.entries (old_pair (is_indexed s.life) c) Live; txns = with_txn s t (without_newest older) }))
     old_places = entry_places (old_pair (is_indexed s.life) c) Live (without_newest older) older refl (
-        let set : lacking (is_indexed s.life) (with_entry s.entries (old_pair (is_indexed s.life) c) Live) older + lacks s.entries (old_pair (is_indexed s.life) c) ≤ lacking (is_indexed s.life) s.entries (c ∷ older) =
+        let set : lacking (is_indexed s.life) (with_entry s.entries (old_pair (is_indexed s.life) c) Live) older + lacks s.entries (old_pair (is_indexed s.life) c) ≤ lacking (is_indexed s.life) s.entries (older ▹ c) =
         set_last (is_indexed s.life) s.entries Live c older in
-        let all : lacking (is_indexed s.life) s.entries (c ∷ older) ≤ reserved s.pledges t = all_paid in
+        let all : lacking (is_indexed s.life) s.entries (older ▹ c) ≤ reserved s.pledges t = all_paid in
         omega (arith, set, all)
         )
 
     left_places : (o : Option Pair) → HasPlaces (used (record s { rows = set_at s.rows c.rid (old_row c.rows); txns = with_txn s t (row_undone x older o) }))
     left_places None = popped_places (set_at s.rows c.rid (old_row c.rows)) c older e
-    left_places (Some q) = row_places (set_at s.rows c.rid (old_row c.rows)) (undoing x OldSet) (c ∷ older) e e
+    left_places (Some q) = row_places (set_at s.rows c.rid (old_row c.rows)) (undoing x OldSet) (older ▹ c) e e
 
     first_places : (b : Bool) (o : Option Pair) → new_pair (is_indexed s.life) c ≡ o → HasPlaces (used (undone_first s t x c older b o))
     first_places b (Some q) k = new_places (Some q) k Marked (undoing x (NewMarked b)) e
     first_places b None k = left_places (old_pair (is_indexed s.life) c)
 
-  next_places : (cs : List ChangeValue) → x.changes ≡ cs → (phase : Phase) → HasPlaces (used (carried_on s t x cs phase))
-  next_places [] e phase = nothing_places
-  next_places (c ∷ older) e OldMarked = row_places (set_at s.rows c.rid (new_row c.rows)) (with_phase x (row_made (new_pair (is_indexed s.life) c))) (c ∷ older) e e
-  next_places (c ∷ older) e RowSet = new_places c older e (new_pair (is_indexed s.life) c) refl Live (with_phase x Made) e
-  next_places (c ∷ older) e Made = nothing_places
-  next_places (c ∷ older) e (NewMarked b) = nothing_places
-  next_places (c ∷ older) e OldSet = nothing_places
+  next_places : (cs : Changes) → x.changes ≡ cs → (phase : Phase) → HasPlaces (used (carried_on s t x cs phase))
+  next_places Unchanged e phase = nothing_places
+  next_places (older ▹ c) e OldMarked = row_places (set_at s.rows c.rid (new_row c.rows)) (with_phase x (row_made (new_pair (is_indexed s.life) c))) (older ▹ c) e e
+  next_places (older ▹ c) e RowSet = new_places c older e (new_pair (is_indexed s.life) c) refl Live (with_phase x Made) e
+  next_places (older ▹ c) e Made = nothing_places
+  next_places (older ▹ c) e (NewMarked b) = nothing_places
+  next_places (older ▹ c) e OldSet = nothing_places
 
-  undo_places : (cs : List ChangeValue) → x.changes ≡ cs → (phase : Phase) → HasPlaces (used (undone s t x cs phase))
-  undo_places [] e phase = row_places s.rows (undoing x phase) [] e e
-  undo_places (c ∷ older) e OldMarked = first_places c older e false _ refl
-  undo_places (c ∷ older) e RowSet = first_places c older e true _ refl
-  undo_places (c ∷ older) e Made = first_places c older e true _ refl
-  undo_places (c ∷ older) e (NewMarked b) = left_places c older e (old_pair (is_indexed s.life) c)
-  undo_places (c ∷ older) e OldSet = old_places c older e
+  undo_places : (cs : Changes) → x.changes ≡ cs → (phase : Phase) → HasPlaces (used (undone s t x cs phase))
+  undo_places Unchanged e phase = row_places s.rows (undoing x phase) Unchanged e e
+  undo_places (older ▹ c) e OldMarked = first_places c older e false _ refl
+  undo_places (older ▹ c) e RowSet = first_places c older e true _ refl
+  undo_places (older ▹ c) e Made = first_places c older e true _ refl
+  undo_places (older ▹ c) e (NewMarked b) = left_places c older e (old_pair (is_indexed s.life) c)
+  undo_places (older ▹ c) e OldSet = old_places c older e
 
 -- ---- a transaction begins, or leaves
 begin_places : (s : State) → HasPlaces s → (t : ℕ) → HasPlaces (record s { txns = with_txn s t new_txn; pledges = insert s.pledges t 0 })
@@ -378,9 +378,9 @@ module _ (indexed : Bool) (holder : Place → Option ℕ) (t : ℕ) (entries : I
       let g : Gone indexed r row q = gone_is indexed r row other q e in
       ap none_there (get-set_at_other pair_exact entries p None q (λ same. not_none h (ap holder (sym (ap (λ (w : Pair). w.rid) g.pair)) ∙ ap (λ (w : Pair). holder w.rid) same ∙ free)))
 
-  other_lacking : (cs : List ChangeValue) → IsHolderOf holder t cs → lacking indexed (remove entries p) cs ≡ lacking indexed entries cs
-  other_lacking [] h = refl
-  other_lacking (c ∷ older) h = rw (
+  other_lacking : (cs : Changes) → IsHolderOf holder t cs → lacking indexed (remove entries p) cs ≡ lacking indexed entries cs
+  other_lacking Unchanged h = refl
+  other_lacking (older ▹ c) h = rw (
     other_lacks c.rid (old_row c.rows) (new_row c.rows) (old_pair indexed c) refl h.0,
     other_lacks c.rid (new_row c.rows) (old_row c.rows) (new_pair indexed c) refl h.0,
     other_lacking older h.1,

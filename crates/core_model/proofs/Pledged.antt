@@ -1,5 +1,5 @@
 -- The transactions with a number of reserved places are the active ones.
-use Rattle.std.proofs.Common.{Bool, List, None, Option, Some, [], ap, cond, inl, inr, is_some, refl, sym, true, ℕ, ◌∙◌, ◌∷◌, ◌≡◌, ◌≢◌}
+use Rattle.std.proofs.Common.{Bool, None, Option, Some, ap, cond, inl, inr, is_some, refl, sym, true, ℕ, ◌∙◌, ◌≡◌, ◌≢◌}
 use Rattle.std.specs.Cmp.{nat_cmp_total}
 use Rattle.std.specs.FinMap.{get, get-insert, get-remove, insert, nat_cmp-IsAntisymmetric, remove}
 use Rattle.std.specs.Ordering.{eq_by_cmp, nat_cmp}
@@ -7,7 +7,7 @@ use Rattle.records.specs.ChangeValue.{ChangeValue}
 use Rattle.records.specs.declared.pair.Pair.{Pair}
 use Rattle.core_model.proofs.Frames.{nat_decided, txn_apart, txn_here}
 use Rattle.core_model.proofs.Orders.{apart, level, update_apart, update_here}
-use Rattle.core_model.specs.Changes.{new_pair, old_pair}
+use Rattle.core_model.specs.Changes.{Changes, Unchanged, new_pair, old_pair, ◌▹◌}
 use Rattle.core_model.specs.Invariants.{IsPledged}
 use Rattle.core_model.specs.States.{Active, Made, NewMarked, OldMarked, OldSet, Phase, Pledges, RowSet, State}
 use Rattle.core_model.specs.Steps.{Attempt, Begin, Checkpoint, Clean, Commit, Create, End, Finish, IsEnabled, Keep, Next, Start, Step, Take, Undo, Wrap, after, carried_on, is_indexed, new_txn, row_made, row_undone, started, txn_at, undoing, undone, undone_first, update, with_change, with_phase, with_txn, without_newest}
@@ -28,25 +28,25 @@ module _ (s : State) (t : ℕ) where
   started_goes x c (Some p) = put_goes (with_change x c OldMarked)
   started_goes x c None = put_goes (with_change x c (row_made (new_pair (is_indexed s.life) c)))
 
-  pub carried_goes : (x : Active) → s.txns t ≡ Some x → (cs : List ChangeValue) (phase : Phase) → Goes s.txns (carried_on s t x cs phase).txns t
-  carried_goes x active [] phase = same_goes x active
-  carried_goes x active (c ∷ older) OldMarked = put_goes (with_phase x (row_made (new_pair (is_indexed s.life) c)))
-  carried_goes x active (c ∷ older) RowSet = put_goes (with_phase x Made)
-  carried_goes x active (c ∷ older) Made = same_goes x active
-  carried_goes x active (c ∷ older) (NewMarked b) = same_goes x active
-  carried_goes x active (c ∷ older) OldSet = same_goes x active
+  pub carried_goes : (x : Active) → s.txns t ≡ Some x → (cs : Changes) (phase : Phase) → Goes s.txns (carried_on s t x cs phase).txns t
+  carried_goes x active Unchanged phase = same_goes x active
+  carried_goes x active (older ▹ c) OldMarked = put_goes (with_phase x (row_made (new_pair (is_indexed s.life) c)))
+  carried_goes x active (older ▹ c) RowSet = put_goes (with_phase x Made)
+  carried_goes x active (older ▹ c) Made = same_goes x active
+  carried_goes x active (older ▹ c) (NewMarked b) = same_goes x active
+  carried_goes x active (older ▹ c) OldSet = same_goes x active
 
-  first_goes : (x : Active) (c : ChangeValue) (older : List ChangeValue) (b : Bool) (o : Option Pair) → Goes s.txns (undone_first s t x c older b o).txns t
+  first_goes : (x : Active) (c : ChangeValue) (older : Changes) (b : Bool) (o : Option Pair) → Goes s.txns (undone_first s t x c older b o).txns t
   first_goes x c older b (Some p) = put_goes (undoing x (NewMarked b))
   first_goes x c older b None = put_goes (row_undone x older (old_pair (is_indexed s.life) c))
 
-  pub undone_goes : (x : Active) (cs : List ChangeValue) (phase : Phase) → Goes s.txns (undone s t x cs phase).txns t
-  undone_goes x [] phase = put_goes (undoing x phase)
-  undone_goes x (c ∷ older) OldMarked = first_goes x c older _ (new_pair (is_indexed s.life) c)
-  undone_goes x (c ∷ older) RowSet = first_goes x c older _ (new_pair (is_indexed s.life) c)
-  undone_goes x (c ∷ older) Made = first_goes x c older _ (new_pair (is_indexed s.life) c)
-  undone_goes x (c ∷ older) (NewMarked b) = put_goes (row_undone x older (old_pair (is_indexed s.life) c))
-  undone_goes x (c ∷ older) OldSet = put_goes (without_newest older)
+  pub undone_goes : (x : Active) (cs : Changes) (phase : Phase) → Goes s.txns (undone s t x cs phase).txns t
+  undone_goes x Unchanged phase = put_goes (undoing x phase)
+  undone_goes x (older ▹ c) OldMarked = first_goes x c older _ (new_pair (is_indexed s.life) c)
+  undone_goes x (older ▹ c) RowSet = first_goes x c older _ (new_pair (is_indexed s.life) c)
+  undone_goes x (older ▹ c) Made = first_goes x c older _ (new_pair (is_indexed s.life) c)
+  undone_goes x (older ▹ c) (NewMarked b) = put_goes (row_undone x older (old_pair (is_indexed s.life) c))
+  undone_goes x (older ▹ c) OldSet = put_goes (without_newest older)
 
 got_here : (m : Pledges) (t n u : ℕ) → u ≡ t → get (insert m t n) u ≡ Some n
 got_here m t n u e = get-insert nat_cmp_total m t n u ∙ ap (λ b. cond b (Some n) (get m u)) (ap (λ q. eq_by_cmp nat_cmp q t) e ∙ level nat_cmp_total t)

@@ -1,11 +1,10 @@
 -- Each step sets the cell that its record names, and no other.
-use Rattle.std.proofs.Common.{Bool, IsTrue, List, None, Option, Some, [], ap, arith, false, inl, inr, length, refl, reverse, subst, sym, take, true, unwrap_or, ℕ, ◌++◌, ◌+◌, ◌-◌, ◌∙◌, ◌∷◌, ◌≡◌}
+use Rattle.std.proofs.Common.{Bool, IsTrue, List, None, Option, Some, [], ap, arith, false, inl, inr, length, refl, subst, sym, take, true, unwrap_or, ℕ, ◌++◌, ◌+◌, ◌-◌, ◌∙◌, ◌∷◌, ◌≡◌}
 use Rattle.std.proofs.Math.Seq.{take-append_seam, take-length}
-use Rattle.std.proofs.lemmas.List.{length-append, length-reverse}
+use Rattle.std.proofs.lemmas.List.{length-append}
 use Rattle.std.specs.Cmp.{nat_cmp_total}
 use Rattle.std.specs.FinMap.{entries, get, nat_cmp-IsAntisymmetric}
 use Rattle.std.specs.Ordering.{nat_cmp}
-use mathlib.Core.List.{reverse-cons}
 use Rattle.records.specs.ChangeValue.{ChangeValue}
 use Rattle.records.specs.Maps.{get-set_at_other, get-set_at_same, nat_exact, pair_exact, set_at, set_at-get}
 use Rattle.records.specs.Orders.{rid_cmp}
@@ -29,41 +28,32 @@ use Rattle.core_model.proofs.Builds.{build_put_some}
 use Rattle.core_model.proofs.Frames.{nat_decided}
 use Rattle.core_model.proofs.Latest.{Gone, gone_is, not_none}
 use Rattle.core_model.proofs.Orders.{update_apart, update_here}
-use Rattle.core_model.specs.Changes.{gone, new_pair, old_pair}
+use Rattle.core_model.specs.Changes.{Changes, Unchanged, gone, listed, new_pair, old_pair, ◌▹◌}
 use Rattle.core_model.specs.Invariants.{HasPair, IsShaped, IsWellFormed}
 use Rattle.core_model.specs.States.{Active, Made, NewMarked, OldMarked, OldSet, Phase, RowSet, State}
 use Rattle.core_model.specs.Steps.{Attempt, Begin, Checkpoint, Clean, Commit, Create, End, Finish, IsEnabled, Keep, Next, Start, Step, Take, Undo, Wrap, after, carried_on, is_indexed, left, moved_by, new_txn, row_made, row_undone, started, txn_at, undoing, undone, undone_first, update, with_change, with_entry, with_txn, without_newest}
 
--- ---- the lists of the log, the oldest change first
-module _ (older : List ChangeValue) (c : ChangeValue) (k : c.position ≡ length older) where
-  front : take c.position (reverse older) ≡ reverse older
-  front = ap (λ n. take n (reverse older)) (k ∙ sym (length-reverse older)) ∙ take-length (reverse older)
-
+-- ---- the lists of the log
+module _ (older : Changes) (c : ChangeValue) (k : c.position ≡ length (listed older)) where
   -- the first record of a change puts it on the list
-  noted_first : noted (reverse older) c ≡ reverse (c ∷ older)
-  noted_first = ap (λ cs. cs ++ c ∷ []) front ∙ sym (reverse-cons c older)
+  noted_first : noted (listed older) c ≡ listed (older ▹ c)
+  noted_first = ap (λ n. take n (listed older) ++ c ∷ []) k ∙ ap (λ cs. cs ++ c ∷ []) (take-length (listed older))
 
   -- a later one leaves it there
-  noted_again : noted (reverse (c ∷ older)) c ≡ reverse (c ∷ older)
-  noted_again =
-      ap (λ cs. take c.position cs ++ c ∷ []) (reverse-cons c older)
-      ∙ ap (λ n. take n (reverse older ++ c ∷ []) ++ c ∷ []) (k ∙ sym (length-reverse older))
-      ∙ ap (λ cs. cs ++ c ∷ []) (take-append_seam (reverse older) (c ∷ []))
-      ∙ sym (reverse-cons c older)
+  noted_again : noted (listed (older ▹ c)) c ≡ listed (older ▹ c)
+  noted_again = ap (λ n. take n (listed older ++ c ∷ []) ++ c ∷ []) k ∙ ap (λ cs. cs ++ c ∷ []) (take-append_seam (listed older) (c ∷ []))
 
-less_one : (n m k : ℕ) → n ≡ m + 1 → m ≡ k → n - 1 ≡ k
-less_one n m k e f = omega (arith, e, f)
+less_one : (n m : ℕ) → n ≡ m + 1 → n - 1 ≡ m
+less_one n m e = omega (arith, e)
 
 -- the last record of an undo takes the newest change off
-off_newest : (older : List ChangeValue) (c : ChangeValue) → taken_off (reverse (c ∷ older)) true ≡ reverse older
+off_newest : (older : Changes) (c : ChangeValue) → taken_off (listed (older ▹ c)) true ≡ listed older
 off_newest older c =
-    let last : length (reverse (c ∷ older)) - 1 ≡ length (reverse older) = less_one _ (length (reverse older)) _ (ap length (reverse-cons c older) ∙ length-append (reverse older) (c ∷ [])) refl in
-    ap (λ cs. take (length (reverse (c ∷ older)) - 1) cs) (reverse-cons c older)
-    ∙ ap (λ n. take n (reverse older ++ c ∷ [])) last
-    ∙ take-append_seam (reverse older) (c ∷ [])
+    ap (λ n. take n (listed older ++ c ∷ [])) (less_one _ (length (listed older)) (length-append (listed older) (c ∷ [])))
+    ∙ take-append_seam (listed older) (c ∷ [])
 
-pub list_is : (list : Option (List ChangeValue)) (x : Active) → IsListOf list (Some x) → unwrap_or list [] ≡ reverse x.changes
-list_is None x h = sym (ap reverse h)
+pub list_is : (list : Option (List ChangeValue)) (x : Active) → IsListOf list (Some x) → unwrap_or list [] ≡ listed x.changes
+list_is None x h = sym (ap listed h)
 list_is (Some list) x h = h
 
 pub no_list : (list : Option (List ChangeValue)) → IsListOf list None → list ≡ None
@@ -105,7 +95,7 @@ module _ (s : State) (cells : Cells) (k : HasCells s cells) (t : ℕ) where
   pending_is = k.pending
 
   -- a record that sets the row
-  row_cells : (rid : Place) (row : Option Row) (x' : Active) (cs : List ChangeValue) → cs ≡ reverse x'.changes
+  row_cells : (rid : Place) (row : Option Row) (x' : Active) (cs : List ChangeValue) → cs ≡ listed x'.changes
       → HasCells (record s { rows = set_at s.rows rid row; txns = with_txn s t x' }) (record { rows = set_at cells.rows rid row; entries = cells.entries; pending = with_list cells.pending t (Some cs); life = cells.life })
   row_cells rid row x' cs e = record {
     rows = ap (λ m. set_at m rid row) k.rows;
@@ -115,7 +105,7 @@ module _ (s : State) (cells : Cells) (k : HasCells s cells) (t : ℕ) where
   }
 
   -- a record that sets an entry
-  entry_cells : (rid : Place) (row other : Option Row) (mark : Mark) (o : Option Pair) → gone (is_indexed s.life) rid row other ≡ o → HasPair o (λ p. Unit {0}) → (x' : Active) (cs : List ChangeValue) → cs ≡ reverse x'.changes
+  entry_cells : (rid : Place) (row other : Option Row) (mark : Mark) (o : Option Pair) → gone (is_indexed s.life) rid row other ≡ o → HasPair o (λ p. Unit {0}) → (x' : Active) (cs : List ChangeValue) → cs ≡ listed x'.changes
       → HasCells (record s { entries = with_entry s.entries o mark; txns = with_txn s t x' }) (record { rows = cells.rows; entries = with_mark cells.entries rid row mark; pending = with_list cells.pending t (Some cs); life = cells.life })
   entry_cells rid row other mark o g is x' cs e = record {
     rows = k.rows;
@@ -133,26 +123,26 @@ module _ (s : State) (cells : Cells) (k : HasCells s cells) (t : ℕ) where
   same_cells x' e = record { rows = k.rows; entries = k.entries; pending = list_stays s cells.pending pending_is t (Some x') e; life = k.life }
 
   module _ (x : Active) (active : s.txns t ≡ Some x) where
-    mine : list_of cells.pending t ≡ reverse x.changes
+    mine : list_of cells.pending t ≡ listed x.changes
     mine = list_is (get cells.pending t) x (subst (IsListOf (get cells.pending t)) active (pending_is t))
 
-    first_list : (c : ChangeValue) → c.position ≡ length x.changes → noted (list_of cells.pending t) c ≡ reverse (c ∷ x.changes)
+    first_list : (c : ChangeValue) → c.position ≡ length (listed x.changes) → noted (list_of cells.pending t) c ≡ listed (x.changes ▹ c)
     first_list c e = ap (λ cs. noted cs c) mine ∙ noted_first x.changes c e
 
-    start_cells : (c : ChangeValue) → c.position ≡ length x.changes → (o : Option Pair) → old_pair (is_indexed s.life) c ≡ o → HasCells (started s t x c o) (set_by cells (first_action t c o))
+    start_cells : (c : ChangeValue) → c.position ≡ length (listed x.changes) → (o : Option Pair) → old_pair (is_indexed s.life) c ≡ o → HasCells (started s t x c o) (set_by cells (first_action t c o))
     start_cells c e None g =
         other_holder _ _ (update rid_cmp s.holder c.rid (Some t)) (row_cells c.rid (new_row c.rows) (with_change x c (row_made (new_pair (is_indexed s.life) c))) _ (first_list c e))
     start_cells c e (Some p) g =
         other_holder _ _ (update rid_cmp s.holder c.rid (Some t)) (entry_cells c.rid (old_row c.rows) (new_row c.rows) Marked (Some p) g (record { it = p; is = refl; holds = tt }) (with_change x c OldMarked) _ (first_list c e))
 
-    module _ (c : ChangeValue) (older : List ChangeValue) (e : x.changes ≡ c ∷ older) where
-      whole_list : list_of cells.pending t ≡ reverse (c ∷ older)
-      whole_list = mine ∙ ap reverse e
+    module _ (c : ChangeValue) (older : Changes) (e : x.changes ≡ older ▹ c) where
+      whole_list : list_of cells.pending t ≡ listed (older ▹ c)
+      whole_list = mine ∙ ap listed e
 
-      again_list : c.position ≡ length older → noted (list_of cells.pending t) c ≡ reverse x.changes
-      again_list n = ap (λ cs. noted cs c) whole_list ∙ noted_again older c n ∙ ap reverse (sym e)
+      again_list : c.position ≡ length (listed older) → noted (list_of cells.pending t) c ≡ listed x.changes
+      again_list n = ap (λ cs. noted cs c) whole_list ∙ noted_again older c n ∙ ap listed (sym e)
 
-      off_list : taken_off (list_of cells.pending t) true ≡ reverse older
+      off_list : taken_off (list_of cells.pending t) true ≡ listed older
       off_list = ap (λ cs. taken_off cs true) whole_list ∙ off_newest older c
 
       row_left : (o : Option Pair) → HasCells (record s { rows = set_at s.rows c.rid (old_row c.rows); txns = with_txn s t (row_undone x older o) }) (set_by cells (undo t Slot c (is_last o)))
@@ -163,30 +153,30 @@ module _ (s : State) (cells : Cells) (k : HasCells s cells) (t : ℕ) where
       first_cells b None g = row_left (old_pair (is_indexed s.life) c)
       first_cells b (Some p) g = entry_cells c.rid (new_row c.rows) (old_row c.rows) Marked (Some p) g (record { it = p; is = refl; holds = tt }) (undoing x (NewMarked b)) _ mine
 
-next_cells : (s : State) (i : IsWellFormed s) (cells : Cells) → HasCells s cells → (t : ℕ) (cs : List ChangeValue) (phase : Phase) (rolling : Bool) → s.txns t ≡ Some (record { changes = cs; phase = phase; rolling = rolling })
+next_cells : (s : State) (i : IsWellFormed s) (cells : Cells) → HasCells s cells → (t : ℕ) (cs : Changes) (phase : Phase) (rolling : Bool) → s.txns t ≡ Some (record { changes = cs; phase = phase; rolling = rolling })
     → HasCells (carried_on s t (record { changes = cs; phase = phase; rolling = rolling }) cs phase) (set_by_any cells (next_action t cs phase))
-next_cells s i cells k t [] phase rolling active = k
-next_cells s i cells k t (c ∷ older) OldMarked rolling active =
-    row_cells s cells k t c.rid (new_row c.rows) (record { changes = c ∷ older; phase = row_made (new_pair (is_indexed s.life) c); rolling = rolling }) _ (again_list s cells k t _ active c older refl (i.txns t _ active).numbered.0)
-next_cells s i cells k t (c ∷ older) RowSet rolling active =
-    entry_cells s cells k t c.rid (new_row c.rows) (old_row c.rows) Live (new_pair (is_indexed s.life) c) refl (i.txns t _ active).shaped (record { changes = c ∷ older; phase = Made; rolling = rolling }) _
+next_cells s i cells k t Unchanged phase rolling active = k
+next_cells s i cells k t (older ▹ c) OldMarked rolling active =
+    row_cells s cells k t c.rid (new_row c.rows) (record { changes = older ▹ c; phase = row_made (new_pair (is_indexed s.life) c); rolling = rolling }) _ (again_list s cells k t _ active c older refl (i.txns t _ active).numbered.0)
+next_cells s i cells k t (older ▹ c) RowSet rolling active =
+    entry_cells s cells k t c.rid (new_row c.rows) (old_row c.rows) Live (new_pair (is_indexed s.life) c) refl (i.txns t _ active).shaped (record { changes = older ▹ c; phase = Made; rolling = rolling }) _
     (again_list s cells k t _ active c older refl (i.txns t _ active).numbered.0)
-next_cells s i cells k t (c ∷ older) Made rolling active = k
-next_cells s i cells k t (c ∷ older) (NewMarked b) rolling active = k
-next_cells s i cells k t (c ∷ older) OldSet rolling active = k
+next_cells s i cells k t (older ▹ c) Made rolling active = k
+next_cells s i cells k t (older ▹ c) (NewMarked b) rolling active = k
+next_cells s i cells k t (older ▹ c) OldSet rolling active = k
 
 none_changed : (x x' : Active) → x.changes ≡ x'.changes → (list : Option (List ChangeValue)) → IsListOf list (Some x) → IsListOf list (Some x')
 none_changed x x' e None h = sym e ∙ h
-none_changed x x' e (Some list) h = h ∙ ap reverse e
+none_changed x x' e (Some list) h = h ∙ ap listed e
 
-undo_cells : (s : State) (i : IsWellFormed s) (cells : Cells) → HasCells s cells → (t : ℕ) (cs : List ChangeValue) (phase : Phase) (rolling : Bool) → s.txns t ≡ Some (record { changes = cs; phase = phase; rolling = rolling })
+undo_cells : (s : State) (i : IsWellFormed s) (cells : Cells) → HasCells s cells → (t : ℕ) (cs : Changes) (phase : Phase) (rolling : Bool) → s.txns t ≡ Some (record { changes = cs; phase = phase; rolling = rolling })
     → HasCells (undone s t (record { changes = cs; phase = phase; rolling = rolling }) cs phase) (set_by_any cells (undo_action (is_indexed s.life) t cs phase))
-undo_cells s i cells k t [] phase rolling active = same_cells s cells k t (record { changes = []; phase = phase; rolling = true }) (none_changed (record { changes = []; phase = phase; rolling = rolling }) (record { changes = []; phase = phase; rolling = true }) refl (get cells.pending t) (subst (IsListOf (get cells.pending t)) active (k.pending t)))
-undo_cells s i cells k t (c ∷ older) OldMarked rolling active = first_cells s cells k t _ active c older refl false _ refl
-undo_cells s i cells k t (c ∷ older) RowSet rolling active = first_cells s cells k t _ active c older refl true _ refl
-undo_cells s i cells k t (c ∷ older) Made rolling active = first_cells s cells k t _ active c older refl true _ refl
-undo_cells s i cells k t (c ∷ older) (NewMarked b) rolling active = row_left s cells k t _ active c older refl (old_pair (is_indexed s.life) c)
-undo_cells s i cells k t (c ∷ older) OldSet rolling active =
+undo_cells s i cells k t Unchanged phase rolling active = same_cells s cells k t (record { changes = Unchanged; phase = phase; rolling = true }) (none_changed (record { changes = Unchanged; phase = phase; rolling = rolling }) (record { changes = Unchanged; phase = phase; rolling = true }) refl (get cells.pending t) (subst (IsListOf (get cells.pending t)) active (k.pending t)))
+undo_cells s i cells k t (older ▹ c) OldMarked rolling active = first_cells s cells k t _ active c older refl false _ refl
+undo_cells s i cells k t (older ▹ c) RowSet rolling active = first_cells s cells k t _ active c older refl true _ refl
+undo_cells s i cells k t (older ▹ c) Made rolling active = first_cells s cells k t _ active c older refl true _ refl
+undo_cells s i cells k t (older ▹ c) (NewMarked b) rolling active = row_left s cells k t _ active c older refl (old_pair (is_indexed s.life) c)
+undo_cells s i cells k t (older ▹ c) OldSet rolling active =
     entry_cells s cells k t c.rid (old_row c.rows) (new_row c.rows) Live (old_pair (is_indexed s.life) c) refl (i.txns t _ active).shaped (record { changes = older; phase = Made; rolling = true }) _
     (off_list s cells k t _ active c older refl)
 
@@ -243,21 +233,21 @@ begun_rows : (indexed : Bool) (t : ℕ) (c : ChangeValue) (old o : Option Pair) 
 begun_rows indexed t c old None e = refl
 begun_rows indexed t c old (Some p) e = new_there indexed c.rid c.rows (old_row c.rows) p e
 
-next_rows : (indexed : Bool) (t : ℕ) (cs : List ChangeValue) (phase : Phase) → IsShaped indexed cs phase → HasRows (next_action t cs phase)
-next_rows indexed t [] phase h = tt
-next_rows indexed t (c ∷ older) OldMarked h = refl
-next_rows indexed t (c ∷ older) RowSet h = new_there indexed c.rid c.rows (old_row c.rows) h.it h.is
-next_rows indexed t (c ∷ older) Made h = tt
-next_rows indexed t (c ∷ older) (NewMarked b) h = tt
-next_rows indexed t (c ∷ older) OldSet h = tt
+next_rows : (indexed : Bool) (t : ℕ) (cs : Changes) (phase : Phase) → IsShaped indexed cs phase → HasRows (next_action t cs phase)
+next_rows indexed t Unchanged phase h = tt
+next_rows indexed t (older ▹ c) OldMarked h = refl
+next_rows indexed t (older ▹ c) RowSet h = new_there indexed c.rid c.rows (old_row c.rows) h.it h.is
+next_rows indexed t (older ▹ c) Made h = tt
+next_rows indexed t (older ▹ c) (NewMarked b) h = tt
+next_rows indexed t (older ▹ c) OldSet h = tt
 
-undo_rows : (indexed : Bool) (t : ℕ) (cs : List ChangeValue) (phase : Phase) → IsShaped indexed cs phase → HasRows (undo_action indexed t cs phase)
-undo_rows indexed t [] phase h = tt
-undo_rows indexed t (c ∷ older) OldMarked h = begun_rows indexed t c (old_pair indexed c) _ refl
-undo_rows indexed t (c ∷ older) RowSet h = begun_rows indexed t c (old_pair indexed c) _ refl
-undo_rows indexed t (c ∷ older) Made h = begun_rows indexed t c (old_pair indexed c) _ refl
-undo_rows indexed t (c ∷ older) (NewMarked b) h = refl
-undo_rows indexed t (c ∷ older) OldSet h = old_there indexed c.rid c.rows (new_row c.rows) h.it h.is
+undo_rows : (indexed : Bool) (t : ℕ) (cs : Changes) (phase : Phase) → IsShaped indexed cs phase → HasRows (undo_action indexed t cs phase)
+undo_rows indexed t Unchanged phase h = tt
+undo_rows indexed t (older ▹ c) OldMarked h = begun_rows indexed t c (old_pair indexed c) _ refl
+undo_rows indexed t (older ▹ c) RowSet h = begun_rows indexed t c (old_pair indexed c) _ refl
+undo_rows indexed t (older ▹ c) Made h = begun_rows indexed t c (old_pair indexed c) _ refl
+undo_rows indexed t (older ▹ c) (NewMarked b) h = refl
+undo_rows indexed t (older ▹ c) OldSet h = old_there indexed c.rid c.rows (new_row c.rows) h.it h.is
 
 place_rows : (p : Pair) (o : Option Mark) → HasRows (place_action p o)
 place_rows p None = refl

@@ -3,7 +3,6 @@ use Rattle.std.proofs.Common.{Bool, List, None, Option, Some, [], ap, arith, fal
 use Rattle.std.specs.Cmp.{nat_cmp_total}
 use Rattle.std.specs.FinMap.{entries, get, len, nat_cmp-IsAntisymmetric, remove}
 use Rattle.std.specs.Ordering.{nat_cmp}
-use Rattle.records.specs.ChangeValue.{ChangeValue}
 use Rattle.records.specs.Values.{Place}
 use Rattle.records.specs.declared.pair.Mark.TheVariants.{Live, Marked}
 use Rattle.records.specs.declared.pair.Pair.{Pair}
@@ -20,24 +19,24 @@ use Rattle.core_model.proofs.Places.{fewer_lacking, grown_by, lacking_less}
 use Rattle.core_model.proofs.Runs.{other_pledges}
 use Rattle.core_model.proofs.Sums.{left_apart, reserved_left}
 use Rattle.core_model.proofs.Txns.{end_keeps, taken_off_whole, undo_whole}
-use Rattle.core_model.specs.Changes.{latest, new_pair, old_pair, pair_of}
+use Rattle.core_model.specs.Changes.{Changes, Unchanged, latest, new_pair, old_pair, pair_of, ◌▹◌}
 use Rattle.core_model.specs.Histories.{CanOpen, IsCovered, highest_of}
 use Rattle.core_model.specs.Invariants.{HasPlaces, IsBusyWith, IsCoherent, IsHeld, IsHolderOf, IsInside, IsUnfinished, applied_of, IsVisibleOrAhead, lacking, lacks}
 use Rattle.core_model.proofs.Undone.{IsListing, entries_undone, restarted, rows_back, rows_undone}
 use Rattle.core_model.specs.States.{Active, Phase, State}
 use Rattle.core_model.specs.Steps.{above, all_reserved, freed, is_applied, is_indexed, reserved, update, with_entry, without_newest}
 
-module _ (s : State) (i : IsCoherent s) (n : IsInside s) (quiet : (t : ℕ) (x : Active) → s.txns t ≡ Some x → x.changes ≡ []) where
-  not_busy : (cs : List ChangeValue) (phase : Phase) (r : Place) → cs ≡ [] → IsBusyWith cs phase r → ⊥
-  not_busy [] phase r e h = h
-  not_busy (c ∷ older) phase r e h = absurd (cc)
+module _ (s : State) (i : IsCoherent s) (n : IsInside s) (quiet : (t : ℕ) (x : Active) → s.txns t ≡ Some x → x.changes ≡ Unchanged) where
+  not_busy : (cs : Changes) (phase : Phase) (r : Place) → cs ≡ Unchanged → IsBusyWith cs phase r → ⊥
+  not_busy Unchanged phase r e h = h
+  not_busy (older ▹ c) phase r e h = absurd (cc)
 
   not_unfinished : (r : Place) → IsUnfinished s r → ⊥
   not_unfinished r h = not_busy h.txn.changes h.txn.phase r (quiet h.transaction h.txn h.active) h.busy
 
-  none_made : (cs : List ChangeValue) (b : Bool) → cs ≡ [] → applied_of cs b ≡ []
-  none_made [] b e = refl
-  none_made (c ∷ older) b e = absurd (cc)
+  none_made : (cs : Changes) (b : Bool) → cs ≡ Unchanged → applied_of cs b ≡ Unchanged
+  none_made Unchanged b e = refl
+  none_made (older ▹ c) b e = absurd (cc)
 
   -- the rows are the committed table
   committed_by : (r : Place) (o : Option ℕ) → s.holder r ≡ o → get s.rows r ≡ get s.committed r
@@ -78,7 +77,7 @@ module _ (s : State) (i : IsCoherent s) (n : IsInside s) (quiet : (t : ℕ) (x :
   }
 
 -- ---- the changes that are left are taken back
-abbrev rolled : State → ℕ → List ChangeValue → State
+abbrev rolled : State → ℕ → Changes → State
 rolled s t cs = record s {
   rows = rows_undone cs s.rows;
   entries = entries_undone (is_indexed s.life) cs s.entries;
@@ -86,22 +85,22 @@ rolled s t cs = record s {
   holder = λ r. freed t (s.holder r);
 }
 
-rolled_keeps : (t : ℕ) (cs : List ChangeValue) (s : State) → IsCoherent s → (phase : Phase) (rolling : Bool) → s.txns t ≡ Some (record { changes = cs; phase = phase; rolling = rolling }) → IsCoherent (rolled s t cs)
-rolled_keeps t [] s i phase rolling active = end_keeps s i t (record { changes = []; phase = phase; rolling = rolling }) active refl
-rolled_keeps t (c ∷ older) s i phase rolling active =
+rolled_keeps : (t : ℕ) (cs : Changes) (s : State) → IsCoherent s → (phase : Phase) (rolling : Bool) → s.txns t ≡ Some (record { changes = cs; phase = phase; rolling = rolling }) → IsCoherent (rolled s t cs)
+rolled_keeps t Unchanged s i phase rolling active = end_keeps s i t (record { changes = Unchanged; phase = phase; rolling = rolling }) active refl
+rolled_keeps t (older ▹ c) s i phase rolling active =
     let s' : State = taken_off_whole s t c older (new_pair (is_indexed s.life) c) (old_pair (is_indexed s.life) c) in
     let i' : IsCoherent s' = undo_whole s t c older i phase rolling active in
-    subst (λ f. IsCoherent (record (rolled s t (c ∷ older)) { txns = f })) (update_twice nat_cmp s.txns t (Some (without_newest older)) None)
+    subst (λ f. IsCoherent (record (rolled s t (older ▹ c)) { txns = f })) (update_twice nat_cmp s.txns t (Some (without_newest older)) None)
     (rolled_keeps t older s' i' (without_newest older).phase (without_newest older).rolling (txn_here s t (without_newest older)))
 
-rolled_by : (t : ℕ) (x : Active) (cs : List ChangeValue) (s : State) → IsCoherent s → s.txns t ≡ Some x → x.changes ≡ cs → IsCoherent (rolled s t cs)
+rolled_by : (t : ℕ) (x : Active) (cs : Changes) (s : State) → IsCoherent s → s.txns t ≡ Some x → x.changes ≡ cs → IsCoherent (rolled s t cs)
 rolled_by t x cs s i active e = subst (λ l. IsCoherent (rolled s t l)) e (rolled_keeps t x.changes s i x.phase x.rolling active)
 
 -- ---- their places
 module _ (indexed : Bool) where
-  undone_grown : (cs : List ChangeValue) (entries : Index) → len (entries_undone indexed cs entries) ≤ len entries + lacking indexed entries cs
-  undone_grown [] entries = omega arith
-  undone_grown (c ∷ older) entries =
+  undone_grown : (cs : Changes) (entries : Index) → len (entries_undone indexed cs entries) ≤ len entries + lacking indexed entries cs
+  undone_grown Unchanged entries = omega arith
+  undone_grown (older ▹ c) entries =
       let marked : Index = with_entry entries (new_pair indexed c) Marked in
       let put : Index = with_entry marked (old_pair indexed c) Live in
       let first : len marked ≡ len entries + lacks entries (new_pair indexed c) = grown_by entries Marked (new_pair indexed c) in
@@ -112,9 +111,9 @@ module _ (indexed : Bool) where
       let rest : len (entries_undone indexed older put) ≤ len put + lacking indexed put older = undone_grown older put in
       omega (arith, first, second, fewer, one, two, rest)
 
-  undone_fewer : (cs : List ChangeValue) (entries : Index) (q : Option Pair) → lacks (entries_undone indexed cs entries) q ≤ lacks entries q
-  undone_fewer [] entries q = omega arith
-  undone_fewer (c ∷ older) entries q =
+  undone_fewer : (cs : Changes) (entries : Index) (q : Option Pair) → lacks (entries_undone indexed cs entries) q ≤ lacks entries q
+  undone_fewer Unchanged entries q = omega arith
+  undone_fewer (older ▹ c) entries q =
       let marked : Index = with_entry entries (new_pair indexed c) Marked in
       let put : Index = with_entry marked (old_pair indexed c) Live in
       let one : lacks marked q ≤ lacks entries q = fewer_lacking entries Marked (new_pair indexed c) q in
@@ -122,7 +121,7 @@ module _ (indexed : Bool) where
       let rest : lacks (entries_undone indexed older put) q ≤ lacks put q = undone_fewer older put q in
       omega (arith, one, two, rest)
 
-rolled_places : (s : State) (t : ℕ) (x : Active) (cs : List ChangeValue) → HasPlaces s → s.txns t ≡ Some x → x.changes ≡ cs → HasPlaces (record (rolled s t cs) { pledges = remove s.pledges t })
+rolled_places : (s : State) (t : ℕ) (x : Active) (cs : Changes) → HasPlaces s → s.txns t ≡ Some x → x.changes ≡ cs → HasPlaces (record (rolled s t cs) { pledges = remove s.pledges t })
 rolled_places s t x cs p active e = record {
   fits =
       let sums : all_reserved (remove s.pledges t) + reserved s.pledges t ≡ all_reserved s.pledges = reserved_left s.pledges t in
@@ -141,16 +140,16 @@ rolled_places s t x cs p active e = record {
 }
 
 -- ---- they stay in the store's pages
-undone_inside : (pages : ℕ) (indexed : Bool) (holder : Place → Option ℕ) (t : ℕ) → ((r : Place) → holder r ≡ Some t → r.page < pages) → (cs : List ChangeValue) → IsHolderOf holder t cs → (entries : Index)
+undone_inside : (pages : ℕ) (indexed : Bool) (holder : Place → Option ℕ) (t : ℕ) → ((r : Place) → holder r ≡ Some t → r.page < pages) → (cs : Changes) → IsHolderOf holder t cs → (entries : Index)
     → ((p : Pair) → get entries p ≢ None → p.rid.page < pages) → (p : Pair) → get (entries_undone indexed cs entries) p ≢ None → p.rid.page < pages
-undone_inside pages indexed holder t held [] names entries h = h
-undone_inside pages indexed holder t held (c ∷ older) names entries h =
+undone_inside pages indexed holder t held Unchanged names entries h = h
+undone_inside pages indexed holder t held (older ▹ c) names entries h =
     let l : c.rid.page < pages = held c.rid names.0 in
     undone_inside pages indexed holder t held older names.1 _
     (with_inside pages (with_entry entries (new_pair indexed c) Marked) (old_pair indexed c) Live (old_inside pages indexed c l)
     (with_inside pages entries (new_pair indexed c) Marked (new_inside pages indexed c l) h))
 
-rolled_inside : (s : State) (t : ℕ) (x : Active) (cs : List ChangeValue) → IsCoherent s → IsInside s → s.txns t ≡ Some x → x.changes ≡ cs → IsInside (record (rolled s t cs) { pledges = remove s.pledges t })
+rolled_inside : (s : State) (t : ℕ) (x : Active) (cs : Changes) → IsCoherent s → IsInside s → s.txns t ≡ Some x → x.changes ≡ cs → IsInside (record (rolled s t cs) { pledges = remove s.pledges t })
 rolled_inside s t x cs i h active e = record {
   entries = undone_inside s.pages (is_indexed s.life) s.holder t (λ r k. (i.held r t k).inside) cs (subst (λ l. IsHolderOf s.holder t l) e (i.txns t x active).names) s.entries h.entries;
   bound = h.bound;
@@ -158,11 +157,11 @@ rolled_inside s t x cs i h active e = record {
   given = h.given;
 }
 
-pub record CanRestart (s : State) (ls : List (ℕ × List ChangeValue)) (last : ℕ) : Type 0 where
+pub record CanRestart (s : State) (ls : List (ℕ × Changes)) (last : ℕ) : Type 0 where
   pub table : (r : Place) → get (rows_back ls s.rows) r ≡ get s.committed r
   pub opens : CanOpen (restarted s ls last)
 
-pub can_restart : (ls : List (ℕ × List ChangeValue)) (last : ℕ) (s : State) → IsCoherent s → IsInside s → HasPlaces s → IsListing s.txns ls → CanRestart s ls last
+pub can_restart : (ls : List (ℕ × Changes)) (last : ℕ) (s : State) → IsCoherent s → IsInside s → HasPlaces s → IsListing s.txns ls → CanRestart s ls last
 can_restart [] last s i n p quiet = record { table = only_committed s i n quiet; opens = opens s i n quiet last (let fits : len s.entries + all_reserved s.pledges ≤ s.places = p.fits in omega (arith, fits)) }
 can_restart (l ∷ ls) last s i n p listing =
     let s' : State = record (rolled s l.0 l.1) { pledges = remove s.pledges l.0 } in

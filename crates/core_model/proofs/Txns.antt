@@ -1,10 +1,9 @@
 -- Each step of a transaction keeps the invariant.
-use Rattle.std.proofs.Common.{Bool, List, None, Option, Some, [], ap, cond, false, inl, inr, refl, reverse, subst, sym, true, ℕ, ◌++◌, ◌<◌, ◌∙◌, ◌∷◌, ◌≡◌, ◌≢◌, ◌⊎◌}
+use Rattle.std.proofs.Common.{Bool, List, None, Option, Some, [], ap, cond, false, inl, inr, refl, subst, sym, true, ℕ, ◌++◌, ◌<◌, ◌∙◌, ◌∷◌, ◌≡◌, ◌≢◌, ◌⊎◌}
 use Rattle.std.specs.Cmp.{nat_cmp_total}
 use Rattle.std.specs.Cmp.Lexicographic.{nat_list_cmp_total}
 use Rattle.std.specs.FinMap.{entries, get, nat_cmp-IsAntisymmetric}
 use Rattle.std.specs.Ordering.{eq_by_cmp, nat_cmp}
-use mathlib.Core.List.{reverse-cons}
 use Rattle.records.specs.ChangeValue.{ChangeValue}
 use Rattle.records.specs.Maps.{get-set_at, get-set_at_same, pair_exact, rid_exact, set_at}
 use Rattle.records.specs.Orders.{rid_cmp, rid_cmp-IsAntisymmetric, rid_cmp_total}
@@ -22,19 +21,19 @@ use Rattle.core_model.proofs.Cells.{Ends, Replaced, mark_step, put_step, row_ste
 use Rattle.core_model.proofs.Frames.{moved, nat_decided, rid_decided, same_some, txn_apart, txn_here}
 use Rattle.core_model.proofs.Latest.{Gone, Stays, chained_same, gone_is, holds_more, latest_here, latest_other, latest_unnamed, not_none, same_key_is, stays}
 use Rattle.core_model.proofs.Orders.{apart, level, update_apart, update_here, update_twice}
-use Rattle.core_model.specs.Changes.{gone, latest, new_pair, old_pair, pair_of, same_key}
+use Rattle.core_model.specs.Changes.{Changes, Unchanged, gone, latest, listed, new_pair, old_pair, pair_of, same_key, ◌▹◌}
 use Rattle.core_model.specs.Histories.{write_of}
 use Rattle.core_model.specs.Invariants.{HasPair, IsAhead, IsBusyWith, IsChained, IsCoherent, IsHeld, IsHolderOf, IsInPhase, IsPhaseOf, IsUnfinished, IsVisibleOrAhead, TxnHolds, applied_of, made_of}
 use Rattle.core_model.specs.States.{Active, Made, NewMarked, OldMarked, OldSet, Phase, RowSet, State}
 use Rattle.core_model.specs.Steps.{IsReady, carried_on, freed, is_applied, is_indexed, left, new_txn, row_made, row_undone, started, undone, undone_first, undone_row, update, with_change, with_entry, with_txn, without_newest}
 
-all_applied : (cs : List ChangeValue) → applied_of cs true ≡ cs
-all_applied [] = refl
-all_applied (c ∷ older) = refl
+all_applied : (cs : Changes) → applied_of cs true ≡ cs
+all_applied Unchanged = refl
+all_applied (older ▹ c) = refl
 
-made_phase : (indexed : Bool) (entries : Index) (cs : List ChangeValue) (rolling : Bool) → IsPhaseOf indexed entries cs Made rolling
-made_phase indexed entries [] rolling = refl
-made_phase indexed entries (c ∷ older) rolling = tt
+made_phase : (indexed : Bool) (entries : Index) (cs : Changes) (rolling : Bool) → IsPhaseOf indexed entries cs Made rolling
+made_phase indexed entries Unchanged rolling = refl
+made_phase indexed entries (older ▹ c) rolling = tt
 
 equal_key : (a b : Row) (x : Bool) → same_key b a ≡ x → x ≡ true → a.key ≡ b.key
 equal_key a b x e t = sym (same_key_is b a (e ∙ t))
@@ -57,13 +56,13 @@ one_way true r (Some x) (Some y) p e n =
     absurd (not_none e (rw (both_stay x y key) refl))
 
 -- a busy row is held by the transaction that is busy with it
-named_by : (holder : Place → Option ℕ) (t : ℕ) (cs : List ChangeValue) (phase : Phase) (r : Place) → IsHolderOf holder t cs → IsBusyWith cs phase r → holder r ≡ Some t
-named_by holder t [] phase r h b = absurd b
-named_by holder t (c ∷ older) phase r h b = ap holder (sym b.0) ∙ h.0
+named_by : (holder : Place → Option ℕ) (t : ℕ) (cs : Changes) (phase : Phase) (r : Place) → IsHolderOf holder t cs → IsBusyWith cs phase r → holder r ≡ Some t
+named_by holder t Unchanged phase r h b = absurd b
+named_by holder t (older ▹ c) phase r h b = ap holder (sym b.0) ∙ h.0
 
-busy_phase : (cs : List ChangeValue) (phase : Phase) (r : Place) → IsBusyWith cs phase r → phase ≢ Made
-busy_phase [] phase r b = absurd b
-busy_phase (c ∷ older) phase r b = b.1
+busy_phase : (cs : Changes) (phase : Phase) (r : Place) → IsBusyWith cs phase r → phase ≢ Made
+busy_phase Unchanged phase r b = absurd b
+busy_phase (older ▹ c) phase r b = b.1
 
 unfinished_by : (s : State) → IsCoherent s → (r : Place) (h : IsUnfinished s r) → s.holder r ≡ Some h.transaction
 unfinished_by s i r h = named_by s.holder h.transaction h.txn.changes h.txn.phase r (i.txns h.transaction h.txn h.active).names h.busy
@@ -189,9 +188,9 @@ module _ (s : State) (i : IsCoherent s) (t : ℕ) (x : Active) (c : ChangeValue)
   start_keeps None e = start_set _ refl e
 
 -- ---- the steps that a change owes, and those that take it back
-module _ (s : State) (i : IsCoherent s) (t : ℕ) (c : ChangeValue) (older : List ChangeValue) (phase : Phase) (rolling : Bool) (active : s.txns t ≡ Some (record { changes = c ∷ older; phase = phase; rolling = rolling })) where
+module _ (s : State) (i : IsCoherent s) (t : ℕ) (c : ChangeValue) (older : Changes) (phase : Phase) (rolling : Bool) (active : s.txns t ≡ Some (record { changes = older ▹ c; phase = phase; rolling = rolling })) where
   abbrev x : Active
-  x = record { changes = c ∷ older; phase = phase; rolling = rolling }
+  x = record { changes = older ▹ c; phase = phase; rolling = rolling }
 
   was : TxnHolds s t x
   was = i.txns t x active
@@ -210,7 +209,7 @@ module _ (s : State) (i : IsCoherent s) (t : ℕ) (c : ChangeValue) (older : Lis
   busy_here : (q : Place) → q ≢ c.rid → IsBusyWith x.changes x.phase q → ⊥
   busy_here q n b = n (sym b.0)
 
-  latest_applied : (b : Bool) (q : Place) (v : Option Row) → q ≢ c.rid → latest (applied_of (c ∷ older) b) q v ≡ latest older q v
+  latest_applied : (b : Bool) (q : Place) (v : Option Row) → q ≢ c.rid → latest (applied_of (older ▹ c) b) q v ≡ latest older q v
   latest_applied true q v n = latest_other c older q v n
   latest_applied false q v n = refl
 
@@ -228,8 +227,8 @@ module _ (s : State) (i : IsCoherent s) (t : ℕ) (c : ChangeValue) (older : Lis
   }
 
   -- the same change, in another phase
-  phase_ends : (next : Phase) (b : Bool) → Ends s s.holder c.rid t x (record { changes = c ∷ older; phase = next; rolling = b })
-  phase_ends next b = on_ends (record { changes = c ∷ older; phase = next; rolling = b }) (latest_applied (is_applied next)) was.names was.chained
+  phase_ends : (next : Phase) (b : Bool) → Ends s s.holder c.rid t x (record { changes = older ▹ c; phase = next; rolling = b })
+  phase_ends next b = on_ends (record { changes = older ▹ c; phase = next; rolling = b }) (latest_applied (is_applied next)) was.names was.chained
 
   older_latest : (q : Place) (v : Option Row) → latest (made_of (without_newest older)) q v ≡ latest older q v
   older_latest q v = ap (λ cs. latest cs q v) (all_applied older)
@@ -238,7 +237,7 @@ module _ (s : State) (i : IsCoherent s) (t : ℕ) (c : ChangeValue) (older : Lis
   popped_ends = on_ends (without_newest older) (λ q v n. older_latest q v) was.names.1 was.chained.1
 
   abbrev in_phase : Phase → Bool → Active
-  in_phase next b = record { changes = c ∷ older; phase = next; rolling = b }
+  in_phase next b = record { changes = older ▹ c; phase = next; rolling = b }
 
   not_owing : (p : Pair) → new_pair (is_indexed s.life) c ≡ Some p → Gone (is_indexed s.life) c.rid (new_row c.rows) p
   not_owing p e = gone_is _ c.rid (new_row c.rows) (old_row c.rows) p e
@@ -262,7 +261,7 @@ module _ (s : State) (i : IsCoherent s) (t : ℕ) (c : ChangeValue) (older : Lis
       → IsCoherent (moved s (set_at s.rows c.rid (new_row c.rows)) s.entries s.holder c.rid t x (in_phase (row_made new) rolling))
   owed_row e forward h new n =
       let g : Gone (is_indexed s.life) c.rid (old_row c.rows) h.it = gone_is _ c.rid (old_row c.rows) (new_row c.rows) h.it h.is in
-      let row : get s.rows c.rid ≡ (old_row c.rows) = row_now ∙ ap (λ ph. latest (applied_of (c ∷ older) (is_applied ph)) c.rid (get s.committed c.rid)) e ∙ sym was.chained.0 in
+      let row : get s.rows c.rid ≡ (old_row c.rows) = row_now ∙ ap (λ ph. latest (applied_of (older ▹ c) (is_applied ph)) c.rid (get s.committed c.rid)) e ∙ sym was.chained.0 in
       row_step s s.holder c.rid t x (in_phase (row_made new) rolling) i (phase_ends (row_made new) rolling) (new_row c.rows) (row_phase new n)
       (λ of at. replace_marked s c.rid of (new_row c.rows) (ap (get s.entries) (ap (pair_of c.rid) (same_some (sym row ∙ at) g.is) ∙ sym g.pair) ∙ h.holds forward))
       (row_latest new (get s.committed c.rid)) (row_visible new h.it h.is n)
@@ -271,7 +270,7 @@ module _ (s : State) (i : IsCoherent s) (t : ℕ) (c : ChangeValue) (older : Lis
   owed_put : is_applied phase ≡ true → (p : Pair) → new_pair (is_indexed s.life) c ≡ Some p → IsCoherent (moved s s.rows (set_at s.entries p (Some Live)) s.holder c.rid t x (in_phase Made rolling))
   owed_put e p n =
       let g : Gone (is_indexed s.life) c.rid (new_row c.rows) p = not_owing p n in
-      let row : get s.rows c.rid ≡ latest (c ∷ older) c.rid (get s.committed c.rid) = row_now ∙ ap (λ b. latest (applied_of (c ∷ older) b) c.rid (get s.committed c.rid)) e in
+      let row : get s.rows c.rid ≡ latest (older ▹ c) c.rid (get s.committed c.rid) = row_now ∙ ap (λ b. latest (applied_of (older ▹ c) b) c.rid (get s.committed c.rid)) e in
       put_step s s.holder c.rid t x (in_phase Made rolling) i (phase_ends Made rolling) p (ap (λ w. w.rid) g.pair) g.there row
       g.of (row ∙ latest_here c older (get s.committed c.rid) ∙ g.is) (sym g.pair) tt
 
@@ -300,7 +299,7 @@ module _ (s : State) (i : IsCoherent s) (t : ℕ) (c : ChangeValue) (older : Lis
       → (IsUnfinished (moved s (set_at s.rows c.rid (old_row c.rows)) s.entries s.holder c.rid t x (row_undone x older old)) c.rid → ⊥) → IsVisibleOrAhead s (pair_of c.rid row)
   undo_visible None e quiet row at idle =
       let made : phase ≡ Made = quiet row at e in
-      let after : get s.rows c.rid ≡ (new_row c.rows) = row_now ∙ ap (λ ph. latest (applied_of (c ∷ older) (is_applied ph)) c.rid (get s.committed c.rid)) made ∙ latest_here c older (get s.committed c.rid) in
+      let after : get s.rows c.rid ≡ (new_row c.rows) = row_now ∙ ap (λ ph. latest (applied_of (older ▹ c) (is_applied ph)) c.rid (get s.committed c.rid)) made ∙ latest_here c older (get s.committed c.rid) in
       visible_before s i c.rid row (new_row c.rows) after (not_unfinished s i c.rid t x active made (λ u k. same_some k held))
       (stays_or s c.rid row (new_row c.rows) (ap (λ v. gone (is_indexed s.life) c.rid v (new_row c.rows)) (sym at) ∙ e))
   undo_visible (Some p) e quiet row at idle =
@@ -308,9 +307,9 @@ module _ (s : State) (i : IsCoherent s) (t : ℕ) (c : ChangeValue) (older : Lis
 
   undo_replaced : (b : Bool) → is_applied phase ≡ b → ((row : Row) → (new_row c.rows) ≡ Some row → Replaced s c.rid row (old_row c.rows)) → (row : Row) → get s.rows c.rid ≡ Some row → Replaced s c.rid row (old_row c.rows)
   undo_replaced true e new row at =
-      new row (sym (latest_here c older (get s.committed c.rid)) ∙ sym (row_now ∙ ap (λ b. latest (applied_of (c ∷ older) b) c.rid (get s.committed c.rid)) e) ∙ at)
+      new row (sym (latest_here c older (get s.committed c.rid)) ∙ sym (row_now ∙ ap (λ b. latest (applied_of (older ▹ c) b) c.rid (get s.committed c.rid)) e) ∙ at)
   undo_replaced false e new row at =
-      let before : (old_row c.rows) ≡ Some row = was.chained.0 ∙ sym (row_now ∙ ap (λ b. latest (applied_of (c ∷ older) b) c.rid (get s.committed c.rid)) e) ∙ at in
+      let before : (old_row c.rows) ≡ Some row = was.chained.0 ∙ sym (row_now ∙ ap (λ b. latest (applied_of (older ▹ c) b) c.rid (get s.committed c.rid)) e) ∙ at in
       replace_stays s c.rid row (old_row c.rows) (inr (record { it = row; is = before; key = refl }))
 
   undo_row_by : (old : Option Pair) → old_pair (is_indexed s.life) c ≡ old → ((row : Row) → (new_row c.rows) ≡ Some row → Replaced s c.rid row (old_row c.rows)) → ((row : Row) → (old_row c.rows) ≡ Some row → old_pair (is_indexed s.life) c ≡ None → phase ≡ Made)
@@ -325,7 +324,7 @@ module _ (s : State) (i : IsCoherent s) (t : ℕ) (c : ChangeValue) (older : Lis
   undo_put : is_applied phase ≡ false → (p : Pair) → old_pair (is_indexed s.life) c ≡ Some p → IsCoherent (moved s s.rows (set_at s.entries p (Some Live)) s.holder c.rid t x (without_newest older))
   undo_put e p n =
       let g : Gone (is_indexed s.life) c.rid (old_row c.rows) p = gone_is _ c.rid (old_row c.rows) (new_row c.rows) p n in
-      let row : get s.rows c.rid ≡ latest older c.rid (get s.committed c.rid) = row_now ∙ ap (λ b. latest (applied_of (c ∷ older) b) c.rid (get s.committed c.rid)) e in
+      let row : get s.rows c.rid ≡ latest older c.rid (get s.committed c.rid) = row_now ∙ ap (λ b. latest (applied_of (older ▹ c) b) c.rid (get s.committed c.rid)) e in
       put_step s s.holder c.rid t x (without_newest older) i popped_ends p (ap (λ w. w.rid) g.pair) g.there (row ∙ sym (older_latest c.rid (get s.committed c.rid)))
       g.of (row ∙ sym was.chained.0 ∙ g.is) (sym g.pair) (made_phase (is_indexed s.life) _ older true)
 
@@ -347,20 +346,20 @@ module _ (s : State) (i : IsCoherent s) (t : ℕ) (c : ChangeValue) (older : Lis
   undo_first (Some p) e quiet = undo_mark p e
   undo_first None e quiet = undo_row (no_new e) quiet
 
-next_put : (s : State) (i : IsCoherent s) (t : ℕ) (c : ChangeValue) (older : List ChangeValue) (rolling : Bool) (active : s.txns t ≡ Some (record { changes = c ∷ older; phase = RowSet; rolling = rolling }))
+next_put : (s : State) (i : IsCoherent s) (t : ℕ) (c : ChangeValue) (older : Changes) (rolling : Bool) (active : s.txns t ≡ Some (record { changes = older ▹ c; phase = RowSet; rolling = rolling }))
     → HasPair (new_pair (is_indexed s.life) c) (λ p. Unit {0}) → (new : Option Pair) → new_pair (is_indexed s.life) c ≡ new
-    → IsCoherent (record s { entries = with_entry s.entries new Live; txns = with_txn s t (record { changes = c ∷ older; phase = Made; rolling = rolling }) })
+    → IsCoherent (record s { entries = with_entry s.entries new Live; txns = with_txn s t (record { changes = older ▹ c; phase = Made; rolling = rolling }) })
 next_put s i t c older rolling active h None e = absurd (not_none h.is e)
 next_put s i t c older rolling active h (Some p) e = owed_put s i t c older RowSet rolling active refl p e
 
-next_by : (s : State) (i : IsCoherent s) (t : ℕ) (cs : List ChangeValue) (phase : Phase) (rolling : Bool) → s.txns t ≡ Some (record { changes = cs; phase = phase; rolling = rolling }) → rolling ≡ false
+next_by : (s : State) (i : IsCoherent s) (t : ℕ) (cs : Changes) (phase : Phase) (rolling : Bool) → s.txns t ≡ Some (record { changes = cs; phase = phase; rolling = rolling }) → rolling ≡ false
     → IsCoherent (carried_on s t (record { changes = cs; phase = phase; rolling = rolling }) cs phase)
-next_by s i t [] phase rolling active forward = i
-next_by s i t (c ∷ older) OldMarked rolling active forward = owed_row s i t c older OldMarked rolling active refl forward (i.txns t _ active).phase _ refl
-next_by s i t (c ∷ older) RowSet rolling active forward = next_put s i t c older rolling active (i.txns t _ active).phase _ refl
-next_by s i t (c ∷ older) Made rolling active forward = i
-next_by s i t (c ∷ older) (NewMarked b) rolling active forward = i
-next_by s i t (c ∷ older) OldSet rolling active forward = i
+next_by s i t Unchanged phase rolling active forward = i
+next_by s i t (older ▹ c) OldMarked rolling active forward = owed_row s i t c older OldMarked rolling active refl forward (i.txns t _ active).phase _ refl
+next_by s i t (older ▹ c) RowSet rolling active forward = next_put s i t c older rolling active (i.txns t _ active).phase _ refl
+next_by s i t (older ▹ c) Made rolling active forward = i
+next_by s i t (older ▹ c) (NewMarked b) rolling active forward = i
+next_by s i t (older ▹ c) OldSet rolling active forward = i
 
 pub next_keeps : (s : State) → IsCoherent s → (t : ℕ) (x : Active) → s.txns t ≡ Some x → x.rolling ≡ false → IsCoherent (carried_on s t x x.changes x.phase)
 next_keeps s i t x active forward = next_by s i t x.changes x.phase x.rolling active forward
@@ -409,34 +408,34 @@ module _ (s : State) (i : IsCoherent s) (t : ℕ) (x' : Active) (rows : (r : Pla
     behind = i.behind;
   }
 
-undo_none : (s : State) (i : IsCoherent s) (t : ℕ) (phase : Phase) (rolling : Bool) → s.txns t ≡ Some (record { changes = []; phase = phase; rolling = rolling })
-    → IsCoherent (record s { txns = with_txn s t (record { changes = []; phase = phase; rolling = true }) })
+undo_none : (s : State) (i : IsCoherent s) (t : ℕ) (phase : Phase) (rolling : Bool) → s.txns t ≡ Some (record { changes = Unchanged; phase = phase; rolling = rolling })
+    → IsCoherent (record s { txns = with_txn s t (record { changes = Unchanged; phase = phase; rolling = true }) })
 undo_none s i t phase rolling active =
-    redone_keeps s i t (record { changes = []; phase = phase; rolling = true })
+    redone_keeps s i t (record { changes = Unchanged; phase = phase; rolling = true })
     (λ r e. let h : IsHeld s r t = i.held r t e in h.row ∙ ap (λ y. latest (made_of y) r (get s.committed r)) (same_some h.active active))
     (λ r h same. subst (λ (y : Active). IsBusyWith y.changes y.phase r) (same_some h.active (ap s.txns same ∙ active)) h.busy)
     (record { names = tt; chained = tt; phase = (i.txns t _ active).phase })
 
-undo_old : (s : State) (i : IsCoherent s) (t : ℕ) (c : ChangeValue) (older : List ChangeValue) (rolling : Bool) (active : s.txns t ≡ Some (record { changes = c ∷ older; phase = OldSet; rolling = rolling }))
+undo_old : (s : State) (i : IsCoherent s) (t : ℕ) (c : ChangeValue) (older : Changes) (rolling : Bool) (active : s.txns t ≡ Some (record { changes = older ▹ c; phase = OldSet; rolling = rolling }))
     → HasPair (old_pair (is_indexed s.life) c) (λ p. Unit {0}) → (old : Option Pair) → old_pair (is_indexed s.life) c ≡ old
     → IsCoherent (record s { entries = with_entry s.entries old Live; txns = with_txn s t (without_newest older) })
 undo_old s i t c older rolling active h None e = absurd (not_none h.is e)
 undo_old s i t c older rolling active h (Some p) e = undo_put s i t c older OldSet rolling active refl p e
 
-undo_by : (s : State) (i : IsCoherent s) (t : ℕ) (cs : List ChangeValue) (phase : Phase) (rolling : Bool) → s.txns t ≡ Some (record { changes = cs; phase = phase; rolling = rolling })
+undo_by : (s : State) (i : IsCoherent s) (t : ℕ) (cs : Changes) (phase : Phase) (rolling : Bool) → s.txns t ≡ Some (record { changes = cs; phase = phase; rolling = rolling })
     → IsCoherent (undone s t (record { changes = cs; phase = phase; rolling = rolling }) cs phase)
-undo_by s i t [] phase rolling active = undo_none s i t phase rolling active
-undo_by s i t (c ∷ older) OldMarked rolling active =
+undo_by s i t Unchanged phase rolling active = undo_none s i t phase rolling active
+undo_by s i t (older ▹ c) OldMarked rolling active =
     let h : HasPair (old_pair (is_indexed s.life) c) (λ p. rolling ≡ false → get s.entries p ≡ Some Marked) = (i.txns t _ active).phase in
     undo_first s i t c older OldMarked rolling active _ refl (λ row at o. absurd (not_none h.is o))
-undo_by s i t (c ∷ older) RowSet rolling active =
+undo_by s i t (older ▹ c) RowSet rolling active =
     let h : HasPair (new_pair (is_indexed s.life) c) (λ p. Unit {0}) = (i.txns t _ active).phase in
     undo_first s i t c older RowSet rolling active _ refl (none_before s i t c older RowSet rolling active h.it h.is)
-undo_by s i t (c ∷ older) Made rolling active = undo_first s i t c older Made rolling active _ refl (λ row at o. refl)
-undo_by s i t (c ∷ older) (NewMarked b) rolling active =
+undo_by s i t (older ▹ c) Made rolling active = undo_first s i t c older Made rolling active _ refl (λ row at o. refl)
+undo_by s i t (older ▹ c) (NewMarked b) rolling active =
     let h : HasPair (new_pair (is_indexed s.life) c) (λ p. get s.entries p ≡ Some Marked) = (i.txns t _ active).phase in
     undo_row s i t c older (NewMarked b) rolling active (new_marked s i t c older (NewMarked b) rolling active h) (none_before s i t c older (NewMarked b) rolling active h.it h.is)
-undo_by s i t (c ∷ older) OldSet rolling active = undo_old s i t c older rolling active (i.txns t _ active).phase _ refl
+undo_by s i t (older ▹ c) OldSet rolling active = undo_old s i t c older rolling active (i.txns t _ active).phase _ refl
 
 pub undo_keeps : (s : State) → IsCoherent s → (t : ℕ) (x : Active) → s.txns t ≡ Some x → IsCoherent (undone s t x x.changes x.phase)
 undo_keeps s i t x active = undo_by s i t x.changes x.phase x.rolling active
@@ -541,47 +540,47 @@ applied-append table [] later = refl
 applied-append table (w ∷ writes) later = applied-append (set_at table w.rid w.row) writes later
 
 -- the writes of a change after those of the older ones
-pub newest_last : (c : ChangeValue) (older : List ChangeValue) → writes_of (reverse (c ∷ older)) ≡ writes_of (reverse older) ++ write_of c ∷ []
-newest_last c older = ap writes_of (reverse-cons c older) ∙ writes_of-append (reverse older) (c ∷ [])
+pub newest_last : (c : ChangeValue) (older : Changes) → writes_of (listed (older ▹ c)) ≡ writes_of (listed older) ++ write_of c ∷ []
+newest_last c older = writes_of-append (listed older) (c ∷ [])
 
 -- a commit of these changes leaves what the newest change of each row set
-pub committed_at : (cs : List ChangeValue) (table : Table) (r : Place) → get (applied table (writes_of (reverse cs))) r ≡ latest cs r (get table r)
-committed_at [] table r = refl
-committed_at (c ∷ older) table r =
+pub committed_at : (cs : Changes) (table : Table) (r : Place) → get (applied table (writes_of (listed cs))) r ≡ latest cs r (get table r)
+committed_at Unchanged table r = refl
+committed_at (older ▹ c) table r =
     ap (λ ws. get (applied table ws) r) (newest_last c older)
-    ∙ ap (λ w. get w r) (applied-append table (writes_of (reverse older)) (write_of c ∷ []))
-    ∙ get-set_at rid_exact (applied table (writes_of (reverse older))) c.rid (new_row c.rows) r
+    ∙ ap (λ w. get w r) (applied-append table (writes_of (listed older)) (write_of c ∷ []))
+    ∙ get-set_at rid_exact (applied table (writes_of (listed older))) c.rid (new_row c.rows) r
     ∙ ap (cond (eq_by_cmp rid_cmp r c.rid) (new_row c.rows)) (committed_at older table r)
 
-pub commit_keeps : (s : State) → IsCoherent s → (t : ℕ) (x : Active) → s.txns t ≡ Some x → IsReady x → IsCoherent (left s t (applied s.committed (writes_of (reverse x.changes))))
+pub commit_keeps : (s : State) → IsCoherent s → (t : ℕ) (x : Active) → s.txns t ≡ Some x → IsReady x → IsCoherent (left s t (applied s.committed (writes_of (listed x.changes))))
 commit_keeps s i t x active ready =
-    leave_keeps s i t x active ready.0 (applied s.committed (writes_of (reverse x.changes)))
+    leave_keeps s i t x active ready.0 (applied s.committed (writes_of (listed x.changes)))
     (λ r e.
     let h : IsHeld s r t = i.held r t e in
     h.row ∙ ap (λ y. latest (made_of y) r (get s.committed r)) (same_some h.active active) ∙ ap (λ cs. latest cs r (get s.committed r)) (made_applied x ready.0) ∙ sym (committed_at x.changes s.committed r))
     (λ r n. committed_at x.changes s.committed r ∙ latest_unnamed s.holder t x.changes r (get s.committed r) (i.txns t x active).names n)
 
-end_by : (s : State) (i : IsCoherent s) (t : ℕ) (phase : Phase) (rolling : Bool) → s.txns t ≡ Some (record { changes = []; phase = phase; rolling = rolling }) → IsCoherent (left s t s.committed)
+end_by : (s : State) (i : IsCoherent s) (t : ℕ) (phase : Phase) (rolling : Bool) → s.txns t ≡ Some (record { changes = Unchanged; phase = phase; rolling = rolling }) → IsCoherent (left s t s.committed)
 end_by s i t phase rolling active =
-    leave_keeps s i t (record { changes = []; phase = phase; rolling = rolling }) active (i.txns t _ active).phase s.committed
+    leave_keeps s i t (record { changes = Unchanged; phase = phase; rolling = rolling }) active (i.txns t _ active).phase s.committed
     (λ r e. let h : IsHeld s r t = i.held r t e in h.row ∙ ap (λ y. latest (made_of y) r (get s.committed r)) (same_some h.active active))
     (λ r n. refl)
 
-pub end_keeps : (s : State) → IsCoherent s → (t : ℕ) (x : Active) → s.txns t ≡ Some x → x.changes ≡ [] → IsCoherent (left s t s.committed)
+pub end_keeps : (s : State) → IsCoherent s → (t : ℕ) (x : Active) → s.txns t ≡ Some x → x.changes ≡ Unchanged → IsCoherent (left s t s.committed)
 end_keeps s i t x active none = end_by s i t x.phase x.rolling (active ∙ ap (λ cs. Some (record { changes = cs; phase = x.phase; rolling = x.rolling })) none)
 
 -- an undo that is begun again, where the old row was set already, marks the new pair once more
-pub mark_again : (s : State) → IsCoherent s → (t : ℕ) (c : ChangeValue) (older : List ChangeValue) (rolling : Bool) (p : Pair) (active : s.txns t ≡ Some (record { changes = c ∷ older; phase = OldSet; rolling = rolling }))
+pub mark_again : (s : State) → IsCoherent s → (t : ℕ) (c : ChangeValue) (older : Changes) (rolling : Bool) (p : Pair) (active : s.txns t ≡ Some (record { changes = older ▹ c; phase = OldSet; rolling = rolling }))
     → new_pair (is_indexed s.life) c ≡ Some p
-    → IsCoherent (record s { entries = set_at s.entries p (Some Marked); txns = with_txn s t (record { changes = c ∷ older; phase = OldSet; rolling = rolling }) })
+    → IsCoherent (record s { entries = set_at s.entries p (Some Marked); txns = with_txn s t (record { changes = older ▹ c; phase = OldSet; rolling = rolling }) })
 mark_again s i t c older rolling p active n =
     let g : Gone (is_indexed s.life) c.rid (new_row c.rows) p = gone_is _ c.rid (new_row c.rows) (old_row c.rows) p n in
     let h : HasPair (old_pair (is_indexed s.life) c) (λ q. Unit {0}) = (i.txns t _ active).phase in
-    mark_step s s.holder c.rid t _ (record { changes = c ∷ older; phase = OldSet; rolling = rolling }) i (phase_ends s i t c older OldSet rolling active OldSet rolling) p (ap (λ w. w.rid) g.pair) g.there
+    mark_step s s.holder c.rid t _ (record { changes = older ▹ c; phase = OldSet; rolling = rolling }) i (phase_ends s i t c older OldSet rolling active OldSet rolling) p (ap (λ w. w.rid) g.pair) g.there
     (row_now s i t c older OldSet rolling active) (record { it = h.it; is = h.is; holds = tt }) (refl, λ k. absurd (cc))
 
 -- ---- a change is taken back whole, all steps of its undo from the first on, however far it or its undo had come
-module _ (s : State) (t : ℕ) (c : ChangeValue) (older : List ChangeValue) where
+module _ (s : State) (t : ℕ) (c : ChangeValue) (older : Changes) where
   abbrev pub half_undone : Active → Option Pair → State
   half_undone x' new = record s { entries = with_entry s.entries new Marked; rows = set_at s.rows c.rid (old_row c.rows); txns = with_txn s t x' }
 
@@ -589,11 +588,11 @@ module _ (s : State) (t : ℕ) (c : ChangeValue) (older : List ChangeValue) wher
   taken_off_whole new old = record s { entries = with_entry (with_entry s.entries new Marked) old Live; rows = set_at s.rows c.rid (old_row c.rows); txns = with_txn s t (without_newest older) }
 
   -- whatever its phase was
-  row_undone_same : (a b : Phase) (m n : Bool) (o : Option Pair) → row_undone (record { changes = c ∷ older; phase = a; rolling = m }) older o ≡ row_undone (record { changes = c ∷ older; phase = b; rolling = n }) older o
+  row_undone_same : (a b : Phase) (m n : Bool) (o : Option Pair) → row_undone (record { changes = older ▹ c; phase = a; rolling = m }) older o ≡ row_undone (record { changes = older ▹ c; phase = b; rolling = n }) older o
   row_undone_same a b m n None = refl
   row_undone_same a b m n (Some p) = refl
 
-  module _ (i : IsCoherent s) (phase : Phase) (rolling : Bool) (active : s.txns t ≡ Some (record { changes = c ∷ older; phase = phase; rolling = rolling })) where
+  module _ (i : IsCoherent s) (phase : Phase) (rolling : Bool) (active : s.txns t ≡ Some (record { changes = older ▹ c; phase = phase; rolling = rolling })) where
     quiet_by : (phase : Phase) → IsInPhase (is_indexed s.life) s.entries c phase rolling → new_pair (is_indexed s.life) c ≡ None → old_pair (is_indexed s.life) c ≡ None → phase ≡ Made
     quiet_by OldMarked h n o = absurd (not_none h.is o)
     quiet_by RowSet h n o = absurd (not_none h.is n)
@@ -601,13 +600,13 @@ module _ (s : State) (t : ℕ) (c : ChangeValue) (older : List ChangeValue) wher
     quiet_by (NewMarked b) h n o = absurd (not_none h.is n)
     quiet_by OldSet h n o = absurd (not_none h.is o)
 
-    first_two : (new : Option Pair) → new_pair (is_indexed s.life) c ≡ new → IsCoherent (half_undone (row_undone (record { changes = c ∷ older; phase = phase; rolling = true }) older (old_pair (is_indexed s.life) c)) new)
+    first_two : (new : Option Pair) → new_pair (is_indexed s.life) c ≡ new → IsCoherent (half_undone (row_undone (record { changes = older ▹ c; phase = phase; rolling = true }) older (old_pair (is_indexed s.life) c)) new)
     first_two None n =
         subst (λ x'. IsCoherent (half_undone x' None)) (row_undone_same phase phase rolling true (old_pair (is_indexed s.life) c))
         (undo_row s i t c older phase rolling active (no_new s i t c older phase rolling active n) (λ row at o. quiet_by phase (i.txns t _ active).phase n o))
     first_two (Some p) n =
-        let x' : Active = record { changes = c ∷ older; phase = NewMarked (is_applied phase); rolling = true } in
-        let s' : State = moved s s.rows (set_at s.entries p (Some Marked)) s.holder c.rid t (record { changes = c ∷ older; phase = phase; rolling = rolling }) x' in
+        let x' : Active = record { changes = older ▹ c; phase = NewMarked (is_applied phase); rolling = true } in
+        let s' : State = moved s s.rows (set_at s.entries p (Some Marked)) s.holder c.rid t (record { changes = older ▹ c; phase = phase; rolling = rolling }) x' in
         let i' : IsCoherent s' = undo_mark s i t c older phase rolling active p n in
         let active' : s'.txns t ≡ Some x' = txn_here s t x' in
         let done : IsCoherent (undone_row s' t x' c older) = undo_row s' i' t c older (NewMarked (is_applied phase)) true active'
@@ -616,10 +615,10 @@ module _ (s : State) (t : ℕ) (c : ChangeValue) (older : List ChangeValue) wher
         subst (λ f. IsCoherent (record s { entries = set_at s.entries p (Some Marked); rows = set_at s.rows c.rid (old_row c.rows); txns = f }))
         (update_twice nat_cmp s.txns t (Some x') _ ∙ ap (λ y. with_txn s t y) (row_undone_same (NewMarked (is_applied phase)) phase true true (old_pair (is_indexed s.life) c))) done
 
-    last_one : (new old : Option Pair) → old_pair (is_indexed s.life) c ≡ old → IsCoherent (half_undone (row_undone (record { changes = c ∷ older; phase = phase; rolling = true }) older old) new) → IsCoherent (taken_off_whole new old)
+    last_one : (new old : Option Pair) → old_pair (is_indexed s.life) c ≡ old → IsCoherent (half_undone (row_undone (record { changes = older ▹ c; phase = phase; rolling = true }) older old) new) → IsCoherent (taken_off_whole new old)
     last_one new None o j = j
     last_one new (Some p) o j =
-        let x' : Active = record { changes = c ∷ older; phase = OldSet; rolling = true } in
+        let x' : Active = record { changes = older ▹ c; phase = OldSet; rolling = true } in
         let s' : State = half_undone x' new in
         let active' : s'.txns t ≡ Some x' = txn_here s t x' in
         subst (λ f. IsCoherent (record s { entries = set_at (with_entry s.entries new Marked) p (Some Live); rows = set_at s.rows c.rid (old_row c.rows); txns = f }))

@@ -1,6 +1,6 @@
--- A change of a row, and the pairs of the index that it moves.
+-- The changes of a transaction, the oldest first, what they make of a row, and the pairs of the index that a change moves.
 use Rattle.std.specs.Ordering.{eq_by_cmp}
-use Rattle.std.specs.Prelude.{List, Option, [], cond, ◌∷◌}
+use Rattle.std.specs.Prelude.{List, Option, [], cond, ◌++◌, ◌∷◌}
 use Rattle.records.specs.ChangeValue.{ChangeValue}
 use Rattle.records.specs.Orders.{rid_cmp}
 use Rattle.records.specs.Spelling.{new_row}
@@ -8,7 +8,18 @@ use Rattle.records.specs.Values.{Place}
 use Rattle.records.specs.declared.row.Row.{Row}
 pub use Rattle.model.specs.Pairs.{gone, new_pair, old_pair, pair_of, same_key}
 
--- what these changes, the newest first, make of the row at this place
-abbrev pub latest : List ChangeValue → Place → Option Row → Option Row
-latest [] rid row = row
-latest (c ∷ older) rid row = cond (eq_by_cmp rid_cmp rid c.rid) (new_row c.rows) (latest older rid row)
+-- the changes of a transaction, the oldest first: none, or the older ones and the newest behind them
+pub data Changes : Type 0 where
+  Unchanged : Changes
+  ◌▹◌ : Changes → ChangeValue → Changes
+
+infixl 70 ◌▹◌
+-- as a list, the oldest first
+abbrev pub listed : Changes → List ChangeValue
+listed Unchanged = []
+listed (older ▹ c) = listed older ++ c ∷ []
+
+-- what these changes, one after the other, make of the row at this place
+abbrev pub latest : Changes → Place → Option Row → Option Row
+latest Unchanged rid row = row
+latest (older ▹ c) rid row = cond (eq_by_cmp rid_cmp rid c.rid) (new_row c.rows) (latest older rid row)

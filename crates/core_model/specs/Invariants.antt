@@ -10,16 +10,16 @@ use Rattle.records.specs.declared.row.Row.{Row}
 use Rattle.model.specs.Table.{Index, IsPairOf, Table, applied}
 use Rattle.model.specs.declared.life.Life.{Life}
 use Rattle.model.specs.declared.life.Life.TheVariants.{Absent, Building, Complete}
-use Rattle.core_model.specs.Changes.{latest, new_pair, old_pair, pair_of}
+use Rattle.core_model.specs.Changes.{Changes, Unchanged, latest, listed, new_pair, old_pair, pair_of, ◌▹◌}
 use Rattle.core_model.specs.States.{Active, Made, NewMarked, OldMarked, OldSet, Phase, RowSet, State}
 use Rattle.core_model.specs.Steps.{IsEnabled, Step, above, after, all_reserved, is_applied, is_indexed, reserved}
 
 -- ---- rows, entries, builder
 
 -- the newest change names this row, and is neither made nor taken back whole
-abbrev pub IsBusyWith : List ChangeValue → Phase → Place → Type 0
-IsBusyWith [] phase r = ⊥
-IsBusyWith (c ∷ older) phase r = (c.rid ≡ r) × (phase ≢ Made)
+abbrev pub IsBusyWith : Changes → Phase → Place → Type 0
+IsBusyWith Unchanged phase r = ⊥
+IsBusyWith (older ▹ c) phase r = (c.rid ≡ r) × (phase ≢ Made)
 
 -- a row with an unfinished change
 pub record IsUnfinished (s : State) (r : Place) : Type 0 where
@@ -29,23 +29,23 @@ pub record IsUnfinished (s : State) (r : Place) : Type 0 where
   pub busy : IsBusyWith txn.changes txn.phase r
 
 -- the changes that the rows show
-abbrev pub applied_of : List ChangeValue → Bool → List ChangeValue
-applied_of [] applied = []
-applied_of (c ∷ older) true = c ∷ older
-applied_of (c ∷ older) false = older
+abbrev pub applied_of : Changes → Bool → Changes
+applied_of Unchanged applied = Unchanged
+applied_of (older ▹ c) true = older ▹ c
+applied_of (older ▹ c) false = older
 
-abbrev pub made_of : Active → List ChangeValue
+abbrev pub made_of : Active → Changes
 made_of x = applied_of x.changes (is_applied x.phase)
 
 -- each change names a row that this transaction holds
-abbrev pub IsHolderOf : (Place → Option ℕ) → ℕ → List ChangeValue → Type 0
-IsHolderOf holder t [] = Unit {0}
-IsHolderOf holder t (c ∷ older) = (holder c.rid ≡ Some t) × IsHolderOf holder t older
+abbrev pub IsHolderOf : (Place → Option ℕ) → ℕ → Changes → Type 0
+IsHolderOf holder t Unchanged = Unit {0}
+IsHolderOf holder t (older ▹ c) = (holder c.rid ≡ Some t) × IsHolderOf holder t older
 
 -- each change began from what the older ones made of the committed table
-abbrev pub IsChained : Table → List ChangeValue → Type 0
-IsChained committed [] = Unit {0}
-IsChained committed (c ∷ older) = (old_row c.rows ≡ latest older c.rid (get committed c.rid)) × IsChained committed older
+abbrev pub IsChained : Table → Changes → Type 0
+IsChained committed Unchanged = Unit {0}
+IsChained committed (older ▹ c) = (old_row c.rows ≡ latest older c.rid (get committed c.rid)) × IsChained committed older
 
 -- there is this pair, and it is so
 pub record HasPair (pair : Option Pair) (P : Pair → Type 0) : Type 0 where
@@ -60,9 +60,9 @@ IsInPhase indexed entries c Made rolling = Unit {0}
 IsInPhase indexed entries c (NewMarked applied) rolling = HasPair (new_pair indexed c) (λ p. get entries p ≡ Some Marked)
 IsInPhase indexed entries c OldSet rolling = HasPair (old_pair indexed c) (λ p. Unit {0})
 
-abbrev pub IsPhaseOf : Bool → Index → List ChangeValue → Phase → Bool → Type 0
-IsPhaseOf indexed entries [] phase rolling = phase ≡ Made
-IsPhaseOf indexed entries (c ∷ older) phase rolling = IsInPhase indexed entries c phase rolling
+abbrev pub IsPhaseOf : Bool → Index → Changes → Phase → Bool → Type 0
+IsPhaseOf indexed entries Unchanged phase rolling = phase ≡ Made
+IsPhaseOf indexed entries (older ▹ c) phase rolling = IsInPhase indexed entries c phase rolling
 
 pub record TxnHolds (s : State) (t : ℕ) (x : Active) : Type 0 where
   pub names : IsHolderOf s.holder t x.changes
@@ -108,9 +108,9 @@ lacks entries None = 0
 lacks entries (Some p) = cond (is_some (get entries p)) 0 1
 
 -- how many of the pairs of these changes have no entry
-abbrev pub lacking : Bool → Index → List ChangeValue → ℕ
-lacking indexed entries [] = 0
-lacking indexed entries (c ∷ older) = lacks entries (old_pair indexed c) + lacks entries (new_pair indexed c) + lacking indexed entries older
+abbrev pub lacking : Bool → Index → Changes → ℕ
+lacking indexed entries Unchanged = 0
+lacking indexed entries (older ▹ c) = lacks entries (old_pair indexed c) + lacks entries (new_pair indexed c) + lacking indexed entries older
 
 -- entries and reserved places fit the geometry, and each transaction has reserved a place for each entry that its steps and their undo may add
 pub record HasPlaces (s : State) : Type 0 where
@@ -124,9 +124,9 @@ IsPledged s = (t : ℕ) → is_some (get s.pledges t) ≡ is_some (s.txns t)
 -- ---- positions of changes
 
 -- the positions count from the oldest change
-abbrev pub IsNumbered : List ChangeValue → Type 0
-IsNumbered [] = Unit {0}
-IsNumbered (c ∷ older) = (c.position ≡ length older) × IsNumbered older
+abbrev pub IsNumbered : Changes → Type 0
+IsNumbered Unchanged = Unit {0}
+IsNumbered (older ▹ c) = (c.position ≡ length (listed older)) × IsNumbered older
 
 -- ---- the store's pages
 
@@ -147,9 +147,9 @@ HasShape indexed c Made = Unit {0}
 HasShape indexed c (NewMarked applied) = HasPair (new_pair indexed c) (λ p. Unit {0})
 HasShape indexed c OldSet = HasPair (old_pair indexed c) (λ p. Unit {0})
 
-abbrev pub IsShaped : Bool → List ChangeValue → Phase → Type 0
-IsShaped indexed [] phase = phase ≡ Made
-IsShaped indexed (c ∷ older) phase = HasShape indexed c phase
+abbrev pub IsShaped : Bool → Changes → Phase → Type 0
+IsShaped indexed Unchanged phase = phase ≡ Made
+IsShaped indexed (older ▹ c) phase = HasShape indexed c phase
 
 pub record IsFit (holder : Place → Option ℕ) (indexed : Bool) (t : ℕ) (x : Active) : Type 0 where
   pub names : IsHolderOf holder t x.changes

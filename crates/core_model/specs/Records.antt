@@ -1,6 +1,6 @@
 -- The record that a step makes, and the cells that a state has.
 use Rattle.std.specs.FinMap.{get}
-use Rattle.std.specs.Prelude.{Bool, List, None, Option, Some, [], false, reverse, true, ℕ, ◌∷◌, ◌≡◌}
+use Rattle.std.specs.Prelude.{Bool, List, None, Option, Some, false, true, ℕ, ◌≡◌}
 use Rattle.records.specs.ChangeValue.{ChangeValue}
 use Rattle.records.specs.declared.pair.Mark.{Mark}
 use Rattle.records.specs.declared.pair.Pair.{Pair}
@@ -13,16 +13,16 @@ use Rattle.records.specs.declared.record.Part.TheVariants.{NewEntry, OldEntry, S
 use Rattle.records.specs.declared.record.TxnAction.{TxnAction}
 use Rattle.model.specs.Cells.{Cells, set_by}
 use Rattle.model.specs.Table.{applied}
-use Rattle.core_model.specs.Changes.{new_pair, old_pair}
+use Rattle.core_model.specs.Changes.{Changes, Unchanged, listed, new_pair, old_pair, ◌▹◌}
 use Rattle.core_model.specs.States.{Active, Made, NewMarked, OldMarked, OldSet, Phase, RowSet, State}
 use Rattle.core_model.specs.Steps.{Attempt, Begin, Checkpoint, Clean, Commit, Create, End, Finish, Keep, Next, Start, Step, Take, Undo, Wrap, is_indexed, txn_at}
 
--- The list that a log has of a transaction: its changes, the oldest first. One that has no change may have no list.
+-- The list that a log has of a transaction: its changes. One that has no change may have no list.
 abbrev pub IsListOf : Option (List ChangeValue) → Option Active → Type 0
 IsListOf None None = Unit {0}
-IsListOf None (Some x) = x.changes ≡ []
+IsListOf None (Some x) = x.changes ≡ Unchanged
 IsListOf (Some list) None = ⊥
-IsListOf (Some list) (Some x) = list ≡ reverse x.changes
+IsListOf (Some list) (Some x) = list ≡ listed x.changes
 
 -- these are the cells of the state
 pub record HasCells (s : State) (cells : Cells) : Type 0 where
@@ -45,9 +45,9 @@ abbrev pub first_action : ℕ → ChangeValue → Option Pair → Action
 first_action t c None = forward t Slot c
 first_action t c (Some p) = forward t OldEntry c
 
-abbrev pub next_action : ℕ → List ChangeValue → Phase → Option Action
-next_action t (c ∷ older) OldMarked = Some (forward t Slot c)
-next_action t (c ∷ older) RowSet = Some (forward t NewEntry c)
+abbrev pub next_action : ℕ → Changes → Phase → Option Action
+next_action t (older ▹ c) OldMarked = Some (forward t Slot c)
+next_action t (older ▹ c) RowSet = Some (forward t NewEntry c)
 next_action t _ _ = None
 
 abbrev pub is_last : Option Pair → Bool
@@ -58,13 +58,13 @@ abbrev pub begun_action : ℕ → ChangeValue → (old new : Option Pair) → Ac
 begun_action t c old None = undo t Slot c (is_last old)
 begun_action t c old (Some p) = undo t NewEntry c false
 
-abbrev pub undo_action : Bool → ℕ → List ChangeValue → Phase → Option Action
-undo_action indexed t [] phase = None
-undo_action indexed t (c ∷ older) OldMarked = Some (begun_action t c (old_pair indexed c) (new_pair indexed c))
-undo_action indexed t (c ∷ older) RowSet = Some (begun_action t c (old_pair indexed c) (new_pair indexed c))
-undo_action indexed t (c ∷ older) Made = Some (begun_action t c (old_pair indexed c) (new_pair indexed c))
-undo_action indexed t (c ∷ older) (NewMarked applied) = Some (undo t Slot c (is_last (old_pair indexed c)))
-undo_action indexed t (c ∷ older) OldSet = Some (undo t OldEntry c true)
+abbrev pub undo_action : Bool → ℕ → Changes → Phase → Option Action
+undo_action indexed t Unchanged phase = None
+undo_action indexed t (older ▹ c) OldMarked = Some (begun_action t c (old_pair indexed c) (new_pair indexed c))
+undo_action indexed t (older ▹ c) RowSet = Some (begun_action t c (old_pair indexed c) (new_pair indexed c))
+undo_action indexed t (older ▹ c) Made = Some (begun_action t c (old_pair indexed c) (new_pair indexed c))
+undo_action indexed t (older ▹ c) (NewMarked applied) = Some (undo t Slot c (is_last (old_pair indexed c)))
+undo_action indexed t (older ▹ c) OldSet = Some (undo t OldEntry c true)
 
 abbrev pub place_action : Pair → Option Mark → Option Action
 place_action p None = Some (OfIndex (BuildPlace p))

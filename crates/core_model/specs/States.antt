@@ -1,12 +1,12 @@
 -- What the core consists of, as a value.
 use Rattle.std.specs.FinMap.{FinMap}
 use Rattle.std.specs.Ordering.{nat_cmp}
-use Rattle.std.specs.Prelude.{Bool, List, Option, ℕ}
-use Rattle.records.specs.ChangeValue.{ChangeValue}
+use Rattle.std.specs.Prelude.{Bool, Option, ℕ}
 use Rattle.records.specs.Values.{Place}
 use Rattle.records.specs.declared.pair.Pair.{Pair}
 use Rattle.model.specs.Table.{Index, Table}
 use Rattle.model.specs.declared.life.Life.{Life}
+use Rattle.core_model.specs.Changes.{Changes}
 
 -- how far a transaction is with its newest change
 pub data Phase : Type 0 where
@@ -18,7 +18,7 @@ pub data Phase : Type 0 where
 
 -- an active transaction
 pub record Active : Type 0 where
-  pub changes : List ChangeValue  -- those that may still be taken back, the newest first
+  pub changes : Changes  -- those that may still be taken back, the oldest first
   pub phase : Phase
   pub rolling : Bool  -- whether it is rolling back
 

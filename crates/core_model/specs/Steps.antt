@@ -2,7 +2,7 @@
 use Rattle.std.specs.Cmp.Lexicographic.{slice_cmp}
 use Rattle.std.specs.FinMap.{entries, get, insert, len, remove, values}
 use Rattle.std.specs.Ordering.{eq_by_cmp, is_lt, nat_cmp}
-use Rattle.std.specs.Prelude.{Bool, List, None, Option, Some, [], cond, false, length, nat_eq, not, reverse, sum, true, unwrap_or, ℕ, ◌&&◌, ◌+◌, ◌-◌, ◌<◌, ◌||◌, ◌∷◌, ◌≡◌, ◌≤◌, ◌⊎◌}
+use Rattle.std.specs.Prelude.{Bool, None, Option, Some, cond, false, length, nat_eq, not, sum, true, unwrap_or, ℕ, ◌&&◌, ◌+◌, ◌-◌, ◌<◌, ◌||◌, ◌≡◌, ◌≤◌, ◌⊎◌}
 use Rattle.std.specs.declared.cmp.Ordering.{Ordering}
 use Rattle.records.specs.ChangeValue.{ChangeValue}
 use Rattle.records.specs.Maps.{set_at}
@@ -19,7 +19,7 @@ use Rattle.model.specs.declared.life.Life.{Life}
 use Rattle.model.specs.declared.life.Life.TheVariants.{Absent, Building, Complete}
 pub use Rattle.model.specs.Following.{IsBuilding}
 pub use Rattle.model.specs.Pairs.{is_indexed, with_entry}
-use Rattle.core_model.specs.Changes.{new_pair, old_pair}
+use Rattle.core_model.specs.Changes.{Changes, Unchanged, listed, new_pair, old_pair, ◌▹◌}
 use Rattle.records.specs.declared.limits.TheConstants.{PLACES_PER_CHANGE}
 use Rattle.core_model.specs.States.{Active, Made, NewMarked, OldMarked, OldSet, Phase, Pledges, RowSet, State}
 
@@ -39,7 +39,7 @@ is_pair_of (Some row) p = eq_by_cmp (slice_cmp nat_cmp) row.key p.key
 -- ---- transactions
 
 abbrev pub new_txn : Active
-new_txn = record { changes = []; phase = Made; rolling = false }
+new_txn = record { changes = Unchanged; phase = Made; rolling = false }
 
 abbrev pub txn_at : State → ℕ → Active
 txn_at s t = unwrap_or (s.txns t) new_txn
@@ -64,10 +64,10 @@ abbrev pub with_phase : Active → Phase → Active
 with_phase x phase = record x { phase = phase }
 
 abbrev pub with_change : Active → ChangeValue → Phase → Active
-with_change x c phase = record x { changes = c ∷ x.changes; phase = phase }
+with_change x c phase = record x { changes = x.changes ▹ c; phase = phase }
 
 -- the newest change is taken off
-abbrev pub without_newest : List ChangeValue → Active
+abbrev pub without_newest : Changes → Active
 without_newest older = record { changes = older; phase = Made; rolling = true }
 
 abbrev pub undoing : Active → Phase → Active
@@ -87,43 +87,43 @@ started s t x c None = record s {
 }
 
 -- the step that a transaction owes
-abbrev pub carried_on : State → ℕ → Active → List ChangeValue → Phase → State
-carried_on s t x (c ∷ older) OldMarked = record s {
+abbrev pub carried_on : State → ℕ → Active → Changes → Phase → State
+carried_on s t x (older ▹ c) OldMarked = record s {
   rows = set_at s.rows c.rid (new_row c.rows);
   txns = with_txn s t (with_phase x (row_made (new_pair (is_indexed s.life) c)));
 }
-carried_on s t x (c ∷ older) RowSet = record s {
+carried_on s t x (older ▹ c) RowSet = record s {
   entries = with_entry s.entries (new_pair (is_indexed s.life) c) Live;
   txns = with_txn s t (with_phase x Made);
 }
 carried_on s t x _ _ = s
 
 -- the old row is set again, and this old pair is then owed, or the undo is at its end
-abbrev pub row_undone : Active → List ChangeValue → Option Pair → Active
+abbrev pub row_undone : Active → Changes → Option Pair → Active
 row_undone x older None = without_newest older
 row_undone x older (Some p) = undoing x OldSet
 
-abbrev pub undone_row : State → ℕ → Active → ChangeValue → List ChangeValue → State
+abbrev pub undone_row : State → ℕ → Active → ChangeValue → Changes → State
 undone_row s t x c older = record s {
   rows = set_at s.rows c.rid (old_row c.rows);
   txns = with_txn s t (row_undone x older (old_pair (is_indexed s.life) c));
 }
 
 -- the first undo step, which marks this pair where there is one, and else sets the row
-abbrev pub undone_first : State → ℕ → Active → ChangeValue → List ChangeValue → Bool → Option Pair → State
+abbrev pub undone_first : State → ℕ → Active → ChangeValue → Changes → Bool → Option Pair → State
 undone_first s t x c older applied (Some p) = record s {
   entries = set_at s.entries p (Some Marked);
   txns = with_txn s t (undoing x (NewMarked applied));
 }
 undone_first s t x c older applied None = undone_row s t x c older
 
-abbrev pub undone : State → ℕ → Active → List ChangeValue → Phase → State
-undone s t x [] phase = record s { txns = with_txn s t (undoing x phase) }
-undone s t x (c ∷ older) OldMarked = undone_first s t x c older false (new_pair (is_indexed s.life) c)
-undone s t x (c ∷ older) RowSet = undone_first s t x c older true (new_pair (is_indexed s.life) c)
-undone s t x (c ∷ older) Made = undone_first s t x c older true (new_pair (is_indexed s.life) c)
-undone s t x (c ∷ older) (NewMarked applied) = undone_row s t x c older
-undone s t x (c ∷ older) OldSet = record s {
+abbrev pub undone : State → ℕ → Active → Changes → Phase → State
+undone s t x Unchanged phase = record s { txns = with_txn s t (undoing x phase) }
+undone s t x (older ▹ c) OldMarked = undone_first s t x c older false (new_pair (is_indexed s.life) c)
+undone s t x (older ▹ c) RowSet = undone_first s t x c older true (new_pair (is_indexed s.life) c)
+undone s t x (older ▹ c) Made = undone_first s t x c older true (new_pair (is_indexed s.life) c)
+undone s t x (older ▹ c) (NewMarked applied) = undone_row s t x c older
+undone s t x (older ▹ c) OldSet = record s {
   entries = with_entry s.entries (old_pair (is_indexed s.life) c) Live;
   txns = with_txn s t (without_newest older);
 }
@@ -176,7 +176,7 @@ moved_by s (Start t c) = started s t (txn_at s t) c (old_pair (is_indexed s.life
 moved_by s (Next t) = carried_on s t (txn_at s t) (txn_at s t).changes (txn_at s t).phase
 moved_by s (Undo t) = undone s t (txn_at s t) (txn_at s t).changes (txn_at s t).phase
 moved_by s (End t) = left s t s.committed
-moved_by s (Commit t) = left s t (applied s.committed (writes_of (reverse (txn_at s t).changes)))
+moved_by s (Commit t) = left s t (applied s.committed (writes_of (listed (txn_at s t).changes)))
 moved_by s Create = created s
 moved_by s (Take page) = page_taken s page
 moved_by s (Attempt p) = attempted s p
@@ -234,7 +234,7 @@ HasFreePlaces s = is_indexed s.life ≡ true → len s.entries + all_reserved s.
 pub record CanStart (s : State) (t : ℕ) (c : ChangeValue) : Type 0 where
   pub active : IsActive s t
   pub ready : IsReady (txn_at s t)
-  pub position : c.position ≡ length (txn_at s t).changes
+  pub position : c.position ≡ length (listed (txn_at s t).changes)
   pub before : get s.rows c.rid ≡ old_row c.rows
   pub mine : (s.holder c.rid ≡ None) ⊎ (s.holder c.rid ≡ Some t)
   pub inside : c.rid.page < s.pages
@@ -270,7 +270,7 @@ IsEnabled s (Begin t) = s.txns t ≡ None
 IsEnabled s (Start t c) = CanStart s t c
 IsEnabled s (Next t) = IsActive s t × (txn_at s t).rolling ≡ false
 IsEnabled s (Undo t) = IsActive s t
-IsEnabled s (End t) = IsActive s t × (txn_at s t).changes ≡ []
+IsEnabled s (End t) = IsActive s t × (txn_at s t).changes ≡ Unchanged
 IsEnabled s (Commit t) = IsActive s t × IsReady (txn_at s t)
 IsEnabled s Create = (s.life ≡ Absent) × ((t : ℕ) → s.txns t ≡ None)
 IsEnabled s (Take page) = IsBuilding s.life
