@@ -1,0 +1,8 @@
+mod Moved
+mod Pairs
+mod Places
+mod Due
+mod Started
+mod Inserting
+mod Beginning
+mod Leaving
