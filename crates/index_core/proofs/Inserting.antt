@@ -32,7 +32,7 @@ use Rattle.core_model.specs.Steps.{IsReady, Start, Step, after, all_reserved, pl
 use Rattle.core_contracts.specs.Events.{Event, Refused, Reply, Standing}
 use Rattle.core_contracts.specs.Replies.{HasNoMoreChanges, IsDue, IsFirst, IsFree, IsLeastFree, change_of, refusals, refused, refused_last, unknown}
 use Rattle.index_core.specs.View.{Answers, AreOne, CoreValue, IsState, Serves, Shows}
-use Rattle.index_core.specs.Moves.{HasFreePlaces, IsAble, IsFreePlace, IsPlaceFor, IsReadyOrNone, IsUnroomy, MayStart, changes_of, next_change, row_first, txn_of}
+use Rattle.index_core.specs.Moves.{is_full, is_unknown, HasFreePlaces, IsAble, IsFreePlace, IsPlaceFor, IsReadyOrNone, IsUnable, IsUnroomy, MayStart, changes_of, next_change, row_first, txn_of}
 use Rattle.index_core.proofs.Due.{made, no_number, refusal, wants_memory}
 use Rattle.index_core.proofs.Moved.{is_ready, known, many}
 use Rattle.index_core.proofs.Started.{row_shown}
@@ -40,11 +40,6 @@ use Rattle.index_core.proofs.Started.{row_shown}
 -- ---- what refuses any change
 pub no_txn : (v : CoreValue) (s : State) (k : Standing) → Shows v s k → (t : ℕ) → txn_of v t ≡ None → s.txns t ≡ None
 no_txn v s k h t none = subst (λ o. AreOne o (s.txns t)) none (h.txns t)
-
--- why a transaction that may make no further change may not
-pub data IsUnable (v : CoreValue) (t : ℕ) (e : Error) : Type 0 where
-  is_unknown : txn_of v t ≡ None → e ≡ NoSuchTxn → IsUnable v t e
-  is_full : (x : TxnState) → txn_of v t ≡ Some x → CHANGES_MAX ≤ length x.changes → e ≡ TooManyChanges → IsUnable v t e
 
 pub some_is : {A : Type 0} (a b : A) → (◌≡◌ {A = Option A} (Some a) (Some b)) → a ≡ b
 some_is a b e = cc

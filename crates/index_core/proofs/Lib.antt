@@ -4,5 +4,6 @@ mod Places
 mod Due
 mod Started
 mod Inserting
+mod Changing
 mod Beginning
 mod Leaving

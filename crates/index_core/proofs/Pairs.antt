@@ -14,10 +14,16 @@ use Rattle.model.proofs.PairLaws.{key_test}
 use Rattle.model.specs.Pairs.{new_pair, old_pair, pair_of}
 use Rattle.std.specs.Option.{option_map}
 use Rattle.core_steps.specs.Keys.{moved_pair}
-use Rattle.core_steps.specs.Steps.{puts_new}
+use Rattle.core_steps.specs.Steps.{marks_old, puts_new}
 use Rattle.core_steps.specs.declared.step.Step.{Step}
 use Rattle.txn_table.specs.declared.progress.Progress.TheVariants.{OwesEntry, Ready}
-use Rattle.index_core.specs.Moves.{row_progress}
+use Rattle.index_core.specs.Moves.{entry_in, row_progress}
+use Rattle.std.specs.Prelude.{option_and_then}
+use Rattle.records.specs.declared.record.Part.TheVariants.{OldEntry}
+use Rattle.records.specs.declared.record.TxnAction.{TxnAction}
+use Rattle.records.specs.declared.record.TxnAction.TheVariants.{Forward}
+use Rattle.records.specs.declared.pair.Mark.{Mark}
+use Rattle.core_steps.specs.Steps.{entry_step}
 
 both : (a b : Bool) → (a ≡ true → b ≡ true) → (b ≡ true → a ≡ true) → a ≡ b
 both true b f g = sym (f refl)
@@ -72,3 +78,21 @@ owes_entry b c step e = owes_by _ (moved_pair b c (new_row c.rows)) step e ∙ a
 
 pub owes_nothing : (b : Bool) (c : ChangeValue) → puts_new b c ≡ None → Ready ≡ row_progress (new_pair b c)
 owes_nothing b c e = ready_by _ (moved_pair b c (new_row c.rows)) e ∙ ap row_progress (new_moves b c)
+
+-- ---- the entry of a step
+none_by : (o : Option Pair) (mark : Mark) (action : TxnAction) → None ≡ option_and_then entry_in (entry_step o mark action) → o ≡ None
+none_by None mark action e = refl
+none_by (Some p) mark action e = absurd cc
+
+some_by : (o : Option Pair) (mark : Mark) (action : TxnAction) (m : Pair × TxnAction) → Some m ≡ option_and_then entry_in (entry_step o mark action) → (o ≡ Some m.0) × (m.1 ≡ action)
+some_by None mark action m e = absurd cc
+some_by (Some p) mark action m e = let same : m ≡ (p, action) = inside m (p, action) e in (ap (λ (w : Pair × TxnAction). Some w.0) (sym same), ap (λ (w : Pair × TxnAction). w.1) same)
+  where
+    inside : (a b : Pair × TxnAction) → (◌≡◌ {A = Option (Pair × TxnAction)} (Some a) (Some b)) → a ≡ b
+    inside a b e = cc
+
+pub old_none : (b : Bool) (c : ChangeValue) → None ≡ option_and_then entry_in (marks_old b c) → old_pair b c ≡ None
+old_none b c e = sym (old_moves b c) ∙ none_by _ _ _ e
+
+pub old_some : (b : Bool) (c : ChangeValue) (m : Pair × TxnAction) → Some m ≡ option_and_then entry_in (marks_old b c) → (old_pair b c ≡ Some m.0) × (m.1 ≡ Forward OldEntry c)
+old_some b c m e = let s = some_by _ _ _ m e in (sym (old_moves b c) ∙ s.0, s.1)

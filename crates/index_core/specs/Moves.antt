@@ -10,13 +10,15 @@ use Rattle.records.specs.Values.{Place}
 use Rattle.records.specs.declared.change.Rows.{Rows}
 use Rattle.records.specs.declared.change.TheConstants.{CHANGES_MAX}
 use Rattle.records.specs.declared.error.Error.{Error}
-use Rattle.records.specs.declared.error.Error.TheVariants.{Exhausted, IndexFull, NoSuchTxn}
+use Rattle.records.specs.declared.error.Error.TheVariants.{Exhausted, IndexFull, NoSuchRow, NoSuchTxn, RowBusy, TooManyChanges}
+use Rattle.records.specs.declared.row.Row.{Row}
 use Rattle.records.specs.declared.number.TheConstants.{LAST_NUMBER}
 use Rattle.records.specs.declared.limits.TheConstants.{PLACES_PER_CHANGE}
 use Rattle.records.specs.declared.pair.Pair.{Pair}
 use Rattle.records.specs.declared.record.Action.{Action}
 use Rattle.records.specs.declared.record.Action.TheVariants.{OfTxn}
-use Rattle.records.specs.declared.record.Part.TheVariants.{Slot}
+use Rattle.records.specs.declared.record.Part.TheVariants.{OldEntry, Slot}
+use Rattle.records.specs.declared.pair.Mark.TheVariants.{Marked}
 use Rattle.records.specs.declared.record.TxnAction.TheVariants.{Forward}
 use Rattle.records.specs.declared.record.TxnAction.{TxnAction}
 use Rattle.records.specs.GeometryValue.{GeometryValue}
@@ -27,7 +29,11 @@ use Rattle.model.specs.Pairs.{is_indexed, new_pair}
 use Rattle.txn_table.specs.Table as table
 use Rattle.txn_table.specs.Table.{TxnState, holder_of, noted, put_at}
 use Rattle.txn_table.specs.declared.progress.Progress.{Progress}
-use Rattle.txn_table.specs.declared.progress.Progress.TheVariants.{OwesEntry, Ready}
+use Rattle.txn_table.specs.declared.progress.Progress.TheVariants.{OwesEntry, OwesRow, Ready}
+use Rattle.core_steps.specs.declared.step.Cell.{Cell}
+use Rattle.core_steps.specs.declared.step.Cell.TheVariants as cell
+use Rattle.core_steps.specs.declared.step.Step.{Step}
+use Rattle.marked_index.specs.Index.{places_used}
 use Rattle.core_model.specs.Steps.{places_of}
 use Rattle.index_core.specs.View.{CoreValue}
 
@@ -82,6 +88,22 @@ pub record MayStart (v : CoreValue) (t : ℕ) (r : Place) : Type 0 where
   pub inside : r.page < v.heap.pages
   pub fits : HasFreePlaces v
   pub numbered : v.last < LAST_NUMBER
+
+-- why a transaction may change no row any more
+pub data IsUnable (v : CoreValue) (t : ℕ) (e : Error) : Type 0 where
+  is_unknown : txn_of v t ≡ None → e ≡ NoSuchTxn → IsUnable v t e
+  is_full : (x : TxnState) → txn_of v t ≡ Some x → CHANGES_MAX ≤ length x.changes → e ≡ TooManyChanges → IsUnable v t e
+
+-- no other transaction holds the row
+abbrev pub IsMine : CoreValue → ℕ → Place → Type 0
+IsMine v t r = (u : ℕ) → holder_of r v.txns.active ≡ Some u → u ≡ t
+
+-- why a transaction may not change the row at this place
+pub data IsUnchangeable (v : CoreValue) (t : ℕ) (r : Place) (e : Error) : Type 0 where
+  is_unable : IsUnable v t e → IsUnchangeable v t r e
+  is_busy : IsAble v t → (u : ℕ) → holder_of r v.txns.active ≡ Some u → u ≢ t → e ≡ RowBusy → IsUnchangeable v t r e
+  is_missing : IsAble v t → IsMine v t r → get v.heap.rows r ≡ None → e ≡ NoSuchRow → IsUnchangeable v t r e
+  is_unroomy : IsAble v t → IsMine v t r → (old : Row) → get v.heap.rows r ≡ Some old → IsUnroomy v e → IsUnchangeable v t r e
 
 -- the change that a transaction makes next
 abbrev pub next_change : CoreValue → ℕ → Place → Rows → ChangeValue
@@ -146,3 +168,25 @@ fresh g base = record {
   commits = 0;
   outbox = [];
 }
+
+-- the core after the first step of a change that marks this entry
+abbrev pub mark_first : CoreValue → ℕ → ChangeValue → Pair → CoreValue
+mark_first v t c p = record v {
+  txns = record v.txns { active = with_change v.txns.active t c OwesRow (reserved_of (txn_of v t) + (PLACES_PER_CHANGE - places_used (get v.index.entries p))) };
+  index = record v.index { entries = set_at v.index.entries p (Some Marked); pledged = v.index.pledged + (PLACES_PER_CHANGE - places_used (get v.index.entries p)) };
+  last = v.last + 1;
+  outbox = v.outbox ++ record { number = v.last + 1; action = OfTxn t (Forward OldEntry c) } ∷ [];
+}
+
+-- the core after the first step of a change, which marks this entry where there is one, and else sets the row
+abbrev pub first_made : CoreValue → ℕ → ChangeValue → Option Pair → CoreValue
+first_made v t c None = row_first v t c
+first_made v t c (Some p) = mark_first v t c p
+
+abbrev pub entry_of : TxnAction → Cell → Option (Pair × TxnAction)
+entry_of action (cell.Slot rid row) = None
+entry_of action (cell.Entry pair mark) = Some (pair, action)
+
+-- the entry that a step sets, with what its record says; none where it sets a row
+abbrev pub entry_in : Step → Option (Pair × TxnAction)
+entry_in step = entry_of step.action step.cell

@@ -2,6 +2,8 @@
 ghost use Rattle.std.specs.Prelude.{◌≡◌, ◌≢◌, ◌≤◌, ◌<◌, ◌+◌, ◌-◌, ◌++◌, ◌∷◌, [], None, Some, true, false, length, IfOk, IfErr, IfSome, IfNone, OnOk, OnErr, IsTrue, ◌↔◌};
 ghost use Rattle.std.specs.FinMap as map;
 ghost use Rattle.records.specs.Maps.{set_at};
+ghost use Rattle.std.specs.Prelude.{option_and_then};
+ghost use Rattle.marked_index.specs.Index.{places_used};
 ghost use Rattle.records.specs.Values.{Place};
 ghost use Rattle.records.specs.Spelling.{new_row, old_row};
 ghost use Rattle.records.specs.ChangeValue.{ChangeValue};
@@ -12,17 +14,18 @@ ghost use Rattle.core_model.specs.Steps.{places_of};
 ghost use Rattle.core_contracts.specs.Events.{Event, Reply};
 ghost use Rattle.txn_table.specs.Table as table;
 ghost use Rattle.index_core.specs.View.{CoreValue, IsSafe, Serves};
-ghost use Rattle.index_core.specs.Moves.{HasFreePlaces, HasNoChange, HasNoRecord, HasRecord, ended, IsAble, IsFreePlace, IsPlaceFor, IsReadyOrNone, IsUnroomy, MayStart, changes_of, fresh, next_change, reserved_of, row_first, row_progress, txn_of, with_change};
+ghost use Rattle.index_core.specs.Moves.{IsUnchangeable, entry_in, first_made, mark_first, HasFreePlaces, HasNoChange, HasNoRecord, HasRecord, ended, IsAble, IsFreePlace, IsPlaceFor, IsReadyOrNone, IsUnroomy, MayStart, changes_of, fresh, next_change, reserved_of, row_first, row_progress, txn_of, with_change};
 ghost use Rattle.index_core.specs.Replies.{reply_by, reply_of_ticket};
 ghost use Rattle.txn_table.specs.Sound.{IsSound};
 ghost use Rattle.index_core.specs.Parts.{parts_of};
 
+use core_steps::{Cell, Step};
 use heap_pages::Heap;
-use marked_index::MarkedIndex;
+use marked_index::{MarkedIndex, Stepped};
 use model::Life;
 use records::{
-    Action, Body, Change, Error, Geometry, Key, LAST_NUMBER, PLACES_PER_CHANGE, Pair, Part, Record,
-    RecordNumber, Rid, Row, Rows, Txn, TxnAction,
+    Action, Body, Change, Error, Geometry, Key, LAST_NUMBER, Mark, PLACES_PER_CHANGE, Pair, Part,
+    Record, RecordNumber, Rid, Row, Rows, Txn, TxnAction,
 };
 use sorted_scan::Scan;
 use std::alloc::Allocator;
@@ -142,6 +145,64 @@ fn reserve<A: Allocator + Copy>(
         unreachable!()
     };
     txns.put(txn, progress, reserved + PLACES_PER_CHANGE as usize);
+}
+
+// The entry that a step sets, and what its record says; none where it sets a row, or where there is
+// no step.
+fn entry_of(step: Option<Step>) -> Option<(Pair, TxnAction)>
+    ensures { result ≡ option_and_then entry_in step }
+{
+    let Step { cell, action } = step?;
+    match cell {
+        Cell::Slot { .. } => None,
+        Cell::Entry { pair, .. } => Some((pair, action)),
+    }
+}
+
+// Reserves the places of one more change and marks the entry of its old row, in one of them where
+// there is none; answers how many places are left. `NoMemory` leaves the index as before.
+fn mark_in_new_places<A: Allocator + Clone>(
+    index: &mut MarkedIndex<A>,
+    pair: &Pair,
+) -> Result<usize, Error>
+    requires { map.len index.old.entries + index.old.pledged + PLACES_PER_CHANGE ≤ index.old.capacity }
+    ensures left { IfOk result (λ left. left ≡ PLACES_PER_CHANGE - places_used (map.get index.old.entries pair.now)) }
+    ensures ok { IfOk result (λ left. index.new ≡ record index.old {
+      entries = set_at index.old.entries pair.now (Some Mark.Marked);
+      pledged = index.old.pledged + (PLACES_PER_CHANGE - places_used (map.get index.old.entries pair.now));
+    }) }
+    ensures no_memory { IfErr result (λ e. e ≡ Error.NoMemory) }
+    ensures unchanged { OnErr result (index.new ≡ index.old) }
+{
+    let Ok(()) = index.pledge() else {
+        unreachable!()
+    };
+    match index.txn_mark(pair) {
+        Ok(Stepped::Added) => Ok(PLACES_PER_CHANGE as usize - 1),
+        Ok(Stepped::Found) => Ok(PLACES_PER_CHANGE as usize),
+        Err(error) => {
+            index.release(PLACES_PER_CHANGE as usize);
+            Err(error)
+        }
+    }
+}
+
+// Gives the entry of a pair that has one the mark that it had before, or takes it out, and gives so
+// many places back.
+fn unmark<A: Allocator + Clone>(
+    index: &mut MarkedIndex<A>,
+    pair: &Pair,
+    before: Option<Mark>,
+    left: usize,
+)
+    requires there { map.get index.old.entries pair.now ≢ None }
+    requires left { left ≤ index.old.pledged }
+    ensures { index.new ≡ record index.old { entries = set_at index.old.entries pair.now before; pledged = index.old.pledged - left } }
+{
+    let Ok(()) = index.load(pair, before) else {
+        unreachable!()
+    };
+    index.release(left);
 }
 
 impl<A: Allocator + Copy> Parts<A> {
@@ -275,6 +336,103 @@ impl<A: Allocator + Copy> Parts<A> {
         );
         self.heap.set(change.rid, change.rows.new());
         self.last += 1;
+        Ok(())
+    }
+
+    // The first step of a change that marks an entry. `NoMemory` leaves all as before.
+    fn mark_first(
+        &mut self,
+        number: RecordNumber,
+        txn: Txn,
+        change: Change,
+        marked: (Pair, TxnAction),
+    ) -> Result<(), Error>
+        requires safe { ∥ IsSafe (parts_of self.old) ∥₁ }
+        requires may { MayStart (parts_of self.old) txn change.rid }
+        requires indexed { pairs.is_indexed (parts_of self.old).life ≡ true }
+        requires number { number ≡ (parts_of self.old).last + 1 }
+        requires action { marked.1 ≡ TxnAction.Forward Part.OldEntry change }
+        requires whole { IsTrue (txn_has_rows marked.1) }
+        ensures ok { OnOk result (parts_of self.new ≡ mark_first (parts_of self.old) txn change marked.0) }
+        ensures held { OnOk result (table.holder_of change.rid (mark_first (parts_of self.old) txn change marked.0).txns.active ≡ Some txn) }
+        ensures unchanged { OnErr result (parts_of self.new ≡ parts_of self.old) }
+        ensures no_memory { IfErr result (λ e. e ≡ Error.NoMemory) }
+    {
+        let (pair, action) = marked;
+        let reserved = self.reserved(txn);
+        let before = self.index.get(&pair);
+        let left = mark_in_new_places(&mut self.index, &pair)?;
+        let made = record_of(number, txn, action);
+        if let Err(error) = note(&mut self.txns, &mut self.outbox, made, txn, change) {
+            unmark(&mut self.index, &pair, before, left);
+            return Err(error);
+        }
+        self.txns.put(txn, Progress::OwesRow, reserved + left);
+        self.last += 1;
+        Ok(())
+    }
+
+    // The first step of a change. `NoMemory` leaves all as before.
+    fn start(&mut self, number: RecordNumber, txn: Txn, change: Change) -> Result<(), Error>
+        requires safe { ∥ IsSafe (parts_of self.old) ∥₁ }
+        requires may { MayStart (parts_of self.old) txn change.rid }
+        requires number { number ≡ (parts_of self.old).last + 1 }
+        ensures ok { OnOk result (parts_of self.new ≡ first_made (parts_of self.old) txn change (pairs.old_pair (pairs.is_indexed (parts_of self.old).life) change)) }
+        ensures held { OnOk result (table.holder_of change.rid (first_made (parts_of self.old) txn change (pairs.old_pair (pairs.is_indexed (parts_of self.old).life) change)).txns.active ≡ Some txn) }
+        ensures unchanged { OnErr result (parts_of self.new ≡ parts_of self.old) }
+        ensures no_memory { IfErr result (λ e. e ≡ Error.NoMemory) }
+    {
+        match entry_of(core_steps::mark_old(&change, self.indexed())) {
+            None => self.set_first(number, txn, change),
+            Some(marked) => self.mark_first(number, txn, change, marked),
+        }
+    }
+
+    // The row that a change finds, and the number of its record; or why it can't be changed, but for
+    // want of memory.
+    fn row_for(&self, txn: Txn, rid: Rid) -> Result<(Row, RecordNumber), Error>
+        requires { IsReadyOrNone (txn_of (parts_of self.now) txn) }
+        ensures found { IfOk result (λ p. map.get (parts_of self.now).heap.rows rid ≡ Some p.0) }
+        ensures may { OnOk result (MayStart (parts_of self.now) txn rid) }
+        ensures number { IfOk result (λ p. p.1 ≡ (parts_of self.now).last + 1) }
+        ensures err { IfErr result (λ e. IsUnchangeable (parts_of self.now) txn rid e) }
+    {
+        self.txns.check_touch(txn, rid)?;
+        let Some(old) = self.heap.get(rid) else {
+            return Err(Error::NoSuchRow);
+        };
+        let number = self.may_add()?;
+        Ok((old, number))
+    }
+
+    /// The first step of a deletion.
+    pub(crate) fn start_delete(&mut self, txn: Txn, rid: Rid) -> Result<(), Error>
+        requires safe { ∥ IsSafe (parts_of self.old) ∥₁ }
+        requires asked { IsReadyOrNone (txn_of (parts_of self.old) txn) }
+        ensures { Serves (parts_of self.old) (Event.Delete txn rid) (reply_by (λ _. Reply.Stepped) result) (parts_of self.new) }
+    {
+        let (old, number) = self.row_for(txn, rid)?;
+        let change = self.next_change(txn, rid, Rows::Deleted { old });
+        self.start(number, txn, change)?;
+        Ok(())
+    }
+
+    /// The first step of an update.
+    pub(crate) fn start_update(
+        &mut self,
+        txn: Txn,
+        rid: Rid,
+        key: Key,
+        body: Body,
+    ) -> Result<(), Error>
+        requires safe { ∥ IsSafe (parts_of self.old) ∥₁ }
+        requires asked { IsReadyOrNone (txn_of (parts_of self.old) txn) }
+        ensures { Serves (parts_of self.old) (Event.Update txn rid (record { key = key; body = body })) (reply_by (λ _. Reply.Stepped) result) (parts_of self.new) }
+    {
+        let (old, number) = self.row_for(txn, rid)?;
+        let new = Row { key, body };
+        let change = self.next_change(txn, rid, Rows::Updated { old, new });
+        self.start(number, txn, change)?;
         Ok(())
     }
 

@@ -93,6 +93,32 @@ impl<A: Allocator + Copy> Core<A> {
         self.parts.start_insert(txn, key, body)
     }
 
+    /// Deletes the row at the place: the first step, which marks the row's entry, and without an index
+    /// takes the row out. While there is an index, the row is owed.
+    ///
+    /// `NoSuchTxn`, then `TooManyChanges` where 64 are on its list, `RowBusy` where another active
+    /// transaction holds the row, `NoSuchRow` where there is none, `IndexFull` where the places of one
+    /// more change can't be reserved, `Exhausted` where no number is left for a record, and
+    /// `NoMemory`. After a refusal the core is as before.
+    pub fn start_delete(&mut self, txn: Txn, rid: Rid) -> Result<(), Error>
+        requires { IsReadyOrNone (txn_of (value_of self.old) txn) }
+        ensures { Serves (value_of self.old) (Event.Delete txn rid) (reply_by (λ _. Reply.Stepped) result) (value_of self.new) }
+    {
+        self.parts.start_delete(txn, rid)
+    }
+
+    /// Puts another row in place of the row at the place: the first step. With an index and another
+    /// key it marks the old row's entry, and the row is owed, and then the new row's entry; else it
+    /// sets the row.
+    ///
+    /// The refusals are those of `start_delete`.
+    pub fn start_update(&mut self, txn: Txn, rid: Rid, key: Key, body: Body) -> Result<(), Error>
+        requires { IsReadyOrNone (txn_of (value_of self.old) txn) }
+        ensures { Serves (value_of self.old) (Event.Update txn rid (record { key = key; body = body })) (reply_by (λ _. Reply.Stepped) result) (value_of self.new) }
+    {
+        self.parts.start_update(txn, rid, key, body)
+    }
+
     /// Ends a transaction that has no change left, which is then no longer active, and holds no row.
     ///
     /// `NoSuchTxn`, then `Exhausted` where no number is left for a record, and `NoMemory`. After a
