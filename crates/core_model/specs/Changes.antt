@@ -15,9 +15,9 @@ pub data Changes : Type 0 where
 
 infixl 70 ◌▹◌
 -- as a list, the oldest first
-abbrev pub listed : Changes → List ChangeValue
-listed Unchanged = []
-listed (older ▹ c) = listed older ++ c ∷ []
+abbrev pub as_list : Changes → List ChangeValue
+as_list Unchanged = []
+as_list (older ▹ c) = as_list older ++ c ∷ []
 
 -- what these changes, one after the other, make of the row at this place
 abbrev pub latest : Changes → Place → Option Row → Option Row
