@@ -19,7 +19,7 @@ use Rattle.records.specs.declared.pair.Pair.{Pair}
 use Rattle.records.specs.declared.record.Action.{Action}
 use Rattle.records.specs.declared.record.Part.TheVariants.{Slot}
 use Rattle.records.specs.declared.row.Row.{Row}
-use Rattle.model.specs.Cells.{Cells, Pending, list_of, noted, set_by, taken_off, with_list, with_mark}
+use Rattle.model.specs.Cells.{Cells, Pending, list_of, noted, set_by, taken_off, with_list}
 use Rattle.model.specs.KeyActions.{after_action}
 use Rattle.model.specs.Table.{Index, Table}
 use Rattle.model.specs.declared.key_action.KeyAction.TheVariants.{BuildPut}
@@ -28,7 +28,7 @@ use Rattle.core_model.proofs.Builds.{build_put_some}
 use Rattle.core_model.proofs.Frames.{nat_decided}
 use Rattle.core_model.proofs.Latest.{Gone, gone_is, not_none}
 use Rattle.core_model.proofs.Orders.{update_apart, update_here}
-use Rattle.core_model.specs.Changes.{Changes, Unchanged, gone, as_list, new_pair, old_pair, ◌▹◌}
+use Rattle.core_model.specs.Changes.{Changes, Unchanged, gone, as_list, new_pair, old_pair, pair_at, ◌▹◌}
 use Rattle.core_model.specs.Invariants.{HasPair, IsShaped, IsWellFormed}
 use Rattle.core_model.specs.States.{Active, Made, NewMarked, OldMarked, OldSet, Phase, RowSet, State}
 use Rattle.core_model.specs.Steps.{Attempt, Begin, Checkpoint, Clean, Commit, Create, End, Finish, IsEnabled, Keep, Next, Start, Step, Take, Undo, Wrap, after, carried_on, is_indexed, left, moved_by, new_txn, row_made, row_undone, started, txn_at, undoing, undone, undone_first, update, with_change, with_entry, with_txn, without_newest}
@@ -80,11 +80,11 @@ module _ (s : State) (pending : Pending) (h : (u : ℕ) → IsListOf (get pendin
   ]
 
 -- the pair of a record is that of its row
-marked_is : (indexed : Bool) (r : Place) (row other : Option Row) (entries : Index) (mark : Mark) (o : Option Pair) → HasPair o (λ p. Unit {0}) → gone indexed r row other ≡ o → with_mark entries r row mark ≡ with_entry entries o mark
+marked_is : (indexed : Bool) (r : Place) (row other : Option Row) (entries : Index) (mark : Mark) (o : Option Pair) → HasPair o (λ p. Unit {0}) → gone indexed r row other ≡ o → with_entry entries (pair_at r row) mark ≡ with_entry entries o mark
 marked_is indexed r row other entries mark None h e = absurd (not_none h.is refl)
 marked_is indexed r row other entries mark (Some p) h e =
     let g : Gone indexed r row p = gone_is indexed r row other p e in
-    ap (λ v. with_mark entries r v mark) g.is ∙ ap (λ (q : Pair). set_at entries q (Some mark)) (sym g.pair)
+    ap (λ v. with_entry entries (pair_at r v) mark) g.is ∙ ap (λ (q : Pair). set_at entries q (Some mark)) (sym g.pair)
 
 -- who holds a row is in no cell
 other_holder : (s : State) (cells : Cells) (holder : Place → Option ℕ) → HasCells s cells → HasCells (record s { holder = holder }) cells
@@ -106,10 +106,10 @@ module _ (s : State) (cells : Cells) (k : HasCells s cells) (t : ℕ) where
 
   -- a record that sets an entry
   entry_cells : (rid : Place) (row other : Option Row) (mark : Mark) (o : Option Pair) → gone (is_indexed s.life) rid row other ≡ o → HasPair o (λ p. Unit {0}) → (x' : Active) (cs : List ChangeValue) → cs ≡ as_list x'.changes
-      → HasCells (record s { entries = with_entry s.entries o mark; txns = with_txn s t x' }) (record { rows = cells.rows; entries = with_mark cells.entries rid row mark; pending = with_list cells.pending t (Some cs); life = cells.life })
+      → HasCells (record s { entries = with_entry s.entries o mark; txns = with_txn s t x' }) (record { rows = cells.rows; entries = with_entry cells.entries (pair_at rid row) mark; pending = with_list cells.pending t (Some cs); life = cells.life })
   entry_cells rid row other mark o g is x' cs e = record {
     rows = k.rows;
-    entries = ap (λ m. with_mark m rid row mark) k.entries ∙ marked_is (is_indexed s.life) rid row other s.entries mark o is g;
+    entries = ap (λ m. with_entry m (pair_at rid row) mark) k.entries ∙ marked_is (is_indexed s.life) rid row other s.entries mark o is g;
     pending = list_set s cells.pending pending_is t (Some x') (Some cs) e;
     life = k.life;
   }

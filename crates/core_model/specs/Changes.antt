@@ -6,7 +6,7 @@ use Rattle.records.specs.Orders.{rid_cmp}
 use Rattle.records.specs.Spelling.{new_row}
 use Rattle.records.specs.Values.{Place}
 use Rattle.records.specs.declared.row.Row.{Row}
-pub use Rattle.model.specs.Pairs.{gone, new_pair, old_pair, pair_of, same_key}
+pub use Rattle.model.specs.Pairs.{gone, new_pair, old_pair, pair_at, pair_of, same_key}
 
 -- the changes of a transaction, the oldest first: none, or the older ones and the newest behind them
 pub data Changes : Type 0 where
