@@ -1,6 +1,8 @@
 -- Which pairs the rows of a page have, and their order.
 use Rattle.std.proofs.Common.{◌≡◌, ℕ, zero, suc, ◌+◌, ◌<◌, ◌≤◌, List, [], ◌∷◌, map, length, Contains, Option, Some, None, slice_get, slice_index, slice_index_or, option_and_then, refl, sym, ap, subst, ◌∙◌, arith}
+use Rattle.std.specs.List.{All}
 use Rattle.std.specs.List.Sorted.{IsStrictlyIncreasing}
+use Rattle.std.proofs.lemmas.List.Elements.{All-nil, All-cons}
 use Rattle.std.specs.FinMap as map_of
 use Rattle.records.specs.Values.{Place}
 use Rattle.records.specs.declared.row.Row.{Row}
@@ -107,3 +109,21 @@ rising_from n i (Some row ∷ slots) =
 -- the slots of the pairs rise
 pub slots_rise : (n : ℕ) (slots : List (Option Row)) → IsStrictlyIncreasing (map (λ (p : Pair). p.rid.slot) (map pair_of (page_entries n 0 slots)))
 slots_rise n slots = (rising_from n 0 slots).0
+
+few_from : (n i : ℕ) (slots : List (Option Row)) → length (map pair_of (page_entries n i slots)) ≤ length slots
+few_from n i [] = omega arith
+few_from n i (None ∷ slots) = let few = few_from n (i + 1) slots in omega (arith, few)
+few_from n i (Some row ∷ slots) = let few = few_from n (i + 1) slots in omega (arith, few)
+
+-- there are no more pairs than slots
+pub few_pairs : (n : ℕ) (slots : List (Option Row)) → length (map pair_of (page_entries n 0 slots)) ≤ length slots
+few_pairs n slots = few_from n 0 slots
+
+own_from : (n i : ℕ) (slots : List (Option Row)) → All (λ (p : Pair). p.rid.page ≡ n) (map pair_of (page_entries n i slots))
+own_from n i [] = All-nil (λ (p : Pair). p.rid.page ≡ n)
+own_from n i (None ∷ slots) = own_from n (i + 1) slots
+own_from n i (Some row ∷ slots) = All-cons (λ (p : Pair). p.rid.page ≡ n) (pair_of (at n i, row)) (map pair_of (page_entries n (i + 1) slots)) refl (own_from n (i + 1) slots)
+
+-- the pairs are of this page
+pub own_pairs : (n : ℕ) (slots : List (Option Row)) → All (λ (p : Pair). p.rid.page ≡ n) (map pair_of (page_entries n 0 slots))
+own_pairs n slots = own_from n 0 slots

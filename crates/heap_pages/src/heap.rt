@@ -1,5 +1,5 @@
 //! The pages of the heap.
-ghost use Rattle.std.specs.Prelude.{◌≡◌, ◌≢◌, ◌<◌, ◌↔◌, map, Contains, IfOk, IfErr, IsErr, IsSome};
+ghost use Rattle.std.specs.Prelude.{◌≡◌, ◌≢◌, ◌<◌, ◌≤◌, ◌↔◌, map, length, All, Contains, IfOk, IfErr, IsErr, IsSome};
 ghost use Rattle.std.specs.List.Sorted.{IsStrictlyIncreasing};
 ghost use Rattle.std.specs.declared.cmp.Ordering.{Ordering};
 ghost use Rattle.std.specs.FinMap.{get, empty};
@@ -117,8 +117,10 @@ impl<A: Allocator + Copy> Heap<A> {
         ensures pairs { IfOk result (λ pairs. pairs.items ≡ pairs_of (page_rows self.now.rows page)) }
         ensures each { IfOk result (λ pairs.
             (p : Pair) → Contains pairs.items p ↔ IsPairOnPage self.now.rows page p) }
+        ensures own { IfOk result (λ pairs. All (λ p. p.rid.page ≡ page) pairs.items) }
         ensures in_slot_order { IfOk result (λ pairs.
             IsStrictlyIncreasing (map (λ p. p.rid.slot) pairs.items)) }
+        ensures few { IfOk result (λ pairs. length pairs.items ≤ SLOTS_PER_PAGE) }
         ensures no_memory { IfErr result (λ e. e ≡ Error.NoMemory) }
     {
         let slots = &self.pages[page as usize];

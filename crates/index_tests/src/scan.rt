@@ -1,298 +1,164 @@
+use heap_pages::Heap;
 use linked_list_allocator::LocalHeap;
-use records::{Error, Key, Pair, Rid, SLOTS_PER_PAGE};
+use records::{Body, Error, Key, Pair, Rid, Row, SLOTS_PER_PAGE};
 use sorted_scan::Scan;
 use std::alloc::{Allocator, Global};
 use std::process::Abort;
 
-// The pair whose key is the number, in two bytes.
-fn pair(rt: &impl Abort, number: u16, page: u32, slot: u16) -> Pair {
-    let slot = slot % SLOTS_PER_PAGE;
-    Pair {
-        key: Key::new(&number.to_be_bytes()).expect(rt, "a key"),
-        rid: Rid { page, slot },
-    }
+fn key_of(rt: &impl Abort, number: u16) -> Key {
+    Key::new(&number.to_be_bytes()).expect(rt, "a key")
 }
 
-// A page that has a pair for each of these numbers, the last one first.
-fn page_of(rt: &impl Abort, alloc: Global, page: u32, from: u16, to: u16) -> Vec<Pair> {
-    let mut pairs = Vec::new(alloc);
-    for number in (from..to).rev() {
-        let pair = pair(rt, number, page, number.wrapping_sub(from));
-        pairs.push(pair).expect(rt, "memory");
-    }
-    pairs
+// Puts a row whose key is the number, in two bytes.
+fn put(rt: &impl Abort, heap: &mut Heap<Global>, page: u32, slot: u16, number: u16) {
+    assert!(rt; page < heap.pages());
+    let rid = Rid {
+        page,
+        slot: slot % SLOTS_PER_PAGE,
+    };
+    let row = Row {
+        key: key_of(rt, number),
+        body: Body::new(b"").expect(rt, "a body"),
+    };
+    heap.set(rid, Some(row));
 }
 
-// As many pages, with the numbers from 0 on, so many a page.
-fn pages_of(rt: &impl Abort, alloc: Global, pages: u16, each: u16) -> Vec<Vec<Pair>> {
-    let mut made = Vec::new(alloc);
+// As many pages, so many rows in each. Their keys are the numbers from 0 on, the greatest first.
+fn heap_of(rt: &impl Abort, alloc: Global, pages: u16, each: u16) -> Heap<Global> {
+    let mut heap = Heap::new(alloc, u32::from(pages)).expect(rt, "memory");
+    let mut number = pages.wrapping_mul(each);
     for page in 0..pages {
-        let from = each.wrapping_mul(page);
-        let pairs = page_of(rt, alloc, u32::from(page), from, from.wrapping_add(each));
-        made.push(pairs).expect(rt, "memory");
+        for slot in 0..each {
+            number = number.wrapping_sub(1);
+            put(rt, &mut heap, u32::from(page), slot, number);
+        }
     }
-    made
+    heap
 }
 
-#[derive(Clone, Copy, PartialEq, Eq)]
-enum Step {
-    Took(u32),
-    HandedOut(Pair),
-    End,
-}
-
+// Takes the page that is wanted, if one is, with the rows that the heap has now.
 fn take<A: Allocator + Copy>(
     rt: &impl Abort,
     scan: &mut Scan<A>,
-    page: u32,
-    pairs: &[Pair],
-) -> Result<(), Error> {
-    assert!(rt; scan.wants_page() == Some(page));
-    scan.take_page(page, pairs)
-}
-
-fn next_of<A: Allocator + Copy>(rt: &impl Abort, scan: &Scan<A>) -> Option<Pair> {
-    assert!(rt; scan.wants_page().is_none());
-    scan.next()
-}
-
-fn hand_out<A: Allocator + Copy>(rt: &impl Abort, scan: &mut Scan<A>) -> Pair {
-    assert!(rt; scan.wants_page().is_none());
-    assert!(rt; scan.remaining() > 0);
-    scan.hand_out()
-}
-
-fn wanted<A: Allocator + Copy>(scan: &Scan<A>) -> Option<u32> {
-    scan.wants_page()
-}
-
-// What the scan does next over these pages.
-fn go_on<A: Allocator + Copy>(
-    rt: &impl Abort,
-    scan: &mut Scan<A>,
-    pages: &[Vec<Pair>],
-) -> Result<Step, Error> {
-    if let Some(page) = wanted(scan) {
-        let pairs = pages.get(page as usize).expect(rt, "a page");
-        take(rt, scan, page, pairs)?;
-        return Ok(Step::Took(page));
-    }
-    let Some(pair) = next_of(rt, scan) else {
-        return Ok(Step::End);
+    heap: &Heap<Global>,
+) -> Result<Option<u32>, Error> {
+    let Some(page) = scan.wants_page() else {
+        return Ok(None);
     };
-    assert!(rt; hand_out(rt, scan) == pair);
-    Ok(Step::HandedOut(pair))
+    assert!(rt; page < heap.pages());
+    let pairs = heap.page_pairs(page).expect(rt, "memory");
+    scan.take_page(page, &pairs)?;
+    Ok(Some(page))
 }
 
-fn take_step<A: Allocator + Copy>(
+// Takes these pages, one after the other.
+fn take_pages<A: Allocator + Copy>(
     rt: &impl Abort,
     scan: &mut Scan<A>,
-    pages: &[Vec<Pair>],
-) -> Step {
-    go_on(rt, scan, pages).expect(rt, "memory")
+    heap: &Heap<Global>,
+    from: u32,
+    to: u32,
+) {
+    for page in from..to {
+        assert!(rt; take(rt, scan, heap) == Ok(Some(page)));
+    }
 }
 
-fn has_number(rt: &impl Abort, pair: Pair, number: u16) {
-    let key = Key::new(&number.to_be_bytes()).expect(rt, "a key");
-    assert_eq!(rt; pair.key, key);
+// The next pairs have these numbers as keys, in this order.
+fn numbers_come<A: Allocator + Copy>(rt: &impl Abort, scan: &mut Scan<A>, from: u16, to: u16) {
+    for number in from..to {
+        let key = scan.hand_out().map(|pair| pair.key);
+        assert!(rt; key == Some(key_of(rt, number)));
+    }
 }
 
-// Adds to the walks one that took so many pages before so many pairs came.
-fn add_walk(rt: &impl Abort, walks: &mut Vec<(u32, u32)>, taken: u32, came: u32) {
-    walks.push((taken, came)).expect(rt, "memory");
+fn is_at_end<A: Allocator + Copy>(rt: &impl Abort, scan: &mut Scan<A>) {
+    assert!(rt; scan.wants_page().is_none() && scan.remaining() == 0);
+    assert!(rt; scan.hand_out().is_none());
 }
 
-// How many pages were taken in a row and how many pairs came then, up to the end of the scan. The
-// keys of the pairs are the numbers from this one on.
-fn walks(
+// All pages are taken, and then come these numbers, and no more.
+fn walk_gives(
     rt: &impl Abort,
-    alloc: Global,
     scan: &mut Scan<Global>,
-    pages: &[Vec<Pair>],
-    first: u16,
-) -> Vec<(u32, u32)> {
-    let mut walks = Vec::new(alloc);
-    let mut number = first;
-    let (mut taken, mut came) = (0u32, 0u32);
-    for _ in 0..100_000 {
-        match take_step(rt, scan, pages) {
-            Step::Took(page) => {
-                if came > 0 {
-                    add_walk(rt, &mut walks, taken, came);
-                    (taken, came) = (0, 0);
-                }
-                assert!(rt; page == taken);
-                taken = taken.wrapping_add(1);
-            }
-            Step::HandedOut(pair) => {
-                has_number(rt, pair, number);
-                number = number.wrapping_add(1);
-                came = came.wrapping_add(1);
-            }
-            Step::End => {
-                add_walk(rt, &mut walks, taken, came);
-                break;
-            }
-        }
-    }
-    walks
+    heap: &Heap<Global>,
+    pages: u32,
+    from: u16,
+    to: u16,
+) {
+    take_pages(rt, scan, heap, 0, pages);
+    numbers_come(rt, scan, from, to);
+    is_at_end(rt, scan);
 }
 
-// The pages over which a scan above this pair goes.
-fn walks_above(
-    rt: &impl Abort,
-    alloc: Global,
-    pages: &[Vec<Pair>],
-    above: Option<Pair>,
-    count: u32,
-    first: u16,
-) -> Vec<(u32, u32)> {
-    let mut scan = Scan::new(alloc, above, count);
-    walks(rt, alloc, &mut scan, pages, first)
-}
-
-fn are_walks(rt: &impl Abort, walks: &[(u32, u32)], want: &[(u32, u32)]) {
-    assert_eq!(rt; walks, want);
+// The pairs above the one with this number come, of a heap of 4 pages with 50 rows each.
+fn pairs_above(rt: &impl Abort, alloc: Global, heap: &Heap<Global>, number: u16) {
+    let rid = Rid { page: 3, slot: 50 };
+    let start = Pair {
+        key: key_of(rt, number),
+        rid,
+    };
+    let mut scan = Scan::new(alloc, Some(start), 4);
+    walk_gives(rt, &mut scan, heap, 4, number.wrapping_add(1), 200);
 }
 
 #[test]
-fn two_hundred_pairs_of_four_pages(rt: HostRuntime) {
-    let pages = pages_of(&rt, rt.alloc(), 4, 50);
-    let all = walks_above(&rt, rt.alloc(), &pages, None, 4, 0);
-    are_walks(&rt, &all, &[(4, 64), (4, 64), (4, 64), (4, 8)]);
-}
-
-#[test]
-fn pairs_above_a_start(rt: HostRuntime) {
-    let pages = pages_of(&rt, rt.alloc(), 4, 50);
-    let start = pair(&rt, 127, 2, 27);
-    let rest = walks_above(&rt, rt.alloc(), &pages, Some(start), 4, 128);
-    are_walks(&rt, &rest, &[(4, 64), (4, 8)]);
-    let start = pair(&rt, 71, 1, 21);
-    let few = walks_above(&rt, rt.alloc(), &pages, Some(start), 2, 72);
-    are_walks(&rt, &few, &[(2, 28)]);
-    let start = pair(&rt, 100, 0, 0);
-    let none = walks_above(&rt, rt.alloc(), &pages, Some(start), 2, 0);
-    are_walks(&rt, &none, &[(2, 0)]);
-}
-
-// A full walk is followed by another, though no pair is left.
-#[test]
-fn as_many_pairs_as_may_wait(rt: HostRuntime) {
-    let pages = pages_of(&rt, rt.alloc(), 2, 32);
-    let all = walks_above(&rt, rt.alloc(), &pages, None, 2, 0);
-    are_walks(&rt, &all, &[(2, 64), (2, 0)]);
-}
-
-// The pair that stands in place of this one after key 65 became 75, and 5 became 6.
-fn after_changes(rt: &impl Abort, it: Pair) -> Pair {
-    if it == pair(rt, 65, 1, 25) {
-        pair(rt, 75, 1, 25)
-    } else if it == pair(rt, 5, 0, 5) {
-        pair(rt, 6, 0, 5)
-    } else {
-        it
+fn all_pairs_come_or_those_above_a_start(rt: HostRuntime) {
+    let heap = heap_of(&rt, rt.alloc(), 4, 50);
+    let mut scan = Scan::new(rt.alloc(), None, 4);
+    walk_gives(&rt, &mut scan, &heap, 4, 0, 200);
+    for number in [0, 127, 198, 199] {
+        pairs_above(&rt, rt.alloc(), &heap, number);
     }
 }
 
-fn changed_pages(rt: &impl Abort, alloc: Global) -> Vec<Vec<Pair>> {
-    let mut changed = pages_of(rt, alloc, 2, 40);
-    for pairs in changed.iter_mut() {
-        for it in pairs.iter_mut() {
-            *it = after_changes(rt, *it);
-        }
-    }
-    changed
-}
-
-// The slots of the pairs that come in a hundred steps.
-fn slots_that_come(
-    rt: &impl Abort,
-    alloc: Global,
-    scan: &mut Scan<Global>,
-    pages: &[Vec<Pair>],
-) -> Vec<u16> {
-    let mut came = Vec::new(alloc);
-    for _ in 0..100 {
-        if let Step::HandedOut(pair) = take_step(rt, scan, pages) {
-            came.push(pair.rid.slot).expect(rt, "memory");
-        }
-    }
-    came
-}
-
-fn are_slots(rt: &impl Abort, came: &[u16], want: &[u16]) {
-    assert_eq!(rt; came, want);
-}
-
-// After 64 pairs a row above the last pair changes its key from 65 to 75, and one below it from 5
-// to 6.
+// Once its page was taken, a row's change is not seen; before that it is.
 #[test]
-fn rows_change_between_two_walks(rt: HostRuntime) {
-    let pages = pages_of(&rt, rt.alloc(), 2, 40);
+fn rows_change_between_two_pages(rt: HostRuntime) {
+    let mut heap = heap_of(&rt, rt.alloc(), 2, 40);
     let mut scan = Scan::new(rt.alloc(), None, 2);
-    for _ in 0..2 + 64 {
-        take_step(&rt, &mut scan, &pages);
+    take_pages(&rt, &mut scan, &heap, 0, 1);
+    put(&rt, &mut heap, 0, 19, 100);
+    put(&rt, &mut heap, 1, 34, 200);
+    take_pages(&rt, &mut scan, &heap, 1, 2);
+    for (from, to) in [(0, 5), (6, 80), (200, 201)] {
+        numbers_come(&rt, &mut scan, from, to);
     }
-    let changed = changed_pages(&rt, rt.alloc());
-    let came = slots_that_come(&rt, rt.alloc(), &mut scan, &changed);
-    let want = [
-        24, 26, 27, 28, 29, 30, 31, 32, 33, 34, 25, 35, 36, 37, 38, 39,
-    ];
-    are_slots(&rt, &came, &want);
+    is_at_end(&rt, &mut scan);
 }
 
-// 256 full pages, with the greatest keys in the first.
+// 256 full pages: three full runs, and one that is not.
 #[test]
 fn sixteen_thousand_pairs(rt: HostRuntime) {
-    let mut pages = pages_of(&rt, rt.alloc(), 256, SLOTS_PER_PAGE);
-    pages.reverse();
-    let all = walks_above(&rt, rt.alloc(), &pages, None, 256, 0);
-    assert!(rt; all.len() == 253);
-    for (number, walk) in all.iter().enumerate() {
-        let came = if number < 252 { 64 } else { 0 };
-        assert!(rt; *walk == (256, came));
-    }
+    let heap = heap_of(&rt, rt.alloc(), 256, SLOTS_PER_PAGE);
+    let mut scan = Scan::new(rt.alloc(), None, 256);
+    walk_gives(&rt, &mut scan, &heap, 256, 0, 16_128);
 }
 
-// The page is wanted still, and what waits is what waited.
-fn is_refused(rt: &impl Abort, scan: &Scan<&LocalHeap>, page: u32, waiting: usize, error: Error) {
-    assert!(rt; error == Error::NoMemory);
-    assert!(rt; wanted(scan) == Some(page));
-    assert!(rt; scan.remaining() == waiting);
-}
-
-// The first 64 pairs come, and then the first page is wanted again.
-fn all_come(rt: &impl Abort, scan: &mut Scan<&LocalHeap>, pages: &[Vec<Pair>]) {
-    for number in 0u16..64 {
-        let want = pair(rt, number, u32::from(number / 50), number % 50);
-        assert!(rt; take_step(rt, scan, pages) == Step::HandedOut(want));
-    }
-    assert!(rt; wanted(scan) == Some(0));
-}
-
-// What a scan does over two pages in this memory: which page was refused, if any.
-fn refused_in(rt: &impl Abort, memory: &LocalHeap, pages: &[Vec<Pair>]) -> Option<u32> {
+// Takes two pages in this memory: which one was refused, if any. It is wanted still then, and as
+// many pairs wait as before.
+fn refused_in(rt: &impl Abort, memory: &LocalHeap, heap: &Heap<Global>) -> Option<u32> {
     let mut scan = Scan::new(memory, None, 2);
     for page in 0..2 {
         let waiting = scan.remaining();
-        if let Err(error) = go_on(rt, &mut scan, pages) {
-            is_refused(rt, &scan, page, waiting, error);
+        if let Err(error) = take(rt, &mut scan, heap) {
+            assert!(rt; error == Error::NoMemory);
+            assert!(rt; scan.wants_page() == Some(page) && scan.remaining() == waiting);
             return Some(page);
         }
     }
-    all_come(rt, &mut scan, pages);
+    numbers_come(rt, &mut scan, 0, 100);
+    is_at_end(rt, &mut scan);
     None
 }
 
-// A page that was refused is wanted still, and what waits is what waited.
 #[test]
 fn want_of_memory_is_answered_and_changes_nothing(rt: HostRuntime) {
-    let pages = pages_of(&rt, rt.alloc(), 2, 50);
+    let heap = heap_of(&rt, rt.alloc(), 2, 50);
     let (mut first, mut second, mut done) = (false, false, false);
-    for size in 0..64 {
+    for size in 0..100 {
         let memory = LocalHeap::new(rt.alloc(), 256 * size).expect(&rt, "memory");
-        match refused_in(&rt, &memory, &pages) {
+        match refused_in(&rt, &memory, &heap) {
             Some(0) => first = true,
             Some(_) => second = true,
             None => done = true,

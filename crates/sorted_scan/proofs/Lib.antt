@@ -1,8 +1,10 @@
-mod Least
 mod Order
 mod Pages
-mod Handing
-mod Behind
 mod Kept
+pub mod Counts
+mod Least
+mod Merging
+mod Handing
+mod Slots
 mod Taking
 mod Whole

@@ -1,5 +1,5 @@
 -- The page that is to be taken next.
-use Rattle.std.proofs.Common.{◌≡◌, ◌<◌, ◌≤◌, ℕ, Bool, true, false, Some, None, nat_lt, if◌then◌else◌, refl, arith, ltb-true, ltb-false}
+use Rattle.std.proofs.Common.{◌≡◌, ◌<◌, ◌≤◌, ℕ, Bool, true, false, Some, None, nat_lt, if◌then◌else◌, refl, ap, arith, ltb-true, ltb-false, le-ltb}
 use Rattle.std.specs.Option.{IfSome}
 use Rattle.sorted_scan.specs.Scans.{page_from, IsBefore}
 
@@ -26,3 +26,6 @@ module _ (pages n : ℕ) where
 
   pub wanted_is : (m : ℕ) → page_from pages n ≡ Some m → (n ≡ m) × (n < pages)
   wanted_is m is = wanted_by m (nat_lt n pages) refl is
+
+  pub page_none : pages ≤ n → page_from pages n ≡ None
+  page_none h = ap (λ b. if b then Some n else None) (le-ltb n pages h)

@@ -1,19 +1,115 @@
 //! The scan.
-ghost use Rattle.std.specs.Prelude.{◌≡◌, ℕ, ◌+◌, ◌<◌, [], Some, None, List, length, drop, slice_get, OnOk, OnErr, IfErr, IfSome, IfNone, IsSome};
+ghost use Rattle.std.specs.Prelude.{◌≡◌, ℕ, ◌+◌, ◌<◌, ◌≤◌, ◌∷◌, ◌++◌, Some, None, length, map, filter, All, OnOk, IfOk, OnErr, IfErr, IfSome, IfNone, IsTrue, ◌^◌, []};
+ghost use Rattle.std.specs.List.Sorted.{IsStrictlyIncreasing};
 ghost use Rattle.records.specs.declared.pair.Pair.{Pair};
+ghost use Rattle.sorted_scan.specs.Pairs.{is_above, AreSame};
 ghost use Rattle.sorted_scan.specs.Runs.{ScanRun, Took, HandedOut, with_step, IsNextOf, IsAtEnd};
-ghost use Rattle.sorted_scan.specs.Scans.{begun, begun_run, page_from, HasRun};
+ghost use Rattle.sorted_scan.specs.Scans.{begun, begun_run, page_from, next_of, HasRun};
 
-use crate::pairs::{WAITING_MAX, least_with};
-use records::{Error, Pair};
-use std::alloc::Allocator;
+use crate::merge::Merge;
+use records::{Error, Pair, SLOTS_PER_PAGE, compare_pairs};
+use std::alloc::{AllocError, Allocator};
 use std::marker::Model;
+
+/// How many pairs a run has; the last one may have fewer.
+const RUN_PAIRS: usize = 4096;
+
+/// Whether the pair comes after this one: every pair does where there is none.
+fn is_above(low: &Option<Pair>, pair: &Pair) -> bool
+    ensures { result ≡ is_above low.now pair.now }
+{
+    match low {
+        None => true,
+        Some(low) => compare_pairs(low, pair).is_lt(),
+    }
+}
+
+/// Those of the pairs that come after this one.
+fn those_above<A: Allocator>(
+    alloc: A,
+    low: &Option<Pair>,
+    pairs: &[Pair],
+) -> Result<Vec<Pair, A>, AllocError>
+    ensures items { IfOk result (λ above. above.items ≡ filter (is_above low.now) pairs.now) }
+    ensures few { IfOk result (λ above. length above.items ≤ length pairs.now) }
+{
+    let mut above = Vec::with_capacity(alloc, pairs.len())?;
+    for pair in pairs {
+        if is_above(low, pair) {
+            above.push(*pair)?;
+        }
+    }
+    Ok(above)
+}
+
+/// The pairs, and then those others.
+fn joined<A: Allocator>(
+    alloc: A,
+    pairs: &[Pair],
+    others: &[Pair],
+) -> Result<Vec<Pair, A>, AllocError>
+    requires { length pairs.now + length others.now < 2 ^ 64 }
+    ensures { IfOk result (λ all. all.items ≡ pairs.now ++ others.now) }
+{
+    let mut all = Vec::with_capacity(alloc, pairs.len() + others.len())?;
+    all.extend_from_slice(pairs)?;
+    all.extend_from_slice(others)?;
+    Ok(all)
+}
+
+/// Takes those of the pairs that are past the first so many out.
+fn cut<A: Allocator + Copy>(
+    alloc: A,
+    pairs: &mut Vec<Pair, A>,
+    room: usize,
+) -> Result<Vec<Pair, A>, AllocError>
+    ensures { IfOk result (λ behind. pairs.old.items ≡ pairs.new.items ++ behind.items) }
+{
+    if room < pairs.len() {
+        pairs.split_off(room)
+    } else {
+        Ok(Vec::new(alloc))
+    }
+}
+
+/// Gathers the pairs as well. A run that is full goes to the merge, and with the last pairs also one
+/// that is not.
+fn gather<A: Allocator + Copy>(
+    alloc: A,
+    gathered: &mut Vec<Pair, A>,
+    merge: &mut Merge<A>,
+    mut pairs: Vec<Pair, A>,
+    is_last: bool,
+) -> Result<(), AllocError>
+    requires open_run { length gathered.old.items < RUN_PAIRS }
+    requires few { length pairs.items < RUN_PAIRS }
+    ensures added { OnOk result (AreSame (pairs.items ++ (gathered.old.items ++ merge.old)) (gathered.new.items ++ merge.new)) }
+    ensures open_run { OnOk result (length gathered.new.items < RUN_PAIRS) }
+    ensures merged_all { OnOk result (IsTrue is_last → gathered.new.items ≡ []) }
+    ensures same_gathered { OnErr result (gathered.new.items ≡ gathered.old.items) }
+    ensures same_merge { OnErr result (merge.new ≡ merge.old) }
+{
+    let room = RUN_PAIRS - gathered.len();
+    if !is_last && pairs.len() < room {
+        return gathered.extend_from_slice(&pairs);
+    }
+    let behind = cut(alloc, &mut pairs, room)?;
+    let run = joined(alloc, gathered, &pairs)?;
+    if is_last {
+        merge.add(run, behind)?;
+        *gathered = Vec::new(alloc);
+    } else {
+        merge.add(run, Vec::new(alloc))?;
+        *gathered = behind;
+    }
+    Ok(())
+}
 
 /// The pairs of the table's rows above a start, in their order, as the pages give them.
 ///
-/// A scan asks for pages, from page 0 on, until it has a pair to hand out or is at its end. A page
-/// may be asked for again later on, and may then give other pairs. A pair that each taking of its
-/// page gave comes in its turn; one that some taking did not give may come or not.
+/// A scan asks for pages, from page 0 on, until it has a pair to hand out or is at its end. A pair
+/// that each taking of its page gave comes in its turn; one that some taking did not give may come
+/// or not.
 #[derive(Drop)]
 pub struct Scan<A: Allocator> {
     alloc: A,
@@ -22,13 +118,16 @@ pub struct Scan<A: Allocator> {
     next_page: u32,
     // the pair handed out last, else the start
     last: Option<Pair>,
-    // in rising order, each once
-    waiting: Vec<Pair, A>,
-    // the greatest of the pairs that wait, once there are as many as may be
-    ceiling: Option<Pair>,
+    // how many pairs wait
+    remaining: usize,
+    // the pairs of the run that is not yet full: none once the last page was taken
+    gathered: Vec<Pair, A>,
+    // the pairs of the full runs
+    merge: Merge<A>,
 }
 
 impl<A: Allocator> Model for Scan<A> {
+    ghost use Rattle.std.specs.Prelude.{◌++◌};
     ghost use Rattle.sorted_scan.specs.Scans.{ScanValue, page_from, IsSound};
 
     ghost Value = { ScanValue };
@@ -37,11 +136,10 @@ impl<A: Allocator> Model for Scan<A> {
       pages = s.pages;
       last = s.last;
       wanted = page_from s.pages s.next_page;
-      waiting = s.waiting.items;
-      ceiling = s.ceiling;
+      waiting = s.gathered.items ++ s.merge;
     } };
 
-    ghost invariant = { λ s. IsSound s.pages s.next_page s.last s.waiting.items s.ceiling };
+    ghost invariant = { λ s. IsSound s.pages s.next_page s.last s.remaining s.gathered.items s.merge };
 }
 
 impl<A: Allocator + Copy> Scan<A> {
@@ -55,8 +153,9 @@ impl<A: Allocator + Copy> Scan<A> {
             pages,
             next_page: 0,
             last: above,
-            waiting: Vec::new(alloc),
-            ceiling: None,
+            remaining: 0,
+            gathered: Vec::new(alloc),
+            merge: Merge::new(alloc),
         }
     }
 
@@ -72,69 +171,83 @@ impl<A: Allocator + Copy> Scan<A> {
         }
     }
 
-    /// Takes the page that is wanted, with the pairs of its rows as they are now, in any order.
+    /// Takes the page that is wanted, with the pairs of its rows as they are now, in the order of
+    /// their slots.
     ///
     /// All memory is taken here: to hand pairs out takes none. The one error is `NoMemory`, and the
     /// scan is then as before.
     pub fn take_page(&mut self, page: u32, pairs: &[Pair]) -> Result<(), Error>
         requires wanted { self.old.wanted ≡ Some page }
+        requires few { length pairs.now ≤ SLOTS_PER_PAGE }
+        requires own { All (λ p. p.rid.page ≡ page) pairs.now }
+        requires in_slot_order { IsStrictlyIncreasing (map (λ p. p.rid.slot) pairs.now) }
         ensures run { OnOk result ((r : ScanRun) → HasRun self.old r
             → HasRun self.new (with_step r (Took page pairs.now))) }
         ensures wanted { OnOk result (self.new.wanted ≡ page_from self.old.pages (page + 1)) }
         ensures place { OnOk result (self.new ≡ record self.old {
           wanted = self.new.wanted;
           waiting = self.new.waiting;
-          ceiling = self.new.ceiling;
         }) }
+        ensures waiting { OnOk result (AreSame
+            (filter (is_above self.old.last) pairs.now ++ self.old.waiting) self.new.waiting) }
         ensures no_memory { IfErr result (λ e. e ≡ Error.NoMemory) }
         ensures unchanged { OnErr result (self.new ≡ self.old) }
     {
-        let least = least_with(self.alloc, &self.waiting, &self.last, &self.ceiling, pairs)?;
-        self.ceiling = least.get(WAITING_MAX - 1).copied().or(self.ceiling);
-        self.waiting = least;
+        let above = those_above(self.alloc, &self.last, pairs)?;
+        let added = above.len();
+        let is_last = page + 1 == self.pages;
+        gather(
+            self.alloc,
+            &mut self.gathered,
+            &mut self.merge,
+            above,
+            is_last,
+        )?;
+        self.remaining += added;
         self.next_page = page + 1;
         Ok(())
     }
 
-    /// The pair that is to be handed out next; none at the end of the scan.
+    /// The pair that is to be handed out next; none while a page is wanted, and at the end.
     ///
     /// The scan stays as it is, so that the pair is not lost where what is done with it is refused.
     pub fn next(&self) -> Option<Pair>
-        requires { self.now.wanted ≡ None }
-        ensures first { result ≡ slice_get self.now.waiting 0 }
+        ensures pair { result ≡ next_of self.now }
         ensures next { IfSome result (λ p. (r : ScanRun) → HasRun self.now r → IsNextOf r p) }
-        ensures end { IfNone result ((r : ScanRun) → HasRun self.now r → IsAtEnd r) }
+        ensures end { IfNone result (self.now.wanted ≡ None
+            → (r : ScanRun) → HasRun self.now r → IsAtEnd r) }
     {
-        self.waiting.first().copied()
+        if self.next_page < self.pages {
+            return None;
+        }
+        self.merge.first()
     }
 
-    /// Hands the next pair out, and goes on behind it.
-    ///
-    /// Where pairs above those that waited were left out, the scan begins again above the last one.
-    /// It takes no memory.
-    pub fn hand_out(&mut self) -> Pair
-        requires no_page { self.old.wanted ≡ None }
-        requires some { 0 < length self.old.waiting }
-        ensures first { slice_get self.old.waiting 0 ≡ Some result }
-        ensures run { (r : ScanRun) → HasRun self.old r
-            → HasRun self.new (with_step r (HandedOut result)) }
-        ensures goes_on { (length self.old.waiting ≡ 1 → self.old.ceiling ≡ None)
-            → self.new ≡ record self.old { last = Some result; waiting = drop 1 self.old.waiting } }
-        ensures begins_again { length self.old.waiting ≡ 1 → IsSome self.old.ceiling
-            → self.new ≡ begun (Some result) self.old.pages }
+    /// Hands the next pair out, if there is one, and goes on behind it. It takes no memory.
+    pub fn hand_out(&mut self) -> Option<Pair>
+        ensures pair { result ≡ next_of self.old }
+        ensures run { IfSome result (λ p. (r : ScanRun) → HasRun self.old r
+            → HasRun self.new (with_step r (HandedOut p))) }
+        ensures place { IfSome result (λ p. self.new ≡ record self.old {
+          last = Some p;
+          waiting = self.new.waiting;
+        }) }
+        ensures waiting { IfSome result (λ p. AreSame self.old.waiting (p ∷ self.new.waiting)) }
+        ensures unchanged { IfNone result (self.new ≡ self.old) }
     {
-        if self.waiting.len() == 1 && self.ceiling.is_some() {
-            self.next_page = 0;
-            self.ceiling = None;
+        if self.next_page < self.pages {
+            return None;
         }
-        self.last = self.waiting.first().copied();
-        self.waiting.remove(0)
+        let pair = self.merge.take_first()?;
+        self.remaining -= 1;
+        self.last = Some(pair);
+        self.last
     }
 
     /// How many pairs wait to be handed out.
     pub fn remaining(&self) -> usize
         ensures { result ≡ length self.now.waiting }
     {
-        self.waiting.len()
+        self.remaining
     }
 }

@@ -1,4 +1,5 @@
 use Rattle.std.proofs.Common.{◌≡◌, ◌<◌, ◌++◌, ◌∷◌, [], List, Some, Contains, length, map, slice_get, refl, sym, ap, subst, ◌∙◌, arith}
+use Rattle.std.specs.List.{All}
 use Rattle.std.specs.List.Sorted.{IsStrictlyIncreasing}
 use Rattle.std.proofs.lemmas.Option.{slice_get_read}
 use Rattle.records.specs.declared.pair.Pair.{Pair}
@@ -8,7 +9,7 @@ use Rattle.heap_pages.proofs.SlotLists.{get-slots_of, length-slots_of, page_slot
 use Rattle.heap_pages.proofs.Cells.{at}
 use Rattle.heap_pages.proofs.Writes.{by_slots}
 use Rattle.heap_pages.proofs.Pairs.{all_pairs, pairs_whole, pairs_skip, pairs_push}
-use Rattle.heap_pages.proofs.PairLaws.{pair_on_page, pair_in_slots, slots_rise}
+use Rattle.heap_pages.proofs.PairLaws.{pair_on_page, pair_in_slots, slots_rise, own_pairs, few_pairs}
 use Rattle.heap_pages.proofs.heap.Heap.page_pairs.Goals as goal
 use Rattle.heap_pages.proofs.heap.Heap.page_pairs.Goals.{in-Some+in_ok-push, in_default}
 
@@ -46,6 +47,21 @@ returns-clause-in_slot_order g c =
     let page = page_slots pages n c.index-slots.result.now (slice_get_read pages (length pages) n c.index-slots.result.now refl within c.index-slots.ensures) in
     let all = all_pairs n c.loop-slot.slot slots c.loop-slot.pairs.items (omega (arith, length-slots_of c.index-slots.result.now)) c.loop-slot.invariant in
     subst (λ (xs : List Pair). IsStrictlyIncreasing (map (λ (p : Pair). p.rid.slot) xs)) (sym all) (slots_rise n slots)
+
+pub returns-clause-own : goal.returns-clause-own
+returns-clause-own g c =
+    let n = c.args.page in
+    let slots = slots_of c.index-slots.result.now in
+    let all = all_pairs n c.loop-slot.slot slots c.loop-slot.pairs.items (omega (arith, length-slots_of c.index-slots.result.now)) c.loop-slot.invariant in
+    subst (All (λ (p : Pair). p.rid.page ≡ n)) (sym all) (own_pairs n slots)
+
+pub returns-clause-few : goal.returns-clause-few
+returns-clause-few g c =
+    let n = c.args.page in
+    let slots = slots_of c.index-slots.result.now in
+    let all = all_pairs n c.loop-slot.slot slots c.loop-slot.pairs.items (omega (arith, length-slots_of c.index-slots.result.now)) c.loop-slot.invariant in
+    let few = few_pairs n slots in
+    omega (arith, few, ap length all, length-slots_of c.index-slots.result.now)
 
 pub loop-slot-preserved : goal.loop-slot-preserved
 loop-slot-preserved g c =

@@ -1,0 +1,199 @@
+//! Sorted runs of pairs, merged as they are handed out.
+ghost use Rattle.std.specs.Prelude.{◌≡◌, ◌+◌, ◌<◌, ◌≤◌, [], ◌∷◌, ◌++◌, Some, None, OnOk, OnErr, IfSome, IfNone, MatchOption, length};
+ghost use Rattle.std.specs.List.Sorted.{IsPermutation, IsSorted};
+ghost use Rattle.std.specs.Ordering.{is_eq, eq_by_cmp};
+ghost use Rattle.std.specs.Cmp.{partial_order_from_total, partial_equiv_from_equiv, eq_by_cmp_equiv};
+ghost use Rattle.std.specs.Cmp.Rules.{comparing};
+ghost use Rattle.std.specs.BinaryHeap.{heap_items, heap_len, heap_capacity, KeepsHeap};
+ghost use Rattle.std.proofs.Common.{rules, refl};
+ghost use Rattle.records.specs.Orders.{pair_cmp};
+ghost use Rattle.sorted_scan.specs.Pairs.{least, AreSame};
+ghost use Rattle.sorted_scan.specs.Merges.{run_cmp, run_cmp_total, run_pairs, pairs_in, AreSortedRuns};
+
+use records::{Pair, compare_pairs};
+use std::alloc::{AllocError, Allocator};
+use std::cmp::Ordering;
+use std::collections::BinaryHeap;
+use std::marker::Model;
+use std::vec::IntoIter;
+
+/// Pairs in their order: one, and those behind it.
+#[derive(Drop)]
+pub(crate) struct SortedRun<A: Allocator> {
+    first: Pair,
+    rest: IntoIter<Pair, A>,
+}
+
+impl<A: Allocator> PartialEq for SortedRun<A> {
+    ghost eq = { eq_by_cmp run_cmp };
+
+    ghost laws = { partial_equiv_from_equiv (eq_by_cmp_equiv run_cmp_total) };
+
+    fn eq(&self, other: &SortedRun<A>) -> bool {
+        compare_pairs(&other.first, &self.first).is_eq()
+    }
+}
+
+impl<A: Allocator> Eq for SortedRun<A> {
+    ghost laws = { eq_by_cmp_equiv run_cmp_total };
+}
+
+impl<A: Allocator> PartialOrd for SortedRun<A> {
+    ghost partial_cmp = { λ a b. Some (run_cmp a b) };
+
+    ghost laws = { partial_order_from_total run_cmp_total };
+
+    fn partial_cmp(&self, other: &SortedRun<A>) -> Option<Ordering> {
+        Some(self.cmp(other))
+    }
+}
+
+/// The run whose first pair comes first is the greatest: a heap of runs has it on top.
+impl<A: Allocator> Ord for SortedRun<A> {
+    ghost cmp = { run_cmp };
+
+    ghost total = { run_cmp_total };
+
+    ghost matches_partial_cmp = { Prim.search (comparing, rules) };
+
+    ghost matches_eq = { Prim.search (comparing, rules) };
+
+    fn cmp(&self, other: &SortedRun<A>) -> Ordering {
+        compare_pairs(&other.first, &self.first)
+    }
+}
+
+impl<A: Allocator> SortedRun<A> {
+    /// The run of these pairs; none of no pair.
+    fn new(mut pairs: Vec<Pair, A>) -> Option<SortedRun<A>>
+        ensures pairs { MatchOption result (pairs.items ≡ []) (λ run. IsPermutation pairs.items (run_pairs run)) }
+        ensures sorted { IfSome result (λ run. IsSorted pair_cmp (run_pairs run)) }
+    {
+        pairs.sort_unstable();
+        let mut rest = pairs.into_iter();
+        let first = rest.next()?;
+        Some(SortedRun { first, rest })
+    }
+
+    /// The run behind its first pair, if there is more of it.
+    fn behind(mut self) -> Option<SortedRun<A>>
+        ensures { MatchOption result (run_pairs self ≡ self.first ∷ []) (λ run. run_pairs self ≡ self.first ∷ run_pairs run) }
+    {
+        let first = self.rest.next()?;
+        Some(SortedRun {
+            first,
+            rest: self.rest,
+        })
+    }
+}
+
+/// Adds the run to a heap that has room for it.
+fn push_run<A: Allocator>(runs: &mut BinaryHeap<SortedRun<A>, A>, run: SortedRun<A>)
+    requires room { heap_len runs.old < heap_capacity runs.old }
+    ensures permutation { IsPermutation (run ∷ heap_items runs.old) (heap_items runs.new) }
+    ensures heap_order { KeepsHeap run_cmp (heap_items runs.old) (heap_items runs.new) }
+    ensures len { heap_len runs.new ≡ heap_len runs.old + 1 }
+    ensures capacity { heap_capacity runs.old ≤ heap_capacity runs.new }
+{
+    match runs.push(run) {
+        Ok(()) => {}
+        Err(_) => unreachable!(),
+    }
+}
+
+/// Adds the run of these pairs, if there are any, to a heap that has room for it.
+fn push_pairs<A: Allocator>(runs: &mut BinaryHeap<SortedRun<A>, A>, pairs: Vec<Pair, A>)
+    requires room { heap_len runs.old < heap_capacity runs.old }
+    requires sound { AreSortedRuns (heap_items runs.old) }
+    ensures added { AreSame (pairs.items ++ pairs_in (heap_items runs.old)) (pairs_in (heap_items runs.new)) }
+    ensures sound { AreSortedRuns (heap_items runs.new) }
+    ensures len { heap_len runs.new ≤ heap_len runs.old + 1 }
+    ensures capacity { heap_capacity runs.old ≤ heap_capacity runs.new }
+{
+    match SortedRun::new(pairs) {
+        Some(run) => push_run(runs, run),
+        None => {}
+    }
+}
+
+/// Puts what lies behind the run's first pair, if there is more of it, back into a heap that has
+/// room for it.
+fn push_behind<A: Allocator>(runs: &mut BinaryHeap<SortedRun<A>, A>, run: SortedRun<A>)
+    requires room { heap_len runs.old < heap_capacity runs.old }
+    requires sound { AreSortedRuns (heap_items runs.old) }
+    requires sorted { IsSorted pair_cmp (run_pairs run) }
+    ensures left { AreSame (run_pairs run ++ pairs_in (heap_items runs.old)) (run.first ∷ pairs_in (heap_items runs.new)) }
+    ensures sound { AreSortedRuns (heap_items runs.new) }
+{
+    match run.behind() {
+        Some(rest) => push_run(runs, rest),
+        None => {}
+    }
+}
+
+/// Pairs in sorted runs, which are handed out in their order.
+#[derive(Drop)]
+pub(crate) struct Merge<A: Allocator> {
+    runs: BinaryHeap<SortedRun<A>, A>,
+}
+
+impl<A: Allocator> Model for Merge<A> {
+    ghost use Rattle.std.specs.Prelude.{List};
+    ghost use Rattle.records.specs.declared.pair.Pair.{Pair};
+
+    ghost Value = { List Pair };
+
+    ghost use Rattle.std.specs.BinaryHeap.{heap_items};
+    ghost use Rattle.sorted_scan.specs.Merges.{pairs_in, AreSortedRuns};
+
+    ghost view = { λ m. pairs_in (heap_items m.runs) };
+
+    ghost invariant = { λ m. AreSortedRuns (heap_items m.runs) };
+}
+
+impl<A: Allocator> Merge<A> {
+    pub(crate) fn new(alloc: A) -> Self
+        ensures { result ≡ [] }
+    {
+        Merge {
+            runs: BinaryHeap::new(alloc),
+        }
+    }
+
+    /// Adds two runs, of these pairs and of those; where memory is refused, neither.
+    pub(crate) fn add(
+        &mut self,
+        pairs: Vec<Pair, A>,
+        others: Vec<Pair, A>,
+    ) -> Result<(), AllocError>
+        ensures added { OnOk result (AreSame ((pairs.items ++ others.items) ++ self.old) self.new) }
+        ensures unchanged { OnErr result (self.new ≡ self.old) }
+    {
+        self.runs.reserve(2)?;
+        push_pairs(&mut self.runs, pairs);
+        push_pairs(&mut self.runs, others);
+        Ok(())
+    }
+
+    /// The least of the pairs.
+    pub(crate) fn first(&self) -> Option<Pair>
+        ensures { result ≡ least self.now }
+    {
+        match self.runs.peek() {
+            Some(run) => Some(run.first),
+            None => None,
+        }
+    }
+
+    /// Hands the least of the pairs out. It takes no memory.
+    pub(crate) fn take_first(&mut self) -> Option<Pair>
+        ensures first { result ≡ least self.old }
+        ensures others { IfSome result (λ p. AreSame self.old (p ∷ self.new)) }
+        ensures unchanged { IfNone result (self.new ≡ self.old) }
+    {
+        let run = self.runs.pop()?;
+        let first = run.first;
+        push_behind(&mut self.runs, run);
+        Some(first)
+    }
+}
