@@ -84,7 +84,12 @@ standing_after k (Reply.Committed n c) = record k { made = k.made + 1; active = 
 standing_after k (Reply.Created n) = record k { made = k.made + 1; attempts = 0; scanned = 0 }
 standing_after k (Built b) = after_build k b
 standing_after k (Cleaner c) = after_clean k c
-standing_after k _ = k
+standing_after k Empty = k
+standing_after k (RowIs row) = k
+standing_after k (Found rids) = k
+standing_after k (LifeIs life) = k
+standing_after k Skipped = k
+standing_after k (Refused error) = k
 
 -- after a restart that read records up to this number
 abbrev pub standing_at : ℕ → Standing

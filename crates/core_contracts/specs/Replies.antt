@@ -23,7 +23,7 @@ use Rattle.records.specs.declared.limits.TheConstants.{ATTEMPTS_PER_CHECKPOINT}
 use Rattle.records.specs.declared.txn.TheConstants.{TXNS_MAX}
 use Rattle.core_model.specs.States.{Active, OldMarked, RowSet, State}
 use Rattle.core_model.specs.Steps.{Attempt, CanClean, CanFinish, Checkpoint, Finish, IsBuilding, IsReady, Keep, Next, Start, Step, Take, Wrap, above, after, all_reserved, is_indexed, places_of, txn_at}
-use Rattle.core_model.specs.Changes.{Unchanged, listed}
+use Rattle.core_model.specs.Changes.{Unchanged, as_list}
 
 -- ---- what an event asks for first
 
@@ -74,7 +74,7 @@ abbrev pub IsHeldByOther : State → ℕ → Place → Type 0
 IsHeldByOther s t r = (u : ℕ) × (s.holder r ≡ Some u) × (u ≢ t)
 
 abbrev pub HasNoMoreChanges : State → ℕ → Type 0
-HasNoMoreChanges s t = CHANGES_MAX ≤ length (listed (txn_at s t).changes)
+HasNoMoreChanges s t = CHANGES_MAX ≤ length (as_list (txn_at s t).changes)
 
 abbrev pub IsAnyActive : State → Type 0
 IsAnyActive s = (t : ℕ) × (x : Active) × (s.txns t ≡ Some x)
@@ -112,7 +112,7 @@ pub record IsLeastFree (s : State) (r : Place) : Type 0 where
   pub least : (q : Place) → IsFree s q → is_lt (rid_cmp q r) ≡ false
 
 abbrev pub change_of : State → ℕ → Place → Rows → ChangeValue
-change_of s t rid rows = record { position = length (listed (txn_at s t).changes); rid = rid; rows = rows }
+change_of s t rid rows = record { position = length (as_list (txn_at s t).changes); rid = rid; rows = rows }
 
 -- the builder is not to make a checkpoint
 abbrev pub IsBetween : State → Standing → Type 0

@@ -1,7 +1,7 @@
 -- Lists of events with their replies, and the history that they tell.
 use Rattle.std.specs.FinMap.{len}
 use Rattle.std.specs.Ordering.{nat_cmp}
-use Rattle.std.specs.Prelude.{List, None, Option, Some, [], length, true, ℕ, ◌++◌, ◌+◌, ◌<◌, ◌∷◌, ◌≡◌, ◌≢◌, ◌≤◌}
+use Rattle.std.specs.Prelude.{List, None, Option, Some, [], length, map, true, ℕ, ◌++◌, ◌+◌, ◌<◌, ◌∷◌, ◌≡◌, ◌≢◌, ◌≤◌}
 use Rattle.records.specs.RecordValue.{RecordValue}
 use Rattle.records.specs.Values.{Place}
 use Rattle.records.specs.declared.number.TheConstants.{LAST_NUMBER}
@@ -9,7 +9,7 @@ use Rattle.records.specs.declared.txn.TheConstants.{TXNS_MAX}
 use Rattle.records.specs.declared.row.Row.{Row}
 use Rattle.model.specs.History.{Deed, Item}
 use Rattle.model.specs.declared.write.Write.{Write}
-use Rattle.core_contracts.specs.Events.{BuildReply, Built, Done, Ended, Event, Reply, Standing, Stepped, standing_after, standing_at}
+use Rattle.core_contracts.specs.Events.{BuildReply, Built, Cleaner, Done, Empty, Ended, Event, Found, Idle, LifeIs, Placed, Refused, Rejected, Reply, Rid, RowIs, Scanned, Skipped, Standing, Stepped, Txn, Undone, standing_after, standing_at}
 use Rattle.core_model.specs.Records.{action_of}
 use Rattle.core_contracts.specs.Replies.{IsAllowed, after_any}
 use Rattle.core_model.specs.Logs.{HasMade, next_number, one_record}
@@ -23,25 +23,88 @@ pub data Serves : State → Standing → List (Event × Reply) → State → Sta
   nothing : {s : State} {k : Standing} → Serves s k [] s k
   served : {s new : State} {k next : Standing} (e : Event) (reply : Reply) (step : Option Step) (rest : List (Event × Reply)) → IsAllowed s k e reply step → Serves (after_any s step) (standing_after k reply) rest new next → Serves s k ((e, reply) ∷ rest) new next
 
+-- a transaction is asked for one write more
 abbrev pub one_write : (ℕ → List Write) → ℕ → Place → Option Row → ℕ → List Write
 one_write writes t r row = update nat_cmp writes t (writes t ++ record { rid = r; row = row } ∷ [])
 
--- what each transaction was asked to set, by the events that were accepted
-abbrev pub asked_after : (ℕ → List Write) → Reply → Event → ℕ → List Write
-asked_after writes (Reply.Rid r) (Event.Insert t row) = one_write writes t r (Some row)
-asked_after writes Stepped (Event.Delete t r) = one_write writes t r None
-asked_after writes Stepped (Event.Update t r row) = one_write writes t r (Some row)
-asked_after writes (Reply.Committed n c) (Event.Commit t) = update nat_cmp writes t []
-asked_after writes Ended (Event.End t) = update nat_cmp writes t []
-asked_after writes _ _ = writes
+-- what each transaction was asked to set, after an event that was accepted; an insertion learns its place
+abbrev pub asked_by : (ℕ → List Write) → Option Place → Event → ℕ → List Write
+asked_by writes place Event.Begin = writes
+asked_by writes None (Event.Insert t row) = writes
+asked_by writes (Some r) (Event.Insert t row) = one_write writes t r (Some row)
+asked_by writes place (Event.Delete t r) = one_write writes t r None
+asked_by writes place (Event.Update t r row) = one_write writes t r (Some row)
+asked_by writes place (Event.Step t) = writes
+asked_by writes place (Event.Undo t) = writes
+asked_by writes place (Event.End t) = update nat_cmp writes t []
+asked_by writes place (Event.Commit t) = update nat_cmp writes t []
+asked_by writes place Event.Create = writes
+asked_by writes place Event.Build = writes
+asked_by writes place Event.Clean = writes
+asked_by writes place (Event.Get r) = writes
+asked_by writes place (Event.Find key) = writes
+asked_by writes place Event.Life = writes
 
--- a commit, a creation or the end of a build, with the number of its ticket
+-- and after an event with this reply: one that was skipped or refused asks for nothing
+abbrev pub asked_after : (ℕ → List Write) → Reply → Event → ℕ → List Write
+asked_after writes (Txn t) e = asked_by writes None e
+asked_after writes (Rid r) e = asked_by writes (Some r) e
+asked_after writes Stepped e = asked_by writes None e
+asked_after writes Undone e = asked_by writes None e
+asked_after writes Empty e = asked_by writes None e
+asked_after writes Ended e = asked_by writes None e
+asked_after writes (Reply.Committed n c) e = asked_by writes None e
+asked_after writes (Reply.Created n) e = asked_by writes None e
+asked_after writes (Built b) e = asked_by writes None e
+asked_after writes (Cleaner c) e = asked_by writes None e
+asked_after writes (RowIs row) e = asked_by writes None e
+asked_after writes (Found rids) e = asked_by writes None e
+asked_after writes (LifeIs life) e = asked_by writes None e
+asked_after writes Skipped e = writes
+asked_after writes (Refused error) e = writes
+
+-- the writes of the transaction that an event commits
+abbrev pub commit_of : (ℕ → List Write) → Event → List Deed
+commit_of writes Event.Begin = []
+commit_of writes (Event.Insert t row) = []
+commit_of writes (Event.Delete t r) = []
+commit_of writes (Event.Update t r row) = []
+commit_of writes (Event.Step t) = []
+commit_of writes (Event.Undo t) = []
+commit_of writes (Event.End t) = []
+commit_of writes (Event.Commit t) = Deed.Committed (writes t) ∷ []
+commit_of writes Event.Create = []
+commit_of writes Event.Build = []
+commit_of writes Event.Clean = []
+commit_of writes (Event.Get r) = []
+commit_of writes (Event.Find key) = []
+commit_of writes Event.Life = []
+
+abbrev pub items_of_build : BuildReply → List Item
+items_of_build (Scanned page) = []
+items_of_build (Placed p) = []
+items_of_build (Rejected p) = []
+items_of_build (BuildReply.Marked p n) = record { number = n; deed = Deed.Checkpointed p } ∷ []
+items_of_build (Done n) = record { number = n; deed = Deed.Completed } ∷ []
+items_of_build Idle = []
+
+-- what a reply adds to the history: a commit, a creation, a checkpoint or the end of a build, with the number of its record
 abbrev pub items_at : (ℕ → List Write) → Reply → Event → List Item
-items_at writes (Reply.Committed n c) (Event.Commit t) = record { number = n; deed = Deed.Committed (writes t) } ∷ []
-items_at writes (Reply.Created n) Event.Create = record { number = n; deed = Deed.Created } ∷ []
-items_at writes (Built (BuildReply.Marked p n)) Event.Build = record { number = n; deed = Deed.Checkpointed p } ∷ []
-items_at writes (Built (Done n)) Event.Build = record { number = n; deed = Deed.Completed } ∷ []
-items_at writes _ _ = []
+items_at writes (Txn t) e = []
+items_at writes (Rid r) e = []
+items_at writes Stepped e = []
+items_at writes Undone e = []
+items_at writes Empty e = []
+items_at writes Ended e = []
+items_at writes (Reply.Committed n c) e = map (λ deed. record { number = n; deed = deed }) (commit_of writes e)
+items_at writes (Reply.Created n) e = record { number = n; deed = Deed.Created } ∷ []
+items_at writes (Built b) e = items_of_build b
+items_at writes (Cleaner c) e = []
+items_at writes (RowIs row) e = []
+items_at writes (Found rids) e = []
+items_at writes (LifeIs life) e = []
+items_at writes Skipped e = []
+items_at writes (Refused error) e = []
 
 -- the history that these events and replies tell
 abbrev pub items_of : (ℕ → List Write) → List (Event × Reply) → List Item

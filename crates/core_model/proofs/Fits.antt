@@ -16,7 +16,7 @@ use Rattle.core_model.proofs.Latest.{holds_more, not_none}
 use Rattle.core_model.proofs.Orders.{apart, update_apart, update_here}
 use Rattle.core_model.proofs.Places.{places_step}
 use Rattle.core_model.proofs.Pledged.{pledged_step}
-use Rattle.core_model.specs.Changes.{Changes, Unchanged, listed, new_pair, old_pair, ◌▹◌}
+use Rattle.core_model.specs.Changes.{Changes, Unchanged, as_list, new_pair, old_pair, ◌▹◌}
 use Rattle.core_model.specs.Invariants.{HasShape, IsFit, IsHolderOf, IsNumbered, IsShaped, IsWellFormed}
 use Rattle.core_model.specs.States.{Active, Made, NewMarked, OldMarked, OldSet, Phase, RowSet, State}
 use Rattle.core_model.specs.Steps.{Attempt, Begin, Checkpoint, Clean, Commit, Create, End, Finish, IsEnabled, Keep, Next, Start, Step, Take, Undo, Wrap, after, carried_on, freed, is_indexed, new_txn, row_made, row_undone, started, txn_at, undoing, undone, undone_first, update, with_change, with_phase, with_txn, without_newest}
@@ -60,7 +60,7 @@ module _ (s : State) (w : IsWellFormed s) (t : ℕ) where
     now : IsFit s.holder indexed t x
     now = w.txns t x active
 
-    module _ (c : ChangeValue) (mine : (s.holder c.rid ≡ None) ⊎ (s.holder c.rid ≡ Some t)) (position : c.position ≡ length (listed x.changes)) where
+    module _ (c : ChangeValue) (mine : (s.holder c.rid ≡ None) ⊎ (s.holder c.rid ≡ Some t)) (position : c.position ≡ length (as_list x.changes)) where
       abbrev held_too : Place → Option ℕ
       held_too = update rid_cmp s.holder c.rid (Some t)
 

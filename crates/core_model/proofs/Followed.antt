@@ -29,10 +29,10 @@ use Rattle.core_model.proofs.Logs.{found_apart, found_here, left, none_below, op
 use Rattle.core_model.proofs.Orders.{apart}
 use Rattle.core_model.proofs.Records.{list_is, no_list, step_follows}
 use Rattle.core_model.proofs.Runs.{run_keeps}
-use Rattle.core_model.specs.Changes.{Changes, Unchanged, listed, new_pair, old_pair, ◌▹◌}
+use Rattle.core_model.specs.Changes.{Changes, Unchanged, as_list, new_pair, old_pair, ◌▹◌}
 use Rattle.core_model.specs.Histories.{CanOpen, Opened, deeds_of, no_writes, opened, writes_after, writes_over}
 use Rattle.core_model.specs.Invariants.{Invariant, IsNumbered, IsShaped, IsWellFormed, Run, no_step, one_step}
-use Rattle.core_model.specs.Logs.{HasMade, IsLogOf, Recovers, item_at, items_from, items_over, next_number, one_record, records_from, records_over}
+use Rattle.core_model.specs.Logs.{HasMade, IsLogOf, RecoversPrefix, item_at, items_from, items_over, next_number, one_record, records_from, records_over}
 use Rattle.core_model.specs.Records.{HasCells, IsListOf, action_of, begun_action, first_action, next_action, place_action, set_by_any, undo_action}
 use Rattle.core_model.specs.States.{Active, Made, NewMarked, OldMarked, OldSet, Phase, RowSet, State}
 use Rattle.core_model.specs.Steps.{Attempt, Begin, Checkpoint, Clean, Commit, Create, End, Finish, IsBuilding, IsEnabled, IsPassed, Keep, Next, Start, Step, Take, Undo, Wrap, after, is_indexed, txn_at}
@@ -92,7 +92,7 @@ module _ (s : State) (i : IsWellFormed s) (cells : Cells) (k : HasCells s cells)
   there : s.life ≢ Absent → cells.life ≢ Absent
   there h a = h (sym k.life ∙ a)
 
-  list_at : (t : ℕ) (x : Active) → s.txns t ≡ Some x → list_of cells.pending t ≡ listed x.changes
+  list_at : (t : ℕ) (x : Active) → s.txns t ≡ Some x → list_of cells.pending t ≡ as_list x.changes
   list_at t x active = list_is (get cells.pending t) x (subst (IsListOf (get cells.pending t)) active (k.pending t))
 
   -- a transaction with a list is active
@@ -115,14 +115,14 @@ module _ (s : State) (i : IsWellFormed s) (cells : Cells) (k : HasCells s cells)
     room : HasRoom cells.pending t
     room = room_by (get cells.pending t) refl
 
-    next_on : (c : ChangeValue) → c.position ≡ length (listed x.changes) → IsNextOn (list_of cells.pending t) c
+    next_on : (c : ChangeValue) → c.position ≡ length (as_list x.changes) → IsNextOn (list_of cells.pending t) c
     next_on c e = inl (e ∙ ap length (sym (list_at t x active)))
 
   module _ (t : ℕ) (x : Active) (active : s.txns t ≡ Some x) (c : ChangeValue) (older : Changes) (e : x.changes ≡ older ▹ c) where
     last_of : IsLastOf (list_of cells.pending t) c
     last_of =
-        let position : c.position ≡ length (listed older) = (subst IsNumbered e (i.txns t x active).numbered).0 in
-        (listed older, list_at t x active ∙ ap listed e, position)
+        let position : c.position ≡ length (as_list older) = (subst IsNumbered e (i.txns t x active).numbered).0 in
+        (as_list older, list_at t x active ∙ ap as_list e, position)
 
     inside : c.rid.page < s.pages
     inside = change_inside s i t x active c older e
@@ -137,7 +137,7 @@ module _ (s : State) (i : IsWellFormed s) (cells : Cells) (k : HasCells s cells)
     begun_follows None h = (inside, tt, last_of)
     begun_follows (Some p) h = (inside, new_there p h, last_of)
 
-  start_follows : len s.pledges ≤ TXNS_MAX → (t : ℕ) (x : Active) → s.txns t ≡ Some x → (c : ChangeValue) → c.position ≡ length (listed x.changes) → c.rid.page < s.pages → (o : Option Pair) → old_pair (is_indexed s.life) c ≡ o
+  start_follows : len s.pledges ≤ TXNS_MAX → (t : ℕ) (x : Active) → s.txns t ≡ Some x → (c : ChangeValue) → c.position ≡ length (as_list x.changes) → c.rid.page < s.pages → (o : Option Pair) → old_pair (is_indexed s.life) c ≡ o
       → MayFollow s.pages cells (Some (first_action t c o))
   start_follows few t x active c e l None h = (l, tt, next_on few t x active c e, room few t x active)
   start_follows few t x active c e l (Some p) h = (
@@ -253,7 +253,7 @@ module _ (o : Opened) (can : CanOpen o) (made : List RecordValue) (items : List 
 
   pub made_recovers : (n : ℕ) → n ≤ length made → IsBeginning o.given items (o.given.last + n) (given_after o.given (take n made)) × CanOpen (record o { given = given_after o.given (take n made) })
   made_recovers n le =
-      let r : Recovers o h.steps n = recovers o can h.steps s h.run n (subst (λ (rs : List RecordValue). n ≤ length rs) h.records le) in (
+      let r : RecoversPrefix o h.steps n = recovers o can h.steps s h.run n (subst (λ (rs : List RecordValue). n ≤ length rs) h.records le) in (
         subst (λ (rs : List RecordValue). IsBeginning o.given items (o.given.last + n) (given_after o.given (take n rs))) (sym h.records) (subst (λ its. IsBeginning o.given its (o.given.last + n) (given_after o.given (take n (records_over o h.steps)))) (sym h.history) r.beginning),
         subst (λ (rs : List RecordValue). CanOpen (record o { given = given_after o.given (take n rs) })) (sym h.records) r.opens,
       )

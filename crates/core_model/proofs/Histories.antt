@@ -22,7 +22,7 @@ use Rattle.core_model.proofs.Orders.{update_apart, update_here}
 use Rattle.core_model.proofs.Runs.{run_keeps}
 use Rattle.core_model.proofs.Sums.{none_reserved}
 use Rattle.core_model.proofs.Txns.{newest_last}
-use Rattle.core_model.specs.Changes.{Changes, Unchanged, listed, new_pair, old_pair, pair_of, ◌▹◌}
+use Rattle.core_model.specs.Changes.{Changes, Unchanged, as_list, new_pair, old_pair, pair_of, ◌▹◌}
 use Rattle.core_model.specs.Histories.{AreItemsOf, CanOpen, FitsStore, IsCovered, IsWhole, Opened, deeds_of, highest_of, history, no_writes, opened, write_of, writes_after}
 use Rattle.core_model.specs.Invariants.{Invariant, IsAhead, IsCoherent, IsUnfinished, IsWellFormed, Run, no_step, one_step}
 use Rattle.core_model.specs.States.{Active, Made, NewMarked, OldMarked, OldSet, Phase, RowSet, State}
@@ -40,7 +40,7 @@ life_over life (deed ∷ deeds) = life_over (life_with life deed) deeds
 -- what was asked of each transaction that is not rolling back
 pub record IsTold (txns : ℕ → Option Active) (writes : ℕ → List Write) : Type 0 where
   pub idle : (t : ℕ) → txns t ≡ None → writes t ≡ []
-  pub active : (t : ℕ) (x : Active) → txns t ≡ Some x → x.rolling ≡ false → writes t ≡ writes_of (listed x.changes)
+  pub active : (t : ℕ) (x : Active) → txns t ≡ Some x → x.rolling ≡ false → writes t ≡ writes_of (as_list x.changes)
 
 -- ---- a core over loaded cells
 module _ (o : Opened) (fits : FitsStore o) where
@@ -113,7 +113,7 @@ module _ (txns : ℕ → Option Active) (writes writes' : ℕ → List Write) (t
   other_idle : (o : Option Active) (u : ℕ) → u ≢ t → update nat_cmp txns t o u ≡ None → writes' u ≡ []
   other_idle o u n e = same u n ∙ told.idle u (sym (update_apart nat_cmp-IsAntisymmetric txns t o u n) ∙ e)
 
-  other_active : (o : Option Active) (u : ℕ) (x : Active) → u ≢ t → update nat_cmp txns t o u ≡ Some x → x.rolling ≡ false → writes' u ≡ writes_of (listed x.changes)
+  other_active : (o : Option Active) (u : ℕ) (x : Active) → u ≢ t → update nat_cmp txns t o u ≡ Some x → x.rolling ≡ false → writes' u ≡ writes_of (as_list x.changes)
   other_active o u x n e f = same u n ∙ told.active u x (sym (update_apart nat_cmp-IsAntisymmetric txns t o u n) ∙ e) f
 
   at_txn : (o : Option Active) (u : ℕ) → u ≡ t → update nat_cmp txns t o u ≡ o
@@ -125,13 +125,13 @@ module _ (txns : ℕ → Option Active) (writes writes' : ℕ → List Write) (t
     active = λ u x e f. elim (nat_decided u t) [ inl is ↦ absurd (not_none e (at_txn None u is)) | inr n ↦ other_active None u x n e f ];
   }
 
-  pub told_now : (x' : Active) → (x'.rolling ≡ false → writes' t ≡ writes_of (listed x'.changes)) → IsTold (update nat_cmp txns t (Some x')) writes'
+  pub told_now : (x' : Active) → (x'.rolling ≡ false → writes' t ≡ writes_of (as_list x'.changes)) → IsTold (update nat_cmp txns t (Some x')) writes'
   told_now x' now = record {
     idle = λ u e. elim (nat_decided u t) [ inl is ↦ absurd (not_none (at_txn (Some x') u is) e) | inr n ↦ other_idle (Some x') u n e ];
     active = λ u x e f. elim (nat_decided u t) [
       | inl is ↦
           let who : x' ≡ x = same_some (at_txn (Some x') u is) e in
-          ap writes' is ∙ now (ap (λ (y : Active). y.rolling) who ∙ f) ∙ ap (λ (y : Active). writes_of (listed y.changes)) who
+          ap writes' is ∙ now (ap (λ (y : Active). y.rolling) who ∙ f) ∙ ap (λ (y : Active). writes_of (as_list y.changes)) who
       | inr n ↦ other_active (Some x') u x n e f
     ];
   }
@@ -139,7 +139,7 @@ module _ (txns : ℕ → Option Active) (writes writes' : ℕ → List Write) (t
 -- the same writes, where the transaction goes on with its changes or rolls back
 told_on : (txns : ℕ → Option Active) (writes : ℕ → List Write) → IsTold txns writes → (t : ℕ) (x x' : Active) → txns t ≡ Some x → (x'.rolling ≡ false → (x.rolling ≡ false) × (x'.changes ≡ x.changes)) → IsTold (update nat_cmp txns t (Some x')) writes
 told_on txns writes told t x x' active on =
-    told_now txns writes writes told t (λ u n. refl) x' (λ f. told.active t x active (on f).0 ∙ ap (λ cs. writes_of (listed cs)) (sym (on f).1))
+    told_now txns writes writes told t (λ u n. refl) x' (λ f. told.active t x active (on f).0 ∙ ap (λ cs. writes_of (as_list cs)) (sym (on f).1))
 
 rolls : (x x' : Active) → x'.rolling ≡ true → x'.rolling ≡ false → (x.rolling ≡ false) × (x'.changes ≡ x.changes)
 rolls x x' e f = absurd (true≢false (sym e ∙ f))

@@ -26,10 +26,10 @@ use Rattle.core_model.proofs.Orders.{update_apart, update_here}
 use Rattle.core_model.proofs.Records.{step_follows}
 use Rattle.core_model.proofs.Restarts.{CanRestart, can_restart}
 use Rattle.core_model.proofs.Runs.{run_keeps, step_keeps}
-use Rattle.core_model.specs.Changes.{Changes, Unchanged, listed, new_pair, old_pair, ◌▹◌}
+use Rattle.core_model.specs.Changes.{Changes, Unchanged, as_list, new_pair, old_pair, ◌▹◌}
 use Rattle.core_model.specs.Histories.{AreItemsOf, CanOpen, IsFaithful, Opened, deeds_of, history, no_writes, opened, writes_after}
 use Rattle.core_model.specs.Invariants.{Invariant, Run, no_step, one_step}
-use Rattle.core_model.specs.Logs.{Recovers, item_at, items_from, items_over, next_number, one_record, records_from, records_over}
+use Rattle.core_model.specs.Logs.{RecoversPrefix, item_at, items_from, items_over, next_number, one_record, records_from, records_over}
 use Rattle.core_model.specs.Records.{HasCells, IsListOf, action_of, set_by_any}
 use Rattle.core_model.proofs.Undone.{IsListing, entries_back, entries_undone, restarted, rows_back, rows_undone}
 use Rattle.core_model.specs.States.{Active, Made, NewMarked, OldMarked, OldSet, Phase, RowSet, State}
@@ -47,9 +47,9 @@ behind-append : (cs : Changes) (xs ys : List ChangeValue) → behind cs (xs ++ y
 behind-append cs [] ys = refl
 behind-append cs (x ∷ xs) ys = behind-append (cs ▹ x) xs ys
 
-changes_of-listed : (cs : Changes) → changes_of (listed cs) ≡ cs
+changes_of-listed : (cs : Changes) → changes_of (as_list cs) ≡ cs
 changes_of-listed Unchanged = refl
-changes_of-listed (older ▹ c) = behind-append Unchanged (listed older) (c ∷ []) ∙ ap (λ cs. cs ▹ c) (changes_of-listed older)
+changes_of-listed (older ▹ c) = behind-append Unchanged (as_list older) (c ∷ []) ∙ ap (λ cs. cs ▹ c) (changes_of-listed older)
 
 -- ---- taken back as a list, or as a transaction has them
 rows_same : (cs : Changes) (ds : List ChangeValue) (rows : Table) → rows_undone (behind cs ds) rows ≡ rows_undone cs (reverted rows ds)
@@ -394,7 +394,7 @@ length_taken zero records le = refl
 length_taken (suc n) [] le = absurd (omega (arith, le))
 length_taken (suc n) (r ∷ records) le = let rest : length (take n records) ≡ n = length_taken n records (omega (arith, le)) in omega (arith, rest)
 
-pub recovers : (o : Opened) → CanOpen o → (es : List Step) (s : State) → Run (opened o) es s → (n : ℕ) → n ≤ length (records_over o es) → Recovers o es n
+pub recovers : (o : Opened) → CanOpen o → (es : List Step) (s : State) → Run (opened o) es s → (n : ℕ) → n ≤ length (records_over o es) → RecoversPrefix o es n
 recovers o can es s run n le =
     let p : UpTo no_writes (opened o) o.given.last es n = up_to_record (opened o) s es run no_writes o.given.last n le in
     let count : length (records_over o p.steps) ≡ n = ap length (sym p.records) ∙ length_taken n (records_over o es) le in

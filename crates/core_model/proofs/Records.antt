@@ -19,7 +19,7 @@ use Rattle.records.specs.declared.pair.Pair.{Pair}
 use Rattle.records.specs.declared.record.Action.{Action}
 use Rattle.records.specs.declared.record.Part.TheVariants.{Slot}
 use Rattle.records.specs.declared.row.Row.{Row}
-use Rattle.model.specs.Cells.{Cells, Pending, list_of, noted, set_by, taken_off, with_list, with_mark}
+use Rattle.model.specs.Cells.{Cells, Pending, list_of, noted, set_by, taken_off, with_list}
 use Rattle.model.specs.KeyActions.{after_action}
 use Rattle.model.specs.Table.{Index, Table}
 use Rattle.model.specs.declared.key_action.KeyAction.TheVariants.{BuildPut}
@@ -28,32 +28,32 @@ use Rattle.core_model.proofs.Builds.{build_put_some}
 use Rattle.core_model.proofs.Frames.{nat_decided}
 use Rattle.core_model.proofs.Latest.{Gone, gone_is, not_none}
 use Rattle.core_model.proofs.Orders.{update_apart, update_here}
-use Rattle.core_model.specs.Changes.{Changes, Unchanged, gone, listed, new_pair, old_pair, ◌▹◌}
+use Rattle.core_model.specs.Changes.{Changes, Unchanged, gone, as_list, new_pair, old_pair, pair_at, ◌▹◌}
 use Rattle.core_model.specs.Invariants.{HasPair, IsShaped, IsWellFormed}
 use Rattle.core_model.specs.States.{Active, Made, NewMarked, OldMarked, OldSet, Phase, RowSet, State}
 use Rattle.core_model.specs.Steps.{Attempt, Begin, Checkpoint, Clean, Commit, Create, End, Finish, IsEnabled, Keep, Next, Start, Step, Take, Undo, Wrap, after, carried_on, is_indexed, left, moved_by, new_txn, row_made, row_undone, started, txn_at, undoing, undone, undone_first, update, with_change, with_entry, with_txn, without_newest}
 
 -- ---- the lists of the log
-module _ (older : Changes) (c : ChangeValue) (k : c.position ≡ length (listed older)) where
+module _ (older : Changes) (c : ChangeValue) (k : c.position ≡ length (as_list older)) where
   -- the first record of a change puts it on the list
-  noted_first : noted (listed older) c ≡ listed (older ▹ c)
-  noted_first = ap (λ n. take n (listed older) ++ c ∷ []) k ∙ ap (λ cs. cs ++ c ∷ []) (take-length (listed older))
+  noted_first : noted (as_list older) c ≡ as_list (older ▹ c)
+  noted_first = ap (λ n. take n (as_list older) ++ c ∷ []) k ∙ ap (λ cs. cs ++ c ∷ []) (take-length (as_list older))
 
   -- a later one leaves it there
-  noted_again : noted (listed (older ▹ c)) c ≡ listed (older ▹ c)
-  noted_again = ap (λ n. take n (listed older ++ c ∷ []) ++ c ∷ []) k ∙ ap (λ cs. cs ++ c ∷ []) (take-append_seam (listed older) (c ∷ []))
+  noted_again : noted (as_list (older ▹ c)) c ≡ as_list (older ▹ c)
+  noted_again = ap (λ n. take n (as_list older ++ c ∷ []) ++ c ∷ []) k ∙ ap (λ cs. cs ++ c ∷ []) (take-append_seam (as_list older) (c ∷ []))
 
 less_one : (n m : ℕ) → n ≡ m + 1 → n - 1 ≡ m
 less_one n m e = omega (arith, e)
 
 -- the last record of an undo takes the newest change off
-off_newest : (older : Changes) (c : ChangeValue) → taken_off (listed (older ▹ c)) true ≡ listed older
+off_newest : (older : Changes) (c : ChangeValue) → taken_off (as_list (older ▹ c)) true ≡ as_list older
 off_newest older c =
-    ap (λ n. take n (listed older ++ c ∷ [])) (less_one _ (length (listed older)) (length-append (listed older) (c ∷ [])))
-    ∙ take-append_seam (listed older) (c ∷ [])
+    ap (λ n. take n (as_list older ++ c ∷ [])) (less_one _ (length (as_list older)) (length-append (as_list older) (c ∷ [])))
+    ∙ take-append_seam (as_list older) (c ∷ [])
 
-pub list_is : (list : Option (List ChangeValue)) (x : Active) → IsListOf list (Some x) → unwrap_or list [] ≡ listed x.changes
-list_is None x h = sym (ap listed h)
+pub list_is : (list : Option (List ChangeValue)) (x : Active) → IsListOf list (Some x) → unwrap_or list [] ≡ as_list x.changes
+list_is None x h = sym (ap as_list h)
 list_is (Some list) x h = h
 
 pub no_list : (list : Option (List ChangeValue)) → IsListOf list None → list ≡ None
@@ -80,11 +80,11 @@ module _ (s : State) (pending : Pending) (h : (u : ℕ) → IsListOf (get pendin
   ]
 
 -- the pair of a record is that of its row
-marked_is : (indexed : Bool) (r : Place) (row other : Option Row) (entries : Index) (mark : Mark) (o : Option Pair) → HasPair o (λ p. Unit {0}) → gone indexed r row other ≡ o → with_mark entries r row mark ≡ with_entry entries o mark
+marked_is : (indexed : Bool) (r : Place) (row other : Option Row) (entries : Index) (mark : Mark) (o : Option Pair) → HasPair o (λ p. Unit {0}) → gone indexed r row other ≡ o → with_entry entries (pair_at r row) mark ≡ with_entry entries o mark
 marked_is indexed r row other entries mark None h e = absurd (not_none h.is refl)
 marked_is indexed r row other entries mark (Some p) h e =
     let g : Gone indexed r row p = gone_is indexed r row other p e in
-    ap (λ v. with_mark entries r v mark) g.is ∙ ap (λ (q : Pair). set_at entries q (Some mark)) (sym g.pair)
+    ap (λ v. with_entry entries (pair_at r v) mark) g.is ∙ ap (λ (q : Pair). set_at entries q (Some mark)) (sym g.pair)
 
 -- who holds a row is in no cell
 other_holder : (s : State) (cells : Cells) (holder : Place → Option ℕ) → HasCells s cells → HasCells (record s { holder = holder }) cells
@@ -95,7 +95,7 @@ module _ (s : State) (cells : Cells) (k : HasCells s cells) (t : ℕ) where
   pending_is = k.pending
 
   -- a record that sets the row
-  row_cells : (rid : Place) (row : Option Row) (x' : Active) (cs : List ChangeValue) → cs ≡ listed x'.changes
+  row_cells : (rid : Place) (row : Option Row) (x' : Active) (cs : List ChangeValue) → cs ≡ as_list x'.changes
       → HasCells (record s { rows = set_at s.rows rid row; txns = with_txn s t x' }) (record { rows = set_at cells.rows rid row; entries = cells.entries; pending = with_list cells.pending t (Some cs); life = cells.life })
   row_cells rid row x' cs e = record {
     rows = ap (λ m. set_at m rid row) k.rows;
@@ -105,11 +105,11 @@ module _ (s : State) (cells : Cells) (k : HasCells s cells) (t : ℕ) where
   }
 
   -- a record that sets an entry
-  entry_cells : (rid : Place) (row other : Option Row) (mark : Mark) (o : Option Pair) → gone (is_indexed s.life) rid row other ≡ o → HasPair o (λ p. Unit {0}) → (x' : Active) (cs : List ChangeValue) → cs ≡ listed x'.changes
-      → HasCells (record s { entries = with_entry s.entries o mark; txns = with_txn s t x' }) (record { rows = cells.rows; entries = with_mark cells.entries rid row mark; pending = with_list cells.pending t (Some cs); life = cells.life })
+  entry_cells : (rid : Place) (row other : Option Row) (mark : Mark) (o : Option Pair) → gone (is_indexed s.life) rid row other ≡ o → HasPair o (λ p. Unit {0}) → (x' : Active) (cs : List ChangeValue) → cs ≡ as_list x'.changes
+      → HasCells (record s { entries = with_entry s.entries o mark; txns = with_txn s t x' }) (record { rows = cells.rows; entries = with_entry cells.entries (pair_at rid row) mark; pending = with_list cells.pending t (Some cs); life = cells.life })
   entry_cells rid row other mark o g is x' cs e = record {
     rows = k.rows;
-    entries = ap (λ m. with_mark m rid row mark) k.entries ∙ marked_is (is_indexed s.life) rid row other s.entries mark o is g;
+    entries = ap (λ m. with_entry m (pair_at rid row) mark) k.entries ∙ marked_is (is_indexed s.life) rid row other s.entries mark o is g;
     pending = list_set s cells.pending pending_is t (Some x') (Some cs) e;
     life = k.life;
   }
@@ -123,26 +123,26 @@ module _ (s : State) (cells : Cells) (k : HasCells s cells) (t : ℕ) where
   same_cells x' e = record { rows = k.rows; entries = k.entries; pending = list_stays s cells.pending pending_is t (Some x') e; life = k.life }
 
   module _ (x : Active) (active : s.txns t ≡ Some x) where
-    mine : list_of cells.pending t ≡ listed x.changes
+    mine : list_of cells.pending t ≡ as_list x.changes
     mine = list_is (get cells.pending t) x (subst (IsListOf (get cells.pending t)) active (pending_is t))
 
-    first_list : (c : ChangeValue) → c.position ≡ length (listed x.changes) → noted (list_of cells.pending t) c ≡ listed (x.changes ▹ c)
+    first_list : (c : ChangeValue) → c.position ≡ length (as_list x.changes) → noted (list_of cells.pending t) c ≡ as_list (x.changes ▹ c)
     first_list c e = ap (λ cs. noted cs c) mine ∙ noted_first x.changes c e
 
-    start_cells : (c : ChangeValue) → c.position ≡ length (listed x.changes) → (o : Option Pair) → old_pair (is_indexed s.life) c ≡ o → HasCells (started s t x c o) (set_by cells (first_action t c o))
+    start_cells : (c : ChangeValue) → c.position ≡ length (as_list x.changes) → (o : Option Pair) → old_pair (is_indexed s.life) c ≡ o → HasCells (started s t x c o) (set_by cells (first_action t c o))
     start_cells c e None g =
         other_holder _ _ (update rid_cmp s.holder c.rid (Some t)) (row_cells c.rid (new_row c.rows) (with_change x c (row_made (new_pair (is_indexed s.life) c))) _ (first_list c e))
     start_cells c e (Some p) g =
         other_holder _ _ (update rid_cmp s.holder c.rid (Some t)) (entry_cells c.rid (old_row c.rows) (new_row c.rows) Marked (Some p) g (record { it = p; is = refl; holds = tt }) (with_change x c OldMarked) _ (first_list c e))
 
     module _ (c : ChangeValue) (older : Changes) (e : x.changes ≡ older ▹ c) where
-      whole_list : list_of cells.pending t ≡ listed (older ▹ c)
-      whole_list = mine ∙ ap listed e
+      whole_list : list_of cells.pending t ≡ as_list (older ▹ c)
+      whole_list = mine ∙ ap as_list e
 
-      again_list : c.position ≡ length (listed older) → noted (list_of cells.pending t) c ≡ listed x.changes
-      again_list n = ap (λ cs. noted cs c) whole_list ∙ noted_again older c n ∙ ap listed (sym e)
+      again_list : c.position ≡ length (as_list older) → noted (list_of cells.pending t) c ≡ as_list x.changes
+      again_list n = ap (λ cs. noted cs c) whole_list ∙ noted_again older c n ∙ ap as_list (sym e)
 
-      off_list : taken_off (list_of cells.pending t) true ≡ listed older
+      off_list : taken_off (list_of cells.pending t) true ≡ as_list older
       off_list = ap (λ cs. taken_off cs true) whole_list ∙ off_newest older c
 
       row_left : (o : Option Pair) → HasCells (record s { rows = set_at s.rows c.rid (old_row c.rows); txns = with_txn s t (row_undone x older o) }) (set_by cells (undo t Slot c (is_last o)))
@@ -167,7 +167,7 @@ next_cells s i cells k t (older ▹ c) OldSet rolling active = k
 
 none_changed : (x x' : Active) → x.changes ≡ x'.changes → (list : Option (List ChangeValue)) → IsListOf list (Some x) → IsListOf list (Some x')
 none_changed x x' e None h = sym e ∙ h
-none_changed x x' e (Some list) h = h ∙ ap listed e
+none_changed x x' e (Some list) h = h ∙ ap as_list e
 
 undo_cells : (s : State) (i : IsWellFormed s) (cells : Cells) → HasCells s cells → (t : ℕ) (cs : Changes) (phase : Phase) (rolling : Bool) → s.txns t ≡ Some (record { changes = cs; phase = phase; rolling = rolling })
     → HasCells (undone s t (record { changes = cs; phase = phase; rolling = rolling }) cs phase) (set_by_any cells (undo_action (is_indexed s.life) t cs phase))

@@ -21,7 +21,7 @@ use Rattle.core_model.proofs.Cells.{Ends, Replaced, mark_step, put_step, row_ste
 use Rattle.core_model.proofs.Frames.{moved, nat_decided, rid_decided, same_some, txn_apart, txn_here}
 use Rattle.core_model.proofs.Latest.{Gone, Stays, chained_same, gone_is, holds_more, latest_here, latest_other, latest_unnamed, not_none, same_key_is, stays}
 use Rattle.core_model.proofs.Orders.{apart, level, update_apart, update_here, update_twice}
-use Rattle.core_model.specs.Changes.{Changes, Unchanged, gone, latest, listed, new_pair, old_pair, pair_of, same_key, ◌▹◌}
+use Rattle.core_model.specs.Changes.{Changes, Unchanged, gone, latest, as_list, new_pair, old_pair, pair_of, same_key, ◌▹◌}
 use Rattle.core_model.specs.Histories.{write_of}
 use Rattle.core_model.specs.Invariants.{HasPair, IsAhead, IsBusyWith, IsChained, IsCoherent, IsHeld, IsHolderOf, IsInPhase, IsPhaseOf, IsUnfinished, IsVisibleOrAhead, TxnHolds, applied_of, made_of}
 use Rattle.core_model.specs.States.{Active, Made, NewMarked, OldMarked, OldSet, Phase, RowSet, State}
@@ -540,21 +540,21 @@ applied-append table [] later = refl
 applied-append table (w ∷ writes) later = applied-append (set_at table w.rid w.row) writes later
 
 -- the writes of a change after those of the older ones
-pub newest_last : (c : ChangeValue) (older : Changes) → writes_of (listed (older ▹ c)) ≡ writes_of (listed older) ++ write_of c ∷ []
-newest_last c older = writes_of-append (listed older) (c ∷ [])
+pub newest_last : (c : ChangeValue) (older : Changes) → writes_of (as_list (older ▹ c)) ≡ writes_of (as_list older) ++ write_of c ∷ []
+newest_last c older = writes_of-append (as_list older) (c ∷ [])
 
 -- a commit of these changes leaves what the newest change of each row set
-pub committed_at : (cs : Changes) (table : Table) (r : Place) → get (applied table (writes_of (listed cs))) r ≡ latest cs r (get table r)
+pub committed_at : (cs : Changes) (table : Table) (r : Place) → get (applied table (writes_of (as_list cs))) r ≡ latest cs r (get table r)
 committed_at Unchanged table r = refl
 committed_at (older ▹ c) table r =
     ap (λ ws. get (applied table ws) r) (newest_last c older)
-    ∙ ap (λ w. get w r) (applied-append table (writes_of (listed older)) (write_of c ∷ []))
-    ∙ get-set_at rid_exact (applied table (writes_of (listed older))) c.rid (new_row c.rows) r
+    ∙ ap (λ w. get w r) (applied-append table (writes_of (as_list older)) (write_of c ∷ []))
+    ∙ get-set_at rid_exact (applied table (writes_of (as_list older))) c.rid (new_row c.rows) r
     ∙ ap (cond (eq_by_cmp rid_cmp r c.rid) (new_row c.rows)) (committed_at older table r)
 
-pub commit_keeps : (s : State) → IsCoherent s → (t : ℕ) (x : Active) → s.txns t ≡ Some x → IsReady x → IsCoherent (left s t (applied s.committed (writes_of (listed x.changes))))
+pub commit_keeps : (s : State) → IsCoherent s → (t : ℕ) (x : Active) → s.txns t ≡ Some x → IsReady x → IsCoherent (left s t (applied s.committed (writes_of (as_list x.changes))))
 commit_keeps s i t x active ready =
-    leave_keeps s i t x active ready.0 (applied s.committed (writes_of (listed x.changes)))
+    leave_keeps s i t x active ready.0 (applied s.committed (writes_of (as_list x.changes)))
     (λ r e.
     let h : IsHeld s r t = i.held r t e in
     h.row ∙ ap (λ y. latest (made_of y) r (get s.committed r)) (same_some h.active active) ∙ ap (λ cs. latest cs r (get s.committed r)) (made_applied x ready.0) ∙ sym (committed_at x.changes s.committed r))

@@ -6,7 +6,7 @@ use Rattle.records.specs.Orders.{rid_cmp}
 use Rattle.records.specs.Spelling.{new_row}
 use Rattle.records.specs.Values.{Place}
 use Rattle.records.specs.declared.row.Row.{Row}
-pub use Rattle.model.specs.Pairs.{gone, new_pair, old_pair, pair_of, same_key}
+pub use Rattle.model.specs.Pairs.{gone, new_pair, old_pair, pair_at, pair_of, same_key}
 
 -- the changes of a transaction, the oldest first: none, or the older ones and the newest behind them
 pub data Changes : Type 0 where
@@ -15,9 +15,9 @@ pub data Changes : Type 0 where
 
 infixl 70 ◌▹◌
 -- as a list, the oldest first
-abbrev pub listed : Changes → List ChangeValue
-listed Unchanged = []
-listed (older ▹ c) = listed older ++ c ∷ []
+abbrev pub as_list : Changes → List ChangeValue
+as_list Unchanged = []
+as_list (older ▹ c) = as_list older ++ c ∷ []
 
 -- what these changes, one after the other, make of the row at this place
 abbrev pub latest : Changes → Place → Option Row → Option Row

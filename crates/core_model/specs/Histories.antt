@@ -20,7 +20,7 @@ use Rattle.core_model.specs.Changes.{pair_of}
 use Rattle.core_model.specs.Invariants.{IsUnfinished}
 use Rattle.core_model.specs.Records.{HasCells}
 use Rattle.core_model.specs.States.{State}
-use Rattle.core_model.specs.Steps.{Checkpoint, Commit, Create, End, Finish, Start, Step, above, all_reserved, update}
+use Rattle.core_model.specs.Steps.{Attempt, Begin, Checkpoint, Clean, Commit, Create, End, Finish, Keep, Next, Start, Step, Take, Undo, Wrap, above, all_reserved, update}
 
 -- ---- the history of a run, read off the changes that were asked for, the commits, the creation and the end of the build
 
@@ -30,19 +30,38 @@ no_writes t = []
 abbrev pub write_of : ChangeValue → Write
 write_of c = record { rid = c.rid; row = new_row c.rows }
 
--- what each transaction was asked to set, the first first
+-- what each transaction was asked to set, in order
 abbrev pub writes_after : (ℕ → List Write) → Step → ℕ → List Write
+writes_after writes (Begin t) = writes
 writes_after writes (Start t c) = update nat_cmp writes t (writes t ++ write_of c ∷ [])
-writes_after writes (Commit t) = update nat_cmp writes t []
+writes_after writes (Next t) = writes
+writes_after writes (Undo t) = writes
 writes_after writes (End t) = update nat_cmp writes t []
-writes_after writes _ = writes
+writes_after writes (Commit t) = update nat_cmp writes t []
+writes_after writes Create = writes
+writes_after writes (Take page) = writes
+writes_after writes (Attempt p) = writes
+writes_after writes (Checkpoint p) = writes
+writes_after writes Finish = writes
+writes_after writes (Clean p) = writes
+writes_after writes (Keep p) = writes
+writes_after writes Wrap = writes
 
 abbrev pub deeds_of : (ℕ → List Write) → Step → List Deed
+deeds_of writes (Begin t) = []
+deeds_of writes (Start t c) = []
+deeds_of writes (Next t) = []
+deeds_of writes (Undo t) = []
+deeds_of writes (End t) = []
 deeds_of writes (Commit t) = Committed (writes t) ∷ []
 deeds_of writes Create = Created ∷ []
+deeds_of writes (Take page) = []
+deeds_of writes (Attempt p) = []
 deeds_of writes (Checkpoint p) = Checkpointed p ∷ []
 deeds_of writes Finish = Completed ∷ []
-deeds_of writes _ = []
+deeds_of writes (Clean p) = []
+deeds_of writes (Keep p) = []
+deeds_of writes Wrap = []
 
 abbrev pub history : (ℕ → List Write) → List Step → List Deed
 history writes [] = []

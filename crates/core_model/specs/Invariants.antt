@@ -10,7 +10,7 @@ use Rattle.records.specs.declared.row.Row.{Row}
 use Rattle.model.specs.Table.{Index, IsPairOf, Table, applied}
 use Rattle.model.specs.declared.life.Life.{Life}
 use Rattle.model.specs.declared.life.Life.TheVariants.{Absent, Building, Complete}
-use Rattle.core_model.specs.Changes.{Changes, Unchanged, latest, listed, new_pair, old_pair, pair_of, ◌▹◌}
+use Rattle.core_model.specs.Changes.{Changes, Unchanged, latest, as_list, new_pair, old_pair, pair_of, ◌▹◌}
 use Rattle.core_model.specs.States.{Active, Made, NewMarked, OldMarked, OldSet, Phase, RowSet, State}
 use Rattle.core_model.specs.Steps.{IsEnabled, Step, above, after, all_reserved, is_applied, is_indexed, reserved}
 
@@ -126,7 +126,7 @@ IsPledged s = (t : ℕ) → is_some (get s.pledges t) ≡ is_some (s.txns t)
 -- the positions count from the oldest change
 abbrev pub IsNumbered : Changes → Type 0
 IsNumbered Unchanged = Unit {0}
-IsNumbered (older ▹ c) = (c.position ≡ length (listed older)) × IsNumbered older
+IsNumbered (older ▹ c) = (c.position ≡ length (as_list older)) × IsNumbered older
 
 -- ---- the store's pages
 

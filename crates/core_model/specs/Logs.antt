@@ -47,7 +47,7 @@ abbrev pub reopened : Opened → List RecordValue → ℕ → Opened
 reopened o records n = record o { given = given_after o.given (take n records) }
 
 -- What is recovered of the first n of the records is the history's beginning up to the last of them, and a core may begin with it.
-pub record Recovers (o : Opened) (steps : List Step) (n : ℕ) : Type 0 where
+pub record RecoversPrefix (o : Opened) (steps : List Step) (n : ℕ) : Type 0 where
   pub beginning : IsBeginning o.given (items_over o steps) (o.given.last + n) (given_after o.given (take n (records_over o steps)))
   pub opens : CanOpen (reopened o (records_over o steps) n)
 

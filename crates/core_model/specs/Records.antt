@@ -13,7 +13,7 @@ use Rattle.records.specs.declared.record.Part.TheVariants.{NewEntry, OldEntry, S
 use Rattle.records.specs.declared.record.TxnAction.{TxnAction}
 use Rattle.model.specs.Cells.{Cells, set_by}
 use Rattle.model.specs.Table.{applied}
-use Rattle.core_model.specs.Changes.{Changes, Unchanged, listed, new_pair, old_pair, ◌▹◌}
+use Rattle.core_model.specs.Changes.{Changes, Unchanged, as_list, new_pair, old_pair, ◌▹◌}
 use Rattle.core_model.specs.States.{Active, Made, NewMarked, OldMarked, OldSet, Phase, RowSet, State}
 use Rattle.core_model.specs.Steps.{Attempt, Begin, Checkpoint, Clean, Commit, Create, End, Finish, Keep, Next, Start, Step, Take, Undo, Wrap, is_indexed, txn_at}
 
@@ -22,7 +22,7 @@ abbrev pub IsListOf : Option (List ChangeValue) → Option Active → Type 0
 IsListOf None None = Unit {0}
 IsListOf None (Some x) = x.changes ≡ Unchanged
 IsListOf (Some list) None = ⊥
-IsListOf (Some list) (Some x) = list ≡ listed x.changes
+IsListOf (Some list) (Some x) = list ≡ as_list x.changes
 
 -- these are the cells of the state
 pub record HasCells (s : State) (cells : Cells) : Type 0 where

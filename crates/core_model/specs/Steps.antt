@@ -19,7 +19,7 @@ use Rattle.model.specs.declared.life.Life.{Life}
 use Rattle.model.specs.declared.life.Life.TheVariants.{Absent, Building, Complete}
 pub use Rattle.model.specs.Following.{IsBuilding}
 pub use Rattle.model.specs.Pairs.{is_indexed, with_entry}
-use Rattle.core_model.specs.Changes.{Changes, Unchanged, listed, new_pair, old_pair, ◌▹◌}
+use Rattle.core_model.specs.Changes.{Changes, Unchanged, as_list, new_pair, old_pair, ◌▹◌}
 use Rattle.records.specs.declared.limits.TheConstants.{PLACES_PER_CHANGE}
 use Rattle.core_model.specs.States.{Active, Made, NewMarked, OldMarked, OldSet, Phase, Pledges, RowSet, State}
 
@@ -176,7 +176,7 @@ moved_by s (Start t c) = started s t (txn_at s t) c (old_pair (is_indexed s.life
 moved_by s (Next t) = carried_on s t (txn_at s t) (txn_at s t).changes (txn_at s t).phase
 moved_by s (Undo t) = undone s t (txn_at s t) (txn_at s t).changes (txn_at s t).phase
 moved_by s (End t) = left s t s.committed
-moved_by s (Commit t) = left s t (applied s.committed (writes_of (listed (txn_at s t).changes)))
+moved_by s (Commit t) = left s t (applied s.committed (writes_of (as_list (txn_at s t).changes)))
 moved_by s Create = created s
 moved_by s (Take page) = page_taken s page
 moved_by s (Attempt p) = attempted s p
@@ -234,7 +234,7 @@ HasFreePlaces s = is_indexed s.life ≡ true → len s.entries + all_reserved s.
 pub record CanStart (s : State) (t : ℕ) (c : ChangeValue) : Type 0 where
   pub active : IsActive s t
   pub ready : IsReady (txn_at s t)
-  pub position : c.position ≡ length (listed (txn_at s t).changes)
+  pub position : c.position ≡ length (as_list (txn_at s t).changes)
   pub before : get s.rows c.rid ≡ old_row c.rows
   pub mine : (s.holder c.rid ≡ None) ⊎ (s.holder c.rid ≡ Some t)
   pub inside : c.rid.page < s.pages

@@ -14,7 +14,7 @@ ghost use Rattle.model.specs.Cells.{cells_after};
 ghost use Rattle.model.specs.Following.{CanFollow};
 ghost use Rattle.model.specs.Given.{IsBeginning, given_after, opening_cells, recovered};
 ghost use Rattle.core_model.specs.Histories.{deeds_of, no_writes, writes_after};
-ghost use Rattle.core_model.specs.Logs.{HasMade, IsLogOf, Recovers, item_at, items_from, one_record, records_from, records_over};
+ghost use Rattle.core_model.specs.Logs.{HasMade, IsLogOf, RecoversPrefix, item_at, items_from, one_record, records_from, records_over};
 ghost use Rattle.model.specs.Images.{IsCopied};
 ghost use Rattle.model.specs.declared.life.Life.TheVariants.{Building, Complete};
 ghost use Rattle.model.specs.History.{Item, life_after, table_after};
@@ -71,7 +71,7 @@ pub fn each_record()
 /// What is recovered of the records of a run, wherever they stop, is the table and the index's life of the history up to
 /// the last of them; each live entry names a row with its key; and a core may begin with it.
 pub fn any_record()
-    ensures { (o : Opened) → CanOpen o → (steps : List Step) (s : State) → Run (opened o) steps s → (n : ℕ) → n ≤ length (records_over o steps) → Recovers o steps n }
+    ensures { (o : Opened) → CanOpen o → (steps : List Step) (s : State) → Run (opened o) steps s → (n : ℕ) → n ≤ length (records_over o steps) → RecoversPrefix o steps n }
 {}
 
 /// A step's record can follow the records before it, where at most 16 transactions are active.

@@ -8,7 +8,7 @@ use Rattle.records.specs.ChangeValue.{ChangeValue}
 use Rattle.records.specs.Spelling.{new_row}
 use Rattle.model.specs.declared.write.Write.{Write}
 use Rattle.model.specs.Committed.{writes_of}
-use Rattle.nsf_core.specs.State.{State, changes_of, begun}
+use Rattle.nsf_core.specs.Value.{CoreValue, changes_of, begun}
 use Rattle.nsf_core.specs.Refusals.{is_rolling}
 use Rattle.nsf_core.proofs.Steps.{begun_lists, rolling_begun}
 use Rattle.first.specs.History.{written_by}
@@ -62,15 +62,15 @@ writes_one_more (x ∷ changes) c = ap (λ (t : List Write). record { rid = x.ri
 
 -- ---- each step
 
-pub asked_same : (writes : List Asked) (s t : State) → t.txns ≡ s.txns → HasAsked writes s → HasAsked writes t
+pub asked_same : (writes : List Asked) (s t : CoreValue) → t.txns ≡ s.txns → HasAsked writes s → HasAsked writes t
 asked_same writes s t same is = λ u calm.
     is u (ap (λ x. is_rolling (record s { txns = x }) u) (sym same) ∙ calm) ∙ ap (λ x. writes_of (changes_of (record s { txns = x }) u)) (sym same)
 
-pub asked_begun : (writes : List Asked) (s : State) → HasAsked writes s → HasAsked writes (begun s)
+pub asked_begun : (writes : List Asked) (s : CoreValue) → HasAsked writes s → HasAsked writes (begun s)
 asked_begun writes s is = λ u calm. is u (sym (rolling_begun s u) ∙ calm) ∙ sym (ap writes_of (begun_lists s u))
 
 -- a transaction's list has one change more
-pub asked_changed : (writes : List Asked) (s t : State) (txn : ℕ) (c : ChangeValue) → changes_of t txn ≡ changes_of s txn ++ c ∷ [] → ((u : ℕ) → u ≢ txn → changes_of t u ≡ changes_of s u)
+pub asked_changed : (writes : List Asked) (s t : CoreValue) (txn : ℕ) (c : ChangeValue) → changes_of t txn ≡ changes_of s txn ++ c ∷ [] → ((u : ℕ) → u ≢ txn → changes_of t u ≡ changes_of s u)
     → ((u : ℕ) → is_rolling t u ≡ is_rolling s u) → HasAsked writes s → HasAsked (writes ++ (txn, record { rid = c.rid; row = new_row c.rows }) ∷ []) t
 asked_changed writes s t txn c longer others rolls is = λ u calm. elim (cases_eq u txn) [
   | inl own ↦
@@ -86,7 +86,7 @@ asked_changed writes s t txn c longer others rolls is = λ u calm. elim (cases_e
     w = record { rid = c.rid; row = new_row c.rows }
 
 -- a transaction is rolling back
-pub asked_rolling : (writes : List Asked) (s t : State) (txn : ℕ) → is_rolling t txn ≡ true → ((u : ℕ) → u ≢ txn → changes_of t u ≡ changes_of s u) → ((u : ℕ) → u ≢ txn → is_rolling t u ≡ is_rolling s u)
+pub asked_rolling : (writes : List Asked) (s t : CoreValue) (txn : ℕ) → is_rolling t txn ≡ true → ((u : ℕ) → u ≢ txn → changes_of t u ≡ changes_of s u) → ((u : ℕ) → u ≢ txn → is_rolling t u ≡ is_rolling s u)
     → HasAsked writes s → HasAsked writes t
 asked_rolling writes s t txn rolling others rolls is = λ u calm. elim (cases_eq u txn) [
   | inl own ↦ absurd (false≢true (sym (ap (λ n. is_rolling t n) (sym own) ∙ calm) ∙ rolling))
@@ -94,7 +94,7 @@ asked_rolling writes s t txn rolling others rolls is = λ u calm. elim (cases_eq
 ]
 
 -- a transaction is over
-pub asked_over : (writes : List Asked) (s t : State) (txn : ℕ) → changes_of t txn ≡ [] → ((u : ℕ) → u ≢ txn → changes_of t u ≡ changes_of s u) → ((u : ℕ) → u ≢ txn → is_rolling t u ≡ is_rolling s u)
+pub asked_over : (writes : List Asked) (s t : CoreValue) (txn : ℕ) → changes_of t txn ≡ [] → ((u : ℕ) → u ≢ txn → changes_of t u ≡ changes_of s u) → ((u : ℕ) → u ≢ txn → is_rolling t u ≡ is_rolling s u)
     → HasAsked writes s → HasAsked (left txn writes) t
 asked_over writes s t txn none others rolls is = λ u calm. elim (cases_eq u txn) [
   | inl own ↦ ap (λ n. written_by n (left txn writes)) own ∙ written_gone txn writes ∙ sym (ap (λ n. writes_of (changes_of t n)) own ∙ ap writes_of none)

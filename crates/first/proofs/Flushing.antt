@@ -7,8 +7,8 @@ use Rattle.sector_device.specs.Disk.{Image}
 use Rattle.sector_device.specs.History.{History, LeavesOnly}
 use Rattle.sector_device.proofs.Moments.{weaker}
 use Rattle.gate_log.specs.Area.{Area}
-use Rattle.nsf_core.specs.State.{State, state_of, HandsOut}
-use Rattle.nsf_core.specs.Follows.{HasMade}
+use Rattle.nsf_core.specs.Value.{CoreValue, state_of, HandsOut}
+use Rattle.nsf_core.specs.Follows.{IsRedoOf}
 use Rattle.first.specs.declared.event.Event.TheVariants.{Flush}
 use Rattle.first.specs.declared.event.Reply.{Reply}
 use Rattle.first.specs.declared.engine.Engine.{Engine}
@@ -54,10 +54,10 @@ writer_handed history area frame handed more old mid small is same waits = subst
   images = λ image crash. left_handed area frame handed more old.synced image (is.images image crash);
 })
 
-same_made : (t : Past) (made : List RecordValue) (s : State) (kept : List RecordValue) → HasMade t.table t.last made (items_of t) s → HasMade t.table t.last made (items_of t) (record s { outbox = kept })
+same_made : (t : Past) (made : List RecordValue) (s : CoreValue) (kept : List RecordValue) → IsRedoOf t.table t.last made (items_of t) s → IsRedoOf t.table t.last made (items_of t) (record s { outbox = kept })
 same_made t made s kept has = record { last = has.last; cells = record { rows = has.cells.rows; entries = has.cells.entries; pending = has.cells.pending; life = has.cells.life }; in_order = has.in_order; tells = has.tells }
 
-module _ {D M : Type 0} (history : D → History) (old : Engine D M) (new_core : State) (mid : Writer D M) (hands : HandsOut (state_of old.core) new_core old.writer.waiting.items mid.waiting.items) (same : with_waiting old.writer mid) (numbered : (state_of old.core).last ≤ 4611686018427387904) where
+module _ {D M : Type 0} (history : D → History) (old : Engine D M) (new_core : CoreValue) (mid : Writer D M) (hands : HandsOut (state_of old.core) new_core old.writer.waiting.items mid.waiting.items) (same : with_waiting old.writer mid) (numbered : (state_of old.core).last ≤ 4611686018427387904) where
   module _ (area : Area) (frame : Image) (past : Past) (is : IsAt history area frame past old) where
     abbrev handed_now : List RecordValue
     handed_now = is.handed ++ hands.handed
@@ -65,7 +65,7 @@ module _ {D M : Type 0} (history : D → History) (old : Engine D M) (new_core :
     split_now : is.made ≡ handed_now ++ new_core.outbox
     split_now =
         is.outbox ∙ ap (λ (o : List RecordValue). is.handed ++ o) hands.split ∙ sym (append_assoc is.handed hands.handed hands.kept)
-        ∙ ap (λ (s : State). handed_now ++ s.outbox) (sym hands.same)
+        ∙ ap (λ (s : CoreValue). handed_now ++ s.outbox) (sym hands.same)
 
     sizes : length is.made ≡ length handed_now + length new_core.outbox
     sizes = ap length split_now ∙ length-append handed_now new_core.outbox
@@ -102,13 +102,13 @@ module _ {D M : Type 0} (history : D → History) (old : Engine D M) (new_core :
         whole = core ∙ hands.same
 
         split : is.made ≡ handed_now area frame past is ++ (state_of new.core).outbox
-        split = split_now area frame past is ∙ ap (λ (s : State). handed_now area frame past is ++ s.outbox) (sym core)
+        split = split_now area frame past is ∙ ap (λ (s : CoreValue). handed_now area frame past is ++ s.outbox) (sym core)
 
-        has : HasMade past.table past.last is.made (items_of past) (state_of new.core)
-        has = subst (HasMade past.table past.last is.made (items_of past)) (sym whole) (same_made past is.made (state_of old.core) hands.kept is.core)
+        has : IsRedoOf past.table past.last is.made (items_of past) (state_of new.core)
+        has = subst (IsRedoOf past.table past.last is.made (items_of past)) (sym whole) (same_made past is.made (state_of old.core) hands.kept is.core)
 
         at : IsAt history area frame later new
-        at = at_next history area frame past old new Flush reply (handed_now area frame past is) is.made is split has (ap (λ (s : State). s.heap.pages) whole)
+        at = at_next history area frame past old new Flush reply (handed_now area frame past is) is.made is split has (ap (λ (s : CoreValue). s.heap.pages) whole)
             (asked_same _ (state_of old.core) (state_of new.core) (ap (λ s. s.txns) whole) is.asked)
             (writer area frame (handed_now area frame past is) in_hand)
             (base ∙ ap (λ w. w.base) same)
@@ -118,7 +118,7 @@ module _ {D M : Type 0} (history : D → History) (old : Engine D M) (new_core :
         leaves = subst (λ d. LeavesOnly (history d) (history new.writer.device) (Survives area frame later (acknowledged_by past))) (ap (λ w. w.device) same)
             (weaker (history mid.device) (history new.writer.device) (LeftBy area frame (handed_now area frame past is) mid.synced) (Survives area frame later (acknowledged_by past))
             (λ image left. survives area frame later (handed_now area frame past is) (state_of new.core).outbox is.made (state_of new.core) mid.synced (acknowledged_by past) image split
-            (core_next past Flush reply is.made (state_of new.core) is.answered has) (ap (λ (s : State). s.heap.pages) whole ∙ is.pages) before left)
+            (core_next past Flush reply is.made (state_of new.core) is.answered has) (ap (λ (s : CoreValue). s.heap.pages) whole ∙ is.pages) before left)
             (images area frame (handed_now area frame past is) in_hand))
 
   -- ---- what the replies tell
@@ -134,7 +134,7 @@ module _ {D M : Type 0} (history : D → History) (old : Engine D M) (new_core :
 
   module _ (new : Engine D M) (core : state_of new.core ≡ new_core) where
     outbox_is : (state_of new.core).outbox ≡ hands.kept
-    outbox_is = ap (λ (s : State). s.outbox) (core ∙ hands.same)
+    outbox_is = ap (λ (s : CoreValue). s.outbox) (core ∙ hands.same)
 
     handed_is : handed_over old new ≡ mid.waiting.items
     handed_is =

@@ -9,7 +9,7 @@ use Rattle.records.specs.Maps.{rid_exact, same_key}
 use Rattle.records.specs.declared.row.Row.{Row}
 use Rattle.model.specs.Table.{Table}
 use Rattle.model.specs.Following.{IsWithin}
-use Rattle.nsf_core.specs.State.{State, with_row}
+use Rattle.nsf_core.specs.Value.{CoreValue, with_row}
 use Rattle.first.specs.Reopening.{holding}
 
 abbrev pub Rows : Type 0
@@ -19,7 +19,7 @@ abbrev pub made : Rows → Table
 made es = map.from_entries {R = rid_cmp} es
 
 -- the rows that are left to load, and those that the core has
-pub record IsLoaded (pages last : ℕ) (rows : Table) (left : Rows) (core : State) : Type 0 where
+pub record IsLoaded (pages last : ℕ) (rows : Table) (left : Rows) (core : CoreValue) : Type 0 where
   pub done : Rows
   pub whole : made (left ++ done) ≡ rows
   pub core_is : core ≡ holding pages last (made done)
@@ -31,7 +31,7 @@ present (e ∷ front) done rid row = elim (eq_by_cmp rid_cmp rid e.0) as (λ b. 
   | false ↦ present front done rid row
 ]
 
-module _ (pages last : ℕ) (rows : Table) (all left : Rows) (rid : Place) (row : Row) (core : State) (is : IsLoaded pages last rows all core) (next : all ≡ left ++ (rid, row) ∷ []) where
+module _ (pages last : ℕ) (rows : Table) (all left : Rows) (rid : Place) (row : Row) (core : CoreValue) (is : IsLoaded pages last rows all core) (next : all ≡ left ++ (rid, row) ∷ []) where
   whole_now : made (left ++ (rid, row) ∷ is.done) ≡ rows
   whole_now = ap made (sym (append_assoc left ((rid, row) ∷ []) is.done) ∙ ap (λ (es : Rows). es ++ is.done) (sym next)) ∙ is.whole
 
@@ -39,14 +39,14 @@ module _ (pages last : ℕ) (rows : Table) (all left : Rows) (rid : Place) (row 
   page_within within =
       let there = present left is.done rid row in
       let found : map.get rows rid ≡ Some there.0 = ap (λ (t : Table). map.get t rid) (sym whole_now) ∙ get-from_entries rid_exact.total (left ++ (rid, row) ∷ is.done) rid ∙ there.1 in
-      subst (λ (s : State). rid.page < s.heap.pages) (sym is.core_is) (within rid there.0 found)
+      subst (λ (s : CoreValue). rid.page < s.heap.pages) (sym is.core_is) (within rid there.0 found)
 
   pub one_more_row : IsLoaded pages last rows left (with_row core rid (Some row))
   one_more_row = record {
     done = (rid, row) ∷ is.done;
     whole = whole_now;
-    core_is = ap (λ (s : State). with_row s rid (Some row)) is.core_is;
+    core_is = ap (λ (s : CoreValue). with_row s rid (Some row)) is.core_is;
   }
 
-pub all_loaded : (pages last : ℕ) (rows : Table) (core : State) → IsLoaded pages last rows [] core → core ≡ holding pages last rows
+pub all_loaded : (pages last : ℕ) (rows : Table) (core : CoreValue) → IsLoaded pages last rows [] core → core ≡ holding pages last rows
 all_loaded pages last rows core is = is.core_is ∙ ap (holding pages last) is.whole

@@ -25,10 +25,10 @@ use Rattle.flip_image.specs.declared.half.Half.TheVariants.{A}
 use Rattle.flip_image.proofs.Stores.{formatted_apart}
 use Rattle.store_reader.specs.Contents.{IsOfRows, AreOfRows, nothing, rows_of, log_area, Gives, IsFound, IsUnreadable}
 use Rattle.store_reader.proofs.Readings.{one_list}
-use Rattle.nsf_core.specs.State.{State, fresh, changes_of}
+use Rattle.nsf_core.specs.Value.{CoreValue, fresh, changes_of}
 use Rattle.model.specs.Committed.{writes_of}
-use Rattle.nsf_core.specs.Follows.{HasMade}
-use Rattle.nsf_core.proofs.Steps.{fresh_has_made}
+use Rattle.nsf_core.specs.Follows.{IsRedoOf}
+use Rattle.nsf_core.proofs.Steps.{fresh_is_redo}
 use Rattle.first.specs.declared.event.Event.{Event}
 use Rattle.first.specs.declared.event.Reply.{Reply}
 use Rattle.first.specs.declared.engine.Engine.{Engine}
@@ -104,7 +104,7 @@ some_is [] last is = ap (nat_lt 0) is
 some_is (r ∷ records) last is = lt-ltb 0 last (omega (arith, is))
 
 no_rows : rows_of [] ≡ map.empty
-no_rows = (fresh_has_made 0 0).tells.prefixes 0 (omega arith)
+no_rows = (fresh_is_redo 0 0).tells.prefixes 0 (omega arith)
 
 pub none_held : (pages last : ℕ) → last ≡ 0 → holding pages last (rows_of []) ≡ fresh pages 0
 none_held pages last none = ap (holding pages last) no_rows ∙ ap (fresh pages) none
@@ -152,10 +152,10 @@ module _ {D M : Type 0} (history : D → History) (image : Image) (area : Area) 
     answered = refl;
     handed = [];
     made = [];
-    outbox = sym (ap (λ (s : State). s.outbox) core);
-    core = subst (HasMade map.empty 0 [] []) (sym core) (fresh_has_made pages 0);
-    pages = ap (λ (s : State). s.heap.pages) core;
-    asked = λ txn _. refl ∙ sym (ap (λ (s : State). writes_of (changes_of s txn)) core);
+    outbox = sym (ap (λ (s : CoreValue). s.outbox) core);
+    core = subst (IsRedoOf map.empty 0 [] []) (sym core) (fresh_is_redo pages 0);
+    pages = ap (λ (s : CoreValue). s.heap.pages) core;
+    asked = λ txn _. refl ∙ sym (ap (λ (s : CoreValue). writes_of (changes_of s txn)) core);
     writer = begun_writer base reached waits sound;
     base = base;
     safe = omega (arith, reached);
@@ -194,9 +194,9 @@ module _ {D M : Type 0} (history : D → History) (before : D) (engine : Engine 
       record {
         last = left.survives.last;
         floor_is = left.survives.floor_is;
-        rows = ap (λ (s : State). s.heap.rows) held ∙ ap rows_of same ∙ left.survives.recovers;
-        no_txn = ap (λ (s : State). s.txns.active) held;
-        next = omega (arith, ap (λ (s : State). s.last) held, ap (λ (l : List RecordValue). length l) same, left.survives.numbered);
+        rows = ap (λ (s : CoreValue). s.heap.rows) held ∙ ap rows_of same ∙ left.survives.recovers;
+        no_txn = ap (λ (s : CoreValue). s.txns.active) held;
+        next = omega (arith, ap (λ (s : CoreValue). s.last) held, ap (λ (l : List RecordValue). length l) same, left.survives.numbered);
       }
 
   module _ (inside : IsInside log.area (history before).disk.content) (device : OnlySyncs history before (device_of engine)) (synced : IsSynced (history (device_of engine)).disk)

@@ -9,8 +9,8 @@ use Rattle.sector_device.specs.Disk.{Image, IsCrashImage}
 use Rattle.sector_device.specs.History.{History, LeavesOnly}
 use Rattle.sector_device.proofs.Moments.{started}
 use Rattle.gate_log.specs.Area.{Area}
-use Rattle.nsf_core.specs.State.{State}
-use Rattle.nsf_core.specs.Follows.{HasMade}
+use Rattle.nsf_core.specs.Value.{CoreValue}
+use Rattle.nsf_core.specs.Follows.{IsRedoOf}
 use Rattle.first.specs.declared.event.Event.{Event}
 use Rattle.first.specs.declared.event.Reply.{Reply}
 use Rattle.first.specs.declared.engine.Engine.{Engine}
@@ -23,8 +23,8 @@ use Rattle.first.proofs.Lives.{none_so_far}
 use Rattle.first.proofs.Told.{told_all_last, acknowledged_both}
 
 -- an image with a prefix of the records recovers the table of a prefix of the history
-pub survives : (area : Area) (frame : Image) (past : Past) (handed outbox made : List RecordValue) (s : State) (n floor : ℕ) (image : Image) → made ≡ handed ++ outbox
-    → HasMade past.table past.last made (items_of past) s → s.heap.pages ≡ past.pages → floor ≤ past.last + n → LeftBy area frame handed n image → Survives area frame past floor image
+pub survives : (area : Area) (frame : Image) (past : Past) (handed outbox made : List RecordValue) (s : CoreValue) (n floor : ℕ) (image : Image) → made ≡ handed ++ outbox
+    → IsRedoOf past.table past.last made (items_of past) s → s.heap.pages ≡ past.pages → floor ≤ past.last + n → LeftBy area frame handed n image → Survives area frame past floor image
 survives area frame past handed outbox made s n floor image split has pages reached left = record {
   records = take left.count handed;
   holds = left.holds;
@@ -41,8 +41,8 @@ survives area frame past handed outbox made s n floor image split has pages reac
     prefix = sym (ap (take left.count) split ∙ take-append-le left.count handed outbox left.within)
 
 -- the history goes on by what the request and its reply tell
-pub core_next : (past : Past) (x : Event) (r : Reply) (made : List RecordValue) (s : State) → length past.replies ≡ length past.events → HasMade past.table past.last made (told (story past.events past.replies) x r).items s → HasMade past.table past.last made (items_of (and_then past (x ∷ []) (r ∷ []))) s
-core_next past x r made s even has = subst (λ (t : Story). HasMade past.table past.last made t.items s) (sym (told_all_last _ past.events past.replies x r even)) has
+pub core_next : (past : Past) (x : Event) (r : Reply) (made : List RecordValue) (s : CoreValue) → length past.replies ≡ length past.events → IsRedoOf past.table past.last made (told (story past.events past.replies) x r).items s → IsRedoOf past.table past.last made (items_of (and_then past (x ∷ []) (r ∷ []))) s
+core_next past x r made s even has = subst (λ (t : Story). IsRedoOf past.table past.last made t.items s) (sym (told_all_last _ past.events past.replies x r even)) has
 
 module _ {D M : Type 0} (history : D → History) (area : Area) (frame : Image) (past : Past) (old new : Engine D M) (x : Event) (r : Reply) where
   abbrev later : Past
@@ -54,7 +54,7 @@ module _ {D M : Type 0} (history : D → History) (area : Area) (frame : Image) 
   -- what a request leaves, put together
   pub at_next : (handed made : List RecordValue) → (is : IsAt history area frame past old)
       → made ≡ handed ++ (core_of new).outbox
-      → HasMade past.table past.last made now.items (core_of new)
+      → IsRedoOf past.table past.last made now.items (core_of new)
       → (core_of new).heap.pages ≡ (core_of old).heap.pages
       → HasAsked now.writes (core_of new)
       → IsWriter history area frame handed new.writer
@@ -69,7 +69,7 @@ module _ {D M : Type 0} (history : D → History) (area : Area) (frame : Image) 
         handed = handed;
         made = made;
         outbox = split;
-        core = subst (λ (s : Story). HasMade past.table past.last made s.items (core_of new)) (sym goes) has;
+        core = subst (λ (s : Story). IsRedoOf past.table past.last made s.items (core_of new)) (sym goes) has;
         asked = subst (λ (s : Story). HasAsked s.writes (core_of new)) (sym goes) asked;
         writer = writer;
         base = base ∙ is.base;
@@ -87,7 +87,7 @@ module _ {D M : Type 0} (history : D → History) (area : Area) (frame : Image) 
       → new ≡ record old { core = new.core }
       → (core_of new).heap.pages ≡ (core_of old).heap.pages
       → made ≡ is.handed ++ (core_of new).outbox
-      → HasMade past.table past.last made now.items (core_of new)
+      → IsRedoOf past.table past.last made now.items (core_of new)
       → HasAsked now.writes (core_of new)
       → acknowledged (acknowledged_by past) (r ∷ []) ≡ acknowledged_by past
       → IsAt history area frame later new × LeavesOnly (history old.writer.device) (history new.writer.device) (Survives area frame later (acknowledged_by past))

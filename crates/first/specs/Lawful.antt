@@ -6,7 +6,7 @@ use Rattle.records.specs.declared.row.Row.{Row}
 use Rattle.records.specs.RecordValue.{RecordValue}
 use Rattle.model.specs.declared.life.Life.TheVariants.{Absent}
 use Rattle.sector_device.specs.History.{Rises}
-use Rattle.nsf_core.specs.State.{State, changes_of, begun, inserted, deleted, updated, rolling_back, committed, ended, TakesBack}
+use Rattle.nsf_core.specs.Value.{CoreValue, changes_of, begun, inserted, deleted, updated, rolling_back, committed, ended, TakesBack}
 use Rattle.nsf_core.specs.Refusals.{IsRefusedBy, begin_refusal, commit_refusal, row_refusal, IsInsertRefusal, IsUndoRefusal, CanInsert, CanChange, is_active, is_rolling}
 use Rattle.first.specs.declared.event.Event.{Event}
 use Rattle.first.specs.declared.event.Event.TheVariants as event
@@ -31,7 +31,7 @@ is_read (event.Get rid) = true
 is_read event.Life = true
 
 -- the core becomes this, and nothing else of the engine changes
-pub record OnlyCore {D M : Type 0} (old new : Engine D M) (core : State) : Type 0 where
+pub record OnlyCore {D M : Type 0} (old new : Engine D M) (core : CoreValue) : Type 0 where
   pub core_is : core_of new ≡ core
   pub rest : new ≡ record old { core = new.core }
 

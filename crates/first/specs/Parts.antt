@@ -2,10 +2,10 @@
 use Rattle.std.specs.Prelude.{◌+◌, ℕ, Bool, List, ◌++◌}
 use Rattle.records.specs.RecordValue.{RecordValue}
 use Rattle.gate_log.specs.Area.{Log}
-use Rattle.nsf_core.specs.State.{State, state_of}
+use Rattle.nsf_core.specs.Value.{CoreValue, state_of}
 use Rattle.first.specs.declared.engine.Engine.{Engine}
 
-abbrev pub core_of : {D M : Type 0} → Engine D M → State
+abbrev pub core_of : {D M : Type 0} → Engine D M → CoreValue
 core_of engine = state_of engine.core
 
 abbrev pub device_of : {D M : Type 0} → Engine D M → D

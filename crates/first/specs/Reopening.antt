@@ -13,7 +13,7 @@ use Rattle.flip_image.specs.declared.half.Half.{Half}
 use Rattle.flip_image.specs.declared.half.Half.TheVariants.{A}
 use Rattle.flip_image.specs.Store.{IsFormatted}
 use Rattle.store_reader.specs.Contents.{rows_of, log_area, Gives, IsUnreadable}
-use Rattle.nsf_core.specs.State.{State, fresh}
+use Rattle.nsf_core.specs.Value.{CoreValue, fresh}
 use Rattle.first.specs.declared.event.Event.{Event}
 use Rattle.first.specs.declared.event.Reply.{Reply}
 use Rattle.first.specs.declared.engine.Engine.{Engine}
@@ -22,7 +22,7 @@ use Rattle.first.specs.Parts.{core_of, device_of, horizon_of, has_failed, is_rea
 use Rattle.first.specs.Store.{Past, items_of, and_then, Survives, IsAt}
 
 -- a core over these rows, with no transaction, of which the last record has this number
-abbrev pub holding : ℕ → ℕ → Table → State
+abbrev pub holding : ℕ → ℕ → Table → CoreValue
 holding pages last rows = record (fresh pages last) { heap = record { pages = pages; rows = rows } }
 
 abbrev pub is_some_record : List RecordValue → Bool

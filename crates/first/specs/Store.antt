@@ -13,9 +13,9 @@ use Rattle.model.specs.History.{Item, table_after, up_to}
 use Rattle.sector_device.specs.Disk.{Image}
 use Rattle.sector_device.specs.History.{History, LeavesOnly, Spans}
 use Rattle.gate_log.specs.Area.{Area}
-use Rattle.nsf_core.specs.State.{State, changes_of}
+use Rattle.nsf_core.specs.Value.{CoreValue, changes_of}
 use Rattle.nsf_core.specs.Refusals.{is_rolling}
-use Rattle.nsf_core.specs.Follows.{HasMade}
+use Rattle.nsf_core.specs.Follows.{IsRedoOf}
 use Rattle.first.specs.declared.event.Event.{Event}
 use Rattle.first.specs.declared.event.Reply.{Reply}
 use Rattle.first.specs.declared.engine.Engine.{Engine}
@@ -60,7 +60,7 @@ pub record Survives (area : Area) (frame : Image) (past : Past) (floor : ℕ) (i
   pub recovers : recovered past.table records ≡ table_after past.table (up_to last (items_of past))
 
 -- Each transaction that isn't rolling back has on its list what the replies accepted.
-abbrev pub HasAsked : List (ℕ × Write) → State → Type 0
+abbrev pub HasAsked : List (ℕ × Write) → CoreValue → Type 0
 HasAsked writes s = (txn : ℕ) → is_rolling s txn ≡ false → written_by txn writes ≡ writes_of (changes_of s txn)
 
 -- The engine is where this run leaves it.
@@ -70,7 +70,7 @@ pub record IsAt {D M : Type 0} (history : D → History) (area : Area) (frame : 
   pub handed : List RecordValue
   pub made : List RecordValue
   pub outbox : made ≡ handed ++ (core_of engine).outbox
-  pub core : HasMade past.table past.last made (items_of past) (core_of engine)
+  pub core : IsRedoOf past.table past.last made (items_of past) (core_of engine)
   pub pages : (core_of engine).heap.pages ≡ past.pages
   pub asked : HasAsked (story past.events past.replies).writes (core_of engine)
   pub writer : IsWriter history area frame handed engine.writer

@@ -25,7 +25,7 @@ pub struct Engine<D, A: Allocator> {
 
 impl<D: Device, A: Allocator + Copy> Engine<D, A> {
     ghost use Rattle.first.specs.declared.event.Event.TheVariants.{Begin, Insert, Delete, Update, Step, Undo, End, Commit, Flush};
-    ghost use Rattle.nsf_core.specs.State.{state_of};
+    ghost use Rattle.nsf_core.specs.Value.{state_of};
     ghost use Rattle.first.specs.declared.event.Reply.TheVariants.{Horizon, Refused};
     ghost use Rattle.first.specs.Parts.{core_of, device_of, horizon_of, is_read_only};
     ghost use Rattle.first.specs.Lawful.{is_read, IsAnswer, IsLawful, AreLawful};

@@ -8,7 +8,7 @@ ghost use Rattle.model.specs.Following.{IsWithin};
 ghost use Rattle.gate_log.specs.Area.{IsInside, Refuses};
 ghost use Rattle.flip_image.specs.declared.half.Half.{Half};
 ghost use Rattle.store_reader.specs.Contents.{Gives, IsFound, IsUnreadable};
-ghost use Rattle.nsf_core.specs.State.{state_of};
+ghost use Rattle.nsf_core.specs.Value.{state_of};
 ghost use Rattle.first.specs.declared.event.Event.{Event};
 ghost use Rattle.first.specs.declared.event.Reply.{Reply};
 ghost use Rattle.first.specs.Store.{and_then, CanRun};

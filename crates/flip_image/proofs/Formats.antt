@@ -7,7 +7,7 @@ use Rattle.records.specs.GeometryValue.{GeometryValue, IsGeometry, sectors_of}
 use Rattle.flip_image.specs.declared.half.Half.TheVariants.{A}
 use Rattle.flip_image.specs.Layout.{pages_first, log_first}
 use Rattle.flip_image.specs.declared.half.Half.{Half}
-use Rattle.flip_image.specs.Store.{Names, IsSuperblock, AreZeros, IsFormatted, AreGatesClosed, AreGatesZero, IsFormatSector}
+use Rattle.flip_image.specs.Store.{Names, IsSuperblock, AreZeros, IsFormatted, AreGatesClosed, AreLogGatesZero, IsFormatSector}
 
 -- zeros that are there stay
 zeros_stay : (S : ℕ → Type 0) (old new : Image) (first count : ℕ) → SameOutside S old new → ((n : ℕ) → first ≤ n → n < first + count → ¬ S n) → AreZeros old first count → AreZeros new first count
@@ -26,7 +26,7 @@ row_zeros image first count zeros i below =
     subst (All (λ b. b ≡ 0)) (sym (ap (sector image) same ∙ zeros i below)) zero_bytes
 
 -- a gate of zeros is closed
-pub gates_closed : (g : GeometryValue) (half : Half) (image : Image) → AreGatesZero g half image → AreGatesClosed g half image
+pub gates_closed : (g : GeometryValue) (half : Half) (image : Image) → AreLogGatesZero g half image → AreGatesClosed g half image
 gates_closed g half image zeros slot below is_open = zero_not_marked (subst IsMarked (zeros slot below) is_open)
 
 module _ (g : GeometryValue) (header first pages log slots : ℕ) (is_header : header ≡ 2) (is_first : first ≡ pages_first g A) (is_pages : pages ≡ g.pages) (is_log : log ≡ log_first g A) (is_slots : slots ≡ g.slots)
@@ -55,7 +55,7 @@ module _ (g : GeometryValue) (header first pages log slots : ℕ) (is_header : h
   flip_there flip = low_stays 1 (omega arith) ∙ flip
 
   -- the gates are
-  pub gates_there : AreZeroSectors c5 log 8 slots → AreGatesZero g A c5
+  pub gates_there : AreZeroSectors c5 log 8 slots → AreLogGatesZero g A c5
   gates_there zeros slot below = ap (λ n. sector c5 (n + 8 * slot)) (sym is_log) ∙ zeros slot (omega (arith, below, is_slots))
 
   -- the store is there

@@ -38,8 +38,8 @@ abbrev pub InLog : GeometryValue → Half → ℕ → Type 0
 InLog g half n = (log_first g half ≤ n) × (n < gate_sector g half g.slots)
 
 -- a gate of the log
-abbrev pub IsGate : GeometryValue → Half → ℕ → Type 0
-IsGate g half n = (slot : ℕ) × (slot < g.slots) × (n ≡ gate_sector g half slot)
+abbrev pub IsLogGate : GeometryValue → Half → ℕ → Type 0
+IsLogGate g half n = (slot : ℕ) × (slot < g.slots) × (n ≡ gate_sector g half slot)
 
 -- a store's geometry, and which half is current
 pub record HalvesValue : Type 0 where

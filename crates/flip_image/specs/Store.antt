@@ -12,7 +12,7 @@ use Rattle.flip_image.specs.declared.half.Half.{Half}
 use Rattle.flip_image.specs.declared.half.Half.TheVariants.{A, B}
 use Rattle.flip_image.specs.declared.half.TheConstants.{FLIP_SECTOR}
 use Rattle.flip_image.specs.declared.superblock.TheConstants.{SUPERBLOCK_SECTOR, SUPERBLOCK_SIZE, TITLE_SIZE, VERSION}
-use Rattle.flip_image.specs.Layout.{header_sector, heads_sector, pages_first, entries_first, undo_first, page_sector, gate_sector, IsGate}
+use Rattle.flip_image.specs.Layout.{header_sector, heads_sector, pages_first, entries_first, undo_first, page_sector, gate_sector, IsLogGate}
 
 -- ---- the sectors in front of the halves
 
@@ -62,12 +62,12 @@ abbrev pub AreGatesClosed : GeometryValue → Half → Image → Type 0
 AreGatesClosed g half image = (slot : ℕ) → slot < g.slots → ¬ IsMarked (sector image (gate_sector g half slot))
 
 -- each gate of the log is a sector of zeros
-abbrev pub AreGatesZero : GeometryValue → Half → Image → Type 0
-AreGatesZero g half image = (slot : ℕ) → slot < g.slots → sector image (gate_sector g half slot) ≡ zero_sector
+abbrev pub AreLogGatesZero : GeometryValue → Half → Image → Type 0
+AreLogGatesZero g half image = (slot : ℕ) → slot < g.slots → sector image (gate_sector g half slot) ≡ zero_sector
 
 -- a sector that `format` writes: superblock, flip sector, and in half A header, transaction heads, a page, or a gate
 abbrev pub IsFormatSector : GeometryValue → ℕ → Type 0
-IsFormatSector g n = (n < undo_first g A) ⊎ (((pages_first g A ≤ n) × (n < entries_first g A)) ⊎ IsGate g A n)
+IsFormatSector g n = (n < undo_first g A) ⊎ (((pages_first g A ≤ n) × (n < entries_first g A)) ⊎ IsLogGate g A n)
 
 -- ---- what a reader refuses
 

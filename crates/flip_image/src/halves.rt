@@ -5,7 +5,7 @@ ghost use Rattle.sector_device.specs.History.{OnlyReads, CountsFailure};
 ghost use Rattle.sector_device.specs.Values.{zero_sector};
 ghost use Rattle.records.specs.GeometryValue.{GeometryValue, IsGeometry, sectors_of};
 ghost use Rattle.flip_image.specs.Layout.{log_first};
-ghost use Rattle.flip_image.specs.Store.{Names, IsSuperblock, IsStore, IsFresh, IsFormatted, AreGatesClosed, AreGatesZero, IsFormatSector, IsRefused, IsFirstUsed, AreZeros, IsDeviceFailure, IsUntitled, IsSuperblockDamaged};
+ghost use Rattle.flip_image.specs.Store.{Names, IsSuperblock, IsStore, IsFresh, IsFormatted, AreGatesClosed, AreLogGatesZero, IsFormatSector, IsRefused, IsFirstUsed, AreZeros, IsDeviceFailure, IsUntitled, IsSuperblockDamaged};
 
 use crate::half::{FLIP_SECTOR, Half};
 use crate::superblock::{SUPERBLOCK_SECTOR, geometry_of, superblock};
@@ -44,7 +44,7 @@ impl Halves {
         ensures formatted { OnOk result (IsFormatted geometry (D.history device.new).disk.content) }
         ensures closed { OnOk result (AreGatesClosed geometry Half.A (D.history device.new).disk.content) }
         ensures flip { OnOk result (sector (D.history device.new).disk.content FLIP_SECTOR ≡ zero_sector) }
-        ensures gates { OnOk result (AreGatesZero geometry Half.A (D.history device.new).disk.content) }
+        ensures gates { OnOk result (AreLogGatesZero geometry Half.A (D.history device.new).disk.content) }
         ensures synced { OnOk result (IsSynced (D.history device.new).disk) }
         ensures outside { SameOutside (IsFormatSector geometry) (D.history device.old).disk.content (D.history device.new).disk.content }
         ensures too_small { (result ≡ Err Error.DeviceTooSmall) ↔ (length (D.history device.old).disk.content < sectors_of geometry) }
@@ -138,7 +138,7 @@ fn write_store<D: Device>(device: &mut D, geometry: Geometry) -> Result<(), Fail
     ensures formatted { OnOk result (IsFormatted geometry (D.history device.new).disk.content) }
     ensures closed { OnOk result (AreGatesClosed geometry Half.A (D.history device.new).disk.content) }
     ensures flip { OnOk result (sector (D.history device.new).disk.content FLIP_SECTOR ≡ zero_sector) }
-    ensures gates { OnOk result (AreGatesZero geometry Half.A (D.history device.new).disk.content) }
+    ensures gates { OnOk result (AreLogGatesZero geometry Half.A (D.history device.new).disk.content) }
     ensures synced { OnOk result (IsSynced (D.history device.new).disk) }
     ensures outside { SameOutside (IsFormatSector geometry) (D.history device.old).disk.content (D.history device.new).disk.content }
     ensures counts { CountsFailure (D.failures device.old) (D.failures device.new) result }

@@ -18,8 +18,9 @@ use Rattle.records.specs.declared.record.TxnAction.TheVariants.{Forward, Undo, C
 use Rattle.records.specs.declared.record.IndexAction.TheVariants.{Create, BuildPlace, BuildCheckpoint, BuildDone, Clean}
 use Rattle.records.specs.declared.record.Action.{Action}
 use Rattle.records.specs.declared.record.Action.TheVariants.{OfTxn, OfIndex}
+use Rattle.model.specs.Pairs.{pair_at, with_entry}
 use Rattle.model.specs.Table.{Table, Index}
-use Rattle.model.specs.Cells.{Cells, cells_after, set_by, rows_by, entries_by, pending_by, life_by, list_of, with_mark}
+use Rattle.model.specs.Cells.{Cells, cells_after, set_by, rows_by, entries_by, pending_by, life_by, list_of}
 use Rattle.model.specs.Following.{AllowsPart, AreFollowing, CanFollow, CanFollowBy, CanFollowIndex, CanFollowTxn, HasRoom, IsLastOf, IsNextOn}
 use Rattle.model.specs.Images.{IsCopied}
 
@@ -61,7 +62,7 @@ module _ {K X : Type 0} {R : K → K → Ordering} where
       | inr stays ↦ copied q log n k (omega (arith, le)) (by base r.action) (by image r.action) (stays image ∙ e)
     ]
 
-marks_settle : (rid : Place) (row : Option Row) (mark : Mark) (q : Pair) → Settles q (λ (m : Index). with_mark m rid row mark)
+marks_settle : (rid : Place) (row : Option Row) (mark : Mark) (q : Pair) → Settles q (λ (m : Index). with_entry m (pair_at rid row) mark)
 marks_settle rid None mark q = stays q
 marks_settle rid (Some row) mark q = one_set pair_exact (record { key = row.key; rid = rid }) (Some mark) q
 

@@ -21,6 +21,11 @@ is_indexed Complete = true
 abbrev pub pair_of : Place → Row → Pair
 pair_of rid row = record { key = row.key; rid = rid }
 
+-- the pair of the row at a place, where there is one
+abbrev pub pair_at : Place → Option Row → Option Pair
+pair_at rid None = None
+pair_at rid (Some row) = Some (pair_of rid row)
+
 abbrev pub same_key : Row → Row → Bool
 same_key a b = eq_by_cmp (slice_cmp nat_cmp) a.key b.key
 

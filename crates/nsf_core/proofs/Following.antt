@@ -26,9 +26,9 @@ use Rattle.model.proofs.PrefixLaws.{at_first, row_step, commit_step, undo_step, 
 use Rattle.txn_table.specs.Table as table
 use Rattle.txn_table.specs.Table.{TxnState}
 use Rattle.txn_table.specs.Sound.{IsSound}
-use Rattle.nsf_core.specs.State.{State, changes_of, insertion, deletion, replacement, changed, fresh, begun, inserted, deleted, updated, rolling_back, undone, committed, ended}
+use Rattle.nsf_core.specs.Value.{CoreValue, changes_of, insertion, deletion, replacement, changed, fresh, begun, inserted, deleted, updated, rolling_back, undone, committed, ended}
 use Rattle.nsf_core.specs.Refusals.{CanInsert, CanChange, is_active}
-use Rattle.nsf_core.specs.Follows.{HasCells, HasMade, IsListOf}
+use Rattle.nsf_core.specs.Follows.{HoldsCells, IsRedoOf, IsListOf}
 use Rattle.nsf_core.proofs.Txns.{Txns, changes_at, list_at, shorter, active_of, noted_own, popped_own, state_other, state_without, with_state_own}
 use Rattle.nsf_core.proofs.Lists.{has_room, list_is, new_list, no_list, one_list, own_list, same_list}
 use Rattle.nsf_core.proofs.Holders.{untouched, first_none, touched_by_none}
@@ -45,11 +45,11 @@ has_changes None (d ∷ earlier) c is = absurd cc
 
 -- ---- the cells
 
-module _ (s : State) (cells : Cells) (has : HasCells s cells) where
+module _ (s : CoreValue) (cells : Cells) (has : HoldsCells s cells) where
   -- the list of one transaction is set, and perhaps a row
-  cells_with : (later : State) (txn : ℕ) (list : Option (List ChangeValue)) (rows : Table) → rows ≡ later.heap.rows → IsListOf list (table.state_of txn later.txns.active)
+  cells_with : (later : CoreValue) (txn : ℕ) (list : Option (List ChangeValue)) (rows : Table) → rows ≡ later.heap.rows → IsListOf list (table.state_of txn later.txns.active)
       → ((u : ℕ) → u ≢ txn → table.state_of u later.txns.active ≡ table.state_of u s.txns.active)
-      → HasCells later (record { rows = rows; entries = cells.entries; pending = with_list cells.pending txn list; life = cells.life })
+      → HoldsCells later (record { rows = rows; entries = cells.entries; pending = with_list cells.pending txn list; life = cells.life })
   cells_with later txn list rows is own others = record {
     rows = is;
     entries = has.entries;
@@ -59,15 +59,15 @@ module _ (s : State) (cells : Cells) (has : HasCells s cells) where
 
 -- ---- each step
 
-module _ (t : Table) (base : ℕ) (made : List RecordValue) (items : List Item) (s : State) (has : HasMade t base made items s) where
+module _ (t : Table) (base : ℕ) (made : List RecordValue) (items : List Item) (s : CoreValue) (has : IsRedoOf t base made items s) where
   abbrev record_of : Action → RecordValue
   record_of action = record { number = s.last + 1; action = action }
 
   abbrev cells : Cells
   cells = cells_after (at_rest t) made
 
-  after : (action : Action) (later : State) → HasCells later (set_by cells action) → HasCells later (cells_after (at_rest t) (made ++ record_of action ∷ []))
-  after action later = subst (HasCells later) (sym (cells_after_one_more (at_rest t) made (record_of action)))
+  after : (action : Action) (later : CoreValue) → HoldsCells later (set_by cells action) → HoldsCells later (cells_after (at_rest t) (made ++ record_of action ∷ []))
+  after action later = subst (HoldsCells later) (sym (cells_after_one_more (at_rest t) made (record_of action)))
 
   one_more : (action : Action) → s.last + 1 ≡ base + length (made ++ record_of action ∷ [])
   one_more action = omega (arith, has.last, length-append {A = RecordValue} made (record_of action ∷ []))
@@ -93,8 +93,8 @@ module _ (t : Table) (base : ℕ) (made : List RecordValue) (items : List Item) 
     own : IsListOf (Some (noted (list_of cells.pending txn) c)) (table.state_of txn (changed s txn c).txns.active)
     own = subst (λ xs. IsListOf (Some xs) (table.state_of txn (changed s txn c).txns.active)) longer (own_list (table.state_of txn (changed s txn c).txns.active) still)
 
-    pub change_has_made : HasMade t base (made ++ record_of (OfTxn txn (Forward Slot c)) ∷ []) items (changed s txn c)
-    change_has_made = record {
+    pub change_is_redo : IsRedoOf t base (made ++ record_of (OfTxn txn (Forward Slot c)) ∷ []) items (changed s txn c)
+    change_is_redo = record {
       last = one_more (OfTxn txn (Forward Slot c));
       cells = after (OfTxn txn (Forward Slot c)) (changed s txn c)
           (cells_with s cells has.cells (changed s txn c) txn (Some (noted (list_of cells.pending txn) c)) (set_at cells.rows c.rid (new_row c.rows)) (ap (λ (rows : Table). set_at rows c.rid (new_row c.rows)) has.cells.rows) own
@@ -106,22 +106,22 @@ module _ (t : Table) (base : ℕ) (made : List RecordValue) (items : List Item) 
           (λ u apart. ap (λ xs. touches xs c.rid) (of_txn u) ∙ others u apart);
     }
 
-  pub insert_has_made : (txn : ℕ) (rid : Place) (row : Row) → IsSound s.txns → CanInsert s txn rid
-      → HasMade t base (made ++ record_of (OfTxn txn (Forward Slot (insertion s txn rid row))) ∷ []) items (inserted s txn rid row)
-  insert_has_made txn rid row sound can =
-      change_has_made txn (insertion s txn rid row) sound.few (active_of (table.state_of txn s.txns.active) can.allowed) refl can.place.free.empty can.place.free.inside.0
+  pub insert_is_redo : (txn : ℕ) (rid : Place) (row : Row) → IsSound s.txns → CanInsert s txn rid
+      → IsRedoOf t base (made ++ record_of (OfTxn txn (Forward Slot (insertion s txn rid row))) ∷ []) items (inserted s txn rid row)
+  insert_is_redo txn rid row sound can =
+      change_is_redo txn (insertion s txn rid row) sound.few (active_of (table.state_of txn s.txns.active) can.allowed) refl can.place.free.empty can.place.free.inside.0
       (λ u apart. untouched rid s.txns.active can.place.free.not_held sound.txns u)
 
-  pub delete_has_made : (txn : ℕ) (rid : Place) (old : Row) → IsSound s.txns → CanChange s txn rid old
-      → HasMade t base (made ++ record_of (OfTxn txn (Forward Slot (deletion s txn rid old))) ∷ []) items (deleted s txn rid old)
-  delete_has_made txn rid old sound can =
-      change_has_made txn (deletion s txn rid old) sound.few (active_of (table.state_of txn s.txns.active) (first_none (table.change_refusal txn s.txns.active) (table.busy_refusal txn (table.holder_of rid s.txns.active)) can.allowed))
+  pub delete_is_redo : (txn : ℕ) (rid : Place) (old : Row) → IsSound s.txns → CanChange s txn rid old
+      → IsRedoOf t base (made ++ record_of (OfTxn txn (Forward Slot (deletion s txn rid old))) ∷ []) items (deleted s txn rid old)
+  delete_is_redo txn rid old sound can =
+      change_is_redo txn (deletion s txn rid old) sound.few (active_of (table.state_of txn s.txns.active) (first_none (table.change_refusal txn s.txns.active) (table.busy_refusal txn (table.holder_of rid s.txns.active)) can.allowed))
       refl can.there can.inside.0 (λ u apart. touched_by_none s.txns.active s.txns.begun txn u rid sound can.allowed apart)
 
-  pub update_has_made : (txn : ℕ) (rid : Place) (old row : Row) → IsSound s.txns → CanChange s txn rid old
-      → HasMade t base (made ++ record_of (OfTxn txn (Forward Slot (replacement s txn rid old row))) ∷ []) items (updated s txn rid old row)
-  update_has_made txn rid old row sound can =
-      change_has_made txn (replacement s txn rid old row) sound.few (active_of (table.state_of txn s.txns.active) (first_none (table.change_refusal txn s.txns.active) (table.busy_refusal txn (table.holder_of rid s.txns.active)) can.allowed))
+  pub update_is_redo : (txn : ℕ) (rid : Place) (old row : Row) → IsSound s.txns → CanChange s txn rid old
+      → IsRedoOf t base (made ++ record_of (OfTxn txn (Forward Slot (replacement s txn rid old row))) ∷ []) items (updated s txn rid old row)
+  update_is_redo txn rid old row sound can =
+      change_is_redo txn (replacement s txn rid old row) sound.few (active_of (table.state_of txn s.txns.active) (first_none (table.change_refusal txn s.txns.active) (table.busy_refusal txn (table.holder_of rid s.txns.active)) can.allowed))
       refl can.there can.inside.0 (λ u apart. touched_by_none s.txns.active s.txns.begun txn u rid sound can.allowed apart)
 
   -- the undo of a transaction's last change
@@ -141,8 +141,8 @@ module _ (t : Table) (base : ℕ) (made : List RecordValue) (items : List Item) 
         none_at : (u : ℕ) → list_of map.empty u ≡ []
         none_at u = ap (λ o. unwrap_or o []) (map.get-empty nat_cmp u)
 
-    pub undo_has_made : HasMade t base (made ++ record_of (OfTxn txn (Undo Slot c true)) ∷ []) items (undone s txn c)
-    undo_has_made = record {
+    pub undo_is_redo : IsRedoOf t base (made ++ record_of (OfTxn txn (Undo Slot c true)) ∷ []) items (undone s txn c)
+    undo_is_redo = record {
       last = one_more (OfTxn txn (Undo Slot c true));
       cells = after (OfTxn txn (Undo Slot c true)) (undone s txn c)
           (cells_with s cells has.cells (undone s txn c) txn (Some (taken_off (list_of cells.pending txn) true)) (set_at cells.rows c.rid (old_row c.rows)) (ap (λ (rows : Table). set_at rows c.rid (old_row c.rows)) has.cells.rows)
@@ -154,8 +154,8 @@ module _ (t : Table) (base : ℕ) (made : List RecordValue) (items : List Item) 
     }
 
   -- a step of the undo that found no change
-  pub roll_has_made : (txn : ℕ) → changes_of s txn ≡ [] → HasMade t base made items (rolling_back s txn)
-  roll_has_made txn none = record {
+  pub roll_is_redo : (txn : ℕ) → changes_of s txn ≡ [] → IsRedoOf t base made items (rolling_back s txn)
+  roll_is_redo txn none = record {
     last = has.last;
     cells = record {
       rows = has.cells.rows;
@@ -169,15 +169,15 @@ module _ (t : Table) (base : ℕ) (made : List RecordValue) (items : List Item) 
   }
 
   -- the cells of a core in which a transaction is over
-  over_cells : (later : State) (txn : ℕ) → later.heap.rows ≡ s.heap.rows → later.txns.active ≡ table.without txn s.txns.active → is_some (table.state_of txn (table.without txn s.txns.active)) ≡ false
-      → HasCells later (record { rows = cells.rows; entries = cells.entries; pending = with_list cells.pending txn None; life = cells.life })
+  over_cells : (later : CoreValue) (txn : ℕ) → later.heap.rows ≡ s.heap.rows → later.txns.active ≡ table.without txn s.txns.active → is_some (table.state_of txn (table.without txn s.txns.active)) ≡ false
+      → HoldsCells later (record { rows = cells.rows; entries = cells.entries; pending = with_list cells.pending txn None; life = cells.life })
   over_cells later txn rows active over = cells_with s cells has.cells later txn None cells.rows (has.cells.rows ∙ sym rows)
       (subst (λ (txns : Txns). IsListOf None (table.state_of txn txns)) (sym active) (no_list (table.state_of txn (table.without txn s.txns.active)) over))
       (λ u apart. ap (table.state_of u) active ∙ state_without s.txns.active txn u apart)
 
-  pub commit_has_made : (txn : ℕ) → is_active (committed s txn) txn ≡ false
-      → HasMade t base (made ++ record_of (OfTxn txn Commit) ∷ []) (items ++ record { number = s.last + 1; deed = Committed (writes_of (changes_of s txn)) } ∷ []) (committed s txn)
-  commit_has_made txn over = record {
+  pub commit_is_redo : (txn : ℕ) → is_active (committed s txn) txn ≡ false
+      → IsRedoOf t base (made ++ record_of (OfTxn txn Commit) ∷ []) (items ++ record { number = s.last + 1; deed = Committed (writes_of (changes_of s txn)) } ∷ []) (committed s txn)
+  commit_is_redo txn over = record {
     last = one_more (OfTxn txn Commit);
     cells = after (OfTxn txn Commit) (committed s txn) (over_cells (committed s txn) txn refl refl over);
     in_order = ordered (OfTxn txn Commit) tt;
@@ -186,16 +186,16 @@ module _ (t : Table) (base : ℕ) (made : List RecordValue) (items : List Item) 
   }
 
   -- the end of a transaction that has no change left
-  pub end_has_made : (txn : ℕ) → changes_of s txn ≡ [] → is_active (ended s txn) txn ≡ false → HasMade t base (made ++ record_of (OfTxn txn End) ∷ []) items (ended s txn)
-  end_has_made txn none over = record {
+  pub end_is_redo : (txn : ℕ) → changes_of s txn ≡ [] → is_active (ended s txn) txn ≡ false → IsRedoOf t base (made ++ record_of (OfTxn txn End) ∷ []) items (ended s txn)
+  end_is_redo txn none over = record {
     last = one_more (OfTxn txn End);
     cells = after (OfTxn txn End) (ended s txn) (over_cells (ended s txn) txn refl refl over);
     in_order = ordered (OfTxn txn End) tt;
     tells = end_step t base made items has.tells (record_of (OfTxn txn End)) txn refl (of_txn txn ∙ none);
   }
 
-  pub begin_has_made : HasMade t base made items (begun s)
-  begin_has_made = record {
+  pub begin_is_redo : IsRedoOf t base made items (begun s)
+  begin_is_redo = record {
     last = has.last;
     cells = record {
       rows = has.cells.rows;
@@ -207,8 +207,8 @@ module _ (t : Table) (base : ℕ) (made : List RecordValue) (items : List Item) 
     tells = has.tells;
   }
 
-pub fresh_has_made : (pages base : ℕ) → HasMade map.empty base [] [] (fresh pages base)
-fresh_has_made pages base = record {
+pub fresh_is_redo : (pages base : ℕ) → IsRedoOf map.empty base [] [] (fresh pages base)
+fresh_is_redo pages base = record {
   last = omega arith;
   cells = record { rows = refl; entries = refl; pending = λ u. subst (λ (o : Option (List ChangeValue)). IsListOf o None) (sym (map.get-empty nat_cmp u)) tt; life = refl };
   in_order = tt;

@@ -2,7 +2,7 @@
 use Rattle.std.proofs.Common.{◌≡◌, ◌<◌, List, [], ◌∷◌, ◌++◌, Result, Ok, Err, false, length, drop, sym, ap, ◌∙◌, append_assoc, arith}
 use Rattle.std.specs.Prelude.{slice_index_or, MatchResult, is_err}
 use Rattle.records.specs.RecordValue.{RecordValue}
-use Rattle.nsf_core.specs.State.{State, HandsOut}
+use Rattle.nsf_core.specs.Value.{CoreValue, HandsOut}
 
 head_is : (xs : List RecordValue) (x : RecordValue) → 0 < length xs → x ≡ slice_index_or xs 0 x → xs ≡ x ∷ drop 1 xs
 head_is [] x some is = absurd (omega (arith, some))
@@ -14,18 +14,18 @@ on_success P Q (Ok x) is h = h
 on_success P Q (Err e) is h = absurd cc
 
 -- one record more
-pub one_more : (old mid : State) (before taken after rest : List RecordValue) (x : RecordValue) → HandsOut old mid before taken → 0 < length mid.outbox → x ≡ slice_index_or mid.outbox 0 x → rest ≡ drop 1 mid.outbox → after ≡ taken ++ x ∷ []
+pub one_more : (old mid : CoreValue) (before taken after rest : List RecordValue) (x : RecordValue) → HandsOut old mid before taken → 0 < length mid.outbox → x ≡ slice_index_or mid.outbox 0 x → rest ≡ drop 1 mid.outbox → after ≡ taken ++ x ∷ []
     → HandsOut old (record mid { outbox = rest }) before after
 one_more old mid before taken after rest x out some first others more = record {
   handed = out.handed ++ x ∷ [];
   kept = rest;
   split = out.split ∙ ap (λ xs. out.handed ++ xs) (kept ∙ whole) ∙ sym (append_assoc out.handed (x ∷ []) rest);
   taken = more ∙ ap (λ xs. xs ++ x ∷ []) out.taken ∙ append_assoc before out.handed (x ∷ []);
-  same = ap (λ (s : State). record s { outbox = rest }) out.same;
+  same = ap (λ (s : CoreValue). record s { outbox = rest }) out.same;
 }
   where
     kept : out.kept ≡ mid.outbox
-    kept = sym (ap (λ (s : State). s.outbox) out.same)
+    kept = sym (ap (λ (s : CoreValue). s.outbox) out.same)
 
     whole : mid.outbox ≡ x ∷ rest
     whole = head_is mid.outbox x some first ∙ ap (λ xs. x ∷ xs) (sym others)

@@ -8,8 +8,8 @@ use Rattle.records.specs.declared.error.Error.TheVariants.{NoMemory, TooManyTxns
 use Rattle.records.specs.Values.{Place}
 use Rattle.heap_pages.specs.Pages as heap
 use Rattle.txn_table.specs.Table.{holder_of}
-use Rattle.nsf_core.specs.State.{State}
-use Rattle.nsf_core.specs.Refusals.{IsRefusedBy, IsFree}
+use Rattle.nsf_core.specs.Value.{CoreValue}
+use Rattle.nsf_core.specs.Refusals.{IsRefusedBy, IsFreePlace}
 
 -- the number that is given last
 abbrev pub u64_max : ℕ
@@ -55,11 +55,11 @@ none_or_some None is some = absurd cc
 none_or_some (Some x) is some = absurd cc
 
 -- the held places are those that have a holder
-abbrev AreHeld : State → List Place → Type 0
+abbrev AreHeld : CoreValue → List Place → Type 0
 AreHeld s held = (r : Place) → (Contains held r) ↔ (IsSome (holder_of r s.txns.active))
 
 -- a place that the heap calls free is free
-pub is_free : (s : State) (held : List Place) (r : Place) → AreHeld s held → heap.IsFree s.heap held r → IsFree s r
+pub is_free : (s : CoreValue) (held : List Place) (r : Place) → AreHeld s held → heap.IsFree s.heap held r → IsFreePlace s r
 is_free s held r are free = record {
   inside = free.inside;
   empty = free.empty;
@@ -67,7 +67,7 @@ is_free s held r are free = record {
 }
 
 -- and where the heap has none, there is none
-pub none_free : (s : State) (held : List Place) → AreHeld s held → ((r : Place) → ¬ heap.IsFree s.heap held r) → (r : Place) → ¬ IsFree s r
+pub none_free : (s : CoreValue) (held : List Place) → AreHeld s held → ((r : Place) → ¬ heap.IsFree s.heap held r) → (r : Place) → ¬ IsFreePlace s r
 none_free s held are none r free = none r (record {
   inside = free.inside;
   empty = free.empty;

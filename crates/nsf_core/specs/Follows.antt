@@ -11,7 +11,7 @@ use Rattle.model.specs.Prefixes.{at_rest, TellsHistory}
 use Rattle.model.specs.Following.{AreFollowing}
 use Rattle.txn_table.specs.Table as table
 use Rattle.txn_table.specs.Table.{TxnState}
-use Rattle.nsf_core.specs.State.{State}
+use Rattle.nsf_core.specs.Value.{CoreValue}
 
 -- The list that records leave of a transaction: its changes, the oldest first. An active one that has no change may have no list.
 abbrev pub IsListOf : Option (List ChangeValue) → Option TxnState → Type 0
@@ -21,15 +21,15 @@ IsListOf (Some list) None = ⊥
 IsListOf (Some list) (Some t) = list ≡ t.changes
 
 -- these are the cells of the state: its rows and the changes of its transactions, no entry and no index
-pub record HasCells (s : State) (cells : Cells) : Type 0 where
+pub record HoldsCells (s : CoreValue) (cells : Cells) : Type 0 where
   pub rows : cells.rows ≡ s.heap.rows
   pub entries : cells.entries ≡ map.empty
   pub pending : (txn : ℕ) → IsListOf (map.get cells.pending txn) (table.state_of txn s.txns.active)
   pub life : cells.life ≡ Absent
 
 -- The core has made these records since the record `base`, over a table: they set what it holds, each can follow the one before, and they tell this history.
-pub record HasMade (table : Table) (base : ℕ) (made : List RecordValue) (items : List Item) (s : State) : Type 0 where
+pub record IsRedoOf (table : Table) (base : ℕ) (made : List RecordValue) (items : List Item) (s : CoreValue) : Type 0 where
   pub last : s.last ≡ base + length made
-  pub cells : HasCells s (cells_after (at_rest table) made)
+  pub cells : HoldsCells s (cells_after (at_rest table) made)
   pub in_order : AreFollowing s.heap.pages base (at_rest table) made
   pub tells : TellsHistory table base made items

@@ -1,4 +1,4 @@
 pub mod Changes
-pub mod State
+pub mod Value
 pub mod Refusals
 pub mod Follows

@@ -12,57 +12,57 @@ use Rattle.records.specs.declared.error.Error.{Error}
 use Rattle.records.specs.declared.error.Error.TheVariants.{NoMemory, TooManyTxns, NoSuchTxn, NoSuchRow, HeapFull, Exhausted}
 use Rattle.heap_pages.specs.Pages.{IsInside}
 use Rattle.txn_table.specs.Table as table
-use Rattle.nsf_core.specs.State.{State, changes_of}
+use Rattle.nsf_core.specs.Value.{CoreValue, changes_of}
 
 -- that refusal, or where there is none, want of memory
 abbrev pub IsRefusedBy : Option Error → Error → Type 0
 IsRefusedBy (Some refusal) e = e ≡ refusal
 IsRefusedBy None e = e ≡ NoMemory
 
-abbrev pub is_active : State → ℕ → Bool
+abbrev pub is_active : CoreValue → ℕ → Bool
 is_active s txn = is_some (table.state_of txn s.txns.active)
 
-abbrev pub is_rolling : State → ℕ → Bool
+abbrev pub is_rolling : CoreValue → ℕ → Bool
 is_rolling s txn = table.is_rolling (table.state_of txn s.txns.active)
 
 -- active, and not rolling back
-abbrev pub is_ready : State → ℕ → Bool
+abbrev pub is_ready : CoreValue → ℕ → Bool
 is_ready s txn = is_active s txn && not (is_rolling s txn)
 
 -- why no further record may be made
-abbrev pub number_refusal : State → Option Error
+abbrev pub number_refusal : CoreValue → Option Error
 number_refusal s = if s.last == LAST_NUMBER then Some Exhausted else None
 
 -- why no further transaction may begin: enough are active, or all numbers of 64 bits were given
-abbrev pub begin_refusal : State → Option Error
+abbrev pub begin_refusal : CoreValue → Option Error
 begin_refusal s = if nat_le TXNS_MAX (length s.txns.active) || nat_le 18446744073709551615 s.txns.begun then Some TooManyTxns else None
 
 -- why a transaction may not commit, or end
-abbrev pub commit_refusal : State → ℕ → Option Error
+abbrev pub commit_refusal : CoreValue → ℕ → Option Error
 commit_refusal s txn = if is_active s txn then number_refusal s else Some NoSuchTxn
 
 -- a place of the heap where no row is, and which no active transaction holds
-pub record IsFree (s : State) (r : Place) : Type 0 where
+pub record IsFreePlace (s : CoreValue) (r : Place) : Type 0 where
   pub inside : IsInside s.heap r
   pub empty : map.get s.heap.rows r ≡ None
   pub not_held : table.holder_of r s.txns.active ≡ None
 
 -- the least free place
-pub record IsLeastFree (s : State) (r : Place) : Type 0 where
-  pub free : IsFree s r
-  pub least : (q : Place) → IsFree s q → rid_cmp q r ≢ Less
+pub record IsLeastFreePlace (s : CoreValue) (r : Place) : Type 0 where
+  pub free : IsFreePlace s r
+  pub least : (q : Place) → IsFreePlace s q → rid_cmp q r ≢ Less
 
 -- why a transaction may not insert a row: NoSuchTxn and TooManyChanges, then HeapFull, then Exhausted, then want of memory
-abbrev pub IsInsertRefusal : State → ℕ → Error → Type 0
+abbrev pub IsInsertRefusal : CoreValue → ℕ → Error → Type 0
 IsInsertRefusal s txn e =
     (table.change_refusal txn s.txns.active ≡ Some e)
-    ⊎ ((table.change_refusal txn s.txns.active ≡ None) × ((r : Place) → ¬ IsFree s r) × (e ≡ HeapFull))
-    ⊎ ((table.change_refusal txn s.txns.active ≡ None) × ((r : Place) × IsFree s r) × IsRefusedBy (number_refusal s) e)
+    ⊎ ((table.change_refusal txn s.txns.active ≡ None) × ((r : Place) → ¬ IsFreePlace s r) × (e ≡ HeapFull))
+    ⊎ ((table.change_refusal txn s.txns.active ≡ None) × ((r : Place) × IsFreePlace s r) × IsRefusedBy (number_refusal s) e)
 
 -- a transaction may insert a row at this place
-pub record CanInsert (s : State) (txn : ℕ) (r : Place) : Type 0 where
+pub record CanInsert (s : CoreValue) (txn : ℕ) (r : Place) : Type 0 where
   pub allowed : table.change_refusal txn s.txns.active ≡ None
-  pub place : IsLeastFree s r
+  pub place : IsLeastFreePlace s r
   pub numbered : number_refusal s ≡ None
 
 -- why there is no row to change
@@ -71,18 +71,18 @@ no_row_refusal None = Some NoSuchRow
 no_row_refusal (Some row) = None
 
 -- why a transaction may not delete or update the row at a place
-abbrev pub row_refusal : State → ℕ → Place → Option Error
+abbrev pub row_refusal : CoreValue → ℕ → Place → Option Error
 row_refusal s txn r = option_or (table.touch_refusal txn r s.txns.active) (option_or (no_row_refusal (map.get s.heap.rows r)) (number_refusal s))
 
 -- a transaction may delete or update this row, which is at the place
-pub record CanChange (s : State) (txn : ℕ) (r : Place) (old : Row) : Type 0 where
+pub record CanChange (s : CoreValue) (txn : ℕ) (r : Place) (old : Row) : Type 0 where
   pub allowed : table.touch_refusal txn r s.txns.active ≡ None
   pub inside : IsInside s.heap r
   pub there : map.get s.heap.rows r ≡ Some old
   pub numbered : number_refusal s ≡ None
 
 -- why a transaction's last change may not be taken back: NoSuchTxn, then Exhausted and want of memory, which come only where there is a change
-abbrev pub IsUndoRefusal : State → ℕ → Error → Type 0
+abbrev pub IsUndoRefusal : CoreValue → ℕ → Error → Type 0
 IsUndoRefusal s txn e =
     ((is_active s txn ≡ false) × (e ≡ NoSuchTxn))
     ⊎ ((is_active s txn ≡ true) × (changes_of s txn ≢ []) × IsRefusedBy (number_refusal s) e)

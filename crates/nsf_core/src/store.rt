@@ -45,7 +45,7 @@ impl<A: Allocator + Copy> Core<A> {
     ghost use Rattle.heap_pages.specs.Pages.{IsInside};
     ghost use Rattle.txn_table.specs.Table as table;
     ghost use Rattle.txn_table.specs.Sound.{IsSound};
-    ghost use Rattle.nsf_core.specs.State.{state_of, fresh, with_row, with_record, changes_of, next_change, begun, changed, inserted, deleted, updated, undone, without, committed, ended, IsUndone, HandsOut};
+    ghost use Rattle.nsf_core.specs.Value.{state_of, fresh, with_row, with_record, changes_of, next_change, begun, changed, inserted, deleted, updated, undone, without, committed, ended, IsUndone, HandsOut};
     ghost use Rattle.nsf_core.specs.Refusals.{IsRefusedBy, is_active, is_rolling, is_ready, begin_refusal, commit_refusal, number_refusal, no_row_refusal, row_refusal, IsInsertRefusal, IsUndoRefusal, CanInsert, CanChange};
 
     /// No row and no transaction. The next record has the number after `base`.

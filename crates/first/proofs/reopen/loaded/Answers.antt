@@ -1,5 +1,5 @@
 use Rattle.std.proofs.Common.{arith, [], sym, ap, subst, ◌∙◌, append-nil}
-use Rattle.nsf_core.specs.State.{state_of}
+use Rattle.nsf_core.specs.Value.{state_of}
 use Rattle.std.proofs.lemmas.List.{nil_from_length}
 use Rattle.first.proofs.Loading.{Rows, made, IsLoaded, page_within, one_more_row, all_loaded}
 use Rattle.first.proofs.reopen.loaded.Goals as goal

@@ -1,4 +1,4 @@
-use Rattle.nsf_core.specs.State.{state_of}
+use Rattle.nsf_core.specs.Value.{state_of}
 use Rattle.first.proofs.Loading.{IsLoaded}
 use Rattle.first.proofs.reopen.loaded.Given as goal
 

@@ -6,7 +6,7 @@ use Rattle.sector_device.proofs.Sectors.{sector_written, content_after, holds_af
 use Rattle.flip_image.specs.declared.half.Half.TheVariants.{A}
 use Rattle.sector_device.specs.Values.{zero_sector}
 use Rattle.flip_image.specs.Layout.{log_first}
-use Rattle.flip_image.specs.Store.{IsSuperblock, IsFormatted, AreGatesZero, IsFormatSector}
+use Rattle.flip_image.specs.Store.{IsSuperblock, IsFormatted, AreLogGatesZero, IsFormatSector}
 use Rattle.flip_image.proofs.Formats.{all_outside, all_formatted, flip_there, gates_there, gates_closed}
 use Rattle.flip_image.proofs.halves.write_store.Goals as goal
 
@@ -67,7 +67,7 @@ returns-clause-gates g c =
     let two : SameOutside (λ n. n ≡ 1) d1.content d2.content = content_after (λ n. n ≡ 1) d1.content d1 1 _ d2 c.write-2.result c.write-2.ensures.ok c.write-2.ensures.err refl (record { sectors = refl; same = λ k out. refl }) in
     let there = gates_there c.args.geometry _ _ _ _ _ c.header_sector-header.ensures c.pages_first-pages.ensures (c.from.ensures ∙ ap (λ (x : GeometryValue). x.pages) c.geometry.view_is)
     c.log_first-log.ensures (c.from-2.ensures ∙ ap (λ (x : GeometryValue). x.slots) c.geometry-2.view_is) d0.content d1.content d2.content _ _ d5.content one two c.write_zeros.ensures.outside c.write_zeros-2.ensures.outside c.write_zeros-3.ensures.outside c.in_ok-write_zeros-3.ensures.zeros in
-    on_ok_weaker c.sync.result (λ ok. subst (λ (d : Disk). AreGatesZero c.args.geometry A d.content) (sym ok) there) c.sync.ensures.ok
+    on_ok_weaker c.sync.result (λ ok. subst (λ (d : Disk). AreLogGatesZero c.args.geometry A d.content) (sym ok) there) c.sync.ensures.ok
 
 pub returns-clause-closed : goal.returns-clause-closed
 returns-clause-closed g c = on_ok_weaker c.sync.result (gates_closed c.args.geometry A _) (returns-clause-gates g c)

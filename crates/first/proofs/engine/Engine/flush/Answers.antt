@@ -13,7 +13,7 @@ use Rattle.first.specs.Lawful.{IsAnswer}
 use Rattle.first.specs.declared.event.Event.TheVariants.{Flush}
 use Rattle.first.proofs.Flushing.{taken, within, served_flush, writes, fills, all_written, some_waits, some_unwritten}
 use Rattle.std.proofs.lemmas.Bool.{cases_lt}
-use Rattle.nsf_core.specs.State.{state_of}
+use Rattle.nsf_core.specs.Value.{state_of}
 use Rattle.first.proofs.engine.Engine.flush.Goals as goal
 
 pub flush_group-requires : goal.flush_group-requires

@@ -1,6 +1,6 @@
 use Rattle.std.proofs.Common.{refl, subst}
 use Rattle.first.specs.declared.event.Event.TheVariants as event
-use Rattle.nsf_core.specs.State.{state_of, IsUndone}
+use Rattle.nsf_core.specs.Value.{state_of, IsUndone}
 use Rattle.nsf_core.specs.declared.store.Undone.TheVariants.{Step, Empty}
 use Rattle.first.proofs.Served.{served_refused, served_undo, served_roll}
 use Rattle.first.proofs.engine.Engine.undo.Goals as goal

@@ -1,7 +1,7 @@
 use Rattle.std.proofs.Common.{ap}
 use Rattle.std.proofs.lemmas.Result.{on_err_weaker}
 use Rattle.txn_table.specs.Table.{TableValue}
-use Rattle.nsf_core.specs.State.{state_of}
+use Rattle.nsf_core.specs.Value.{state_of}
 use Rattle.nsf_core.proofs.Refusing.{begin_refused}
 use Rattle.nsf_core.proofs.Inside.{inside_begun}
 use Rattle.nsf_core.proofs.store.Core.begin.Goals as goal

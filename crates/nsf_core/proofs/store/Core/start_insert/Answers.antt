@@ -1,6 +1,6 @@
 use Rattle.std.proofs.Common.{inl, inr, refl, sym, ◌∙◌}
 use Rattle.std.proofs.lemmas.Result.{err_from_is_err_and}
-use Rattle.nsf_core.specs.State.{state_of}
+use Rattle.nsf_core.specs.Value.{state_of}
 use Rattle.nsf_core.proofs.Refusing.{is_free, none_free, by_memory}
 use Rattle.nsf_core.proofs.store.Core.start_insert.Goals as goal
 

@@ -1,5 +1,5 @@
 use Rattle.std.proofs.Common.{◌<◌, length, refl, sym, ap, ◌∙◌, arith, length-drop}
-use Rattle.nsf_core.specs.State.{state_of}
+use Rattle.nsf_core.specs.Value.{state_of}
 use Rattle.nsf_core.proofs.Outbox.{one_more, on_success}
 use Rattle.nsf_core.proofs.store.Core.take_outbox.Goals as goal
 

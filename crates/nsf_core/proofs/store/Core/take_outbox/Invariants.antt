@@ -1,5 +1,5 @@
 use Rattle.std.proofs.Common.{◌+◌, ◌≤◌, length}
-use Rattle.nsf_core.specs.State.{state_of, HandsOut}
+use Rattle.nsf_core.specs.Value.{state_of, HandsOut}
 use Rattle.nsf_core.proofs.store.Core.take_outbox.Given as goal
 
 abbrev pub invariant-loop-next : goal.invariant-loop-next

@@ -1,7 +1,7 @@
 use Rattle.std.proofs.Common.{sym, ap}
 use Rattle.txn_table.specs.Table as table
 use Rattle.txn_table.specs.Table.{TableValue}
-use Rattle.nsf_core.specs.State.{state_of, changes_of}
+use Rattle.nsf_core.specs.Value.{state_of, changes_of}
 use Rattle.nsf_core.proofs.Txns.{shorter}
 use Rattle.nsf_core.proofs.Inside.{inside_undone, newest_none, newest_split}
 use Rattle.nsf_core.proofs.store.Core.undo_step.Goals as goal

@@ -1,5 +1,5 @@
 use Rattle.std.proofs.Common.{◌≡◌, ℕ, [], ◌∷◌, true, false, subst, ap, ◌∙◌}
-use Rattle.nsf_core.specs.State.{State}
+use Rattle.nsf_core.specs.Value.{CoreValue}
 use Rattle.session.specs.Session.{last_made, asks_again, Flushes}
 use Rattle.session.proofs.session.Session.flush.Goals as goal
 
@@ -11,7 +11,7 @@ returns-then-not-asks_again-clause-answer c =
     let settled : asks_again c.last-last.result c.loop-self.self.horizon reply ≡ false = cc in
     let whole : Flushes c.last-last.result reply c.args.self.now new =
     c.loop-self.invariant.goes_on [] reply new (settled, c.flush_once-reply.ensures.flushed) in
-    let last_is : c.last-last.result ≡ last_made c.args.self.now = c.last-last.ensures.value ∙ ap (λ (s : State). s.last) c.core.ensures in
+    let last_is : c.last-last.result ≡ last_made c.args.self.now = c.last-last.ensures.value ∙ ap (λ (s : CoreValue). s.last) c.core.ensures in
     (reply, subst (λ (last : ℕ). Flushes last reply c.args.self.now new) last_is whole, c.outcome_of.ensures)
 
 -- this reply comes before those that follow
