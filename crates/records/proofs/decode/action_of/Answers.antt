@@ -5,3 +5,7 @@ use Rattle.records.proofs.decode.action_of.Goals as goal
 pub returns-in-Some-txn_action_of-clause-read : goal.returns-in-Some-txn_action_of-clause-read
 unfolding action_at
 returns-in-Some-txn_action_of-clause-read c = search rules
+
+pub returns-in_default-txn_action_of-clause-read : goal.returns-in_default-txn_action_of-clause-read
+unfolding action_at
+returns-in_default-txn_action_of-clause-read c = search rules
