@@ -3,3 +3,4 @@ mod Spelled
 mod Formats
 mod Fresh
 pub mod Stores
+pub mod Sides

@@ -5,6 +5,11 @@ use Rattle.records.specs.GeometryValue.{GeometryValue, sectors_for, half_sectors
 use Rattle.flip_image.specs.declared.half.Half.{Half}
 use Rattle.flip_image.specs.declared.half.Half.TheVariants.{A, B}
 
+-- the half that isn't this one
+abbrev pub other : Half → Half
+other A = B
+other B = A
+
 -- half A lies behind the superblock and the flip sector, half B behind half A; each begins with its image's header
 abbrev pub header_sector : GeometryValue → Half → ℕ
 header_sector g A = FRONT_SECTORS
@@ -32,6 +37,14 @@ log_first g half = entries_first g half + sectors_for g.entries ENTRIES_PER_SECT
 -- the gate of a slot of the log
 abbrev pub gate_sector : GeometryValue → Half → ℕ → ℕ
 gate_sector g half slot = log_first g half + SLOT_SECTORS * slot
+
+-- a sector of the half
+abbrev pub InHalf : GeometryValue → Half → ℕ → Type 0
+InHalf g half n = (header_sector g half ≤ n) × (n < header_sector g half + half_sectors_of g)
+
+-- a sector of the half's image
+abbrev pub InImage : GeometryValue → Half → ℕ → Type 0
+InImage g half n = (header_sector g half ≤ n) × (n < log_first g half)
 
 -- a sector of the log
 abbrev pub InLog : GeometryValue → Half → ℕ → Type 0

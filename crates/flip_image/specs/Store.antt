@@ -1,6 +1,6 @@
 -- What a store holds where it begins, and what a reader refuses.
-use Rattle.std.specs.Prelude.{◌≡◌, ◌⊎◌, ℕ, ◌+◌, ◌<◌, ◌≤◌, List, ◌++◌, length, take, drop, All, codes}
-use Rattle.sector_device.specs.Disk.{Image, sector}
+use Rattle.std.specs.Prelude.{◌≡◌, ◌⊎◌, true, ℕ, ◌+◌, ◌<◌, ◌≤◌, List, ◌++◌, length, take, drop, All, codes}
+use Rattle.sector_device.specs.Disk.{Image, Disk, sector, SameOutside}
 use Rattle.sector_device.specs.History.{Rises}
 use Rattle.sector_device.specs.Values.{zero_sector, IsMarked}
 use Rattle.records.specs.declared.geometry.TheConstants.{FRONT_SECTORS, HEADER_SECTORS, HEADS_SECTORS, PAGE_SECTORS}
@@ -39,6 +39,11 @@ pub record IsStore (g : GeometryValue) (half : Half) (image : Image) : Type 0 wh
   pub room : sectors_of g ≤ length image
   pub superblock-is : IsSuperblock g (sector image SUPERBLOCK_SECTOR)
   pub current : Names (sector image FLIP_SECTOR) half
+
+-- What a crash leaves while another half is named current: what it might leave before, or, once all is synced, that with
+-- any bytes in the flip sector.
+abbrev pub IsFlipping : Disk → Image → Type 0
+IsFlipping old image = SameOutside (λ n. old.unsynced n ≡ true) old.content image ⊎ SameOutside (λ n. n ≡ FLIP_SECTOR) old.content image
 
 -- ---- a half as `format` leaves it
 

@@ -1,10 +1,11 @@
 //! The halves of a store, and where their parts lie.
-ghost use Rattle.std.specs.Prelude.{◌≡◌};
-ghost use Rattle.flip_image.specs.Layout.{header_sector, heads_sector, pages_first, log_first};
+ghost use Rattle.std.specs.Prelude.{◌≡◌, ◌+◌, ◌*◌, ◌≤◌};
+ghost use Rattle.records.specs.GeometryValue.{sectors_of};
+ghost use Rattle.flip_image.specs.Layout.{other, header_sector, heads_sector, pages_first, log_first};
 
 use records::{
     ENTRIES_PER_SECTOR, FRONT_SECTORS, Geometry, HEADER_SECTORS, HEADS_SECTORS, PAGE_SECTORS,
-    UNDO_SECTORS,
+    SLOT_SECTORS, UNDO_SECTORS,
 };
 
 /// The sector that names a half (the format document, "Device"): half B where it is marked, and else half A.
@@ -20,6 +21,16 @@ pub enum Half {
 }
 
 impl Half {
+    /// The half that isn't this one.
+    pub fn other(self) -> Half
+        ensures { result ≡ other self }
+    {
+        match self {
+            Half::A => Half::B,
+            Half::B => Half::A,
+        }
+    }
+
     /// The sector of its image's header, which is its first.
     pub(crate) fn header_sector(self, geometry: Geometry) -> u64
         ensures { result ≡ header_sector geometry self }
@@ -44,9 +55,10 @@ impl Half {
         self.heads_sector(geometry) + HEADS_SECTORS + UNDO_SECTORS
     }
 
-    /// The first sector of its log.
-    pub(crate) fn log_first(self, geometry: Geometry) -> u64
-        ensures { result ≡ log_first geometry self }
+    /// The first sector of its log, which has the geometry's slots and ends within the store.
+    pub fn log_first(self, geometry: Geometry) -> u64
+        ensures value { result ≡ log_first geometry self }
+        ensures inside { result + SLOT_SECTORS * geometry.slots ≤ sectors_of geometry }
     {
         self.pages_first(geometry)
             + PAGE_SECTORS * u64::from(geometry.pages)

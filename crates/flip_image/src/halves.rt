@@ -1,12 +1,13 @@
 //! A store on a device: formatted, opened, and checked to be fresh.
-ghost use Rattle.std.specs.Prelude.{◌≡◌, ◌⊎◌, ◌↔◌, ◌+◌, ◌*◌, ◌^◌, ◌≤◌, ◌<◌, ℕ, length, OnOk, IfOk, IfErr};
+ghost use Rattle.std.specs.Prelude.{◌≡◌, ◌⊎◌, ◌↔◌, ◌+◌, ◌*◌, ◌^◌, ◌≤◌, ◌<◌, ℕ, length, OnOk, OnErr, IfOk, IfErr};
 ghost use Rattle.sector_device.specs.Disk.{sector, IsSynced, SameOutside};
-ghost use Rattle.sector_device.specs.History.{OnlyReads, CountsFailure};
+ghost use Rattle.sector_device.specs.History.{OnlyReads, LeavesOnly, CountsFailure};
 ghost use Rattle.sector_device.specs.Values.{zero_sector};
 ghost use Rattle.records.specs.GeometryValue.{GeometryValue, IsGeometry, sectors_of};
-ghost use Rattle.flip_image.specs.Layout.{log_first};
-ghost use Rattle.flip_image.specs.Store.{Names, IsSuperblock, IsStore, IsFresh, IsFormatted, AreGatesClosed, AreLogGatesZero, IsFormatSector, IsRefused, IsFirstUsed, AreZeros, IsDeviceFailure, IsUntitled, IsSuperblockDamaged};
+ghost use Rattle.flip_image.specs.Layout.{other, log_first};
+ghost use Rattle.flip_image.specs.Store.{Names, IsFlipping, IsSuperblock, IsStore, IsFresh, IsFormatted, AreGatesClosed, AreLogGatesZero, IsFormatSector, IsRefused, IsFirstUsed, AreZeros, IsDeviceFailure, IsUntitled, IsSuperblockDamaged};
 
+use crate::flip::write_flip_sector;
 use crate::half::{FLIP_SECTOR, Half};
 use crate::superblock::{SUPERBLOCK_SECTOR, geometry_of, superblock};
 use crate::zeros::read_zeros;
@@ -107,6 +108,31 @@ impl Halves {
         ensures later { D.failures device.old ≤ D.failures device.new }
     {
         check_half(device, self.geometry, self.current)
+    }
+
+    /// Makes the other half current, whose image and log must be whole: syncs, writes the flip sector, and syncs.
+    ///
+    /// A crash leaves what it might leave before, until all is synced, and from then on that with any bytes in the flip
+    /// sector, so with one of the halves current. After `DeviceFailed` either may be, and may change at a crash until
+    /// the device is synced and opened again.
+    pub fn flip<D: Device>(&mut self, device: &mut D) -> Result<(), Error>
+        requires inside { FRONT_SECTORS ≤ length (D.history device.old).disk.content }
+        ensures flipped { OnOk result (self.new ≡ record { geometry = self.old.geometry; current = other self.old.current }) }
+        ensures named { OnOk result (Names (sector (D.history device.new).disk.content FLIP_SECTOR) self.new.current) }
+        ensures synced { OnOk result (IsSynced (D.history device.new).disk) }
+        ensures outside { SameOutside (λ n. n ≡ FLIP_SECTOR) (D.history device.old).disk.content (D.history device.new).disk.content }
+        ensures any_moment { LeavesOnly (D.history device.old) (D.history device.new) (IsFlipping (D.history device.old).disk) }
+        ensures err { OnErr result (self.new ≡ self.old) }
+        ensures refused { IfErr result (IsDeviceFailure (D.failures device.old) (D.failures device.new)) }
+        ensures quiet { OnOk result (D.failures device.new ≡ D.failures device.old) }
+        ensures later { D.failures device.old ≤ D.failures device.new }
+    {
+        let next = self.current.other();
+        if write_flip_sector(device, next).is_err() {
+            return Err(Error::DeviceFailed);
+        }
+        self.current = next;
+        Ok(())
     }
 
     /// How large the store is.

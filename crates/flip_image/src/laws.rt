@@ -1,11 +1,13 @@
 //! Laws of what a device holds.
-ghost use Rattle.std.specs.Prelude.{◌≡◌, ℕ};
-ghost use Rattle.sector_device.specs.Disk.{Image, SameOutside};
+ghost use Rattle.std.specs.Prelude.{◌≡◌, ◌⊎◌, ◌<◌, ◌≤◌, ℕ, length};
+ghost use Rattle.sector_device.specs.Disk.{Image, sector, SameOutside};
 ghost use Rattle.records.specs.declared.error.Error.{Error};
+ghost use Rattle.records.specs.declared.geometry.TheConstants.{FRONT_SECTORS};
 ghost use Rattle.records.specs.GeometryValue.{GeometryValue};
 ghost use Rattle.flip_image.specs.declared.half.Half.{Half};
 ghost use Rattle.flip_image.specs.declared.half.Half.TheVariants.{A};
-ghost use Rattle.flip_image.specs.Layout.{InLog};
+ghost use Rattle.flip_image.specs.Layout.{other, InHalf, InImage, InLog};
+ghost use Rattle.flip_image.specs.declared.half.TheConstants.{FLIP_SECTOR};
 ghost use Rattle.flip_image.specs.Store.{IsStore, IsFresh, IsFormatted, IsRefused, IsFirstUsed};
 
 /// A law: an image is of one store at most, with one half that is current, and then no reader refuses it; and it is
@@ -29,4 +31,23 @@ pub fn log_apart()
 pub fn one_used_part()
     ensures fresh { (g : GeometryValue) (half : Half) (image : Image) (n : ℕ) → IsFresh g half image → ¬ IsFirstUsed g half image n }
     ensures sector { (g : GeometryValue) (half : Half) (image : Image) (m n : ℕ) → IsFirstUsed g half image m → IsFirstUsed g half image n → m ≡ n }
+{}
+
+/// A law: which store an image is of, the sectors in front of the halves tell; and whatever is in the flip sector, it
+/// names a half.
+pub fn store_in_front()
+    ensures front { (g : GeometryValue) (half : Half) (image changed : Image) → length changed ≡ length image → ((n : ℕ) → n < FRONT_SECTORS → sector changed n ≡ sector image n)
+        → IsStore g half image → IsStore g half changed }
+    ensures either { (g : GeometryValue) (half : Half) (image changed : Image) → SameOutside (λ n. n ≡ FLIP_SECTOR) image changed → IsStore g half image
+        → IsStore g half changed ⊎ IsStore g (other half) changed }
+{}
+
+/// A law: no sector is of both halves, nor of a half and in front of them; and a half's image and its log lie in it and
+/// apart.
+pub fn halves_apart()
+    ensures other { (g : GeometryValue) (half : Half) (n : ℕ) → InHalf g half n → ¬ InHalf g (other half) n }
+    ensures front { (g : GeometryValue) (half : Half) (n : ℕ) → InHalf g half n → FRONT_SECTORS ≤ n }
+    ensures image { (g : GeometryValue) (half : Half) (n : ℕ) → InImage g half n → InHalf g half n }
+    ensures log { (g : GeometryValue) (half : Half) (n : ℕ) → InLog g half n → InHalf g half n }
+    ensures parts { (g : GeometryValue) (half : Half) (n : ℕ) → InImage g half n → ¬ InLog g half n }
 {}

@@ -1,7 +1,7 @@
 pub mod Spellings
 pub mod Numbers
-mod Steps
-mod Fields
+pub mod Steps
+pub mod Fields
 mod Records
 mod Sizes
 mod Lengths

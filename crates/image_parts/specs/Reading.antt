@@ -1,0 +1,73 @@
+-- Words for the private steps of reading: what stands at the front of some bytes, whatever the padding is. No public clause
+-- cites them.
+use Rattle.std.specs.Prelude.{ℕ, List, length, take, drop, Option, Some, None, if◌then◌else◌, nat_lt, ◌==◌}
+use Rattle.records.specs.declared.key.TheConstants.{KEY_MAX, BODY_MAX}
+use Rattle.records.specs.declared.change.TheConstants.{CHANGES_MAX}
+use Rattle.records.specs.declared.row.Row.{Row}
+use Rattle.records.specs.declared.pair.Pair.{Pair}
+use Rattle.records.specs.declared.pair.Mark.{Mark}
+use Rattle.records.specs.declared.pair.Mark.TheVariants.{Live, Marked}
+use Rattle.records.specs.Reading.{◌>>=◌, u16_at, u32_at, u64_at, byte_at, rid_at, rows_of}
+use Rattle.model.specs.declared.life.Life.{Life}
+use Rattle.model.specs.declared.life.Life.TheVariants.{Absent, Building, Complete}
+use Rattle.image_parts.specs.declared.head.Head.{Head}
+use Rattle.image_parts.specs.declared.header.Header.{Header}
+use Rattle.image_parts.specs.declared.item.UndoItem.{UndoItem}
+
+unfoldable pub skipped : ℕ → List ℕ → Option (List ℕ)
+skipped count bytes = if nat_lt (length bytes) count then None else Some (drop count bytes)
+
+unfoldable pub padded_at : ℕ → List ℕ → Option (List ℕ × List ℕ)
+padded_at max bytes = do
+  n ← byte_at bytes
+  if nat_lt max n.0 then None else if nat_lt (length n.1) max then None else Some (take n.0 n.1, drop max n.1)
+
+unfoldable pub row_at : List ℕ → Option (Option Row × List ℕ)
+row_at bytes = do
+  tag ← byte_at bytes
+  if tag.0 == 0 then (skipped 63 tag.1 >>= λ rest. Some (None, rest)) else (padded_at KEY_MAX tag.1 >>= λ key. padded_at BODY_MAX key.1 >>= λ body. Some (Some (record { key = key.0; body = body.0 }), body.1))
+
+unfoldable pub pair_at : List ℕ → Option (Pair × List ℕ)
+pair_at bytes = do
+  key ← padded_at KEY_MAX bytes
+  place ← rid_at key.1
+  Some (record { key = key.0; rid = place.0 }, place.1)
+
+unfoldable pub highest_at : List ℕ → Option (Option Pair × List ℕ)
+highest_at bytes = do
+  tag ← byte_at bytes
+  if tag.0 == 0 then (skipped 31 tag.1 >>= λ rest. Some (None, rest)) else (pair_at tag.1 >>= λ p. Some (Some p.0, p.1))
+
+unfoldable pub life_at : List ℕ → Option (Life × List ℕ)
+life_at bytes = do
+  tag ← byte_at bytes
+  highest ← highest_at tag.1
+  Some (if tag.0 == 0 then Absent else if tag.0 == 1 then Building highest.0 else Complete, highest.1)
+
+unfoldable pub header_at : List ℕ → Option (Header × List ℕ)
+header_at bytes = do
+  life ← life_at bytes
+  base ← u64_at life.1
+  entries ← u32_at base.1
+  Some (record { life = life.0; base = base.0; entries = entries.0 }, entries.1)
+
+unfoldable pub head_at : List ℕ → Option (Option Head × List ℕ)
+head_at bytes = do
+  txn ← u64_at bytes
+  changes ← u16_at txn.1
+  if txn.0 == 0 then Some (None, changes.1) else if nat_lt CHANGES_MAX changes.0 then None else Some (Some (record { txn = txn.0; changes = changes.0 }), changes.1)
+
+unfoldable pub item_at : List ℕ → Option (UndoItem × List ℕ)
+item_at bytes = do
+  tag ← byte_at bytes
+  place ← rid_at tag.1
+  old ← row_at place.1
+  new ← row_at old.1
+  rows ← rows_of old.0 new.0
+  Some (record { rid = place.0; rows = rows }, new.1)
+
+unfoldable pub entry_at : List ℕ → Option ((Pair × Mark) × List ℕ)
+entry_at bytes = do
+  p ← pair_at bytes
+  tag ← byte_at p.1
+  Some ((p.0, if tag.0 == 1 then Live else Marked), tag.1)

@@ -1,0 +1,66 @@
+//! Entries of the index.
+ghost use Rattle.std.specs.Prelude.{◌≡◌, IfSome};
+ghost use Rattle.std.specs.Option.{option_map};
+ghost use Rattle.records.specs.declared.pair.Pair.{Pair};
+ghost use Rattle.records.specs.declared.pair.Mark.{Mark};
+ghost use Rattle.records.specs.Spelling.{PairFits};
+ghost use Rattle.image_parts.specs.Reading.{entry_at};
+ghost use Rattle.image_parts.specs.Spelling.{entry, mark};
+
+use crate::buffer::Buffer;
+use crate::fields::put_pair;
+use crate::take::{byte_of, pair_of};
+use records::{Mark, Pair};
+
+/// The bytes of an entry.
+pub const ENTRY_SIZE: usize = 32;
+
+// The byte of a mark.
+fn mark_byte(found: Mark) -> u8
+    ensures { result ≡ mark found }
+{
+    match found {
+        Mark::Live => 1,
+        Mark::Marked => 2,
+    }
+}
+
+/// The bytes of an entry.
+pub fn spell_entry(found: &(Pair, Mark)) -> [u8; ENTRY_SIZE]
+    ensures spelled { result ≡ entry found.now }
+    ensures fits { PairFits found.now.0 }
+{
+    let mut bytes = Buffer::<ENTRY_SIZE>::new();
+    put_pair(&mut bytes, &found.0);
+    bytes.push(&[mark_byte(found.1)]);
+    bytes.into_bytes()
+}
+
+// The entry at the front, whatever the padding is.
+#[tactic(auto, unfolding(crate::specs::Reading::entry_at))]
+fn entry_of(bytes: &[u8]) -> Option<((Pair, Mark), &[u8])>
+    ensures { option_map (λ x. (x.0, x.1.now)) result ≡ entry_at bytes.now }
+{
+    let Some((pair, rest)) = pair_of(bytes) else {
+        return None;
+    };
+    let (tag, rest) = byte_of(rest)?;
+    let mark = if tag == 1 { Mark::Live } else { Mark::Marked };
+    Some(((pair, mark), rest))
+}
+
+/// The entry with these bytes. `None` where they are none's.
+pub fn read_entry(bytes: &[u8; ENTRY_SIZE]) -> Option<(Pair, Mark)>
+    ensures found { IfSome result (λ found. bytes.now ≡ entry found) }
+    ensures fits { IfSome result (λ found. PairFits found.0) }
+    ensures again { (value : Pair × Mark) → PairFits value.0 → bytes.now ≡ entry value → result ≡ Some value }
+{
+    let Some(found) = entry_of(bytes) else {
+        return None;
+    };
+    if spell_entry(&found.0) == *bytes {
+        Some(found.0)
+    } else {
+        None
+    }
+}

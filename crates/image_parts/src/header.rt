@@ -1,0 +1,147 @@
+//! The header of an image.
+ghost use Rattle.std.specs.Prelude.{◌≡◌, ◌≤◌, ◌+◌, ◌++◌, length, IfSome};
+ghost use Rattle.std.specs.Option.{option_map};
+ghost use Rattle.image_parts.specs.declared.header.Header.{Header};
+ghost use Rattle.image_parts.specs.Reading.{highest_at, life_at, header_at};
+ghost use Rattle.image_parts.specs.Spelling.{header, highest, life, PairFitsIfSome, LifeFits, HeaderFits};
+
+use crate::buffer::Buffer;
+use crate::fields::{put_pair, put_u32, put_u64};
+use crate::take::{byte_of, pair_of, skip, u32_of, u64_of};
+use model::Life;
+use records::{LAST_NUMBER, Pair};
+use sector_device::SECTOR_SIZE;
+
+/// What an image's header says.
+#[derive(Clone, Copy, Debug, PartialEq, Eq)]
+pub struct Header {
+    /// The index's life at the image's base.
+    pub life: Life,
+    /// The number of the last record made as the image began, 2^62 at most.
+    pub base: u64,
+    /// How many entries were copied.
+    pub entries: u32,
+}
+
+// 0, or 1 and the pair.
+fn put_highest<const N: usize>(out: &mut Buffer<N>, found: &Option<Pair>)
+    requires { length out.old + 32 ≤ N }
+    ensures put { out.new ≡ out.old ++ highest found.now }
+    ensures fits { PairFitsIfSome found.now }
+    ensures size { length out.new ≡ length out.old + 32 }
+{
+    match found {
+        None => out.push_zeros(32),
+        Some(pair) => {
+            out.push(&[1]);
+            put_pair(out, pair);
+        }
+    }
+}
+
+// How far the index is, and up to which pair it is built.
+fn put_life<const N: usize>(out: &mut Buffer<N>, found: &Life)
+    requires { length out.old + 33 ≤ N }
+    ensures put { out.new ≡ out.old ++ life found.now }
+    ensures fits { LifeFits found.now }
+    ensures size { length out.new ≡ length out.old + 33 }
+{
+    match found {
+        Life::Absent => {
+            out.push(&[0]);
+            put_highest(out, &None);
+        }
+        Life::Building { highest } => {
+            out.push(&[1]);
+            put_highest(out, highest);
+        }
+        Life::Complete => {
+            out.push(&[2]);
+            put_highest(out, &None);
+        }
+    }
+}
+
+/// The sector of an image's header.
+pub fn spell_header(found: &Header) -> [u8; SECTOR_SIZE]
+    ensures spelled { result ≡ header found.now }
+    ensures fits { LifeFits found.now.life }
+{
+    let mut bytes = Buffer::<SECTOR_SIZE>::new();
+    put_life(&mut bytes, &found.life);
+    put_u64(&mut bytes, found.base);
+    put_u32(&mut bytes, found.entries);
+    bytes.into_bytes()
+}
+
+#[tactic(auto, unfolding(crate::specs::Reading::highest_at))]
+fn highest_of(bytes: &[u8]) -> Option<(Option<Pair>, &[u8])>
+    ensures { option_map (λ x. (x.0, x.1.now)) result ≡ highest_at bytes.now }
+{
+    let (tag, rest) = byte_of(bytes)?;
+    if tag == 0 {
+        let rest = skip(31, rest)?;
+        return Some((None, rest));
+    }
+    let Some((pair, rest)) = pair_of(rest) else {
+        return None;
+    };
+    Some((Some(pair), rest))
+}
+
+#[tactic(auto, unfolding(crate::specs::Reading::life_at))]
+fn life_of(bytes: &[u8]) -> Option<(Life, &[u8])>
+    ensures { option_map (λ x. (x.0, x.1.now)) result ≡ life_at bytes.now }
+{
+    let (tag, rest) = byte_of(bytes)?;
+    let Some((highest, rest)) = highest_of(rest) else {
+        return None;
+    };
+    let life = if tag == 0 {
+        Life::Absent
+    } else if tag == 1 {
+        Life::Building { highest }
+    } else {
+        Life::Complete
+    };
+    Some((life, rest))
+}
+
+// The header at the front, whatever the padding is.
+#[tactic(auto, unfolding(crate::specs::Reading::header_at))]
+fn header_of(bytes: &[u8]) -> Option<(Header, &[u8])>
+    ensures { option_map (λ x. (x.0, x.1.now)) result ≡ header_at bytes.now }
+{
+    let Some((life, rest)) = life_of(bytes) else {
+        return None;
+    };
+    let (base, rest) = u64_of(rest)?;
+    let (entries, rest) = u32_of(rest)?;
+    Some((
+        Header {
+            life,
+            base,
+            entries,
+        },
+        rest,
+    ))
+}
+
+/// What the sector of an image's header says. `None` where it is no header.
+pub fn read_header(bytes: &[u8; SECTOR_SIZE]) -> Option<Header>
+    ensures found { IfSome result (λ found. bytes.now ≡ header found) }
+    ensures fits { IfSome result HeaderFits }
+    ensures again { (value : Header) → HeaderFits value → bytes.now ≡ header value → result ≡ Some value }
+{
+    let Some(found) = header_of(bytes) else {
+        return None;
+    };
+    if LAST_NUMBER < found.0.base {
+        return None;
+    }
+    if spell_header(&found.0) == *bytes {
+        Some(found.0)
+    } else {
+        None
+    }
+}

@@ -1,0 +1,71 @@
+//! Undo items: the changes that transactions may still take back.
+ghost use Rattle.std.specs.Prelude.{◌≡◌, IfSome};
+ghost use Rattle.std.specs.Option.{option_map};
+ghost use Rattle.image_parts.specs.declared.item.UndoItem.{UndoItem};
+ghost use Rattle.image_parts.specs.Reading.{item_at};
+ghost use Rattle.image_parts.specs.Spelling.{item, ItemFits};
+
+use crate::buffer::Buffer;
+use crate::fields::{put_rid, put_row};
+use crate::take::{both_rows, byte_of, rid_of, row_of};
+use records::{Rid, Rows};
+
+/// The bytes of an undo item.
+pub const ITEM_SIZE: usize = 256;
+
+/// A change that a transaction may still take back. Its position is where it stands.
+#[derive(Clone, Copy, Debug, PartialEq, Eq)]
+pub struct UndoItem {
+    /// The row's place.
+    pub rid: Rid,
+    /// The rows before and after the change.
+    pub rows: Rows,
+}
+
+/// The bytes of an undo item.
+pub fn spell_item(found: &UndoItem) -> [u8; ITEM_SIZE]
+    ensures spelled { result ≡ item found.now }
+    ensures fits { ItemFits found.now }
+{
+    let mut bytes = Buffer::<ITEM_SIZE>::new();
+    bytes.push(&[1]);
+    put_rid(&mut bytes, found.rid);
+    put_row(&mut bytes, &found.rows.old());
+    put_row(&mut bytes, &found.rows.new());
+    bytes.into_bytes()
+}
+
+// The undo item at the front, whatever the padding is.
+#[tactic(auto, unfolding(crate::specs::Reading::item_at))]
+fn item_of(bytes: &[u8]) -> Option<(UndoItem, &[u8])>
+    ensures { option_map (λ x. (x.0, x.1.now)) result ≡ item_at bytes.now }
+{
+    let (_, rest) = byte_of(bytes)?;
+    let Some((rid, rest)) = rid_of(rest) else {
+        return None;
+    };
+    let Some((old, rest)) = row_of(rest) else {
+        return None;
+    };
+    let Some((new, rest)) = row_of(rest) else {
+        return None;
+    };
+    let rows = both_rows(old, new)?;
+    Some((UndoItem { rid, rows }, rest))
+}
+
+/// The undo item with these bytes. `None` where they are none's.
+pub fn read_item(bytes: &[u8; ITEM_SIZE]) -> Option<UndoItem>
+    ensures found { IfSome result (λ found. bytes.now ≡ item found) }
+    ensures fits { IfSome result ItemFits }
+    ensures again { (value : UndoItem) → ItemFits value → bytes.now ≡ item value → result ≡ Some value }
+{
+    let Some(found) = item_of(bytes) else {
+        return None;
+    };
+    if spell_item(&found.0) == *bytes {
+        Some(found.0)
+    } else {
+        None
+    }
+}

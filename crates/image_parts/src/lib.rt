@@ -1,0 +1,18 @@
+//! How the parts of a store's image are spelled: header, transaction heads, undo items, rows and entries. Each value has one
+//! spelling, and what is not read as a value is the spelling of none.
+#![tactic(auto)]
+
+mod buffer;
+mod entry;
+mod fields;
+mod head;
+mod header;
+mod item;
+mod row;
+mod take;
+
+pub use entry::{ENTRY_SIZE, read_entry, spell_entry};
+pub use head::{HEAD_SIZE, Head, read_head, spell_head};
+pub use header::{Header, read_header, spell_header};
+pub use item::{ITEM_SIZE, UndoItem, read_item, spell_item};
+pub use row::{ROW_SIZE, read_row, spell_row};

@@ -1,0 +1,147 @@
+// What stands at the front of some bytes, whatever the padding is.
+ghost use Rattle.std.specs.Prelude.{◌≡◌};
+ghost use Rattle.std.specs.Option.{option_map};
+ghost use Rattle.records.specs.Reading.{u16_at, u32_at, u64_at, byte_at, rid_at, rows_of};
+ghost use Rattle.image_parts.specs.Reading.{skipped, padded_at, row_at, pair_at};
+
+use byteorder::{BigEndian, ByteOrder};
+use records::{BODY_MAX, Body, KEY_MAX, Key, Pair, Rid, Row, Rows, SLOTS_PER_PAGE};
+
+#[tactic(auto, unfolding(records::specs::Reading::u16_at))]
+pub(crate) fn u16_of(bytes: &[u8]) -> Option<(u16, &[u8])>
+    ensures { option_map (λ x. (x.0, x.1.now)) result ≡ u16_at bytes.now }
+{
+    if bytes.len() < 2 {
+        return None;
+    }
+    Some((BigEndian::read_u16(bytes), &bytes[2..]))
+}
+
+#[tactic(auto, unfolding(records::specs::Reading::u32_at))]
+pub(crate) fn u32_of(bytes: &[u8]) -> Option<(u32, &[u8])>
+    ensures { option_map (λ x. (x.0, x.1.now)) result ≡ u32_at bytes.now }
+{
+    if bytes.len() < 4 {
+        return None;
+    }
+    Some((BigEndian::read_u32(bytes), &bytes[4..]))
+}
+
+#[tactic(auto, unfolding(records::specs::Reading::u64_at))]
+pub(crate) fn u64_of(bytes: &[u8]) -> Option<(u64, &[u8])>
+    ensures { option_map (λ x. (x.0, x.1.now)) result ≡ u64_at bytes.now }
+{
+    if bytes.len() < 8 {
+        return None;
+    }
+    Some((BigEndian::read_u64(bytes), &bytes[8..]))
+}
+
+#[tactic(auto, unfolding(records::specs::Reading::byte_at))]
+pub(crate) fn byte_of(bytes: &[u8]) -> Option<(u8, &[u8])>
+    ensures { option_map (λ x. (x.0, x.1.now)) result ≡ byte_at bytes.now }
+{
+    match bytes {
+        [] => None,
+        [byte, rest @ ..] => Some((*byte, rest)),
+    }
+}
+
+#[tactic(auto, unfolding(crate::specs::Reading::skipped))]
+pub(crate) fn skip(count: usize, bytes: &[u8]) -> Option<&[u8]>
+    ensures { option_map (λ x. x.now) result ≡ skipped count bytes.now }
+{
+    if bytes.len() < count {
+        return None;
+    }
+    Some(&bytes[count..])
+}
+
+#[tactic(auto, unfolding(records::specs::Reading::rid_at))]
+pub(crate) fn rid_of(bytes: &[u8]) -> Option<(Rid, &[u8])>
+    ensures { option_map (λ x. (x.0, x.1.now)) result ≡ rid_at bytes.now }
+{
+    let (page, rest) = u32_of(bytes)?;
+    let (slot, rest) = u16_of(rest)?;
+    if slot < SLOTS_PER_PAGE {
+        Some((Rid { page, slot }, rest))
+    } else {
+        None
+    }
+}
+
+#[tactic(auto, unfolding(crate::specs::Reading::padded_at))]
+fn key_of(bytes: &[u8]) -> Option<(Key, &[u8])>
+    ensures { option_map (λ x. (x.0, x.1.now)) result ≡ padded_at KEY_MAX bytes.now }
+{
+    let (len, rest) = byte_of(bytes)?;
+    let len = usize::from(len);
+    if KEY_MAX < len {
+        return None;
+    }
+    if rest.len() < KEY_MAX {
+        return None;
+    }
+    let (key, _) = rest.split_at(len);
+    let (_, behind) = rest.split_at(KEY_MAX);
+    Some((Key::new(key).ok()?, behind))
+}
+
+#[tactic(auto, unfolding(crate::specs::Reading::padded_at))]
+fn body_of(bytes: &[u8]) -> Option<(Body, &[u8])>
+    ensures { option_map (λ x. (x.0, x.1.now)) result ≡ padded_at BODY_MAX bytes.now }
+{
+    let (len, rest) = byte_of(bytes)?;
+    let len = usize::from(len);
+    if BODY_MAX < len {
+        return None;
+    }
+    if rest.len() < BODY_MAX {
+        return None;
+    }
+    let (body, _) = rest.split_at(len);
+    let (_, behind) = rest.split_at(BODY_MAX);
+    Some((Body::new(body).ok()?, behind))
+}
+
+#[tactic(auto, unfolding(crate::specs::Reading::row_at))]
+pub(crate) fn row_of(bytes: &[u8]) -> Option<(Option<Row>, &[u8])>
+    ensures { option_map (λ x. (x.0, x.1.now)) result ≡ row_at bytes.now }
+{
+    let (tag, rest) = byte_of(bytes)?;
+    if tag == 0 {
+        let rest = skip(63, rest)?;
+        return Some((None, rest));
+    }
+    let Some((key, rest)) = key_of(rest) else {
+        return None;
+    };
+    let Some((body, rest)) = body_of(rest) else {
+        return None;
+    };
+    Some((Some(Row { key, body }), rest))
+}
+
+#[tactic(auto, unfolding(crate::specs::Reading::pair_at))]
+pub(crate) fn pair_of(bytes: &[u8]) -> Option<(Pair, &[u8])>
+    ensures { option_map (λ x. (x.0, x.1.now)) result ≡ pair_at bytes.now }
+{
+    let Some((key, rest)) = key_of(bytes) else {
+        return None;
+    };
+    let Some((rid, rest)) = rid_of(rest) else {
+        return None;
+    };
+    Some((Pair { key, rid }, rest))
+}
+
+pub(crate) fn both_rows(old: Option<Row>, new: Option<Row>) -> Option<Rows>
+    ensures { result ≡ rows_of old new }
+{
+    match (old, new) {
+        (None, None) => None,
+        (None, Some(new)) => Some(Rows::Inserted { new }),
+        (Some(old), None) => Some(Rows::Deleted { old }),
+        (Some(old), Some(new)) => Some(Rows::Updated { old, new }),
+    }
+}
