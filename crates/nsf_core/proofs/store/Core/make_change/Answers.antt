@@ -1,3 +1,5 @@
+use Rattle.std.proofs.Common.{arith, ◌+◌}
+use Rattle.nsf_core.proofs.Counts.{counted_changed}
 use Rattle.nsf_core.proofs.Inside.{inside_changed, inside_set}
 use Rattle.nsf_core.proofs.store.Core.make_change.Goals as goal
 
@@ -5,3 +7,7 @@ pub invariant_of-self-2-clause-inside : goal.invariant_of-self-2-clause-inside
 invariant_of-self-2-clause-inside g c =
     inside_set c.args.self.now.heap c.set.new.self _ c.note.new.self.active c.set.ensures
     (inside_changed c.args.self.now.heap.pages c.args.txn c.args.change c.args.self.now.txns c.note.new.self c.in_default.ensures.ok c.requires.inside c.args.self.now.inside)
+
+pub invariant_of-self-2-clause-counted : goal.invariant_of-self-2-clause-counted
+invariant_of-self-2-clause-counted g c =
+    counted_changed c.args.self.now.last (c.args.self.now.last + 1) c.args.txn _ c.args.self.now.txns c.note.new.self (omega arith) c.in_default.ensures.ok c.args.self.now.counted
