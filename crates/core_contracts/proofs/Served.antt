@@ -591,7 +591,7 @@ served_on o can before s k pairs s'' k'' (served e reply step rest allowed r) ma
     let all : (all : List RecordValue) × HasServed o all ((before ++ (e, reply) ∷ []) ++ rest) s'' k'' = served_on o can (before ++ (e, reply) ∷ []) (after_any s step) (standing_after k reply) rest s'' k'' r (made ++ records_by s k.made step) one in
     (all.0, subst (λ ps. HasServed o all.0 ps s'' k'') (append_assoc before ((e, reply) ∷ []) rest) all.1)
 
-opened_standing : (o : Opened) (last : ℕ) → last ≤ LAST_NUMBER → HasStanding (opened o) (standing_at last)
+pub opened_standing : (o : Opened) (last : ℕ) → last ≤ LAST_NUMBER → HasStanding (opened o) (standing_at last)
 opened_standing o last le = record {
   begun = λ t x e. absurd (not_none e refl);
   in_a_row = omega arith;

@@ -5,4 +5,4 @@ mod laws;
 mod step;
 
 pub use laws::one_step_without_an_index;
-pub use step::{Cell, Step, forward, undo};
+pub use step::{Cell, Step, forward, mark_new, mark_old, put_new, put_old, set_new, set_old, undo};

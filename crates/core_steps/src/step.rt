@@ -90,7 +90,8 @@ fn moved_pair(change: &Change, indexed: bool, row: Option<Row>) -> Option<Pair>
     }
 }
 
-fn mark_old(change: &Change, indexed: bool) -> Option<Step>
+/// The step that marks the entry of the old row, where the change has it.
+pub fn mark_old(change: &Change, indexed: bool) -> Option<Step>
     ensures { result ≡ marks_old indexed change.now }
 {
     let pair = moved_pair(change, indexed, change.rows.old())?;
@@ -101,7 +102,8 @@ fn mark_old(change: &Change, indexed: bool) -> Option<Step>
     })
 }
 
-fn set_new(change: &Change) -> Step
+/// The step that sets the row of a change.
+pub fn set_new(change: &Change) -> Step
     ensures { result ≡ sets_new change.now }
 {
     let rid = change.rid;
@@ -112,7 +114,8 @@ fn set_new(change: &Change) -> Step
     }
 }
 
-fn put_new(change: &Change, indexed: bool) -> Option<Step>
+/// The step that puts the entry of the new row, where the change has it.
+pub fn put_new(change: &Change, indexed: bool) -> Option<Step>
     ensures { result ≡ puts_new indexed change.now }
 {
     let pair = moved_pair(change, indexed, change.rows.new())?;
@@ -123,7 +126,8 @@ fn put_new(change: &Change, indexed: bool) -> Option<Step>
     })
 }
 
-fn mark_new(change: &Change, indexed: bool) -> Option<Step>
+/// The undo's step that marks the entry of the new row, where the change has it.
+pub fn mark_new(change: &Change, indexed: bool) -> Option<Step>
     ensures { result ≡ marks_new indexed change.now }
 {
     let pair = moved_pair(change, indexed, change.rows.new())?;
@@ -134,7 +138,9 @@ fn mark_new(change: &Change, indexed: bool) -> Option<Step>
     })
 }
 
-fn set_old(change: &Change, last: bool) -> Step
+/// The undo's step that sets the old row, or none; `last` where it takes the change off its
+/// transaction's list.
+pub fn set_old(change: &Change, last: bool) -> Step
     ensures { result ≡ sets_old change.now last }
 {
     let rid = change.rid;
@@ -145,7 +151,8 @@ fn set_old(change: &Change, last: bool) -> Step
     }
 }
 
-fn put_old(change: &Change, indexed: bool) -> Option<Step>
+/// The undo's step that puts the entry of the old row, where the change has it. It is the last.
+pub fn put_old(change: &Change, indexed: bool) -> Option<Step>
     ensures { result ≡ puts_old indexed change.now }
 {
     let pair = moved_pair(change, indexed, change.rows.old())?;

@@ -1,0 +1,9 @@
+mod Moved
+mod Pairs
+mod Places
+mod Due
+mod Started
+mod Inserting
+mod Changing
+mod Beginning
+mod Leaving

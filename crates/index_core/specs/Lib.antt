@@ -1,0 +1,5 @@
+pub mod View
+pub mod Moves
+pub mod Parts
+pub mod Replies
+pub mod Value

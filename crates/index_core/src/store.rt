@@ -1,0 +1,142 @@
+//! The core.
+ghost use Rattle.std.specs.Prelude.{◌≡◌, ◌<◌, ◌≤◌, IfOk, IfErr};
+ghost use Rattle.std.specs.FinMap as map;
+ghost use Rattle.std.specs.Option.{option_copied};
+ghost use Rattle.records.specs.Maps.{set_at};
+ghost use Rattle.btree_node.specs.Above.{IsLeastAbove};
+ghost use Rattle.core_contracts.specs.Events.{Event, Reply};
+ghost use Rattle.index_core.specs.View.{IsSafe, Serves};
+ghost use Rattle.index_core.specs.Moves.{HasNoChange, IsReadyOrNone, fresh, txn_of};
+ghost use Rattle.index_core.specs.Replies.{reply_by, reply_of_ticket};
+ghost use Rattle.index_core.specs.Parts.{parts_of};
+
+use crate::parts::{Parts, Ticket};
+use model::Life;
+use records::{Body, Error, Geometry, Key, LAST_NUMBER, Mark, Pair, Rid, Row, Txn};
+use std::alloc::Allocator;
+
+/// The rows, the active transactions, the index with its builder and cleaner, and the records that
+/// wait.
+#[derive(Drop)]
+pub struct Core<A: Allocator> {
+    parts: Parts<A>,
+    ghost safe: { ∥ IsSafe (parts_of parts) ∥₁ },
+}
+
+impl<A: Allocator + Copy> Core<A> {
+    ghost use Rattle.index_core.specs.Value.{value_of};
+
+    /// A core without row, entry, transaction or index; the next record has the number after `base`.
+    ///
+    /// The memory of all pages is taken here; the one error is `NoMemory`.
+    pub fn new(alloc: A, geometry: Geometry, base: u64) -> Result<Self, Error>
+        requires { base ≤ LAST_NUMBER }
+        ensures made { IfOk result (λ core. value_of core ≡ fresh geometry base) }
+        ensures no_memory { IfErr result (λ e. e ≡ Error.NoMemory) }
+    {
+        let parts = Parts::new(alloc, geometry, base)?;
+        Ok(Core { parts })
+    }
+
+    /// Leaves this row at the place, or none, before the first event. It makes no record.
+    pub fn load_row(&mut self, rid: Rid, row: Option<Row>)
+        requires { rid.page < (value_of self.old).heap.pages }
+        ensures { value_of self.new ≡ record (value_of self.old) {
+          heap = record (value_of self.old).heap { rows = set_at (value_of self.old).heap.rows rid row };
+        } }
+    {
+        self.parts.load_row(rid, row);
+    }
+
+    /// The row at the place, as it is now, also before its transaction's commit.
+    pub fn get(&self, rid: Rid) -> Option<Row>
+        ensures row { result ≡ map.get (value_of self.now).heap.rows rid }
+        ensures serves { Serves (value_of self.now) (Event.Get rid) (Reply.RowIs result) (value_of self.now) }
+    {
+        self.parts.heap.get(rid)
+    }
+
+    /// How far the index is.
+    pub fn life(&self) -> Life
+        ensures life { result ≡ (value_of self.now).life }
+        ensures serves { Serves (value_of self.now) Event.Life (Reply.LifeIs result) (value_of self.now) }
+    {
+        self.parts.life
+    }
+
+    /// The least entry whose pair comes after the given one, or the least of all.
+    pub fn above(&self, pair: Option<&Pair>) -> Option<(Pair, Mark)>
+        ensures { IsLeastAbove (value_of self.now).index.entries (option_copied pair.entry) result }
+    {
+        self.parts.index.above(pair)
+    }
+
+    /// Begins a transaction, which makes no record. Their numbers rise from 1.
+    ///
+    /// `TooManyTxns` where 16 are active, then `NoMemory`. After a refusal the core is as before.
+    pub fn begin(&mut self) -> Result<Txn, Error>
+        ensures { Serves (value_of self.old) Event.Begin (reply_by Reply.Txn result) (value_of self.new) }
+    {
+        self.parts.begin()
+    }
+
+    /// Inserts a row at the least place that is empty and held by nobody, and answers the place: the
+    /// first step, which sets the row. While there is an index, the row's entry is owed.
+    ///
+    /// `NoSuchTxn`, then `TooManyChanges` where 64 are on its list, `HeapFull` where there is no such
+    /// place, `IndexFull` where the places of one more change can't be reserved, `Exhausted` where no
+    /// number is left for a record, and `NoMemory`. After a refusal the core is as before.
+    pub fn start_insert(&mut self, txn: Txn, key: Key, body: Body) -> Result<Rid, Error>
+        requires { IsReadyOrNone (txn_of (value_of self.old) txn) }
+        ensures { Serves (value_of self.old) (Event.Insert txn (record { key = key; body = body })) (reply_by Reply.Rid result) (value_of self.new) }
+    {
+        self.parts.start_insert(txn, key, body)
+    }
+
+    /// Deletes the row at the place: the first step, which marks the row's entry, and without an index
+    /// takes the row out. While there is an index, the row is owed.
+    ///
+    /// `NoSuchTxn`, then `TooManyChanges` where 64 are on its list, `RowBusy` where another active
+    /// transaction holds the row, `NoSuchRow` where there is none, `IndexFull` where the places of one
+    /// more change can't be reserved, `Exhausted` where no number is left for a record, and
+    /// `NoMemory`. After a refusal the core is as before.
+    pub fn start_delete(&mut self, txn: Txn, rid: Rid) -> Result<(), Error>
+        requires { IsReadyOrNone (txn_of (value_of self.old) txn) }
+        ensures { Serves (value_of self.old) (Event.Delete txn rid) (reply_by (λ _. Reply.Stepped) result) (value_of self.new) }
+    {
+        self.parts.start_delete(txn, rid)
+    }
+
+    /// Puts another row in place of the row at the place: the first step. With an index and another
+    /// key it marks the old row's entry, and the row is owed, and then the new row's entry; else it
+    /// sets the row.
+    ///
+    /// The refusals are those of `start_delete`.
+    pub fn start_update(&mut self, txn: Txn, rid: Rid, key: Key, body: Body) -> Result<(), Error>
+        requires { IsReadyOrNone (txn_of (value_of self.old) txn) }
+        ensures { Serves (value_of self.old) (Event.Update txn rid (record { key = key; body = body })) (reply_by (λ _. Reply.Stepped) result) (value_of self.new) }
+    {
+        self.parts.start_update(txn, rid, key, body)
+    }
+
+    /// Ends a transaction that has no change left, which is then no longer active, and holds no row.
+    ///
+    /// `NoSuchTxn`, then `Exhausted` where no number is left for a record, and `NoMemory`. After a
+    /// refusal the core is as before.
+    pub fn end(&mut self, txn: Txn) -> Result<(), Error>
+        requires { HasNoChange (txn_of (value_of self.old) txn) }
+        ensures { Serves (value_of self.old) (Event.End txn) (reply_by (λ _. Reply.Ended) result) (value_of self.new) }
+    {
+        self.parts.end(txn)
+    }
+
+    /// Commits the transaction, which is then no longer active, and holds no row.
+    ///
+    /// The refusals are those of `end`.
+    pub fn commit(&mut self, txn: Txn) -> Result<Ticket, Error>
+        requires { IsReadyOrNone (txn_of (value_of self.old) txn) }
+        ensures { Serves (value_of self.old) (Event.Commit txn) (reply_by reply_of_ticket result) (value_of self.new) }
+    {
+        self.parts.commit(txn)
+    }
+}
