@@ -1,4 +1,5 @@
 -- Which replies to an insertion are allowed.
+use Rattle.core_model.specs.Changes.{as_list}
 use Rattle.std.proofs.Common.{Bool, List, None, Option, Some, ap, arith, cond, false, inl, inr, leb, leb-false, length, refl, subst, sym, true, ℕ, ◌++◌, ◌+◌, ◌<◌, ◌∙◌, ◌≡◌, ◌≢◌, ◌≤◌}
 use Rattle.std.proofs.lemmas.Bool.Decides.{nat_tests}
 use Rattle.std.specs.FinMap.{get, len}
@@ -79,7 +80,7 @@ lacks_places v s k h is less = (ap is_indexed h.life ∙ is, more _ _ _ _ _ _ h.
     more : (p n r p' n' r' : ℕ) → p ≡ p' → n ≡ n' → r ≡ r' → p' < n' + r' + PLACES_PER_CHANGE → p < n + r + PLACES_PER_CHANGE
     more p n r p' n' r' e f g less = omega (arith, e, f, g, less)
 
-pub same_position : (v : CoreValue) (s : State) (k : Standing) → Shows v s k → (t : ℕ) (x : TxnState) → txn_of v t ≡ Some x → length (txn_at s t).changes ≡ changes_of (txn_of v t)
+pub same_position : (v : CoreValue) (s : State) (k : Standing) → Shows v s k → (t : ℕ) (x : TxnState) → txn_of v t ≡ Some x → length (as_list (txn_at s t).changes) ≡ changes_of (txn_of v t)
 same_position v s k h t x here = many v s k h t x here ∙ sym (ap changes_of here)
 
 pub not_full : (v : CoreValue) (s : State) (k : Standing) → Shows v s k → (t : ℕ) (a : IsAble v t) → HasNoMoreChanges s t → ⊥
@@ -202,7 +203,7 @@ module _ (v : CoreValue) (t : ℕ) (row : Row) (asked : IsReadyOrNone (txn_of v 
               (ap (λ w. v.outbox ++ one_record v.last (Some w)) (sym action))
             where
               action : first_action t (change_of s t r (Inserted row)) (old_pair (is_indexed s.life) (change_of s t r (Inserted row))) ≡ OfTxn t (Forward Slot c)
-              action = ap (first_action t (change_of s t r (Inserted row))) (none_old (is_indexed s.life) (length (txn_at s t).changes)) ∙ ap (λ w. OfTxn t (Forward Slot w)) same_change
+              action = ap (first_action t (change_of s t r (Inserted row))) (none_old (is_indexed s.life) (length (as_list (txn_at s t).changes))) ∙ ap (λ w. OfTxn t (Forward Slot w)) same_change
 
   pub insert_unroomy : IsAble v t → (r : Place) → IsPlaceFor v r → (error : Error) → IsUnroomy v error → Serves v e (Refused error) v
   insert_unroomy a r place error (inl why) s k st = subst (λ n. Answers v s k e (Refused n) v) (sym why.0) (insert_full a r place s k st why.1.0 why.1.1)

@@ -1,5 +1,5 @@
 -- A transaction's end, and its commit.
-use Rattle.std.proofs.Common.{Bool, List, None, Option, Some, [], ap, arith, cond, eqb, false, inl, inr, length, refl, reverse, subst, sym, true, ℕ, ◌+◌, ◌-◌, ◌∙◌, ◌∷◌, ◌≡◌, ◌≢◌}
+use Rattle.std.proofs.Common.{Bool, List, None, Option, Some, [], ap, arith, cond, eqb, false, inl, inr, length, refl, subst, sym, true, ℕ, ◌+◌, ◌-◌, ◌∙◌, ◌∷◌, ◌≡◌, ◌≢◌}
 use Rattle.std.specs.Cmp.{nat_cmp_total}
 use Rattle.std.specs.FinMap.{get, nat_cmp-IsAntisymmetric, remove}
 use Rattle.std.specs.Option.{option_map}
@@ -23,7 +23,7 @@ use Rattle.index_core.specs.View.{Answers, AreOne, CoreValue, Serves, Shows}
 use Rattle.index_core.specs.Moves.{HasNoChange, HasNoRecord, HasRecord, IsReadyOrNone, ended, reserved_of, txn_of}
 use Rattle.index_core.proofs.Due.{made, no_number, refusal, wants_memory}
 use Rattle.index_core.proofs.Inserting.{no_txn, some_is}
-use Rattle.index_core.proofs.Moved.{is_ready, known, listed, other_number, places_are, same_number}
+use Rattle.index_core.proofs.Moved.{is_ready, known, listed, other_number, places_are, same_number, unchanged}
 
 -- ---- the transaction that is there
 pub there : (v : CoreValue) (t : ℕ) → txn_of v t ≢ None → (x : TxnState) × (txn_of v t ≡ Some x)
@@ -112,7 +112,7 @@ module _ (v : CoreValue) (t : ℕ) where
   end_refused asked error (inr why) s k is =
       let x = there v t why.1 in
       subst (λ n. Answers v s k (Event.End t) (Refused n) v) (sym why.0)
-      (no_number v s k is.shown (Event.End t) (known v s k is.shown t x.0 x.1) (listed v s k is.shown t x.0 x.1 ∙ ap reverse (subst HasNoChange x.1 asked)) refl Ended (Step.End t) (refl, refl) (λ n. n) (λ n. not_none refl n) why.2)
+      (no_number v s k is.shown (Event.End t) (known v s k is.shown t x.0 x.1) (unchanged _ (listed v s k is.shown t x.0 x.1 ∙ subst HasNoChange x.1 asked)) refl Ended (Step.End t) (refl, refl) (λ n. n) (λ n. not_none refl n) why.2)
 
   pub commit_refused : IsReadyOrNone (txn_of v t) → (error : Error) → HasNoRecord v t error → Serves v (Event.Commit t) (Refused error) v
   commit_refused asked error (inl why) s k is = subst (λ n. Answers v s k (Event.Commit t) (Refused n) v) (sym why.0) (refusal v s k (Event.Commit t) NoSuchTxn is.shown (unknown (no_txn v s k is.shown t why.1)))
@@ -126,7 +126,7 @@ module _ (v : CoreValue) (t : ℕ) where
     end_wants asked error v' e same s k is =
         let x = there v t has.active in
         subst (λ w. Answers v s k (Event.End t) (Refused error) w) (sym same) (subst (λ n. Answers v s k (Event.End t) (Refused n) v) (sym e)
-        (wants_memory v s k is.shown (Event.End t) (known v s k is.shown t x.0 x.1) (listed v s k is.shown t x.0 x.1 ∙ ap reverse (subst HasNoChange x.1 asked)) refl Ended (Step.End t) (refl, refl) (λ n. n) (λ n. has.numbered) tt))
+        (wants_memory v s k is.shown (Event.End t) (known v s k is.shown t x.0 x.1) (unchanged _ (listed v s k is.shown t x.0 x.1 ∙ subst HasNoChange x.1 asked)) refl Ended (Step.End t) (refl, refl) (λ n. n) (λ n. has.numbered) tt))
 
     pub commit_wants : IsReadyOrNone (txn_of v t) → (error : Error) (v' : CoreValue) → error ≡ Error.NoMemory → v' ≡ v → Serves v (Event.Commit t) (Refused error) v'
     commit_wants asked error v' e same s k is =
@@ -138,7 +138,7 @@ module _ (v : CoreValue) (t : ℕ) where
     end_served asked sound v' same s k is =
         let x = there v t has.active in
         subst (λ w. Answers v s k (Event.End t) Ended w) (sym same)
-        (made v s k is.shown (Event.End t) (known v s k is.shown t x.0 x.1) (listed v s k is.shown t x.0 x.1 ∙ ap reverse (subst HasNoChange x.1 asked)) refl Ended (Step.End t) (refl, refl) (λ n. n) (λ n. has.numbered) (ended v t TxnAction.End)
+        (made v s k is.shown (Event.End t) (known v s k is.shown t x.0 x.1) (unchanged _ (listed v s k is.shown t x.0 x.1 ∙ subst HasNoChange x.1 asked)) refl Ended (Step.End t) (refl, refl) (λ n. n) (λ n. has.numbered) (ended v t TxnAction.End)
         (subst (λ n. Shows (ended v t TxnAction.End) (after s (Step.End t)) (record k { made = k.made + 1; active = k.active - 1; commits = n })) (sym is.shown.commits) (left_shown v s k is.shown t x.0 x.1 sound TxnAction.End s.committed v.commits)) refl)
 
     pub commit_served : IsReadyOrNone (txn_of v t) → IsSound v.txns → (n c : ℕ) (v' : CoreValue) → n ≡ v.last + 1 → c ≡ v.commits + 1 → v' ≡ record (ended v t TxnAction.Commit) { commits = v.commits + 1 } → Serves v (Event.Commit t) (Reply.Committed n c) v'

@@ -1,7 +1,8 @@
 -- A step of one transaction: what the core shows after it.
-use Rattle.std.proofs.Common.{Bool, None, Some, ap, arith, cond, eqb, inl, inr, length, reverse, subst, sym, unwrap_or, ℕ, ◌+◌, ◌∙◌, ◌≡◌, ◌≢◌}
+use Rattle.core_model.specs.Changes.{Changes, Unchanged, as_list, ◌▹◌}
+use Rattle.std.proofs.Common.{Bool, None, Some, [], ap, arith, cond, eqb, inl, inr, length, refl, subst, sym, unwrap_or, ℕ, ◌+◌, ◌∙◌, ◌∷◌, ◌≡◌, ◌≢◌}
 use Rattle.std.proofs.lemmas.Bool.Decides.{eqb_tells}
-use Rattle.std.proofs.lemmas.List.{length-reverse}
+use Rattle.std.proofs.lemmas.List.{length-append}
 use Rattle.std.proofs.Common.{true, false}
 use Rattle.std.specs.FinMap.{get, insert}
 use Rattle.std.specs.Option.{option_map}
@@ -34,14 +35,19 @@ module _ (v : CoreValue) (s : State) (k : Standing) (h : Shows v s k) (t : ℕ) 
     ap (λ (y : Active). y.rolling) at ∙ one.2.rolling ∙ ap rolls e,
   )
 
-  pub listed : (txn_at s t).changes ≡ reverse x.changes
-  listed = ap (λ (y : Active). y.changes) at ∙ one.2.changes
+  pub listed : as_list (txn_at s t).changes ≡ x.changes
+  listed = ap (λ (y : Active). as_list y.changes) at ∙ one.2.changes
 
-  pub many : length (txn_at s t).changes ≡ length x.changes
-  many = ap length listed ∙ length-reverse x.changes
+  pub many : length (as_list (txn_at s t).changes) ≡ length x.changes
+  many = ap length listed
 
   pub places_are : reserved s.pledges t ≡ x.reserved
   places_are = ap (λ o. unwrap_or o 0) (h.pledges t ∙ ap (option_map (λ (y : TxnState). y.reserved)) here)
+
+-- where the list is empty there is no change
+pub unchanged : (cs : Changes) → as_list cs ≡ [] → cs ≡ Unchanged
+unchanged Unchanged e = refl
+unchanged (older ▹ c) e = absurd (omega (arith, ap length e, length-append (as_list older) (c ∷ [])))
 
 pub same_number : (n m : ℕ) → n ≡ m → eqb n m ≡ true
 same_number n m e = elim (eqb_tells n m) [ inl p ↦ p.0 | inr p ↦ absurd (p.1 e) ]

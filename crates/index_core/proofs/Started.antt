@@ -1,6 +1,6 @@
 -- The first step of a change: what the core shows after it.
-use Rattle.std.proofs.Common.{Bool, List, None, Option, Some, [], ap, arith, cond, eqb, false, inl, inr, length, refl, reverse, subst, sym, true, ℕ, ◌++◌, ◌+◌, ◌-◌, ◌∙◌, ◌∷◌, ◌≡◌, ◌≢◌}
-use Rattle.std.proofs.lemmas.List.{reverse-append}
+use Rattle.core_model.specs.Changes.{as_list, ◌▹◌}
+use Rattle.std.proofs.Common.{Bool, List, None, Option, Some, [], ap, arith, cond, eqb, false, inl, inr, length, refl, subst, sym, true, ℕ, ◌++◌, ◌+◌, ◌-◌, ◌∙◌, ◌∷◌, ◌≡◌, ◌≢◌}
 use Rattle.std.specs.FinMap.{get, insert, len, len-insert}
 use Rattle.std.specs.Option.{option_map}
 use Rattle.records.specs.ChangeValue.{ChangeValue}
@@ -112,8 +112,8 @@ module _ (v : CoreValue) (s : State) (k : Standing) (h : Shows v s k) (t : ℕ) 
     | inr other ↦ update_apart rid_cmp-IsAntisymmetric s.holder c.rid (Some t) q other ∙ h.holder q ∙ sym (others q other)
   ]
 
-  one_more : c ∷ (txn_at s t).changes ≡ reverse (x.changes ++ c ∷ [])
-  one_more = ap (λ cs. c ∷ cs) (listed v s k h t x here) ∙ sym (reverse-append x.changes (c ∷ []))
+  one_more : as_list ((txn_at s t).changes ▹ c) ≡ x.changes ++ c ∷ []
+  one_more = ap (λ cs. cs ++ c ∷ []) (listed v s k h t x here)
 
   same_standing : record k { made = k.made + 1 } ≡ record k { made = v.last + 1 }
   same_standing = ap (λ n. record k { made = n + 1 }) h.made

@@ -1,7 +1,8 @@
 -- What the core holds, and the states of the machine that it may stand for.
+use Rattle.core_model.specs.Changes.{as_list}
 use Rattle.std.specs.FinMap.{get}
 use Rattle.std.specs.Option.{option_map}
-use Rattle.std.specs.Prelude.{◌≤◌, Bool, List, None, Option, Some, length, reverse, ℕ, ◌++◌, ◌≡◌}
+use Rattle.std.specs.Prelude.{◌≤◌, Bool, List, None, Option, Some, length, ℕ, ◌++◌, ◌≡◌}
 use Rattle.records.specs.RecordValue.{RecordValue}
 use Rattle.records.specs.Values.{Place}
 use Rattle.records.specs.declared.pair.Pair.{Pair}
@@ -45,7 +46,7 @@ IsAt UndoesRow phase = (applied : Bool) × (phase ≡ NewMarked applied)
 IsAt UndoesEntry phase = phase ≡ OldSet
 
 pub record IsTxn (x : TxnState) (a : Active) : Type 0 where
-  pub changes : a.changes ≡ reverse x.changes
+  pub changes : as_list a.changes ≡ x.changes
   pub phase : IsAt x.progress a.phase
   pub rolling : a.rolling ≡ rolls x.progress
 

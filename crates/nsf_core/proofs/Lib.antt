@@ -5,6 +5,7 @@ mod Txns
 mod Lists
 mod Holders
 mod Inside
+mod Counts
 mod Rolling
 mod Following
 pub mod Steps

@@ -1,6 +1,6 @@
 -- Refusals of the tables below, as refusals of the core.
 use Rattle.std.specs.Prelude.{◌↔◌, IsSome, Contains, List}
-use Rattle.std.proofs.Common.{◌≡◌, ◌<◌, ◌≤◌, ℕ, true, false, cond, ◌||◌, Result, Ok, Err, IfErr, OnErr, IsOkUnless, Option, Some, None, refl, sym, subst, ⊎_elim, arith, leb}
+use Rattle.std.proofs.Common.{◌≡◌, ◌<◌, ◌≤◌, ◌+◌, ℕ, true, false, cond, Result, Ok, Err, IfErr, OnErr, IsOkUnless, Option, Some, None, refl, sym, subst, ⊎_elim, arith, leb}
 use Rattle.std.proofs.lemmas.Bool.{cases_lt}
 use Rattle.std.proofs.lemmas.Bool.Decides.{nat_tests}
 use Rattle.records.specs.declared.error.Error.{Error}
@@ -11,18 +11,18 @@ use Rattle.txn_table.specs.Table.{holder_of}
 use Rattle.nsf_core.specs.Value.{CoreValue}
 use Rattle.nsf_core.specs.Refusals.{IsRefusedBy, IsFreePlace}
 
--- the number that is given last
-abbrev pub u64_max : ℕ
+-- the number of a transaction that is given last
+abbrev u64_max : ℕ
 u64_max = 18446744073709551615
 
-abbrev why : ℕ → ℕ → Option Error
-why n begun = cond (leb 16 n || leb u64_max begun) (Some TooManyTxns) None
+abbrev why : ℕ → Option Error
+why n = cond (leb 16 n) (Some TooManyTxns) None
 
-refused_when : (n begun : ℕ) (e : Error) → (leb 16 n || leb u64_max begun) ≡ true → e ≡ TooManyTxns → IsRefusedBy (why n begun) e
-refused_when n begun e is same = subst (λ b. IsRefusedBy (cond b (Some TooManyTxns) None) e) (sym is) same
+refused_when : (n : ℕ) (e : Error) → leb 16 n ≡ true → e ≡ TooManyTxns → IsRefusedBy (why n) e
+refused_when n e is same = subst (λ b. IsRefusedBy (cond b (Some TooManyTxns) None) e) (sym is) same
 
-refused_else : (n begun : ℕ) (e : Error) → (leb 16 n || leb u64_max begun) ≡ false → e ≡ NoMemory → IsRefusedBy (why n begun) e
-refused_else n begun e is same = subst (λ b. IsRefusedBy (cond b (Some TooManyTxns) None) e) (sym is) same
+refused_else : (n : ℕ) (e : Error) → leb 16 n ≡ false → e ≡ NoMemory → IsRefusedBy (why n) e
+refused_else n e is same = subst (λ b. IsRefusedBy (cond b (Some TooManyTxns) None) e) (sym is) same
 
 abbrev failed : Error → Result ℕ Error
 failed e = Err e
@@ -30,16 +30,14 @@ failed e = Err e
 same_err : (e f : Error) → failed e ≡ failed f → e ≡ f
 same_err e f is = cc
 
-pub begin_refused : (n begun : ℕ) (r : Result ℕ Error) (P : Type 0) → (16 ≤ n → r ≡ Err TooManyTxns) → (u64_max ≤ begun → r ≡ Err TooManyTxns) → (n < 16 → begun < u64_max → IsOkUnless r NoMemory) → OnErr r P
-    → IfErr r (λ e. IsRefusedBy (why n begun) e × P)
-begin_refused n begun (Ok txn) P full spent room same = tt
-begin_refused n begun (Err e) P full spent room same = (
+-- the numbers never run out, since each transaction that is over made a record
+pub begin_refused : (n begun last : ℕ) (r : Result ℕ Error) (P : Type 0) → last ≤ 4611686018427387904 → begun ≤ last + n → (16 ≤ n → r ≡ Err TooManyTxns) → (n < 16 → begun < u64_max → IsOkUnless r NoMemory) → OnErr r P
+    → IfErr r (λ e. IsRefusedBy (why n) e × P)
+begin_refused n begun last (Ok txn) P numbered counted full room same = tt
+begin_refused n begun last (Err e) P numbered counted full room same = (
   ⊎_elim
-      (λ few. ⊎_elim
-      (λ fresh. refused_else n begun e (grind (arith, nat_tests, few, fresh)) (room few fresh))
-      (λ used. refused_when n begun e (grind (arith, nat_tests, few, used)) (same_err e TooManyTxns (spent used)))
-      (cases_lt begun u64_max))
-      (λ many. refused_when n begun e (grind (arith, nat_tests, many)) (same_err e TooManyTxns (full many)))
+      (λ few. refused_else n e (grind (arith, nat_tests, few)) (room few (omega (arith, few, numbered, counted))))
+      (λ many. refused_when n e (grind (arith, nat_tests, many)) (same_err e TooManyTxns (full many)))
       (cases_lt n 16),
   same,
 )

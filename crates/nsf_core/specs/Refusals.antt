@@ -1,5 +1,5 @@
 -- Which refusal comes in which state: the first one whose state holds, and want of memory last.
-use Rattle.std.specs.Prelude.{◌≡◌, ◌≢◌, ◌⊎◌, ℕ, Bool, is_some, length, [], Option, Some, None, true, false, not, nat_le, ◌==◌, ◌||◌, ◌&&◌, if◌then◌else◌}
+use Rattle.std.specs.Prelude.{◌≡◌, ◌≢◌, ◌⊎◌, ℕ, Bool, is_some, length, [], Option, Some, None, true, false, not, nat_le, ◌==◌, ◌&&◌, if◌then◌else◌}
 use Rattle.std.specs.Option.{option_or}
 use Rattle.std.specs.declared.cmp.Ordering.TheVariants.{Less}
 use Rattle.std.specs.FinMap as map
@@ -33,9 +33,9 @@ is_ready s txn = is_active s txn && not (is_rolling s txn)
 abbrev pub number_refusal : CoreValue → Option Error
 number_refusal s = if s.last == LAST_NUMBER then Some Exhausted else None
 
--- why no further transaction may begin: enough are active, or all numbers of 64 bits were given
+-- why no further transaction may begin: enough are active
 abbrev pub begin_refusal : CoreValue → Option Error
-begin_refusal s = if nat_le TXNS_MAX (length s.txns.active) || nat_le 18446744073709551615 s.txns.begun then Some TooManyTxns else None
+begin_refusal s = if nat_le TXNS_MAX (length s.txns.active) then Some TooManyTxns else None
 
 -- why a transaction may not commit, or end
 abbrev pub commit_refusal : CoreValue → ℕ → Option Error

@@ -39,6 +39,7 @@ pub struct Core<A: Allocator> {
     outbox: VecDeque<Record, A>,
     ghost numbered: { last ≤ LAST_NUMBER },
     ghost inside: { EachIsInside heap.pages txns.active },
+    ghost counted: { txns.begun ≤ last + length txns.active },
 }
 
 impl<A: Allocator + Copy> Core<A> {
@@ -74,8 +75,8 @@ impl<A: Allocator + Copy> Core<A> {
 
     /// Begins a transaction, which makes no record. Their numbers rise from 1.
     ///
-    /// `TooManyTxns` where 16 are active or all numbers were given, then
-    /// `NoMemory`. After a refusal the core is as before.
+    /// `TooManyTxns` where 16 are active, then `NoMemory`. After a refusal the
+    /// core is as before.
     pub fn begin(&mut self) -> Result<Txn, Error>
         ensures number { IfOk result (λ txn. txn ≡ (state_of self.old).txns.begun + 1) }
         ensures ok { OnOk result ((begin_refusal (state_of self.old) ≡ None) × (state_of self.new ≡ begun (state_of self.old))) }

@@ -1,5 +1,6 @@
-use Rattle.std.proofs.Common.{arith, rules}
+use Rattle.std.proofs.Common.{arith, rules, ◌+◌}
 use Rattle.std.proofs.lemmas.Grind.{common_steps}
+use Rattle.nsf_core.proofs.Counts.{counted_changed}
 use Rattle.nsf_core.proofs.Inside.{inside_changed, inside_set}
 use Rattle.nsf_core.proofs.store.Core.make_change.Goals as goal
 
@@ -13,3 +14,7 @@ returns-in-Err-clause-err g c = grind (arith, common_steps)
 
 pub returns-clause-ok : goal.returns-clause-ok
 returns-clause-ok g c = search rules
+
+pub invariant_of-self-2-clause-counted : goal.invariant_of-self-2-clause-counted
+invariant_of-self-2-clause-counted g c =
+    counted_changed c.args.self.now.last (c.args.self.now.last + 1) c.args.txn _ c.args.self.now.txns c.note.new.self (omega arith) c.in_default.ensures.ok c.args.self.now.counted

@@ -1,8 +1,9 @@
-use Rattle.std.proofs.Common.{sym, ap}
+use Rattle.std.proofs.Common.{ap, arith, sym}
 use Rattle.txn_table.specs.Table as table
 use Rattle.txn_table.specs.Table.{TableValue}
 use Rattle.nsf_core.specs.Value.{state_of, changes_of}
 use Rattle.nsf_core.proofs.Txns.{shorter}
+use Rattle.nsf_core.proofs.Counts.{counted_changed}
 use Rattle.nsf_core.proofs.Inside.{inside_undone, newest_none, newest_split}
 use Rattle.nsf_core.proofs.store.Core.undo_step.Goals as goal
 
@@ -24,3 +25,7 @@ returns-clause-ok g c =
       last = newest_split (table.state_of c.args.txn s.txns.active) c.in-Some.change (sym c.in-Some.ensures);
       made = c.in_ok-take_back.ensures.ok;
     }
+
+pub invariant_of-self-clause-counted : goal.invariant_of-self-clause-counted
+invariant_of-self-clause-counted g c =
+    counted_changed c.args.self.now.last c.args.self.now.last c.args.txn _ c.args.self.now.txns c.pop_undo.new.self (omega arith) c.pop_undo.ensures.rest c.args.self.now.counted
