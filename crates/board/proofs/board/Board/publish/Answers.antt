@@ -4,3 +4,6 @@ use Rattle.board.proofs.board.Board.publish.Goals as goal
 
 pub fetch_max-requires : goal.fetch_max-requires
 fetch_max-requires g c = (search rules, omega arith, raises_horizon _ _ _ _ (search rules))
+
+pub returns : goal.returns
+returns g c = search rules
