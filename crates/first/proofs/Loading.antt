@@ -5,7 +5,7 @@ use Rattle.std.specs.FinMap as map
 use Rattle.std.specs.FinMap.{find, get-from_entries}
 use Rattle.records.specs.Values.{Place}
 use Rattle.records.specs.Orders.{rid_cmp}
-use Rattle.records.specs.Maps.{rid_exact, same_key}
+use Rattle.records.specs.Maps.{rid_exact, same_key, alike}
 use Rattle.records.specs.declared.row.Row.{Row}
 use Rattle.model.specs.Table.{Table}
 use Rattle.model.specs.Following.{IsWithin}
@@ -17,6 +17,10 @@ Rows = List (Place × Row)
 
 abbrev pub made : Rows → Table
 made es = map.from_entries {R = rid_cmp} es
+
+-- the rows of a table make it again
+pub made_again : (rows : Table) → made (map.entries rows) ≡ rows
+made_again rows = alike rid_exact (made (map.entries rows)) rows (λ q. get-from_entries rid_exact.total (map.entries rows) q ∙ sym (map.get-entries rows q))
 
 -- the rows that are left to load, and those that the core has
 pub record IsLoaded (pages last : ℕ) (rows : Table) (left : Rows) (core : CoreValue) : Type 0 where

@@ -73,6 +73,20 @@ pub record IsLeftByRun (geometry : GeometryValue) (frame : Image) (events : List
   pub formatted : IsFormatted geometry frame
   pub survives : Survives (log_area geometry A) frame (and_then (opening geometry.pages) events replies) floor image
 
+-- Whatever run left the device so, the engine has the rows of a prefix of it, with all up to the floor.
+abbrev pub RecoversAnyRun : {D M : Type 0} → (D → History) → D → Engine D M → Type 0
+RecoversAnyRun history before engine =
+    (geometry : GeometryValue) (frame : Image) (events : List Event) (replies : List Reply) (floor : ℕ)
+    → IsLeftByRun geometry frame events replies floor (history before).disk.content
+    → Recovers (and_then (opening geometry.pages) events replies) floor engine
+
+-- What a run left is refused only for want of memory, or where the device failed in the call.
+abbrev pub RefusesNoRun : {D : Type 0} → (D → History) → (D → ℕ) → D → D → Error → Type 0
+RefusesNoRun history failures before after e =
+    (geometry : GeometryValue) (frame : Image) (events : List Event) (replies : List Reply) (floor : ℕ)
+    → IsLeftByRun geometry frame events replies floor (history before).disk.content
+    → Refuses (failures before) (failures after) e
+
 -- These requests were answered so by an engine over a store that was formatted, whatever was answered since. A crash at any
 -- moment of the call leaves what the run left up to one of the requests, with all that was acknowledged before that one.
 abbrev pub SurvivesAnyCrash : {D M : Type 0} → (D → History) → List Event → List Reply → Engine D M → Engine D M → Type 0

@@ -1,6 +1,6 @@
 //! A store is opened, after `format` or after a crash.
-ghost use Rattle.std.specs.Prelude.{◌≡◌, ◌⊎◌, ◌≤◌, ℕ, List, OnOk, IfOk, IfErr};
-ghost use Rattle.sector_device.specs.Disk.{Image, IsSynced};
+ghost use Rattle.std.specs.Prelude.{◌≡◌, ◌⊎◌, ◌≤◌, List, OnOk, IfOk, IfErr};
+ghost use Rattle.sector_device.specs.Disk.{IsSynced};
 ghost use Rattle.records.specs.RecordValue.{RecordValue};
 ghost use Rattle.records.specs.GeometryValue.{GeometryValue};
 ghost use Rattle.records.specs.declared.number.TheConstants.{LAST_NUMBER};
@@ -9,10 +9,8 @@ ghost use Rattle.gate_log.specs.Area.{IsInside, Refuses};
 ghost use Rattle.flip_image.specs.declared.half.Half.{Half};
 ghost use Rattle.store_reader.specs.Contents.{Gives, IsFound, IsUnreadable};
 ghost use Rattle.nsf_core.specs.Value.{state_of};
-ghost use Rattle.first.specs.declared.event.Event.{Event};
-ghost use Rattle.first.specs.declared.event.Reply.{Reply};
-ghost use Rattle.first.specs.Store.{and_then, CanRun};
-ghost use Rattle.first.specs.Reopening.{holding, opening, OnlySyncs, IsOpened, IsNotOpened, Recovers, IsLeftByRun};
+ghost use Rattle.first.specs.Store.{CanRun};
+ghost use Rattle.first.specs.Reopening.{holding, OnlySyncs, IsOpened, IsNotOpened, RecoversAnyRun, RefusesNoRun};
 
 use crate::Engine;
 use crate::writer::Writer;
@@ -36,12 +34,8 @@ pub fn restart<D: Device, A: Allocator + Copy>(
     ensures opened { IfOk result (λ engine. IsOpened D.history device engine) }
     ensures can_run { IfOk result (λ engine. CanRun D.history engine) }
     ensures refused { IfErr result (λ r. IsNotOpened D.history D.failures device r.1 r.0) }
-    ensures recovers { (geometry : GeometryValue) (frame : Image) (events : List Event) (replies : List Reply) (floor : ℕ)
-        → IsLeftByRun geometry frame events replies floor (D.history device).disk.content
-        → IfOk result (Recovers (and_then (opening geometry.pages) events replies) floor) }
-    ensures readable { (geometry : GeometryValue) (frame : Image) (events : List Event) (replies : List Reply) (floor : ℕ)
-        → IsLeftByRun geometry frame events replies floor (D.history device).disk.content
-        → IfErr result (λ r. Refuses (D.failures device) (D.failures r.1) r.0) }
+    ensures recovers { IfOk result (RecoversAnyRun D.history device) }
+    ensures readable { IfErr result (λ r. RefusesNoRun D.history D.failures device r.1 r.0) }
 {
     match open_core(alloc, &mut device) {
         Ok((core, found)) => Ok(Engine {

@@ -1,5 +1,5 @@
 //! What the arguments of the program ask for.
-ghost use Rattle.std.specs.Prelude.{◌≡◌};
+ghost use Rattle.std.specs.Prelude.{◌≡◌, ℕ, List, [], ◌∷◌, map, Some, IsSome, Contains};
 ghost use Rattle.replay_values.specs.Arguments.{fate_of_name};
 
 use records::{ENTRIES_MIN, LOG_SLOTS_MIN};
@@ -73,3 +73,11 @@ pub fn fate_named(name: &str) -> Option<Fate>
         _ => None,
     }
 }
+
+/// The names in `FATES` are those of the five fates, in this order, and no other text names a fate.
+pub fn each_fate_has_a_name()
+    ensures names { map (λ name. fate_of_name name.now) FATES
+        ≡ Some Fate.Old ∷ Some Fate.New ∷ Some Fate.Zero ∷ Some Fate.Gate ∷ Some Fate.Junk ∷ [] }
+    ensures no_other { (name : List ℕ) → IsSome (fate_of_name name)
+        → Contains (map (λ name. name.now) FATES) name }
+{}

@@ -6,4 +6,4 @@ mod given;
 mod text;
 
 pub use answer::Answer;
-pub use given::{Arguments, FATES, Options, fate_named};
+pub use given::{Arguments, FATES, Options, each_fate_has_a_name, fate_named};

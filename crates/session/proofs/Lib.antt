@@ -1,0 +1,2 @@
+mod Flushed
+mod Left

@@ -1,6 +1,6 @@
 -- The program's disk.
 use Rattle.std.specs.Prelude.{◌≡◌, ℕ, ◌+◌, [], ◌∷◌}
-use Rattle.sector_device.specs.Disk.{IsSynced}
+use Rattle.sector_device.specs.Disk.{IsSynced, IsCrashImage}
 use Rattle.sector_device.specs.Crash.{IsCrashed}
 use Rattle.sector_device.specs.History.{History}
 use Rattle.sector_device.specs.Fault.{fault_count}
@@ -23,6 +23,7 @@ disk_failures disk = failures_of (device_of disk) + fault_count (fails_at_of dis
 -- The power was lost, with this fate for every unsynced sector. From then on the write or sync of this number is cut
 -- short, or none at 0.
 pub record LosesPower (fate : Fate) (fails_at : ℕ) (before after : FaultDisk (MemDisk Global)) : Type 0 where
+  pub image : IsCrashImage (disk_history before).disk (disk_history after).disk.content
   pub fates : IsCrashed (fate ∷ []) (state_of (device_of before)) (disk_history after).disk.content
   pub synced : IsSynced (disk_history after).disk
   pub counted : which_of after ≡ WritesAndSyncs

@@ -1,21 +1,22 @@
 -- What becomes of a whole script: what is printed, and the status of the program.
-use Rattle.std.specs.Prelude.{◌≡◌, ◌⊎◌, ◌≤◌, ◌<◌, ◌+◌, ℕ, false, length, Option, Some, None, IfSome, List, Result, Ok, Err}
+use Rattle.std.specs.Prelude.{◌≡◌, ◌⊎◌, ◌≤◌, ◌<◌, ◌+◌, ◌-◌, ◌^◌, ℕ, false, length, min, Option, Some, None, IfSome, List, Result, Ok, Err}
 use Rattle.std.specs.Io.KnownBytes.{Appends}
 use Rattle.std.specs.declared.alloc.Global.{Global}
 use Rattle.records.specs.GeometryValue.{GeometryValue, IsGeometry, sectors_of}
 use Rattle.records.specs.declared.error.Error.{Error}
 use Rattle.records.specs.declared.error.Error.TheVariants.{NoMemory, DeviceFailed, DeviceTooSmall, BadGeometry, BadScript}
+use Rattle.sector_device.specs.FaultDisk.{which_of, made_of, fails_at_of}
 use Rattle.sector_device.specs.declared.call.Fate.{Fate}
 use Rattle.sector_device.specs.declared.fault.FaultDisk.{FaultDisk}
+use Rattle.sector_device.specs.declared.fault.Which.TheVariants.{WritesAndSyncs}
 use Rattle.sector_device.specs.declared.memory.MemDisk.{MemDisk}
 use Rattle.model.specs.declared.life.Life.TheVariants.{Absent}
 use Rattle.flip_image.specs.declared.half.Half.TheVariants.{A}
 use Rattle.flip_image.specs.Store.{IsFormatted, AreGatesClosed}
-use Rattle.first.specs.Reopening.{IsNotOpened}
 use Rattle.script.specs.Grammar.{lines, IsScript, IsFirstFault}
 use Rattle.script.specs.declared.command.Command.{Command}
-use Rattle.session.specs.Disk.{disk_history, disk_failures, LosesPower}
-use Rattle.session.specs.Session.{has_crashed, OpensOn}
+use Rattle.session.specs.Disk.{disk_history, LosesPower}
+use Rattle.session.specs.Session.{has_crashed, disk_of, OpensOn, IsRefusedOn}
 use Rattle.session.specs.Dump.{dump_text}
 use Rattle.session.specs.Runs.{Prints, RunsCommands}
 use Rattle.arguments.specs.CommandLine.{Ask, AskForHelp, HaveFault}
@@ -33,13 +34,16 @@ abbrev pub sectors_asked : Option ℕ → GeometryValue → ℕ
 sectors_asked (Some sectors) geometry = sectors
 sectors_asked None geometry = sectors_of geometry
 
--- A store of this geometry was made on a disk of so many sectors, and opened. The session takes the write or sync of this
--- number for the one that is cut short, or none at 0.
+-- A store of this geometry was made on a disk of so many sectors, and opened. The disk was to cut its write or sync of this
+-- number short, from the opening on, or none at 0, and the session takes it for that.
 pub record Starts (sectors : ℕ) (geometry : GeometryValue) (fails_at : ℕ) (session : Session) : Type 0 where
   pub disk : FaultDisk (MemDisk Global)
   pub formatted : IsFormatted geometry (disk_history disk).disk.content
   pub closed : AreGatesClosed geometry A (disk_history disk).disk.content
   pub size : length (disk_history disk).disk.content ≡ sectors
+  pub counted : which_of disk ≡ WritesAndSyncs
+  pub made : made_of disk ≡ 0
+  pub fails_at_is : fails_at_of disk ≡ fails_at
   pub opened : OpensOn disk geometry fails_at session
   pub anew : has_crashed session ≡ false
 
@@ -47,15 +51,17 @@ pub record Starts (sectors : ℕ) (geometry : GeometryValue) (fails_at : ℕ) (s
 abbrev pub IsNoStart : ℕ → GeometryValue → Error → Type 0
 IsNoStart sectors geometry e = ((e ≡ DeviceTooSmall) × (sectors < sectors_of geometry)) ⊎ (e ≡ DeviceFailed) ⊎ (e ≡ NoMemory)
 
--- No call is cut short where none was asked for, and else one that comes no sooner.
-abbrev pub IsCutAt : Option ℕ → ℕ → Type 0
-IsCutAt None fails_at = fails_at ≡ 0
-IsCutAt (Some stop) fails_at = stop ≤ fails_at
+-- The number of the call that is cut short: 0 where none was asked for, and else so many more than such a session makes as it
+-- is opened with none cut short.
+abbrev pub IsCutAt : ℕ → GeometryValue → Option ℕ → ℕ → Type 0
+IsCutAt sectors geometry None fails_at = fails_at ≡ 0
+IsCutAt sectors geometry (Some stop) fails_at =
+    (uncut : Session) × Starts sectors geometry 0 uncut × (fails_at ≡ min (made_of (disk_of uncut) + stop) (2 ^ 64 - 1))
 
 -- A new store was opened, as the arguments ask for it.
 abbrev pub StartsFor : Arguments → Session → Type 0
 StartsFor arguments session =
-    (fails_at : ℕ) × IsCutAt arguments.stop fails_at
+    (fails_at : ℕ) × IsCutAt (sectors_asked arguments.sectors (geometry_of arguments)) (geometry_of arguments) arguments.stop fails_at
     × Starts (sectors_asked arguments.sectors (geometry_of arguments)) (geometry_of arguments) fails_at session
 
 -- Why no command was run, the first that fits: the text is no script, the arguments give no geometry, or no store of it
@@ -82,7 +88,7 @@ module _ {W : Type 0} (contents : W → Option (List ℕ)) where
   ShowsLeft geometry disk status before after =
       ((session : Session) × (between : W) × OpensOn disk geometry 0 session × Prints contents (answer.Restart Absent) before between
       × Appends (contents between) (contents after) (dump_text session) × (status ≡ 0))
-      ⊎ ((e : Error) × (given_back : FaultDisk (MemDisk Global)) × IsNotOpened disk_history disk_failures disk given_back e × IsRefused e status before after)
+      ⊎ ((e : Error) × (given_back : FaultDisk (MemDisk Global)) × IsRefusedOn disk given_back e × IsRefused e status before after)
 
   -- That the session was stopped was printed. Then the power was lost, with this fate for every unsynced sector.
   abbrev pub IsStopped : GeometryValue → Fate → FaultDisk (MemDisk Global) → ℕ → W → W → Type 0

@@ -9,7 +9,7 @@ use Rattle.model.specs.declared.life.Life.TheVariants.{Absent}
 use Rattle.first.specs.declared.event.Reply.{Reply}
 use Rattle.script.specs.declared.command.Command.{Command}
 use Rattle.session.specs.Disk.{LosesPower}
-use Rattle.session.specs.Session.{has_crashed, disk_of, last_made, outcome_of, Serves, Flushes, calls_to_stop, Reopens}
+use Rattle.session.specs.Session.{has_crashed, disk_of, last_made, outcome_of, LeavesItsRun, Serves, Flushes, calls_to_stop, Reopens}
 use Rattle.session.specs.Requests.{request_of, only_reads}
 use Rattle.replay_values.specs.Texts.{line_of}
 use Rattle.session.specs.Dump.{dump_text}
@@ -27,20 +27,22 @@ module _ {W : Type 0} (contents : W → Option (List ℕ)) where
   abbrev pub Prints : Answer → W → W → Type 0
   Prints answer before after = Appends (contents before) (contents after) (line_of answer)
 
-  -- The answer was printed, and the session goes on. Or it was stopped: then nothing was printed, and its disk is left.
+  -- The answer was printed, and the session goes on. Or it was stopped: then nothing was printed, and its disk is left, of
+  -- which a crash leaves its run.
   abbrev pub GoesOn : Result Answer Stopped → Session → Result Session End → W → W → Type 0
   GoesOn (Ok answer) session next before after = (next ≡ Ok session) × Prints answer before after
-  GoesOn (Err stopped) session next before after = (next ≡ Err (end.Stopped (disk_of session))) × (after ≡ before)
+  GoesOn (Err stopped) session next before after = (next ≡ Err (end.Stopped (disk_of session))) × LeavesItsRun session × (after ≡ before)
 
   -- where the store was opened again, that was printed
   abbrev pub PrintsRestart : Result Session End → W → W → Type 0
   PrintsRestart (Ok session) before after = Prints (answer.Restart Absent) before after
   PrintsRestart (Err e) before after = after ≡ before
 
-  -- The power was lost, with this fate for every unsynced sector, and the store was opened again, or the session ended.
+  -- The power was lost, with this fate for every unsynced sector, which leaves the session's run, and the store was opened
+  -- again, or the session ended.
   abbrev pub Restarts : Fate → Session → Result Session End → W → W → Type 0
   Restarts fate old next before after =
-      ((disk : FaultDisk (MemDisk Global)) × LosesPower fate (calls_to_stop old) (disk_of old) disk
+      LeavesItsRun old × ((disk : FaultDisk (MemDisk Global)) × LosesPower fate (calls_to_stop old) (disk_of old) disk
       × Reopens disk old.geometry (calls_to_stop old) next)
       × PrintsRestart next before after
 

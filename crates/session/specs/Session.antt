@@ -1,18 +1,24 @@
 -- A store under a script.
-use Rattle.std.specs.Prelude.{◌≡◌, ◌-◌, ◌&&◌, ℕ, nat_lt, Bool, true, false, List, [], ◌∷◌, Result, Ok, Err, if◌then◌else◌}
+use Rattle.std.specs.Prelude.{◌≡◌, ◌⊎◌, ◌<◌, ◌≤◌, ◌-◌, ◌&&◌, ℕ, nat_lt, Bool, true, false, List, [], ◌∷◌, map, All, Result, Ok, Err, if◌then◌else◌}
+use Rattle.std.specs.List.Sorted.{IsStrictlyIncreasing}
 use Rattle.std.specs.declared.alloc.Global.{Global}
 use Rattle.records.specs.GeometryValue.{GeometryValue}
 use Rattle.records.specs.declared.error.Error.{Error}
 use Rattle.records.specs.declared.error.Error.TheVariants.{DeviceFailed}
+use Rattle.sector_device.specs.Disk.{Image, IsCrashImage}
 use Rattle.sector_device.specs.FaultDisk.{made_of}
 use Rattle.sector_device.specs.declared.fault.FaultDisk.{FaultDisk}
 use Rattle.sector_device.specs.declared.memory.MemDisk.{MemDisk}
 use Rattle.model.specs.Table.{Table}
+use Rattle.flip_image.specs.declared.half.Half.TheVariants.{A}
+use Rattle.flip_image.specs.Store.{IsFormatted}
+use Rattle.store_reader.specs.Contents.{log_area}
 use Rattle.first.specs.Lawful.{IsLawful}
 use Rattle.first.specs.Parts.{core_of, device_of}
 use Rattle.first.specs.Parts as engine
-use Rattle.first.specs.Reopening.{IsOpened, IsNotOpened}
-use Rattle.first.specs.Store.{CanRun}
+use Rattle.first.specs.History.{acknowledged}
+use Rattle.first.specs.Reopening.{IsOpened, IsNotOpened, RecoversAnyRun, RefusesNoRun, IsLeftByRun, opening}
+use Rattle.first.specs.Store.{CanRun, IsAt, and_then}
 use Rattle.first.specs.Store as store
 use Rattle.first.specs.declared.engine.Engine.{Engine}
 use Rattle.first.specs.declared.event.Event.{Event}
@@ -42,12 +48,29 @@ has_crashed session = session.crashed
 abbrev pub disk_of : Session → FaultDisk (MemDisk Global)
 disk_of session = device_of session.engine
 
--- The session is that of a store that was opened on this disk.
+-- The session is that of a store that was opened on this disk. Whatever run of an engine left the disk so, its rows are those
+-- of a prefix of that run, with all that it had to keep.
 pub record OpensOn (disk : FaultDisk (MemDisk Global)) (geometry : GeometryValue) (fails_at : ℕ) (session : Session) : Type 0 where
   pub opened : IsOpened disk_history disk session.engine
+  pub recovers : RecoversAnyRun disk_history disk session.engine
   pub horizon_is : session.horizon ≡ engine.horizon_of session.engine
   pub geometry_is : session.geometry ≡ geometry
   pub fails_at_is : session.fails_at ≡ fails_at
+
+-- No store was opened on this disk, and it came back so. What a run of an engine left is refused only for want of memory, or
+-- where the disk failed in the call.
+pub record IsRefusedOn (disk after : FaultDisk (MemDisk Global)) (e : Error) : Type 0 where
+  pub not_opened : IsNotOpened disk_history disk_failures disk after e
+  pub readable : RefusesNoRun disk_history disk_failures disk after e
+
+-- Whatever run since the format left the engine where it is: a crash of its disk leaves that run, with all that a reply has
+-- told to be safe.
+abbrev pub LeavesItsRun : Session → Type 0
+LeavesItsRun session =
+    (geometry : GeometryValue) (frame : Image) (events : List Event) (replies : List Reply) (image : Image) → IsFormatted geometry frame
+    → IsAt disk_history (log_area geometry A) frame (and_then (opening geometry.pages) events replies) session.engine
+    → IsCrashImage (disk_history (disk_of session)).disk image
+    → IsLeftByRun geometry frame events replies (acknowledged 0 replies) image
 
 -- how many writes and syncs more are made with the one that is cut short, or 0
 abbrev pub calls_to_stop : Session → ℕ
@@ -63,9 +86,9 @@ tells_stop fails_at _ = false
 abbrev pub Reopens : FaultDisk (MemDisk Global) → GeometryValue → ℕ → Result Session End → Type 0
 Reopens disk geometry fails_at (Ok session) = OpensOn disk geometry fails_at session × (has_crashed session ≡ true)
 Reopens disk geometry fails_at (Err (end.Stopped after)) =
-    (e : Error) × IsNotOpened disk_history disk_failures disk after e × (tells_stop fails_at e ≡ true)
+    (e : Error) × IsRefusedOn disk after e × (tells_stop fails_at e ≡ true)
 Reopens disk geometry fails_at (Err (end.Refused e)) =
-    (after : FaultDisk (MemDisk Global)) × IsNotOpened disk_history disk_failures disk after e × (tells_stop fails_at e ≡ false)
+    (after : FaultDisk (MemDisk Global)) × IsRefusedOn disk after e × (tells_stop fails_at e ≡ false)
 
 -- the rows of the store
 abbrev pub rows_of : Session → Table
@@ -114,13 +137,22 @@ pub record IsFlushed (reply : Reply) (old new : Session) : Type 0 where
   pub replied : IsReply Flush reply old.engine new.engine
   pub rest : new ≡ record old { engine = new.engine; horizon = horizon_after (horizon_of old) reply }
 
--- One flush after another had these replies, each of which asks for another flush, and then the final one, which doesn't.
-abbrev pub AreFlushed : ℕ → List Reply → Reply → Session → Session → Type 0
-AreFlushed last [] final old new = (asks_again last (horizon_of old) final ≡ false) × IsFlushed final old new
-AreFlushed last (reply ∷ replies) final old new =
-    (asks_again last (horizon_of old) reply ≡ true)
-    × ((mid : Session) × IsFlushed reply old mid × AreFlushed last replies final mid new)
+-- One flush after another had these replies.
+abbrev pub AreFlushed : List Reply → Session → Session → Type 0
+AreFlushed [] old new = new ≡ old
+AreFlushed (reply ∷ replies) old new = (mid : Session) × IsFlushed reply old mid × AreFlushed replies mid new
 
--- The session flushed until all records made before were synced, or it went no further. This was the last reply.
-abbrev pub Flushes : ℕ → Reply → Session → Session → Type 0
-Flushes last final old new = (replies : List Reply) × AreFlushed last replies final old new
+-- One flush after another told of more synced records than the one before, and not yet of all up to the last.
+pub record FlushesOn (last : ℕ) (old new : Session) : Type 0 where
+  pub horizons : List ℕ
+  pub flushed : AreFlushed (map Horizon horizons) old new
+  pub rising : IsStrictlyIncreasing (horizon_of old ∷ horizons)
+  pub below : All (λ n. n < last) horizons
+
+-- The session flushed until all records up to the last were synced, or it went no further: a final flush, with this reply,
+-- told of all of them, or of no more than were synced before it, or of no horizon.
+pub record Flushes (last : ℕ) (final : Reply) (old new : Session) : Type 0 where
+  pub mid : Session
+  pub before : FlushesOn last old mid
+  pub final_flush : IsFlushed final mid new
+  pub ends : (n : ℕ) → final ≡ Horizon n → (last ≤ n) ⊎ (n ≤ horizon_of mid)

@@ -159,7 +159,7 @@ fn start(alloc: Global, sectors: u64, geometry: Geometry, fails_at: u64) -> Resu
 
 // The number of the write or sync that is cut short, or 0: so many more than a start makes.
 fn cut_at(alloc: Global, sectors: u64, geometry: Geometry, stop: Option<u32>) -> Result<u64, Error>
-    ensures cut { IfOk result (IsCutAt stop) }
+    ensures cut { IfOk result (IsCutAt sectors geometry stop) }
     ensures refused { IfErr result (IsNoStart sectors geometry) }
 {
     match stop {

@@ -5,8 +5,7 @@ ghost use Rattle.std.specs.declared.alloc.Global.{Global};
 ghost use Rattle.sector_device.specs.declared.fault.FaultDisk.{FaultDisk};
 ghost use Rattle.sector_device.specs.declared.memory.MemDisk.{MemDisk};
 ghost use Rattle.model.specs.declared.life.Life.{Life};
-ghost use Rattle.first.specs.Reopening.{IsNotOpened};
-ghost use Rattle.session.specs.Disk.{disk_history, disk_failures, LosesPower};
+ghost use Rattle.session.specs.Disk.{LosesPower};
 ghost use Rattle.session.specs.Session.{asks_again, tells_stop};
 ghost use Rattle.session.specs.Dump.{row_line, slot_lines, dump_text};
 
@@ -83,7 +82,7 @@ fn asks_again(last: u64, horizon: u64, reply: &Reply) -> bool
 
 impl Session {
     ghost use Rattle.first.specs.declared.event.Reply.{Reply};
-    ghost use Rattle.session.specs.Session.{IsOpen, OpensOn, has_crashed, disk_of, last_made, is_stop, outcome_of, Serves, IsFlushed, Flushes, calls_to_stop, Reopens, rows_of};
+    ghost use Rattle.session.specs.Session.{IsOpen, OpensOn, IsRefusedOn, LeavesItsRun, has_crashed, disk_of, last_made, is_stop, outcome_of, Serves, IsFlushed, Flushes, calls_to_stop, Reopens, rows_of};
 
     /// Opens the store on the disk, whose write or sync of this number is cut short, or none at 0.
     /// Where the restart is refused, the disk comes back.
@@ -95,7 +94,7 @@ impl Session {
     ) -> Result<Self, (Error, Disk)>
         ensures opened { MatchResult result
             (OpensOn disk geometry fails_at)
-            (λ r. IsNotOpened disk_history disk_failures disk r.1 r.0) }
+            (λ r. IsRefusedOn disk r.1 r.0) }
         ensures open { IfOk result IsOpen }
         ensures anew { IfOk result (λ session. has_crashed session ≡ false) }
     {
@@ -120,7 +119,7 @@ impl Session {
     ) -> Result<Self, (Error, Disk)>
         ensures opened { (after : FaultDisk (MemDisk Global)) × LosesPower fate 0 disk after × MatchResult result
             (OpensOn after geometry 0)
-            (λ r. IsNotOpened disk_history disk_failures after r.1 r.0) }
+            (λ r. IsRefusedOn after r.1 r.0) }
         ensures open { IfOk result IsOpen }
         ensures anew { IfOk result (λ session. has_crashed session ≡ false) }
     {
@@ -142,9 +141,11 @@ impl Session {
         self.engine.core().life()
     }
 
-    /// The disk, with what was written to it.
+    /// The disk, with what was written to it. A crash of it leaves what a restart takes back to a prefix of what was served,
+    /// with everything that a reply has told to be safe.
     pub fn into_disk(self) -> Disk
-        ensures { result ≡ disk_of self }
+        ensures disk { result ≡ disk_of self }
+        ensures survives { LeavesItsRun self }
     {
         self.engine.into_device()
     }
@@ -219,6 +220,7 @@ impl Session {
 
     /// Crashes the device with this fate for every unsynced sector, and opens the store again.
     pub fn crash(self, fate: Fate) -> Result<Self, End>
+        ensures survives { LeavesItsRun self }
         ensures crashed { (disk : FaultDisk (MemDisk Global)) × LosesPower fate (calls_to_stop self) (disk_of self) disk
             × Reopens disk self.geometry (calls_to_stop self) result }
         ensures open { IfOk result IsOpen }

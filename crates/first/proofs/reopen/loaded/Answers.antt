@@ -1,13 +1,13 @@
 use Rattle.std.proofs.Common.{arith, [], sym, ap, subst, ◌∙◌, append-nil}
 use Rattle.nsf_core.specs.Value.{state_of}
 use Rattle.std.proofs.lemmas.List.{nil_from_length}
-use Rattle.first.proofs.Loading.{Rows, made, IsLoaded, page_within, one_more_row, all_loaded}
+use Rattle.first.proofs.Loading.{Rows, made, made_again, IsLoaded, page_within, one_more_row, all_loaded}
 use Rattle.first.proofs.reopen.loaded.Goals as goal
 
 pub loop-entry-init : goal.loop-entry-init
 loop-entry-init g c = record {
   done = [];
-  whole = ap made (append-nil c.in_ok-entries.entries.items) ∙ c.in_ok-entries.ensures;
+  whole = ap made (append-nil c.in_ok-entries.entries.items ∙ c.in_ok-entries.ensures) ∙ made_again c.args.rows.now;
   core_is = c.in_ok-core.ensures.made;
 }
 

@@ -6,6 +6,7 @@ use Rattle.session.proofs.program.crash.Goals as goal
 
 pub returns-in_ok-print-in-Ok-clause-restarts : goal.returns-in_ok-print-in-Ok-clause-restarts
 returns-in_ok-print-in-Ok-clause-restarts g c = (
+  c.in-Ok.ensures.survives,
   c.in-Ok.ensures.crashed,
   subst (λ (life : Life). Prints g.W.Write.contents (Restart life) c.args.output.now c.print.new.output) c.life.ensures c.in_ok-print-in-Ok.ensures,
 )

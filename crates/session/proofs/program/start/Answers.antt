@@ -18,6 +18,9 @@ returns-in-Ok-clause-starts c =
       formatted = subst (λ (d : MemDisk Global). IsFormatted g (history_of d).disk.content) (sym c.new-disk.ensures.device) c.in_ok-format.ensures.formatted;
       closed = subst (λ (d : MemDisk Global). AreGatesClosed g A (history_of d).disk.content) (sym c.new-disk.ensures.device) c.in_ok-format.ensures.closed;
       size = ap (λ (d : MemDisk Global). length (history_of d).disk.content) c.new-disk.ensures.device ∙ content;
+      counted = c.new-disk.ensures.which;
+      made = c.new-disk.ensures.made;
+      fails_at_is = c.new-disk.ensures.fails_at;
       opened = c.in-Ok.ensures.opened;
       anew = c.in-Ok.ensures.anew;
     }
@@ -32,4 +35,4 @@ returns-clause-refused c =
     inr (⊎_elim
     (⊎_elim (λ none. inr none) (λ failed. inl failed.0))
     (λ unreadable. absurd (c.one_answer.ensures.readable image g _ _ c.in-Err.error gives unreadable))
-    c.in-Err.ensures.opened.why)
+    c.in-Err.ensures.opened.not_opened.why)

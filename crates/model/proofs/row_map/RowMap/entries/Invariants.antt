@@ -3,4 +3,4 @@ use Rattle.std.specs.FinMap as map
 use Rattle.model.proofs.row_map.RowMap.entries.Given as goal
 
 abbrev pub invariant-loop-rid : goal.invariant-loop-rid
-invariant-loop-rid g l = map.from_entries (l.entries.items ++ l.rid-iterator) ≡ l.self
+invariant-loop-rid g l = l.entries.items ++ l.rid-iterator ≡ map.entries l.self

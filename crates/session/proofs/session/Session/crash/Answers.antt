@@ -5,6 +5,9 @@ use Rattle.sector_device.specs.declared.fault.FaultDisk.{FaultDisk}
 use Rattle.sector_device.specs.declared.memory.MemDisk.{MemDisk}
 use Rattle.session.specs.Disk.{LosesPower}
 use Rattle.session.specs.Session.{tells_stop, calls_to_stop}
+use Rattle.flip_image.specs.declared.half.Half.TheVariants.{A}
+use Rattle.store_reader.specs.Contents.{log_area}
+use Rattle.session.proofs.Left.{leaves_its_run}
 use Rattle.session.proofs.session.Session.crash.Goals as goal
 
 -- the same loss of power, with the number and the disk by other names
@@ -20,7 +23,7 @@ returns-in-Ok-clause-crashed c =
     let on = c.in-Ok.ensures.opened in (
       c.crashed-disk.result,
       loses c.args.fate _ _ _ _ _ left c.into_device-disk.ensures.device c.crashed-disk.ensures,
-      (record { opened = on.opened; horizon_is = on.horizon_is; geometry_is = on.geometry_is; fails_at_is = on.fails_at_is ∙ left }, refl),
+      (record { opened = on.opened; recovers = on.recovers; horizon_is = on.horizon_is; geometry_is = on.geometry_is; fails_at_is = on.fails_at_is ∙ left }, refl),
     )
 
 pub returns-then-tells_stop-clause-crashed : goal.returns-then-tells_stop-clause-crashed
@@ -40,3 +43,12 @@ returns-else-tells_stop-clause-crashed c =
       loses c.args.fate _ _ _ _ _ left c.into_device-disk.ensures.device c.crashed-disk.ensures,
       (c.in-Err.disk, c.in-Err.ensures.opened, subst (λ (n : ℕ). tells_stop n c.in-Err.error ≡ false) left told),
     )
+
+pub returns-in-Ok-clause-survives : goal.returns-in-Ok-clause-survives
+returns-in-Ok-clause-survives c = leaves_its_run c.args.self c.into_device-disk.result c.into_device-disk.ensures.device (λ geometry. c.into_device-disk.ensures.survives (log_area geometry A))
+
+pub returns-then-tells_stop-clause-survives : goal.returns-then-tells_stop-clause-survives
+returns-then-tells_stop-clause-survives c = leaves_its_run c.args.self c.into_device-disk.result c.into_device-disk.ensures.device (λ geometry. c.into_device-disk.ensures.survives (log_area geometry A))
+
+pub returns-else-tells_stop-clause-survives : goal.returns-else-tells_stop-clause-survives
+returns-else-tells_stop-clause-survives c = leaves_its_run c.args.self c.into_device-disk.result c.into_device-disk.ensures.device (λ geometry. c.into_device-disk.ensures.survives (log_area geometry A))

@@ -1,16 +1,22 @@
-use Rattle.std.proofs.Common.{◌≡◌, ℕ, [], ◌∷◌, true, false, subst, ap, ◌∙◌}
+use Rattle.std.proofs.Common.{◌≡◌, ℕ, true, false, subst, ap, ◌∙◌}
 use Rattle.nsf_core.specs.Value.{CoreValue}
 use Rattle.session.specs.Session.{last_made, asks_again, Flushes}
+use Rattle.session.proofs.Flushed.{none_flushed, one_more, is_final}
 use Rattle.session.proofs.session.Session.flush.Goals as goal
 
 -- this reply is the final one
 pub returns-then-not-asks_again-clause-answer : goal.returns-then-not-asks_again-clause-answer
 returns-then-not-asks_again-clause-answer c =
     let reply = c.flush_once-reply.result in
+    let mid = c.loop-self.self in
     let new = c.flush_once-reply.new.self in
-    let settled : asks_again c.last-last.result c.loop-self.self.horizon reply ≡ false = cc in
-    let whole : Flushes c.last-last.result reply c.args.self.now new =
-    c.loop-self.invariant.goes_on [] reply new (settled, c.flush_once-reply.ensures.flushed) in
+    let settled : asks_again c.last-last.result mid.horizon reply ≡ false = cc in
+    let whole : Flushes c.last-last.result reply c.args.self.now new = record {
+      mid = mid;
+      before = c.loop-self.invariant.goes_on mid (none_flushed _ mid);
+      final_flush = c.flush_once-reply.ensures.flushed;
+      ends = is_final _ mid.horizon reply settled;
+    } in
     let last_is : c.last-last.result ≡ last_made c.args.self.now = c.last-last.ensures.value ∙ ap (λ (s : CoreValue). s.last) c.core.ensures in
     (reply, subst (λ (last : ℕ). Flushes last reply c.args.self.now new) last_is whole, c.outcome_of.ensures)
 
@@ -21,7 +27,6 @@ loop-self-preserved c =
     let again : asks_again c.last-last.result c.loop-self.self.horizon reply ≡ true = cc in
     record {
       is_open = c.flush_once-reply.ensures.open;
-      goes_on = λ replies final new rest.
-          c.loop-self.invariant.goes_on (reply ∷ replies) final new
-          (again, (c.flush_once-reply.new.self, c.flush_once-reply.ensures.flushed, rest));
+      goes_on = λ mid on.
+          c.loop-self.invariant.goes_on mid (one_more _ c.loop-self.self c.flush_once-reply.new.self mid reply again c.flush_once-reply.ensures.flushed on);
     }
