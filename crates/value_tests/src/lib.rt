@@ -1,8 +1,10 @@
-//! Tests of the crates `records`, `model`, `core_steps` and `script`.
+//! Tests of the crates `records`, `model`, `image_parts`, `core_steps` and `script`.
 #![tactic(auto)]
 
 #[cfg(test)]
 mod model_tests;
+#[cfg(test)]
+mod part_tests;
 #[cfg(test)]
 mod record_tests;
 #[cfg(test)]
