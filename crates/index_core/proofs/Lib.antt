@@ -1,9 +1,11 @@
 mod Moved
 mod Pairs
 mod Places
+mod Newest
 mod Due
 mod Started
 mod Inserting
 mod Changing
 mod Beginning
 mod Leaving
+mod Next

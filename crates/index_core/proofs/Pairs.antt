@@ -19,7 +19,7 @@ use Rattle.core_steps.specs.declared.step.Step.{Step}
 use Rattle.txn_table.specs.declared.progress.Progress.TheVariants.{OwesEntry, Ready}
 use Rattle.index_core.specs.Moves.{entry_in, row_progress}
 use Rattle.std.specs.Prelude.{option_and_then}
-use Rattle.records.specs.declared.record.Part.TheVariants.{OldEntry}
+use Rattle.records.specs.declared.record.Part.TheVariants.{NewEntry, OldEntry}
 use Rattle.records.specs.declared.record.TxnAction.{TxnAction}
 use Rattle.records.specs.declared.record.TxnAction.TheVariants.{Forward}
 use Rattle.records.specs.declared.pair.Mark.{Mark}
@@ -96,3 +96,9 @@ old_none b c e = sym (old_moves b c) ∙ none_by _ _ _ e
 
 pub old_some : (b : Bool) (c : ChangeValue) (m : Pair × TxnAction) → Some m ≡ option_and_then entry_in (marks_old b c) → (old_pair b c ≡ Some m.0) × (m.1 ≡ Forward OldEntry c)
 old_some b c m e = let s = some_by _ _ _ m e in (sym (old_moves b c) ∙ s.0, s.1)
+
+pub new_none : (b : Bool) (c : ChangeValue) → None ≡ option_and_then entry_in (puts_new b c) → new_pair b c ≡ None
+new_none b c e = sym (new_moves b c) ∙ none_by _ _ _ e
+
+pub new_some : (b : Bool) (c : ChangeValue) (m : Pair × TxnAction) → Some m ≡ option_and_then entry_in (puts_new b c) → (new_pair b c ≡ Some m.0) × (m.1 ≡ Forward NewEntry c)
+new_some b c m e = let s = some_by _ _ _ m e in (sym (new_moves b c) ∙ s.0, s.1)

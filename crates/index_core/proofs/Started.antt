@@ -38,7 +38,7 @@ either : {X : Type 0} (b : Bool) (p q r : X) → cond b p (cond b q r) ≡ cond 
 either true p q r = refl
 either false p q r = refl
 
-long : (f : TxnState → TxnState) (t : ℕ) (es : List (ℕ × TxnState)) → length (table.with_state f t es) ≡ length es
+pub long : (f : TxnState → TxnState) (t : ℕ) (es : List (ℕ × TxnState)) → length (table.with_state f t es) ≡ length es
 long f t [] = refl
 long f t (e ∷ es) = by (eqb t e.0) (long f t es)
   where
@@ -85,11 +85,11 @@ has_index false c p e = absurd cc
 has_index true c p e = refl
 
 -- ---- the row is set first
-phase_is : (o : Option Pair) → IsAt (row_progress o) (row_made o)
+pub phase_is : (o : Option Pair) → IsAt (row_progress o) (row_made o)
 phase_is None = refl
 phase_is (Some p) = refl
 
-none_rolls : (o : Option Pair) → rolls (row_progress o) ≡ false
+pub none_rolls : (o : Option Pair) → rolls (row_progress o) ≡ false
 none_rolls None = refl
 none_rolls (Some p) = refl
 

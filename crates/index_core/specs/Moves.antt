@@ -18,6 +18,7 @@ use Rattle.records.specs.declared.pair.Pair.{Pair}
 use Rattle.records.specs.declared.record.Action.{Action}
 use Rattle.records.specs.declared.record.Action.TheVariants.{OfTxn}
 use Rattle.records.specs.declared.record.Part.TheVariants.{OldEntry, Slot}
+use Rattle.records.specs.declared.pair.Mark.{Mark}
 use Rattle.records.specs.declared.pair.Mark.TheVariants.{Marked}
 use Rattle.records.specs.declared.record.TxnAction.TheVariants.{Forward}
 use Rattle.records.specs.declared.record.TxnAction.{TxnAction}
@@ -190,3 +191,26 @@ entry_of action (cell.Entry pair mark) = Some (pair, action)
 -- the entry that a step sets, with what its record says; none where it sets a row
 abbrev pub entry_in : Step → Option (Pair × TxnAction)
 entry_in step = entry_of step.action step.cell
+
+-- what carrying a change on asks for: the transaction owes a step of its newest change, or is not active
+abbrev pub OwesOrNone : Option TxnState → Type 0
+OwesOrNone None = Unit {0}
+OwesOrNone (Some x) = (x.progress ≡ OwesRow) ⊎ (x.progress ≡ OwesEntry)
+
+-- the core after a step of a transaction that sets a row
+abbrev pub row_stepped : CoreValue → ℕ → Progress → Place → Option Row → TxnAction → CoreValue
+row_stepped v t progress r row action = record v {
+  heap = record v.heap { rows = set_at v.heap.rows r row };
+  txns = record v.txns { active = table.with_state (put_at progress (reserved_of (txn_of v t))) t v.txns.active };
+  last = v.last + 1;
+  outbox = v.outbox ++ record { number = v.last + 1; action = OfTxn t action } ∷ [];
+}
+
+-- the core after a step of a transaction that gives an entry this mark, in a reserved place where there was none
+abbrev pub entry_stepped : CoreValue → ℕ → Progress → Pair → Mark → TxnAction → CoreValue
+entry_stepped v t progress p mark action = record v {
+  txns = record v.txns { active = table.with_state (put_at progress (reserved_of (txn_of v t) - places_used (get v.index.entries p))) t v.txns.active };
+  index = record v.index { entries = set_at v.index.entries p (Some mark); pledged = v.index.pledged - places_used (get v.index.entries p) };
+  last = v.last + 1;
+  outbox = v.outbox ++ record { number = v.last + 1; action = OfTxn t action } ∷ [];
+}

@@ -6,7 +6,7 @@ ghost use Rattle.records.specs.Maps.{set_at};
 ghost use Rattle.btree_node.specs.Above.{IsLeastAbove};
 ghost use Rattle.core_contracts.specs.Events.{Event, Reply};
 ghost use Rattle.index_core.specs.View.{IsSafe, Serves};
-ghost use Rattle.index_core.specs.Moves.{HasNoChange, IsReadyOrNone, fresh, txn_of};
+ghost use Rattle.index_core.specs.Moves.{OwesOrNone, HasNoChange, IsReadyOrNone, fresh, txn_of};
 ghost use Rattle.index_core.specs.Replies.{reply_by, reply_of_ticket};
 ghost use Rattle.index_core.specs.Parts.{parts_of};
 
@@ -117,6 +117,16 @@ impl<A: Allocator + Copy> Core<A> {
         ensures { Serves (value_of self.old) (Event.Update txn rid (record { key = key; body = body })) (reply_by (λ _. Reply.Stepped) result) (value_of self.new) }
     {
         self.parts.start_update(txn, rid, key, body)
+    }
+
+    /// Makes the step that the transaction owes: it sets the row, or puts the new row's entry.
+    ///
+    /// The refusals are those of `end`.
+    pub fn next_step(&mut self, txn: Txn) -> Result<(), Error>
+        requires { OwesOrNone (txn_of (value_of self.old) txn) }
+        ensures { Serves (value_of self.old) (Event.Step txn) (reply_by (λ _. Reply.Stepped) result) (value_of self.new) }
+    {
+        self.parts.next_step(txn)
     }
 
     /// Ends a transaction that has no change left, which is then no longer active, and holds no row.
