@@ -9,3 +9,4 @@ mod Changing
 mod Beginning
 mod Leaving
 mod Next
+mod Building

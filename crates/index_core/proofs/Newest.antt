@@ -1,33 +1,28 @@
 -- The newest change of a transaction.
-use Rattle.std.proofs.Common.{List, None, Option, Some, [], ap, arith, inl, inr, length, refl, reverse, subst, suc, sym, take, ℕ, ◌++◌, ◌+◌, ◌-◌, ◌<◌, ◌∙◌, ◌∷◌, ◌≡◌, ◌≤◌, ◌⊎◌, get_or, slice_get}
-use Rattle.std.proofs.Math.Seq.{take-length, take-suc}
-use Rattle.std.proofs.lemmas.List.{reverse-append}
+use Rattle.std.proofs.Common.{List, None, Option, Some, [], ap, arith, inl, inr, length, refl, subst, suc, sym, ℕ, ◌++◌, ◌+◌, ◌-◌, ◌<◌, ◌∙◌, ◌∷◌, ◌≡◌, ◌≤◌, ◌⊎◌, get_or, slice_get}
+use Rattle.std.proofs.lemmas.List.{length-append}
 use Rattle.std.proofs.lemmas.Option.{slice_get_cases}
 use Rattle.records.specs.ChangeValue.{ChangeValue}
 use Rattle.model.specs.Pairs.{is_indexed, new_pair, old_pair}
 use Rattle.txn_table.specs.Table.{TxnState, last_change}
 use Rattle.core_model.proofs.Laws.{not_none}
+use Rattle.core_model.specs.Changes.{Changes, Unchanged, as_list, ◌▹◌}
 use Rattle.core_model.specs.Invariants.{HasShape, IsHolderOf, IsShaped, lacking, lacks}
 use Rattle.core_model.specs.States.{Active, State}
 use Rattle.core_model.specs.Steps.{reserved, txn_at}
 use Rattle.core_contracts.specs.Events.{Standing}
 use Rattle.index_core.specs.View.{CoreValue, IsAt, IsState, Shows}
 use Rattle.index_core.specs.Moves.{txn_of}
-use Rattle.index_core.proofs.Moved.{at, listed, one, places_are}
+use Rattle.index_core.proofs.Moved.{at, listed, one, places_are, unchanged}
 
 some_same : (x c : ChangeValue) → (◌≡◌ {A = Option ChangeValue} (Some x) (Some c)) → x ≡ c
 some_same x c is = cc
 
-last_split : (xs : List ChangeValue) (c : ChangeValue) → slice_get xs (length xs - 1) ≡ Some c → xs ≡ take (length xs - 1) xs ++ c ∷ []
-last_split xs c last = by (slice_get_cases xs (length xs - 1)).1
-  where
-    by : ((x : ChangeValue) × (length xs - 1 < length xs) × (slice_get xs (length xs - 1) ≡ Some x) × (get_or xs (length xs - 1) x ≡ x)) ⊎ ((length xs ≤ length xs - 1) × (slice_get xs (length xs - 1) ≡ None)) → xs ≡ take (length xs - 1) xs ++ c ∷ []
-    by (inl found) =
-        let same : found.0 ≡ c = some_same found.0 c (sym found.2 ∙ last) in
-        let there : get_or xs (length xs - 1) c ≡ c = subst (λ x. get_or xs (length xs - 1) x ≡ x) same found.3 in
-        let whole : length xs ≡ suc (length xs - 1) = omega (arith, found.1) in
-        sym (take-length xs) ∙ ap (λ n. take n xs) whole ∙ take-suc xs (length xs - 1) c found.1 ∙ ap (λ x. take (length xs - 1) xs ++ x ∷ []) there
-    by (inr none) = absurd (not_none last none.1)
+last_of : (xs : List ChangeValue) (c : ChangeValue) → slice_get (xs ++ c ∷ []) (length (xs ++ c ∷ []) - 1) ≡ Some c
+last_of [] c = refl
+last_of (x ∷ xs) c =
+    let whole : length (x ∷ xs ++ c ∷ []) - 1 ≡ suc (length (xs ++ c ∷ []) - 1) = omega (arith, length-append xs (c ∷ [])) in
+    ap (slice_get (x ∷ xs ++ c ∷ [])) whole ∙ last_of xs c
 
 none_last : (xs : List ChangeValue) → slice_get xs (length xs - 1) ≡ None → xs ≡ []
 none_last [] is = refl
@@ -42,14 +37,19 @@ module _ (v : CoreValue) (s : State) (k : Standing) (is : IsState v s k) (t : �
   abbrev h : Shows v s k
   h = is.shown
 
-  -- the newest change stands first
-  pub newest_first : (c : ChangeValue) → last_change x ≡ Some c → (older : List ChangeValue) × ((txn_at s t).changes ≡ c ∷ older)
-  newest_first c last =
-      let init = take (length x.changes - 1) x.changes in
-      (reverse init, listed v s k h t x here ∙ ap reverse (last_split x.changes c last) ∙ reverse-append init (c ∷ []))
+  -- the newest change stands last
+  pub newest_last : (c : ChangeValue) → last_change x ≡ Some c → (older : Changes) × ((txn_at s t).changes ≡ older ▹ c)
+  newest_last c last = by (txn_at s t).changes refl (listed v s k h t x here)
+    where
+      last_is : (xs : List ChangeValue) → xs ≡ x.changes → slice_get xs (length xs - 1) ≡ Some c
+      last_is xs same = subst (λ ys. slice_get ys (length ys - 1) ≡ Some c) (sym same) last
 
-  pub none_first : last_change x ≡ None → (txn_at s t).changes ≡ []
-  none_first last = listed v s k h t x here ∙ ap reverse (none_last x.changes last)
+      by : (cs : Changes) → (txn_at s t).changes ≡ cs → as_list cs ≡ x.changes → (older : Changes) × ((txn_at s t).changes ≡ older ▹ c)
+      by Unchanged e same = absurd (not_none (last_is [] same) refl)
+      by (older ▹ d) e same = (older, e ∙ ap (λ y. older ▹ y) (some_same d c (sym (last_of (as_list older) d) ∙ last_is (as_list older ++ d ∷ []) same)))
+
+  pub none_changed : last_change x ≡ None → (txn_at s t).changes ≡ Unchanged
+  none_changed last = unchanged _ (listed v s k h t x here ∙ none_last x.changes last)
 
   pub phase_of : IsAt x.progress (txn_at s t).phase
   phase_of = subst (λ (y : Active). IsAt x.progress y.phase) (sym (at v s k h t x here)) (one v s k h t x here).2.phase
@@ -60,19 +60,19 @@ module _ (v : CoreValue) (s : State) (k : Standing) (is : IsState v s k) (t : �
   pub shaped : IsShaped (is_indexed s.life) (txn_at s t).changes (txn_at s t).phase
   shaped = (is.fit.txns t (txn_at s t) active).shaped
 
-  module _ (c : ChangeValue) (older : List ChangeValue) (first : (txn_at s t).changes ≡ c ∷ older) where
+  module _ (c : ChangeValue) (older : Changes) (first : (txn_at s t).changes ≡ older ▹ c) where
     pub shape : HasShape (is_indexed s.life) c (txn_at s t).phase
     shape = subst (λ cs. IsShaped (is_indexed s.life) cs (txn_at s t).phase) first shaped
 
     pub inside : c.rid.page < v.heap.pages
     inside =
-        let names : IsHolderOf s.holder t (c ∷ older) = subst (IsHolderOf s.holder t) first (is.fit.txns t (txn_at s t) active).names in
+        let names : IsHolderOf s.holder t (older ▹ c) = subst (IsHolderOf s.holder t) first (is.fit.txns t (txn_at s t) active).names in
         subst (λ n. c.rid.page < n) h.pages (is.fit.held c.rid t names.0)
 
     -- the places that the change's pairs may still need
     pub paid : lacks s.entries (old_pair (is_indexed s.life) c) + lacks s.entries (new_pair (is_indexed s.life) c) ≤ x.reserved
     paid =
-        let enough : lacking (is_indexed s.life) s.entries (c ∷ older) ≤ reserved s.pledges t = subst (λ cs. lacking (is_indexed s.life) s.entries cs ≤ reserved s.pledges t) first (is.fit.places.enough t (txn_at s t) active) in
+        let enough : lacking (is_indexed s.life) s.entries (older ▹ c) ≤ reserved s.pledges t = subst (λ cs. lacking (is_indexed s.life) s.entries cs ≤ reserved s.pledges t) first (is.fit.places.enough t (txn_at s t) active) in
         part _ _ _ _ enough (places_are v s k h t x here)
       where
         part : (a b r res : ℕ) → a + r ≤ res → res ≡ b → a ≤ b

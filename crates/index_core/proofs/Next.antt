@@ -26,6 +26,7 @@ use Rattle.core_model.proofs.Laws.{not_none}
 use Rattle.core_model.specs.Invariants.{HasShape, IsShaped, lacks}
 use Rattle.core_model.specs.Logs.{one_record}
 use Rattle.core_model.specs.Records.{action_of, next_action}
+use Rattle.core_model.specs.Changes.{Changes, Unchanged, ◌▹◌}
 use Rattle.core_model.specs.States.{Active, Made, OldMarked, Phase, RowSet, State}
 use Rattle.core_model.specs.Steps as core
 use Rattle.core_model.specs.Steps.{Next, after, carried_on, reserved, row_made, txn_at, with_entry, with_phase, with_places}
@@ -37,7 +38,7 @@ use Rattle.index_core.proofs.Due.{made, no_number, refusal, wants_memory}
 use Rattle.index_core.proofs.Inserting.{no_txn}
 use Rattle.index_core.proofs.Leaving.{there}
 use Rattle.index_core.proofs.Moved.{HasMoved, at, known, listed, moved_shown, one, places_are}
-use Rattle.index_core.proofs.Newest.{inside, newest_first, none_first, paid, phase_of, shape, shaped}
+use Rattle.index_core.proofs.Newest.{inside, newest_last, none_changed, paid, phase_of, shape, shaped}
 use Rattle.index_core.proofs.Places.{reserved_within}
 use Rattle.index_core.proofs.Started.{grown, long, none_rolls, phase_is, state_set}
 
@@ -58,12 +59,12 @@ module _ (v : CoreValue) (safe : IsSafe v) (t : ℕ) (x : TxnState) (here : txn_
   owed_by : (x.progress ≡ OwesRow) ⊎ (x.progress ≡ OwesEntry) → last_change x ≡ None → ⊥
   owed_by owes none = by owes
     where
-      empty : (txn_at s t).changes ≡ []
-      empty = none_first v s k safe.is t x here none
+      empty : (txn_at s t).changes ≡ Unchanged
+      empty = none_changed v s k safe.is t x here none
 
-      made_by : (cs : List ChangeValue) (phase : Phase) → cs ≡ [] → IsShaped (is_indexed s.life) cs phase → phase ≡ Made
-      made_by [] phase e shaped = shaped
-      made_by (c ∷ cs) phase e shaped = absurd cc
+      made_by : (cs : Changes) (phase : Phase) → cs ≡ Unchanged → IsShaped (is_indexed s.life) cs phase → phase ≡ Made
+      made_by Unchanged phase e shaped = shaped
+      made_by (cs ▹ c) phase e shaped = absurd cc
 
       now : (txn_at s t).phase ≡ Made
       now = made_by (txn_at s t).changes (txn_at s t).phase empty (shaped v s k safe.is t x here)
@@ -73,8 +74,8 @@ module _ (v : CoreValue) (safe : IsSafe v) (t : ℕ) (x : TxnState) (here : txn_
       by (inr e) = let is : RowSet ≡ Made = sym (entry_phase x.progress (txn_at s t).phase e (phase_of v s k safe.is t x here)) ∙ now in cc
 
   module _ (c : ChangeValue) (last : last_change x ≡ Some c) where
-    first : (older : List ChangeValue) × ((txn_at s t).changes ≡ c ∷ older)
-    first = newest_first v s k safe.is t x here c last
+    first : (older : Changes) × ((txn_at s t).changes ≡ older ▹ c)
+    first = newest_last v s k safe.is t x here c last
 
     inside_by : c.rid.page < v.heap.pages
     inside_by = inside v s k safe.is t x here c first.0 first.1
@@ -102,8 +103,8 @@ module _ (v : CoreValue) (s : State) (k : Standing) (st : IsState v s k) (t : �
   safe : IsSafe v
   safe = record { state = s; standing = k; is = st }
 
-  older : (cs : List ChangeValue) × ((txn_at s t).changes ≡ c ∷ cs)
-  older = newest_first v s k st t x here c last
+  older : (cs : Changes) × ((txn_at s t).changes ≡ cs ▹ c)
+  older = newest_last v s k st t x here c last
 
   same_index : is_indexed s.life ≡ indexed
   same_index = ap is_indexed h.life
@@ -131,7 +132,7 @@ module _ (v : CoreValue) (s : State) (k : Standing) (st : IsState v s k) (t : �
     row_txn = put_at (row_progress (new_pair indexed c)) (reserved_of (txn_of v t)) x
 
     abbrev row_state : State
-    row_state = record (carried_on s t (txn_at s t) (c ∷ older.0) OldMarked) { pledges = with_places s t 0 s.entries }
+    row_state = record (carried_on s t (txn_at s t) (older.0 ▹ c) OldMarked) { pledges = with_places s t 0 s.entries }
 
     row_is : after s (Next t) ≡ row_state
     row_is = λ i. record (carried_on s t (txn_at s t) (older.1 i) (is_row i)) { pledges = with_places s t 0 (carried_on s t (txn_at s t) (older.1 i) (is_row i)).entries }
@@ -323,7 +324,7 @@ owed_places v t x c p here last pair safe = paid_by v safe t x here c last p pai
 pub owed_pair : (v : CoreValue) (t : ℕ) (x : TxnState) (c : ChangeValue) → txn_of v t ≡ Some x → last_change x ≡ Some c → x.progress ≡ OwesEntry → new_pair (is_indexed v.life) c ≡ None → IsSafe v → ⊥
 owed_pair v t x c here last owes none safe =
     let s = safe.state in
-    let first = newest_first v s safe.standing safe.is t x here c last in
+    let first = newest_last v s safe.standing safe.is t x here c last in
     let is = entry_phase x.progress (txn_at s t).phase owes (phase_of v s safe.standing safe.is t x here) in
     let has : HasShape (is_indexed s.life) c RowSet = subst (HasShape (is_indexed s.life) c) is (shape v s safe.standing safe.is t x here c first.0 first.1) in
     not_none has.is (ap (λ life. new_pair (is_indexed life) c) safe.is.shown.life ∙ none)

@@ -3,3 +3,4 @@ pub mod Moves
 pub mod Parts
 pub mod Replies
 pub mod Value
+pub mod Builds

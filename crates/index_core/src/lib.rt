@@ -2,8 +2,11 @@
 //! accepted step makes at most one record of the log.
 #![tactic(auto)]
 
+mod build;
 mod parts;
+mod reply;
 mod store;
 
 pub use parts::Ticket;
+pub use reply::BuildReply;
 pub use store::Core;

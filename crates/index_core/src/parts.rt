@@ -62,7 +62,7 @@ pub(crate) struct Parts<A: Allocator> {
 }
 
 /// The number of the next record; none where no number is left.
-fn number_after(last: u64) -> Option<RecordNumber>
+pub(crate) fn number_after(last: u64) -> Option<RecordNumber>
     ensures some { IfSome result (λ n. (n ≡ last + 1) × (last < LAST_NUMBER)) }
     ensures none { IfNone result (LAST_NUMBER ≤ last) }
 {

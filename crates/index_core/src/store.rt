@@ -9,8 +9,10 @@ ghost use Rattle.index_core.specs.View.{IsSafe, Serves};
 ghost use Rattle.index_core.specs.Moves.{OwesOrNone, HasNoChange, IsReadyOrNone, fresh, txn_of};
 ghost use Rattle.index_core.specs.Replies.{reply_by, reply_of_ticket};
 ghost use Rattle.index_core.specs.Parts.{parts_of};
+ghost use Rattle.index_core.specs.Builds.{built};
 
 use crate::parts::{Parts, Ticket};
+use crate::reply::BuildReply;
 use model::Life;
 use records::{Body, Error, Geometry, Key, LAST_NUMBER, Mark, Pair, Rid, Row, Txn};
 use std::alloc::Allocator;
@@ -148,5 +150,20 @@ impl<A: Allocator + Copy> Core<A> {
         ensures { Serves (value_of self.old) (Event.Commit txn) (reply_by reply_of_ticket result) (value_of self.new) }
     {
         self.parts.commit(txn)
+    }
+
+    /// Makes a step of the builder, the first of these that applies. Where the index is complete:
+    /// `Idle`. Where 64 attempts were made since the last checkpoint, the creation or the start: a
+    /// checkpoint of the pair attempted last, `Marked`. Where the scan has a page to take: the next one,
+    /// `Scanned`. Where it has a pair: an attempt of the least, which is placed where it has no entry,
+    /// and else rejected. Else the index is complete, `Done`.
+    ///
+    /// `NoIndex`, then `IndexFull` where a pair that has no entry meets no free place, `Exhausted` where
+    /// a record is to be made and no number is left, and `NoMemory`. After a refusal the core is as
+    /// before, and the pair comes again.
+    pub fn build_step(&mut self) -> Result<BuildReply, Error>
+        ensures { Serves (value_of self.old) Event.Build (reply_by built result) (value_of self.new) }
+    {
+        self.parts.build_step()
     }
 }

@@ -270,6 +270,13 @@ impl<A: Allocator + Clone> MarkedIndex<A> {
         self.taken() + PLACES_PER_CHANGE as usize <= self.capacity
     }
 
+    /// Whether every place is taken or pledged.
+    pub fn is_full(&self) -> bool
+        ensures { IsTrue result ↔ IsFull self.now }
+    {
+        self.taken() >= self.capacity
+    }
+
     /// Pledges the places of one more change.
     ///
     /// `IndexFull` where there are not so many beside the entries and the places pledged before.

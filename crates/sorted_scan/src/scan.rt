@@ -244,6 +244,13 @@ impl<A: Allocator + Copy> Scan<A> {
         self.last
     }
 
+    /// The pair handed out last; before the first one, that which the scan began above, if any.
+    pub fn last(&self) -> Option<Pair>
+        ensures { result ≡ self.now.last }
+    {
+        self.last
+    }
+
     /// How many pairs wait to be handed out.
     pub fn remaining(&self) -> usize
         ensures { result ≡ length self.now.waiting }
