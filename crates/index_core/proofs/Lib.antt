@@ -10,3 +10,4 @@ mod Beginning
 mod Leaving
 mod Next
 mod Building
+mod Cleaning

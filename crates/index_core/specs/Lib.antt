@@ -4,3 +4,4 @@ pub mod Parts
 pub mod Replies
 pub mod Value
 pub mod Builds
+pub mod Cleaning

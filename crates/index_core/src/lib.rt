@@ -3,10 +3,11 @@
 #![tactic(auto)]
 
 mod build;
+mod clean;
 mod parts;
 mod reply;
 mod store;
 
 pub use parts::Ticket;
-pub use reply::BuildReply;
+pub use reply::{BuildReply, CleanReply};
 pub use store::Core;

@@ -1,4 +1,4 @@
-//! What the builder answers.
+//! What builder and cleaner answer.
 
 use crate::parts::Ticket;
 use records::Pair;
@@ -18,4 +18,15 @@ pub enum BuildReply {
     Done(Ticket),
     /// The index was complete before.
     Idle,
+}
+
+/// What a step of the cleaner did.
+#[derive(Clone, Copy, Debug, PartialEq, Eq)]
+pub enum CleanReply {
+    /// It took the marked entry of this pair out.
+    Cleaned(Pair),
+    /// It left the entry of this pair.
+    Kept(Pair),
+    /// It was at the end, and begins anew.
+    Wrapped,
 }

@@ -10,9 +10,10 @@ ghost use Rattle.index_core.specs.Moves.{OwesOrNone, HasNoChange, IsReadyOrNone,
 ghost use Rattle.index_core.specs.Replies.{reply_by, reply_of_ticket};
 ghost use Rattle.index_core.specs.Parts.{parts_of};
 ghost use Rattle.index_core.specs.Builds.{built};
+ghost use Rattle.index_core.specs.Cleaning.{cleaner};
 
 use crate::parts::{Parts, Ticket};
-use crate::reply::BuildReply;
+use crate::reply::{BuildReply, CleanReply};
 use model::Life;
 use records::{Body, Error, Geometry, Key, LAST_NUMBER, Mark, Pair, Rid, Row, Txn};
 use std::alloc::Allocator;
@@ -165,5 +166,18 @@ impl<A: Allocator + Copy> Core<A> {
         ensures { Serves (value_of self.old) Event.Build (reply_by built result) (value_of self.new) }
     {
         self.parts.build_step()
+    }
+
+    /// Makes a step of the cleaner, which looks at the least entry above its place. Where there is none,
+    /// it begins anew, `Wrapped`. Else its place becomes that pair. An entry that is marked, whose row
+    /// nobody holds and which, while the index is built, lies up to the last checkpoint's pair, is taken
+    /// out, `Cleaned`; any other is left, `Kept`.
+    ///
+    /// `NoIndex`, then `Exhausted` where an entry is to be taken out and no number is left for its
+    /// record, and `NoMemory`. After a refusal the core is as before.
+    pub fn clean_step(&mut self) -> Result<CleanReply, Error>
+        ensures { Serves (value_of self.old) Event.Clean (reply_by cleaner result) (value_of self.new) }
+    {
+        self.parts.clean_step()
     }
 }
