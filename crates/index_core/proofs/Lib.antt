@@ -11,3 +11,4 @@ mod Leaving
 mod Next
 mod Building
 mod Cleaning
+mod Creating

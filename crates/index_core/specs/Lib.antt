@@ -5,3 +5,4 @@ pub mod Replies
 pub mod Value
 pub mod Builds
 pub mod Cleaning
+pub mod Creation

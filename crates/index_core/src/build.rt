@@ -37,7 +37,8 @@ fn building_from(pair: &Pair) -> Life
 }
 
 fn ticket_of(number: RecordNumber) -> Ticket
-    ensures { result.record ≡ number }
+    ensures record { result.record ≡ number }
+    ensures no_commit { result.commit ≡ None }
 {
     Ticket {
         record: number,
@@ -166,6 +167,7 @@ impl<A: Allocator + Copy> Parts<A> {
         ensures ok { OnOk result (parts_of self.new ≡ with_record (record (parts_of self.old) { life = life }) (Action.OfIndex action)) }
         ensures left { OnOk result (IsNumbered (parts_of self.old)) }
         ensures ticket { IfOk result (λ t. t.record ≡ (parts_of self.old).last + 1) }
+        ensures no_commit { IfOk result (λ t. t.commit ≡ None) }
         ensures refused { IfErr result (IsUnrecorded (parts_of self.old)) }
         ensures unchanged { OnErr result (parts_of self.new ≡ parts_of self.old) }
     {

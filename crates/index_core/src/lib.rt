@@ -4,6 +4,7 @@
 
 mod build;
 mod clean;
+mod create;
 mod parts;
 mod reply;
 mod store;

@@ -45,6 +45,7 @@ pub struct Ticket {
 /// wait. What they keep together is told by the core that has them.
 #[derive(Drop)]
 pub(crate) struct Parts<A: Allocator> {
+    pub(crate) alloc: A,
     pub(crate) heap: Heap<A>,
     pub(crate) txns: TxnTable<A>,
     pub(crate) index: MarkedIndex<A>,
@@ -243,6 +244,7 @@ impl<A: Allocator + Copy> Parts<A> {
         ensures no_memory { IfErr result (λ e. e ≡ Error.NoMemory) }
     {
         Ok(Parts {
+            alloc,
             heap: Heap::new(alloc, geometry.pages)?,
             txns: TxnTable::new(alloc),
             index: MarkedIndex::new(alloc, geometry),

@@ -153,6 +153,16 @@ impl<A: Allocator + Copy> Core<A> {
         self.parts.commit(txn)
     }
 
+    /// Creates the index, of which nothing is there yet: it is to be built.
+    ///
+    /// `IndexExists`, then `TxnsActive` where a transaction is active, `Exhausted` where no number is
+    /// left for a record, and `NoMemory`. After a refusal the core is as before.
+    pub fn create_index(&mut self) -> Result<Ticket, Error>
+        ensures { Serves (value_of self.old) Event.Create (reply_by reply_of_ticket result) (value_of self.new) }
+    {
+        self.parts.create_index()
+    }
+
     /// Makes a step of the builder, the first of these that applies. Where the index is complete:
     /// `Idle`. Where 64 attempts were made since the last checkpoint, the creation or the start: a
     /// checkpoint of the pair attempted last, `Marked`. Where the scan has a page to take: the next one,
