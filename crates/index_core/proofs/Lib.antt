@@ -12,3 +12,4 @@ mod Next
 mod Building
 mod Cleaning
 mod Creating
+mod Loading

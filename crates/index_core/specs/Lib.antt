@@ -6,3 +6,4 @@ pub mod Value
 pub mod Builds
 pub mod Cleaning
 pub mod Creation
+pub mod Loading

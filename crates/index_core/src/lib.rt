@@ -5,6 +5,7 @@
 mod build;
 mod clean;
 mod create;
+mod load;
 mod parts;
 mod reply;
 mod store;

@@ -1,5 +1,5 @@
 //! The core.
-ghost use Rattle.std.specs.Prelude.{◌≡◌, ◌<◌, ◌≤◌, IfOk, IfErr};
+ghost use Rattle.std.specs.Prelude.{◌≡◌, ◌<◌, ◌≤◌, ◌⊎◌, ◌↔◌, Err, IsSome, IfOk, IfErr, OnOk, OnErr};
 ghost use Rattle.std.specs.FinMap as map;
 ghost use Rattle.std.specs.Option.{option_copied};
 ghost use Rattle.records.specs.Maps.{set_at};
@@ -9,6 +9,8 @@ ghost use Rattle.index_core.specs.View.{IsSafe, Serves};
 ghost use Rattle.index_core.specs.Moves.{OwesOrNone, HasNoChange, IsReadyOrNone, fresh, txn_of};
 ghost use Rattle.index_core.specs.Replies.{reply_by, reply_of_ticket};
 ghost use Rattle.index_core.specs.Parts.{parts_of};
+ghost use Rattle.index_core.specs.Loading.{IsLifeWithin, IsQuiet, IsWithin, with_entry, with_life};
+ghost use Rattle.marked_index.specs.Index.{IsAbsent, IsFull};
 ghost use Rattle.index_core.specs.Builds.{built};
 ghost use Rattle.index_core.specs.Cleaning.{cleaner};
 
@@ -49,6 +51,33 @@ impl<A: Allocator + Copy> Core<A> {
         } }
     {
         self.parts.load_row(rid, row);
+    }
+
+    /// Leaves this entry of the pair, or none, before the first event. It makes no record.
+    ///
+    /// `IndexFull` where it would add an entry and no place is left, else `NoMemory`, which too comes
+    /// only where an entry is to be added. After a refusal the core is as before.
+    pub fn load_entry(&mut self, pair: &Pair, mark: Option<Mark>) -> Result<(), Error>
+        requires quiet { IsQuiet (value_of self.old) }
+        requires inside { IsWithin (value_of self.old) pair.now }
+        ensures ok { OnOk result (value_of self.new ≡ with_entry (value_of self.old) pair.now mark) }
+        ensures full { (result ≡ Err Error.IndexFull) ↔
+            (IsSome mark × IsAbsent (value_of self.old).index.entries pair.now × IsFull (value_of self.old).index) }
+        ensures refused { IfErr result (λ e. IsSome mark × IsAbsent (value_of self.old).index.entries pair.now
+            × ((e ≡ Error.IndexFull) ⊎ (e ≡ Error.NoMemory))) }
+        ensures unchanged { OnErr result (value_of self.new ≡ value_of self.old) }
+    {
+        self.parts.load_entry(pair, mark)
+    }
+
+    /// Leaves the index this far before the first event; a build goes on above the pair checkpointed
+    /// last. It makes no record.
+    pub fn load_life(&mut self, life: Life)
+        requires quiet { IsQuiet (value_of self.old) }
+        requires inside { IsLifeWithin (value_of self.old) life }
+        ensures { value_of self.new ≡ with_life (value_of self.old) life }
+    {
+        self.parts.load_life(life);
     }
 
     /// The row at the place, as it is now, also before its transaction's commit.

@@ -1,0 +1,29 @@
+-- What is loaded into a core before its first event.
+use Rattle.std.specs.Prelude.{Option, Some, [], ◌<◌, ◌≡◌}
+use Rattle.records.specs.Maps.{set_at}
+use Rattle.records.specs.declared.pair.Mark.{Mark}
+use Rattle.records.specs.declared.pair.Pair.{Pair}
+use Rattle.model.specs.declared.life.Life.{Life}
+use Rattle.model.specs.declared.life.Life.TheVariants.{Building}
+use Rattle.sorted_scan.specs.Scans.{begun}
+use Rattle.core_model.specs.Histories.{highest_of}
+use Rattle.index_core.specs.View.{CoreValue}
+
+-- no event was served yet that has begun a transaction
+abbrev pub IsQuiet : CoreValue → Type 0
+IsQuiet v = v.txns.active ≡ []
+
+-- a pair of the geometry
+abbrev pub IsWithin : CoreValue → Pair → Type 0
+IsWithin v p = p.rid.page < v.heap.pages
+
+-- the pair checkpointed last, if there is one, is of the geometry
+abbrev pub IsLifeWithin : CoreValue → Life → Type 0
+IsLifeWithin v life = (p : Pair) → life ≡ Building (Some p) → IsWithin v p
+
+abbrev pub with_entry : CoreValue → Pair → Option Mark → CoreValue
+with_entry v p mark = record v { index = record v.index { entries = set_at v.index.entries p mark } }
+
+-- with this life; a build begins its scan above the pair checkpointed last
+abbrev pub with_life : CoreValue → Life → CoreValue
+with_life v life = record v { life = life; scan = begun (highest_of life) v.heap.pages; tried = 0 }
