@@ -7,3 +7,4 @@ pub mod Builds
 pub mod Cleaning
 pub mod Creation
 pub mod Loading
+pub mod Asked

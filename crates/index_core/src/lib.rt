@@ -11,5 +11,5 @@ mod reply;
 mod store;
 
 pub use parts::Ticket;
-pub use reply::{BuildReply, CleanReply};
+pub use reply::{BuildReply, CleanReply, Owed};
 pub use store::Core;

@@ -1,7 +1,16 @@
-//! What builder and cleaner answer.
+//! What calls answer.
 
 use crate::parts::Ticket;
 use records::Pair;
+
+/// The step that a transaction owes.
+#[derive(Clone, Copy, Debug, PartialEq, Eq)]
+pub enum Owed {
+    /// The row is to be set.
+    RowSet,
+    /// The entry of the new row is to be put.
+    KeyPut,
+}
 
 /// What a step of the builder did.
 #[derive(Clone, Copy, Debug, PartialEq, Eq)]

@@ -1,5 +1,5 @@
 //! The core.
-ghost use Rattle.std.specs.Prelude.{◌≡◌, ◌<◌, ◌≤◌, ◌⊎◌, ◌↔◌, Err, IsSome, IfOk, IfErr, OnOk, OnErr};
+ghost use Rattle.std.specs.Prelude.{◌≡◌, ◌<◌, ◌≤◌, ◌⊎◌, ◌↔◌, Err, Some, is_some, option_and_then, IsSome, IsTrue, IfOk, IfErr, OnOk, OnErr};
 ghost use Rattle.std.specs.FinMap as map;
 ghost use Rattle.std.specs.Option.{option_copied};
 ghost use Rattle.records.specs.Maps.{set_at};
@@ -11,14 +11,16 @@ ghost use Rattle.index_core.specs.Replies.{reply_by, reply_of_ticket};
 ghost use Rattle.index_core.specs.Parts.{parts_of};
 ghost use Rattle.index_core.specs.Loading.{IsLifeWithin, IsQuiet, IsWithin, with_entry, with_life};
 ghost use Rattle.marked_index.specs.Index.{IsAbsent, IsFull};
+ghost use Rattle.index_core.specs.Asked.{owed, progress_of};
 ghost use Rattle.index_core.specs.Builds.{built};
 ghost use Rattle.index_core.specs.Cleaning.{cleaner};
 
 use crate::parts::{Parts, Ticket};
-use crate::reply::{BuildReply, CleanReply};
+use crate::reply::{BuildReply, CleanReply, Owed};
 use model::Life;
 use records::{Body, Error, Geometry, Key, LAST_NUMBER, Mark, Pair, Rid, Row, Txn};
 use std::alloc::Allocator;
+use txn_table::Progress;
 
 /// The rows, the active transactions, the index with its builder and cleaner, and the records that
 /// wait.
@@ -101,6 +103,44 @@ impl<A: Allocator + Copy> Core<A> {
         ensures { IsLeastAbove (value_of self.now).index.entries (option_copied pair.entry) result }
     {
         self.parts.index.above(pair)
+    }
+
+    /// Whether the transaction has begun, and neither committed nor ended.
+    pub fn is_active(&self, txn: Txn) -> bool
+        ensures { result ≡ is_some (txn_of (value_of self.now) txn) }
+    {
+        self.parts.txns.is_active(txn)
+    }
+
+    /// Whether the transaction may begin a change or commit: it is active, owes no step, and isn't
+    /// rolling back.
+    pub fn ready(&self, txn: Txn) -> bool
+        ensures { IsTrue result ↔ (progress_of (value_of self.now) txn ≡ Some Progress.Ready) }
+    {
+        self.parts.txns.progress(txn) == Some(Progress::Ready)
+    }
+
+    /// The step of its newest change that the transaction owes; none where it owes none, is rolling
+    /// back, or isn't active.
+    pub fn owes(&self, txn: Txn) -> Option<Owed>
+        ensures { result ≡ option_and_then owed (progress_of (value_of self.now) txn) }
+    {
+        match self.parts.txns.progress(txn)? {
+            Progress::OwesRow => Some(Owed::RowSet),
+            Progress::OwesEntry => Some(Owed::KeyPut),
+            Progress::Ready | Progress::Rolling | Progress::UndoesRow | Progress::UndoesEntry =>
+                None,
+        }
+    }
+
+    /// Whether no change of the transaction is left to take back.
+    pub fn may_end(&self, txn: Txn) -> bool
+        ensures { IsTrue result ↔ HasNoChange (txn_of (value_of self.now) txn) }
+    {
+        match self.parts.txns.changes(txn) {
+            Some(changes) => changes.is_empty(),
+            None => true,
+        }
     }
 
     /// Begins a transaction, which makes no record. Their numbers rise from 1.
