@@ -39,8 +39,10 @@ use Rattle.index_core.specs.View.{Answers, CoreValue, IsSafe, IsScan, IsState, S
 use Rattle.index_core.specs.Builds as builds
 use Rattle.index_core.specs.Builds.{HasAttempted, HasPassed, HasTaken, IsNumbered, IsUnplaced, IsUnrecorded, checkpointed, completed, placed}
 use Rattle.index_core.specs.Replies.{reply_by}
+use Rattle.index_core.specs.declared.parts.Ticket.{Ticket}
 use Rattle.index_core.specs.declared.reply.BuildReply.{BuildReply}
-use Rattle.index_core.proofs.Due.{made, no_number, refusal, still, wants_memory}
+use Rattle.index_core.specs.declared.reply.BuildReply.TheVariants as reply
+use Rattle.index_core.proofs.Due.{made, no_number, refusal, still, ticket_answers, wants_memory}
 
 -- ---- without an index, and with a complete one
 pub no_index : (v : CoreValue) → v.life ≡ Absent → Serves v Event.Build (Refused Error.NoIndex) v
@@ -428,9 +430,9 @@ module _ (v : CoreValue) (built : IsBuilding v.life) where
     pub no_checkpoint : (error : Error) (v' : CoreValue) → IsUnrecorded v error → v' ≡ v → Serves v Event.Build (Refused error) v'
     no_checkpoint error v' why same s k st = subst (Answers v s k Event.Build (Refused error)) (sym same) (checkpoint_refused v s k st built many p last error why)
 
-    pub checkpoint_serves : (n : ℕ) (v' : CoreValue) → n ≡ v.last + 1 → IsNumbered v → v' ≡ checkpointed v p → Serves v Event.Build (events.Built (events.BuildReply.Marked p n)) v'
-    checkpoint_serves n v' number left is s k st =
-        subst (λ m. Answers v s k Event.Build (events.Built (events.BuildReply.Marked p m)) v') (sym number)
+    pub checkpoint_serves : (ticket : Ticket) (v' : CoreValue) → ticket.record ≡ v.last + 1 → ticket.commit ≡ None → IsNumbered v → v' ≡ checkpointed v p → Serves v Event.Build (builds.built (reply.Marked p ticket)) v'
+    checkpoint_serves ticket v' number no_commit left is s k st =
+        ticket_answers v s k Event.Build (λ n. events.Built (events.BuildReply.Marked p n)) ticket v' number no_commit
         (subst (Answers v s k Event.Build (events.Built (events.BuildReply.Marked p (v.last + 1)))) (sym is) (checkpoint_made v s k st built many p last left))
 
   module _ (few : v.tried < ATTEMPTS_PER_CHECKPOINT) where
@@ -456,7 +458,7 @@ module _ (v : CoreValue) (built : IsBuilding v.life) where
       pub no_finish : (error : Error) (v' : CoreValue) → IsUnrecorded v error → v' ≡ v → Serves v Event.Build (Refused error) v'
       no_finish error v' why same s k st = subst (Answers v s k Event.Build (Refused error)) (sym same) (finish_refused v s k st built few end error why)
 
-      pub finish_serves : (n : ℕ) (v' : CoreValue) → n ≡ v.last + 1 → IsNumbered v → v' ≡ completed v → Serves v Event.Build (events.Built (events.Done n)) v'
-      finish_serves n v' number left is s k st =
-          subst (λ m. Answers v s k Event.Build (events.Built (events.Done m)) v') (sym number)
+      pub finish_serves : (ticket : Ticket) (v' : CoreValue) → ticket.record ≡ v.last + 1 → ticket.commit ≡ None → IsNumbered v → v' ≡ completed v → Serves v Event.Build (builds.built (reply.Done ticket)) v'
+      finish_serves ticket v' number no_commit left is s k st =
+          ticket_answers v s k Event.Build (λ n. events.Built (events.Done n)) ticket v' number no_commit
           (subst (Answers v s k Event.Build (events.Built (events.Done (v.last + 1)))) (sym is) (finish_made v s k st built few end left))

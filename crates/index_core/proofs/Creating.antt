@@ -14,11 +14,11 @@ use Rattle.core_model.specs.Steps.{Step, after}
 use Rattle.core_contracts.specs.Events.{Event, Refused, Reply, Standing, standing_after}
 use Rattle.core_contracts.specs.Replies.{IsAnyActive, IsDue, IsFirst, refusals, refused}
 use Rattle.index_core.specs.View.{Answers, AreOne, CoreValue, IsState, Serves, Shows}
-use Rattle.index_core.specs.Replies.{reply_by, reply_of_ticket, ticket_by}
+use Rattle.index_core.specs.Replies.{reply_by, reply_of_ticket}
 use Rattle.index_core.specs.Builds.{IsNumbered, IsUnrecorded}
 use Rattle.index_core.specs.Creation.{IsUncreatable, created}
 use Rattle.index_core.specs.declared.parts.Ticket.{Ticket}
-use Rattle.index_core.proofs.Due.{made, no_number, refusal, wants_memory}
+use Rattle.index_core.proofs.Due.{made, no_number, refusal, ticket_answers, wants_memory}
 use Rattle.index_core.proofs.Moved.{same_number}
 
 absent_is : (life : Life) → is_indexed life ≡ false → life ≡ Absent
@@ -101,7 +101,6 @@ no_creation v error why s k st = uncreatable v s k st error why
 pub creation_serves : (v : CoreValue) → is_indexed v.life ≡ false → v.txns.active ≡ [] → (result : Result Ticket Error) (v' : CoreValue) → OnOk result (v' ≡ created v) → OnOk result (HasRun (begun None v.heap.pages) (begun_run None v.heap.pages)) → OnOk result (IsNumbered v)
     → IfOk result (λ t. t.record ≡ v.last + 1) → IfOk result (λ t. t.commit ≡ None) → IfErr result (IsUnrecorded v) → OnErr result (v' ≡ v) → Serves v Event.Create (reply_by reply_of_ticket result) v'
 creation_serves v none quiet (Ok ticket) v' is run left number no_commit why same s k st =
-    subst (λ o. Answers v s k Event.Create (ticket_by ticket.record o) v') (sym no_commit)
-    (subst (λ n. Answers v s k Event.Create (Reply.Created n) v') (sym number)
-    (subst (Answers v s k Event.Create (Reply.Created (v.last + 1))) (sym is) (create_made v s k st none quiet run left)))
+    ticket_answers v s k Event.Create Reply.Created ticket v' number no_commit
+    (subst (Answers v s k Event.Create (Reply.Created (v.last + 1))) (sym is) (create_made v s k st none quiet run left))
 creation_serves v none quiet (Err error) v' is run left number no_commit why same s k st = subst (Answers v s k Event.Create (Refused error)) (sym same) (create_refused v s k st none quiet error why)

@@ -1,5 +1,5 @@
 -- A reply that is due, and the refusals in its place.
-use Rattle.std.proofs.Common.{None, Some, ap, append-nil, arith, inl, inr, refl, subst, sym, ℕ, ◌++◌, ◌<◌, ◌∙◌, ◌≡◌, ◌≢◌, ◌≤◌}
+use Rattle.std.proofs.Common.{None, Some, ap, append-nil, arith, inl, inr, refl, subst, sym, ℕ, ◌++◌, ◌+◌, ◌<◌, ◌∙◌, ◌≡◌, ◌≢◌, ◌≤◌}
 use Rattle.records.specs.declared.error.Error.{Error}
 use Rattle.records.specs.declared.number.TheConstants.{LAST_NUMBER}
 use Rattle.core_model.specs.Logs.{one_record}
@@ -10,6 +10,8 @@ use Rattle.core_contracts.proofs.Laws.{is_move}
 use Rattle.core_contracts.specs.Events.{BuildReply, Built, CleanReply, Cleaned, Cleaner, Done, Empty, Ended, Event, Found, Idle, Kept, LifeIs, Placed, Refused, Rejected, Reply, RowIs, Scanned, Skipped, Standing, Stepped, Txn, Undone, Wrapped, standing_after}
 use Rattle.core_contracts.specs.Replies.{HasNoPlace, IsAllowed, IsDue, IsFirst, IsOfNone, IsProper, WantsMemory, accepted, after_any, no_memory, refusals, refusals_of, refused_last}
 use Rattle.core_contracts.specs.Served.{IsMove}
+use Rattle.index_core.specs.declared.parts.Ticket.{Ticket}
+use Rattle.index_core.specs.Replies.{ticket_by, ticketed}
 use Rattle.index_core.specs.View.{Answers, CoreValue, IsSafe, Serves, Shows}
 
 -- a call that was refused, or that only reads, leaves the core as it was
@@ -18,6 +20,12 @@ still v s k e reply h same allowed = record { step = None; allowed = allowed; sh
 
 pub refusal : (v : CoreValue) (s : State) (k : Standing) (e : Event) (error : Error) → Shows v s k → IsAllowed s k e (Refused error) None → Answers v s k e (Refused error) v
 refusal v s k e error h allowed = still v s k e (Refused error) h refl allowed
+
+-- a ticket of the next record, with no commit's number, tells of the step that is meant
+pub ticket_answers : (v : CoreValue) (s : State) (k : Standing) (e : Event) (other : ℕ → Reply) (ticket : Ticket) (v' : CoreValue) → ticket.record ≡ v.last + 1 → ticket.commit ≡ None → Answers v s k e (other (v.last + 1)) v' → Answers v s k e (ticketed other ticket) v'
+ticket_answers v s k e other ticket v' number no_commit a =
+    subst (λ o. Answers v s k e (ticket_by other ticket.record o) v') (sym no_commit)
+    (subst (λ n. Answers v s k e (other n) v') (sym number) a)
 
 -- a step is due that makes a record
 module _ (v : CoreValue) (s : State) (k : Standing) (h : Shows v s k) (e : Event) (known : IsOfNone s e → ⊥) (proper : IsProper s e) (first : IsFirst (refusals s k e) None) (reply : Reply) (step : Step) (due : IsDue s k e reply (Some step)) (roomy : HasNoPlace s step → ⊥) where

@@ -19,16 +19,17 @@ use Rattle.sorted_scan.specs.Scans.{HasRun}
 use Rattle.core_contracts.specs.Events as events
 use Rattle.index_core.specs.View.{CoreValue}
 use Rattle.index_core.specs.Moves.{with_record}
+use Rattle.index_core.specs.Replies.{ticketed}
 use Rattle.index_core.specs.declared.reply.BuildReply.{BuildReply}
 use Rattle.index_core.specs.declared.reply.BuildReply.TheVariants as reply
 
--- the reply in the words of the events
+-- the reply in the words of the events; a ticket with the number of a commit is none of the builder's
 abbrev pub built : BuildReply → events.Reply
 built (reply.Scanned page) = events.Built (events.Scanned page)
 built (reply.Placed pair) = events.Built (events.Placed pair)
 built (reply.Rejected pair) = events.Built (events.Rejected pair)
-built (reply.Marked pair ticket) = events.Built (events.BuildReply.Marked pair ticket.record)
-built (reply.Done ticket) = events.Built (events.Done ticket.record)
+built (reply.Marked pair ticket) = ticketed (λ n. events.Built (events.BuildReply.Marked pair n)) ticket
+built (reply.Done ticket) = ticketed (λ n. events.Built (events.Done n)) ticket
 built reply.Idle = events.Built events.Idle
 
 -- a number is left for a record

@@ -182,6 +182,7 @@ impl<A: Allocator + Copy> Parts<A> {
         ensures ok { OnOk result (parts_of self.new ≡ checkpointed (parts_of self.old) pair.now) }
         ensures left { OnOk result (IsNumbered (parts_of self.old)) }
         ensures ticket { IfOk result (λ t. t.record ≡ (parts_of self.old).last + 1) }
+        ensures no_commit { IfOk result (λ t. t.commit ≡ None) }
         ensures refused { IfErr result (IsUnrecorded (parts_of self.old)) }
         ensures unchanged { OnErr result (parts_of self.new ≡ parts_of self.old) }
     {

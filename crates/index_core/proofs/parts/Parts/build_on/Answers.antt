@@ -14,7 +14,7 @@ returns-in_err-ticket g c =
 pub returns-then-self-from : goal.returns-then-self-from
 returns-then-self-from g c =
     let many : ATTEMPTS_PER_CHECKPOINT ≤ (parts_of c.args.self.now).tried = omega (arith, c.from.ensures, c.if-self-from.true) in
-    checkpoint_serves (parts_of c.args.self.now) c.requires.building many c.last_attempted-pair.result c.last_attempted-pair.ensures _ _ c.in_ok-ticket.ensures.ticket c.in_ok-ticket.ensures.left c.in_ok-ticket.ensures.ok
+    checkpoint_serves (parts_of c.args.self.now) c.requires.building many c.last_attempted-pair.result c.last_attempted-pair.ensures _ _ c.in_ok-ticket.ensures.ticket c.in_ok-ticket.ensures.no_commit c.in_ok-ticket.ensures.left c.in_ok-ticket.ensures.ok
 
 pub returns-in_err-take_page : goal.returns-in_err-take_page
 returns-in_err-take_page g c =
@@ -41,4 +41,4 @@ returns-in_err-ticket-2 g c =
 pub returns : goal.returns
 returns g c =
     let few : (parts_of c.args.self.now).tried < ATTEMPTS_PER_CHECKPOINT = omega (arith, c.from.ensures, c.if-self-from.false) in
-    finish_serves (parts_of c.args.self.now) c.requires.building few (c.in_default-next.ensures.end (sym c.in_default.ensures.page)) _ _ c.in_ok-ticket-2.ensures.ticket c.in_ok-ticket-2.ensures.left c.in_ok-ticket-2.ensures.ok
+    finish_serves (parts_of c.args.self.now) c.requires.building few (c.in_default-next.ensures.end (sym c.in_default.ensures.page)) _ _ c.in_ok-ticket-2.ensures.ticket c.in_ok-ticket-2.ensures.no_commit c.in_ok-ticket-2.ensures.left c.in_ok-ticket-2.ensures.ok
