@@ -37,7 +37,7 @@ use Rattle.core_contracts.specs.Events.{Event, Refused, Reply, Standing, standin
 use Rattle.core_contracts.specs.Replies.{HasNoPlace, IsAllowed, IsBetween, IsBuildDue, IsDue, IsFirst, IsNextPair, accepted, refusals, refused, refused_last}
 use Rattle.index_core.specs.View.{Answers, CoreValue, IsSafe, IsScan, IsState, Serves, Shows}
 use Rattle.index_core.specs.Builds as builds
-use Rattle.index_core.specs.Builds.{HasAttempted, HasPassed, HasTaken, IsNumbered, IsUnplaced, IsUnrecorded, checkpointed, completed, placed}
+use Rattle.index_core.specs.Builds.{HasAttempted, HasPassed, HasTaken, HasNextNumber, IsUnplaced, IsUnrecorded, checkpointed, completed, placed}
 use Rattle.index_core.specs.Replies.{reply_by}
 use Rattle.index_core.specs.declared.parts.Ticket.{Ticket}
 use Rattle.index_core.specs.declared.reply.BuildReply.{BuildReply}
@@ -190,7 +190,7 @@ module _ (v : CoreValue) (s : State) (k : Standing) (st : IsState v s k) (built 
       commits = h.commits;
     }
 
-    pub checkpoint_made : IsNumbered v → Answers v s k Event.Build marked (checkpointed v p)
+    pub checkpoint_made : HasNextNumber v → Answers v s k Event.Build marked (checkpointed v p)
     checkpoint_made left = made v s k h Event.Build (λ x. x) tt first marked (Checkpoint p) marked_due (λ x. x) (λ n. left) (checkpointed v p) marked_shown refl
 
   -- ---- the end
@@ -230,7 +230,7 @@ module _ (v : CoreValue) (s : State) (k : Standing) (st : IsState v s k) (built 
         commits = h.commits;
       }
 
-      pub finish_made : IsNumbered v → Answers v s k Event.Build done (completed v)
+      pub finish_made : HasNextNumber v → Answers v s k Event.Build done (completed v)
       finish_made left = made v s k h Event.Build (λ x. x) tt first done Finish done_due (λ x. x) (λ n. left) (completed v) done_shown refl
 
     -- ---- a page
@@ -406,7 +406,7 @@ module _ (v : CoreValue) (s : State) (k : Standing) (st : IsState v s k) (built 
             commits = h.commits;
           }
 
-          pub placed_made : IsNumbered v → (v' : CoreValue) → HasPassed (placed v p) p v' → Answers v s k Event.Build put v'
+          pub placed_made : HasNextNumber v → (v' : CoreValue) → HasPassed (placed v p) p v' → Answers v s k Event.Build put v'
           placed_made left v' t = subst (Answers v s k Event.Build put) (sym t.others)
               (made v s k h Event.Build (λ x. x) tt first put (Attempt p) placed_due has_place (λ n. left) (record (placed v p) { scan = v'.scan; tried = v.tried + 1 }) (placed_shown v'.scan t.run t.last_pair t.pages)
               (ap (λ o. v.outbox ++ one_record v.last o) (sym one_made)))
@@ -430,7 +430,7 @@ module _ (v : CoreValue) (built : IsBuilding v.life) where
     pub no_checkpoint : (error : Error) (v' : CoreValue) → IsUnrecorded v error → v' ≡ v → Serves v Event.Build (Refused error) v'
     no_checkpoint error v' why same s k st = subst (Answers v s k Event.Build (Refused error)) (sym same) (checkpoint_refused v s k st built many p last error why)
 
-    pub checkpoint_serves : (ticket : Ticket) (v' : CoreValue) → ticket.record ≡ v.last + 1 → ticket.commit ≡ None → IsNumbered v → v' ≡ checkpointed v p → Serves v Event.Build (builds.built (reply.Marked p ticket)) v'
+    pub checkpoint_serves : (ticket : Ticket) (v' : CoreValue) → ticket.record ≡ v.last + 1 → ticket.commit ≡ None → HasNextNumber v → v' ≡ checkpointed v p → Serves v Event.Build (builds.built (reply.Marked p ticket)) v'
     checkpoint_serves ticket v' number no_commit left is s k st =
         ticket_answers v s k Event.Build (λ n. events.Built (events.BuildReply.Marked p n)) ticket v' number no_commit
         (subst (Answers v s k Event.Build (events.Built (events.BuildReply.Marked p (v.last + 1)))) (sym is) (checkpoint_made v s k st built many p last left))
@@ -458,7 +458,7 @@ module _ (v : CoreValue) (built : IsBuilding v.life) where
       pub no_finish : (error : Error) (v' : CoreValue) → IsUnrecorded v error → v' ≡ v → Serves v Event.Build (Refused error) v'
       no_finish error v' why same s k st = subst (Answers v s k Event.Build (Refused error)) (sym same) (finish_refused v s k st built few end error why)
 
-      pub finish_serves : (ticket : Ticket) (v' : CoreValue) → ticket.record ≡ v.last + 1 → ticket.commit ≡ None → IsNumbered v → v' ≡ completed v → Serves v Event.Build (builds.built (reply.Done ticket)) v'
+      pub finish_serves : (ticket : Ticket) (v' : CoreValue) → ticket.record ≡ v.last + 1 → ticket.commit ≡ None → HasNextNumber v → v' ≡ completed v → Serves v Event.Build (builds.built (reply.Done ticket)) v'
       finish_serves ticket v' number no_commit left is s k st =
           ticket_answers v s k Event.Build (λ n. events.Built (events.Done n)) ticket v' number no_commit
           (subst (Answers v s k Event.Build (events.Built (events.Done (v.last + 1)))) (sym is) (finish_made v s k st built few end left))

@@ -23,8 +23,8 @@ use Rattle.core_contracts.specs.Events as events
 use Rattle.core_contracts.specs.Events.{Event, Refused, Reply, Standing, standing_after}
 use Rattle.core_contracts.specs.Replies.{IsDue, IsFirst, IsNextEntry, refusals, refused}
 use Rattle.index_core.specs.View.{Answers, CoreValue, IsScan, IsState, Serves, Shows}
-use Rattle.index_core.specs.Builds.{IsNumbered, IsUnrecorded}
-use Rattle.index_core.specs.Cleaning.{MayClean, cleaned}
+use Rattle.index_core.specs.Builds.{HasNextNumber, IsUnrecorded}
+use Rattle.index_core.specs.Cleaning.{MayClean, taken_out}
 use Rattle.index_core.proofs.Due.{made, no_number, refusal, wants_memory}
 
 pub nothing_to_clean : (v : CoreValue) → is_indexed v.life ≡ false → Serves v Event.Clean (Refused Error.NoIndex) v
@@ -140,7 +140,7 @@ module _ (v : CoreValue) (s : State) (k : Standing) (st : IsState v s k) (indexe
       clean_refused error (inl why) = subst (λ e. Answers v s k Event.Clean (Refused e) v) (sym why.0) (no_number v s k h Event.Clean (λ x. x) tt first out (Step.Clean p) out_due (λ x. x) (λ e. not_none refl e) why.1)
       clean_refused error (inr why) = subst (λ e. Answers v s k Event.Clean (Refused e) v) (sym why.0) (wants_memory v s k h Event.Clean (λ x. x) tt first out (Step.Clean p) out_due (λ x. x) (λ n. why.1) tt)
 
-      out_shown : Shows (cleaned v p) (after s (Step.Clean p)) (standing_after k out)
+      out_shown : Shows (taken_out v p) (after s (Step.Clean p)) (standing_after k out)
       out_shown = record {
         rows = h.rows;
         entries = ap (λ m. set_at m p None) h.entries ∙ ap (λ o. set_at v.index.entries p (after_action (key.Clean true) o)) (sym may.marked);
@@ -162,8 +162,8 @@ module _ (v : CoreValue) (s : State) (k : Standing) (st : IsState v s k) (indexe
         commits = h.commits;
       }
 
-      pub clean_made : IsNumbered v → Answers v s k Event.Clean out (cleaned v p)
-      clean_made left = made v s k h Event.Clean (λ x. x) tt first out (Step.Clean p) out_due (λ x. x) (λ n. left) (cleaned v p) out_shown refl
+      pub clean_made : HasNextNumber v → Answers v s k Event.Clean out (taken_out v p)
+      clean_made left = made v s k h Event.Clean (λ x. x) tt first out (Step.Clean p) out_due (λ x. x) (λ n. left) (taken_out v p) out_shown refl
 
     module _ (kept : MayClean v p → ⊥) where
       abbrev stays : Reply
@@ -205,7 +205,7 @@ module _ (v : CoreValue) (indexed : is_indexed v.life ≡ true) (p : Pair) (entr
   pub no_clean : MayClean v p → (error : Error) (v' : CoreValue) → IsUnrecorded v error → v' ≡ v → Serves v Event.Clean (Refused error) v'
   no_clean may error v' why same s k st = subst (Answers v s k Event.Clean (Refused error)) (sym same) (clean_refused v s k st indexed p entry.0 entry.1 may error why)
 
-  pub clean_serves : MayClean v p → (v' : CoreValue) → IsNumbered v → v' ≡ cleaned v p → Serves v Event.Clean (events.Cleaner (events.Cleaned p)) v'
+  pub clean_serves : MayClean v p → (v' : CoreValue) → HasNextNumber v → v' ≡ taken_out v p → Serves v Event.Clean (events.Cleaner (events.Cleaned p)) v'
   clean_serves may v' left is s k st = subst (Answers v s k Event.Clean (events.Cleaner (events.Cleaned p))) (sym is) (clean_made v s k st indexed p entry.0 entry.1 may left)
 
   pub keep_serves : (MayClean v p → ⊥) → Serves v Event.Clean (events.Cleaner (events.Kept p)) (record v { cleaned = Some p })

@@ -15,8 +15,8 @@ use Rattle.core_contracts.specs.Events.{Event, Refused, Reply, Standing, standin
 use Rattle.core_contracts.specs.Replies.{IsAnyActive, IsDue, IsFirst, refusals, refused}
 use Rattle.index_core.specs.View.{Answers, AreOne, CoreValue, IsState, Serves, Shows}
 use Rattle.index_core.specs.Replies.{reply_by, reply_of_ticket}
-use Rattle.index_core.specs.Builds.{IsNumbered, IsUnrecorded}
-use Rattle.index_core.specs.Creation.{IsUncreatable, created}
+use Rattle.index_core.specs.Builds.{HasNextNumber, IsUnrecorded}
+use Rattle.index_core.specs.Creation.{IsUncreatable, index_created}
 use Rattle.index_core.specs.declared.parts.Ticket.{Ticket}
 use Rattle.index_core.proofs.Due.{made, no_number, refusal, ticket_answers, wants_memory}
 use Rattle.index_core.proofs.Moved.{same_number}
@@ -69,7 +69,7 @@ module _ (v : CoreValue) (s : State) (k : Standing) (st : IsState v s k) where
     create_refused error (inr why) = subst (λ e. Answers v s k Event.Create (Refused e) v) (sym why.0) (wants_memory v s k h Event.Create (λ x. x) tt first reply Step.Create due (λ x. x) (λ n. why.1) tt)
 
     module _ (run : HasRun (begun None v.heap.pages) (begun_run None v.heap.pages)) where
-      created_shown : Shows (created v) (after s Step.Create) (standing_after k reply)
+      created_shown : Shows (index_created v) (after s Step.Create) (standing_after k reply)
       created_shown = record {
         rows = h.rows;
         entries = h.entries;
@@ -91,14 +91,14 @@ module _ (v : CoreValue) (s : State) (k : Standing) (st : IsState v s k) where
         commits = h.commits;
       }
 
-      pub create_made : IsNumbered v → Answers v s k Event.Create reply (created v)
-      create_made left = made v s k h Event.Create (λ x. x) tt first reply Step.Create due (λ x. x) (λ n. left) (created v) created_shown refl
+      pub create_made : HasNextNumber v → Answers v s k Event.Create reply (index_created v)
+      create_made left = made v s k h Event.Create (λ x. x) tt first reply Step.Create due (λ x. x) (λ n. left) (index_created v) created_shown refl
 
 -- ---- what the call serves, whatever state the core stands for
 pub no_creation : (v : CoreValue) (error : Error) → IsUncreatable v error → Serves v Event.Create (Refused error) v
 no_creation v error why s k st = uncreatable v s k st error why
 
-pub creation_serves : (v : CoreValue) → is_indexed v.life ≡ false → v.txns.active ≡ [] → (result : Result Ticket Error) (v' : CoreValue) → OnOk result (v' ≡ created v) → OnOk result (HasRun (begun None v.heap.pages) (begun_run None v.heap.pages)) → OnOk result (IsNumbered v)
+pub creation_serves : (v : CoreValue) → is_indexed v.life ≡ false → v.txns.active ≡ [] → (result : Result Ticket Error) (v' : CoreValue) → OnOk result (v' ≡ index_created v) → OnOk result (HasRun (begun None v.heap.pages) (begun_run None v.heap.pages)) → OnOk result (HasNextNumber v)
     → IfOk result (λ t. t.record ≡ v.last + 1) → IfOk result (λ t. t.commit ≡ None) → IfErr result (IsUnrecorded v) → OnErr result (v' ≡ v) → Serves v Event.Create (reply_by reply_of_ticket result) v'
 creation_serves v none quiet (Ok ticket) v' is run left number no_commit why same s k st =
     ticket_answers v s k Event.Create Reply.Created ticket v' number no_commit

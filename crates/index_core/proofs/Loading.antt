@@ -17,7 +17,7 @@ use Rattle.core_model.specs.States.{State}
 use Rattle.core_model.specs.Steps.{all_reserved}
 use Rattle.core_contracts.specs.Events.{Standing}
 use Rattle.index_core.specs.View.{AreOne, CoreValue, IsSafe, Shows}
-use Rattle.index_core.specs.Loading.{IsLifeWithin, IsQuiet, IsWithin, with_entry, with_life}
+use Rattle.index_core.specs.Loading.{IsLifeInside, IsQuiet, IsPairInside, entry_loaded, life_loaded}
 
 pair_decided : (q p : Pair) → (q ≡ p) ⊎ (q ≢ p)
 pair_decided q p = by (eq_by_cmp pair_cmp q p) refl
@@ -42,7 +42,7 @@ module _ (v : CoreValue) (quiet : IsQuiet v) (safe : IsSafe v) where
   nobody : (t : ℕ) → s.txns t ≡ None
   nobody t = subst (λ es. AreOne (table.state_of t es) (s.txns t)) quiet (h.txns t)
 
-  module _ (p : Pair) (mark : Option Mark) (inside : IsWithin v p) (room : len (set_at v.index.entries p mark) + v.index.pledged ≤ v.index.capacity) where
+  module _ (p : Pair) (mark : Option Mark) (inside : IsPairInside v p) (room : len (set_at v.index.entries p mark) + v.index.pledged ≤ v.index.capacity) where
     abbrev s' : State
     s' = record s { entries = set_at s.entries p mark }
 
@@ -58,7 +58,7 @@ module _ (v : CoreValue) (quiet : IsQuiet v) (safe : IsSafe v) where
       | inr other ↦ fit.inside.entries q (λ e. there (get-set_at_other pair_exact s.entries p mark q other ∙ e))
     ]
 
-    pub entry_safe : IsSafe (with_entry v p mark)
+    pub entry_safe : IsSafe (entry_loaded v p mark)
     entry_safe = record {
       state = s';
       standing = k;
@@ -96,7 +96,7 @@ module _ (v : CoreValue) (quiet : IsQuiet v) (safe : IsSafe v) where
       };
     }
 
-  module _ (life : Life) (inside : IsLifeWithin v life) (run : HasRun (begun (highest_of life) v.heap.pages) (begun_run (highest_of life) v.heap.pages)) where
+  module _ (life : Life) (inside : IsLifeInside v life) (run : HasRun (begun (highest_of life) v.heap.pages) (begun_run (highest_of life) v.heap.pages)) where
     abbrev s'' : State
     s'' = record s { life = life; bound = highest_of life; given = λ p. false; missed = λ p. false; taken = λ n. false }
 
@@ -114,7 +114,7 @@ module _ (v : CoreValue) (quiet : IsQuiet v) (safe : IsSafe v) where
     life_inside : (p : Pair) → life ≡ Building (Some p) → p.rid.page < s.pages
     life_inside p e = subst (λ n. p.rid.page < n) (sym h.pages) (inside p e)
 
-    pub life_safe : IsSafe (with_life v life)
+    pub life_safe : IsSafe (life_loaded v life)
     life_safe = record {
       state = s'';
       standing = k'';

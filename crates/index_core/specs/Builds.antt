@@ -33,12 +33,12 @@ built (reply.Done ticket) = ticketed (λ n. events.Built (events.Done n)) ticket
 built reply.Idle = events.Built events.Idle
 
 -- a number is left for a record
-abbrev pub IsNumbered : CoreValue → Type 0
-IsNumbered v = v.last < LAST_NUMBER
+abbrev pub HasNextNumber : CoreValue → Type 0
+HasNextNumber v = v.last < LAST_NUMBER
 
 -- why a step that makes a record, and that nothing else refuses, is refused
 abbrev pub IsUnrecorded : CoreValue → Error → Type 0
-IsUnrecorded v e = ((e ≡ Exhausted) × (LAST_NUMBER ≤ v.last)) ⊎ ((e ≡ NoMemory) × IsNumbered v)
+IsUnrecorded v e = ((e ≡ Exhausted) × (LAST_NUMBER ≤ v.last)) ⊎ ((e ≡ NoMemory) × HasNextNumber v)
 
 -- the scan took this page, with the pairs of its rows
 pub record HasTaken (v : CoreValue) (page : ℕ) (v' : CoreValue) : Type 0 where
@@ -64,7 +64,7 @@ placed v p = with_record (record v { index = record v.index { entries = entries_
 abbrev pub HasAttempted : CoreValue → Pair → BuildReply → CoreValue → Type 0
 HasAttempted v p answer v' =
     ((answer ≡ reply.Rejected p) × (get v.index.entries p ≢ None) × HasPassed v p v')
-    ⊎ ((answer ≡ reply.Placed p) × IsAbsent v.index.entries p × (IsFull v.index → ⊥) × IsNumbered v × HasPassed (placed v p) p v')
+    ⊎ ((answer ≡ reply.Placed p) × IsAbsent v.index.entries p × (IsFull v.index → ⊥) × HasNextNumber v × HasPassed (placed v p) p v')
 
 -- why an attempt is refused: there is no place for the entry, or else no record can be made
 abbrev pub IsUnplaced : CoreValue → Pair → Error → Type 0

@@ -28,5 +28,5 @@ pub record MayClean (v : CoreValue) (p : Pair) : Type 0 where
   pub passed : IsPassed v.life p
 
 -- the entry of this pair is out of the index, and the cleaner is there
-abbrev pub cleaned : CoreValue → Pair → CoreValue
-cleaned v p = with_record (record v { index = record v.index { entries = entries_after v.index.entries (KeyAction.Clean true) p }; cleaned = Some p }) (OfIndex (action.Clean p))
+abbrev pub taken_out : CoreValue → Pair → CoreValue
+taken_out v p = with_record (record v { index = record v.index { entries = entries_after v.index.entries (KeyAction.Clean true) p }; cleaned = Some p }) (OfIndex (action.Clean p))

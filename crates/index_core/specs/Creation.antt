@@ -15,5 +15,5 @@ abbrev pub IsUncreatable : CoreValue → Error → Type 0
 IsUncreatable v e = ((e ≡ IndexExists) × (is_indexed v.life ≡ true)) ⊎ ((e ≡ TxnsActive) × (is_indexed v.life ≡ false) × (v.txns.active ≢ []))
 
 -- the index is being built, and nothing of it is there yet
-abbrev pub created : CoreValue → CoreValue
-created v = with_record (record v { life = Building None; scan = begun None v.heap.pages; tried = 0 }) (OfIndex action.Create)
+abbrev pub index_created : CoreValue → CoreValue
+index_created v = with_record (record v { life = Building None; scan = begun None v.heap.pages; tried = 0 }) (OfIndex action.Create)

@@ -14,16 +14,16 @@ abbrev pub IsQuiet : CoreValue → Type 0
 IsQuiet v = v.txns.active ≡ []
 
 -- a pair of the geometry
-abbrev pub IsWithin : CoreValue → Pair → Type 0
-IsWithin v p = p.rid.page < v.heap.pages
+abbrev pub IsPairInside : CoreValue → Pair → Type 0
+IsPairInside v p = p.rid.page < v.heap.pages
 
 -- the pair checkpointed last, if there is one, is of the geometry
-abbrev pub IsLifeWithin : CoreValue → Life → Type 0
-IsLifeWithin v life = (p : Pair) → life ≡ Building (Some p) → IsWithin v p
+abbrev pub IsLifeInside : CoreValue → Life → Type 0
+IsLifeInside v life = (p : Pair) → life ≡ Building (Some p) → IsPairInside v p
 
-abbrev pub with_entry : CoreValue → Pair → Option Mark → CoreValue
-with_entry v p mark = record v { index = record v.index { entries = set_at v.index.entries p mark } }
+abbrev pub entry_loaded : CoreValue → Pair → Option Mark → CoreValue
+entry_loaded v p mark = record v { index = record v.index { entries = set_at v.index.entries p mark } }
 
 -- with this life; a build begins its scan above the pair checkpointed last
-abbrev pub with_life : CoreValue → Life → CoreValue
-with_life v life = record v { life = life; scan = begun (highest_of life) v.heap.pages; tried = 0 }
+abbrev pub life_loaded : CoreValue → Life → CoreValue
+life_loaded v life = record v { life = life; scan = begun (highest_of life) v.heap.pages; tried = 0 }

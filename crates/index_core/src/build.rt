@@ -13,7 +13,7 @@ ghost use Rattle.index_core.specs.View.{IsSafe, Serves};
 ghost use Rattle.index_core.specs.Moves.{with_record};
 ghost use Rattle.index_core.specs.Replies.{reply_by};
 ghost use Rattle.index_core.specs.Parts.{parts_of};
-ghost use Rattle.index_core.specs.Builds.{built, HasAttempted, HasPassed, HasTaken, IsNumbered, IsUnplaced, IsUnrecorded, checkpointed, completed, placed};
+ghost use Rattle.index_core.specs.Builds.{built, HasAttempted, HasPassed, HasTaken, HasNextNumber, IsUnplaced, IsUnrecorded, checkpointed, completed, placed};
 
 use crate::parts::{Parts, Ticket, number_after};
 use crate::reply::BuildReply;
@@ -50,7 +50,7 @@ impl<A: Allocator + Copy> Parts<A> {
     /// The number of the next record.
     pub(crate) fn next_number(&self) -> Result<RecordNumber, Error>
         ensures number { IfOk result (λ n. n ≡ (parts_of self.now).last + 1) }
-        ensures left { OnOk result (IsNumbered (parts_of self.now)) }
+        ensures left { OnOk result (HasNextNumber (parts_of self.now)) }
         ensures exhausted { IfErr result (λ e. (e ≡ Error.Exhausted) × (LAST_NUMBER ≤ (parts_of self.now).last)) }
     {
         match number_after(self.last) {
@@ -66,7 +66,7 @@ impl<A: Allocator + Copy> Parts<A> {
         action: IndexAction,
     ) -> Result<(), Error>
         requires number { number ≡ (parts_of self.old).last + 1 }
-        requires left { IsNumbered (parts_of self.old) }
+        requires left { HasNextNumber (parts_of self.old) }
         ensures ok { OnOk result (parts_of self.new ≡ with_record (parts_of self.old) (Action.OfIndex action)) }
         ensures unchanged { OnErr result (parts_of self.new ≡ parts_of self.old) }
         ensures no_memory { IfErr result (λ e. e ≡ Error.NoMemory) }
@@ -112,7 +112,7 @@ impl<A: Allocator + Copy> Parts<A> {
     fn may_place(&self) -> Result<RecordNumber, Error>
         ensures number { IfOk result (λ n. n ≡ (parts_of self.now).last + 1) }
         ensures roomy { OnOk result (IsFull (parts_of self.now).index → ⊥) }
-        ensures left { OnOk result (IsNumbered (parts_of self.now)) }
+        ensures left { OnOk result (HasNextNumber (parts_of self.now)) }
         ensures refused { IfErr result (λ e. ((e ≡ Error.IndexFull) × IsFull (parts_of self.now).index)
             ⊎ ((IsFull (parts_of self.now).index → ⊥) × (e ≡ Error.Exhausted) × (LAST_NUMBER ≤ (parts_of self.now).last))) }
     {
@@ -125,7 +125,7 @@ impl<A: Allocator + Copy> Parts<A> {
     // Gives the pair an entry, with its record.
     fn place(&mut self, number: RecordNumber, pair: Pair) -> Result<(), Error>
         requires number { number ≡ (parts_of self.old).last + 1 }
-        requires left { IsNumbered (parts_of self.old) }
+        requires left { HasNextNumber (parts_of self.old) }
         requires absent { IsAbsent (parts_of self.old).index.entries pair }
         requires roomy { IsFull (parts_of self.old).index → ⊥ }
         ensures ok { OnOk result (parts_of self.new ≡ placed (parts_of self.old) pair) }
@@ -165,7 +165,7 @@ impl<A: Allocator + Copy> Parts<A> {
     // The index's life is this now, as the record says.
     pub(crate) fn turn(&mut self, action: IndexAction, life: Life) -> Result<Ticket, Error>
         ensures ok { OnOk result (parts_of self.new ≡ with_record (record (parts_of self.old) { life = life }) (Action.OfIndex action)) }
-        ensures left { OnOk result (IsNumbered (parts_of self.old)) }
+        ensures left { OnOk result (HasNextNumber (parts_of self.old)) }
         ensures ticket { IfOk result (λ t. t.record ≡ (parts_of self.old).last + 1) }
         ensures no_commit { IfOk result (λ t. t.commit ≡ None) }
         ensures refused { IfErr result (IsUnrecorded (parts_of self.old)) }
@@ -180,7 +180,7 @@ impl<A: Allocator + Copy> Parts<A> {
     // Makes a checkpoint of the pair attempted last.
     fn checkpoint(&mut self, pair: &Pair) -> Result<Ticket, Error>
         ensures ok { OnOk result (parts_of self.new ≡ checkpointed (parts_of self.old) pair.now) }
-        ensures left { OnOk result (IsNumbered (parts_of self.old)) }
+        ensures left { OnOk result (HasNextNumber (parts_of self.old)) }
         ensures ticket { IfOk result (λ t. t.record ≡ (parts_of self.old).last + 1) }
         ensures no_commit { IfOk result (λ t. t.commit ≡ None) }
         ensures refused { IfErr result (IsUnrecorded (parts_of self.old)) }

@@ -10,8 +10,8 @@ ghost use Rattle.core_contracts.specs.Events.{Event};
 ghost use Rattle.index_core.specs.View.{IsSafe, Serves};
 ghost use Rattle.index_core.specs.Replies.{reply_by};
 ghost use Rattle.index_core.specs.Parts.{parts_of};
-ghost use Rattle.index_core.specs.Builds.{IsNumbered, IsUnrecorded};
-ghost use Rattle.index_core.specs.Cleaning.{MayClean, cleaned, cleaner};
+ghost use Rattle.index_core.specs.Builds.{HasNextNumber, IsUnrecorded};
+ghost use Rattle.index_core.specs.Cleaning.{MayClean, cleaner, taken_out};
 
 use crate::parts::Parts;
 use crate::reply::CleanReply;
@@ -51,8 +51,8 @@ impl<A: Allocator + Copy> Parts<A> {
 
     // Takes the marked entry of this pair out. `NoMemory` leaves all as before.
     fn take_out(&mut self, pair: &Pair) -> Result<(), Error>
-        ensures ok { OnOk result (parts_of self.new ≡ cleaned (parts_of self.old) pair.now) }
-        ensures left { OnOk result (IsNumbered (parts_of self.old)) }
+        ensures ok { OnOk result (parts_of self.new ≡ taken_out (parts_of self.old) pair.now) }
+        ensures left { OnOk result (HasNextNumber (parts_of self.old)) }
         ensures refused { IfErr result (IsUnrecorded (parts_of self.old)) }
         ensures unchanged { OnErr result (parts_of self.new ≡ parts_of self.old) }
     {

@@ -6,8 +6,8 @@ ghost use Rattle.core_contracts.specs.Events.{Event};
 ghost use Rattle.index_core.specs.View.{IsSafe, Serves};
 ghost use Rattle.index_core.specs.Replies.{reply_by, reply_of_ticket};
 ghost use Rattle.index_core.specs.Parts.{parts_of};
-ghost use Rattle.index_core.specs.Builds.{IsNumbered, IsUnrecorded};
-ghost use Rattle.index_core.specs.Creation.{IsUncreatable, created};
+ghost use Rattle.index_core.specs.Builds.{HasNextNumber, IsUnrecorded};
+ghost use Rattle.index_core.specs.Creation.{IsUncreatable, index_created};
 
 use crate::parts::{Parts, Ticket};
 use model::Life;
@@ -33,10 +33,10 @@ impl<A: Allocator + Copy> Parts<A> {
 
     // Leaves an index that is being built, of which nothing is there yet.
     fn create(&mut self) -> Result<Ticket, Error>
-        ensures ok { OnOk result (parts_of self.new ≡ created (parts_of self.old)) }
+        ensures ok { OnOk result (parts_of self.new ≡ index_created (parts_of self.old)) }
         ensures run { OnOk result (HasRun (begun None (parts_of self.old).heap.pages)
             (begun_run None (parts_of self.old).heap.pages)) }
-        ensures left { OnOk result (IsNumbered (parts_of self.old)) }
+        ensures left { OnOk result (HasNextNumber (parts_of self.old)) }
         ensures ticket { IfOk result (λ t. t.record ≡ (parts_of self.old).last + 1) }
         ensures no_commit { IfOk result (λ t. t.commit ≡ None) }
         ensures refused { IfErr result (IsUnrecorded (parts_of self.old)) }

@@ -6,7 +6,7 @@ ghost use Rattle.marked_index.specs.Index.{IsAbsent, IsFull};
 ghost use Rattle.sorted_scan.specs.Scans.{HasRun, begun, begun_run};
 ghost use Rattle.index_core.specs.View.{IsSafe};
 ghost use Rattle.index_core.specs.Parts.{parts_of};
-ghost use Rattle.index_core.specs.Loading.{IsLifeWithin, IsQuiet, IsWithin, with_entry, with_life};
+ghost use Rattle.index_core.specs.Loading.{IsLifeInside, IsQuiet, IsPairInside, entry_loaded, life_loaded};
 
 use crate::parts::Parts;
 use model::Life;
@@ -28,8 +28,8 @@ impl<A: Allocator + Copy> Parts<A> {
     /// Leaves this entry of the pair, or none.
     pub(crate) fn load_entry(&mut self, pair: &Pair, mark: Option<Mark>) -> Result<(), Error>
         requires quiet { IsQuiet (parts_of self.old) }
-        requires inside { IsWithin (parts_of self.old) pair.now }
-        ensures ok { OnOk result (parts_of self.new ≡ with_entry (parts_of self.old) pair.now mark) }
+        requires inside { IsPairInside (parts_of self.old) pair.now }
+        ensures ok { OnOk result (parts_of self.new ≡ entry_loaded (parts_of self.old) pair.now mark) }
         ensures full { (result ≡ Err Error.IndexFull) ↔
             (IsSome mark × IsAbsent (parts_of self.old).index.entries pair.now × IsFull (parts_of self.old).index) }
         ensures refused { IfErr result (λ e. IsSome mark × IsAbsent (parts_of self.old).index.entries pair.now
@@ -45,8 +45,8 @@ impl<A: Allocator + Copy> Parts<A> {
     /// Leaves the index this far; a build goes on above the pair checkpointed last.
     pub(crate) fn load_life(&mut self, life: Life)
         requires quiet { IsQuiet (parts_of self.old) }
-        requires inside { IsLifeWithin (parts_of self.old) life }
-        ensures life { parts_of self.new ≡ with_life (parts_of self.old) life }
+        requires inside { IsLifeInside (parts_of self.old) life }
+        ensures life { parts_of self.new ≡ life_loaded (parts_of self.old) life }
         ensures safe { IsSafe (parts_of self.old) → IsSafe (parts_of self.new) }
     {
         self.scan = Scan::new(self.alloc, highest_of(&life), self.heap.pages());

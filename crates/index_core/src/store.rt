@@ -9,7 +9,7 @@ ghost use Rattle.index_core.specs.View.{IsSafe, Serves};
 ghost use Rattle.index_core.specs.Moves.{OwesOrNone, HasNoChange, IsReadyOrNone, fresh, txn_of};
 ghost use Rattle.index_core.specs.Replies.{reply_by, reply_of_ticket};
 ghost use Rattle.index_core.specs.Parts.{parts_of};
-ghost use Rattle.index_core.specs.Loading.{IsLifeWithin, IsQuiet, IsWithin, with_entry, with_life};
+ghost use Rattle.index_core.specs.Loading.{IsLifeInside, IsQuiet, IsPairInside, entry_loaded, life_loaded};
 ghost use Rattle.marked_index.specs.Index.{IsAbsent, IsFull};
 ghost use Rattle.index_core.specs.Asked.{owed, progress_of};
 ghost use Rattle.index_core.specs.Builds.{built};
@@ -61,8 +61,8 @@ impl<A: Allocator + Copy> Core<A> {
     /// only where an entry is to be added. After a refusal the core is as before.
     pub fn load_entry(&mut self, pair: &Pair, mark: Option<Mark>) -> Result<(), Error>
         requires quiet { IsQuiet (value_of self.old) }
-        requires inside { IsWithin (value_of self.old) pair.now }
-        ensures ok { OnOk result (value_of self.new ≡ with_entry (value_of self.old) pair.now mark) }
+        requires inside { IsPairInside (value_of self.old) pair.now }
+        ensures ok { OnOk result (value_of self.new ≡ entry_loaded (value_of self.old) pair.now mark) }
         ensures full { (result ≡ Err Error.IndexFull) ↔
             (IsSome mark × IsAbsent (value_of self.old).index.entries pair.now × IsFull (value_of self.old).index) }
         ensures refused { IfErr result (λ e. IsSome mark × IsAbsent (value_of self.old).index.entries pair.now
@@ -76,8 +76,8 @@ impl<A: Allocator + Copy> Core<A> {
     /// last. It makes no record.
     pub fn load_life(&mut self, life: Life)
         requires quiet { IsQuiet (value_of self.old) }
-        requires inside { IsLifeWithin (value_of self.old) life }
-        ensures { value_of self.new ≡ with_life (value_of self.old) life }
+        requires inside { IsLifeInside (value_of self.old) life }
+        ensures { value_of self.new ≡ life_loaded (value_of self.old) life }
     {
         self.parts.load_life(life);
     }
