@@ -1,6 +1,7 @@
 -- What the crates above may cite of this one.
 pub use Rattle.core_model.proofs.Orders.{apart, by_test, level, update_apart, update_here}
 pub use Rattle.core_model.proofs.Latest.{not_none, Gone, gone_is}
+pub use Rattle.core_model.proofs.Cells.{pair_decided}
 pub use Rattle.core_model.proofs.Frames.{nat_decided, rid_decided, same_some, txn_here, txn_apart}
 pub use Rattle.core_model.proofs.Sums.{none_reserved, reserved_insert, reserved_left, sum_cons}
 pub use Rattle.core_model.proofs.Runs.{step_keeps}

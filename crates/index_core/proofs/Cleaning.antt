@@ -27,13 +27,13 @@ use Rattle.index_core.specs.Builds.{HasNextNumber, IsUnrecorded}
 use Rattle.index_core.specs.Cleaning.{MayClean, taken_out}
 use Rattle.index_core.proofs.Due.{made, no_number, refusal, wants_memory}
 
+absent_is : (life : Life) → is_indexed life ≡ false → life ≡ Absent
+absent_is Absent e = refl
+absent_is (Building highest) e = absurd (true≢false e)
+absent_is Complete e = absurd (true≢false e)
+
 pub nothing_to_clean : (v : CoreValue) → is_indexed v.life ≡ false → Serves v Event.Clean (Refused Error.NoIndex) v
-nothing_to_clean v none s k st = refusal v s k Event.Clean Error.NoIndex st.shown (refused (λ x. x) tt Error.NoIndex (inl (absent s.life (ap is_indexed st.shown.life ∙ none), refl)))
-  where
-    absent : (life : Life) → is_indexed life ≡ false → life ≡ Absent
-    absent Absent e = refl
-    absent (Building highest) e = absurd (true≢false e)
-    absent Complete e = absurd (true≢false e)
+nothing_to_clean v none s k st = refusal v s k Event.Clean Error.NoIndex st.shown (refused (λ x. x) tt Error.NoIndex (inl (absent_is s.life (ap is_indexed st.shown.life ∙ none), refl)))
 
 indexed_apart : (life : Life) → is_indexed life ≡ true → life ≡ Absent → ⊥
 indexed_apart life e f = true≢false (sym (sym (ap is_indexed f) ∙ e))

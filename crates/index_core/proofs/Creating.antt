@@ -3,8 +3,6 @@ use Rattle.std.proofs.Common.{Bool, Err, List, None, Ok, Option, Result, Some, [
 use Rattle.std.specs.Prelude.{IfErr, IfOk, OnErr, OnOk}
 use Rattle.records.specs.declared.error.Error.{Error}
 use Rattle.model.specs.Pairs.{is_indexed}
-use Rattle.model.specs.declared.life.Life.{Life}
-use Rattle.model.specs.declared.life.Life.TheVariants.{Absent, Building, Complete}
 use Rattle.txn_table.specs.Table as table
 use Rattle.txn_table.specs.Table.{TxnState}
 use Rattle.sorted_scan.specs.Scans.{HasRun, begun, begun_run}
@@ -20,11 +18,6 @@ use Rattle.index_core.specs.Creation.{IsUncreatable, index_created}
 use Rattle.index_core.specs.declared.parts.Ticket.{Ticket}
 use Rattle.index_core.proofs.Due.{made, no_number, refusal, ticket_answers, wants_memory}
 use Rattle.index_core.proofs.Moved.{same_number}
-
-absent_is : (life : Life) → is_indexed life ≡ false → life ≡ Absent
-absent_is Absent e = refl
-absent_is (Building highest) e = absurd (true≢false e)
-absent_is Complete e = absurd (true≢false e)
 
 -- a table with a transaction has its state
 some_state : (es : List (ℕ × TxnState)) → es ≢ [] → (t : ℕ) × (x : TxnState) × (table.state_of t es ≡ Some x)

@@ -1,16 +1,14 @@
 -- A core into which an entry or a life is loaded stands for some state.
-use Rattle.std.proofs.Common.{Bool, None, Option, Some, [], ap, arith, false, inl, inr, refl, subst, sym, true, true≢false, ℕ, ◌+◌, ◌<◌, ◌∙◌, ◌≡◌, ◌≢◌, ◌≤◌, ◌⊎◌}
+use Rattle.std.proofs.Common.{None, Option, Some, [], ap, arith, false, inl, inr, refl, subst, sym, true≢false, ℕ, ◌+◌, ◌<◌, ◌∙◌, ◌≡◌, ◌≢◌, ◌≤◌}
 use Rattle.std.specs.FinMap.{get, len}
-use Rattle.std.specs.Ordering.{eq_by_cmp}
-use Rattle.records.specs.Maps.{get-set_at_other, key_is, pair_exact, same_key, set_at}
-use Rattle.records.specs.Orders.{pair_cmp}
+use Rattle.records.specs.Maps.{get-set_at_other, pair_exact, set_at}
 use Rattle.records.specs.declared.pair.Mark.{Mark}
 use Rattle.records.specs.declared.pair.Pair.{Pair}
 use Rattle.model.specs.declared.life.Life.{Life}
 use Rattle.model.specs.declared.life.Life.TheVariants.{Building}
 use Rattle.txn_table.specs.Table as table
 use Rattle.sorted_scan.specs.Scans.{HasRun, begun, begun_run}
-use Rattle.core_model.proofs.Laws.{not_none}
+use Rattle.core_model.proofs.Laws.{not_none, pair_decided}
 use Rattle.core_model.specs.Histories.{highest_of}
 use Rattle.core_model.specs.Invariants.{IsWellFormed}
 use Rattle.core_model.specs.States.{State}
@@ -18,13 +16,6 @@ use Rattle.core_model.specs.Steps.{all_reserved}
 use Rattle.core_contracts.specs.Events.{Standing}
 use Rattle.index_core.specs.View.{AreOne, CoreValue, IsSafe, Shows}
 use Rattle.index_core.specs.Loading.{IsLifeInside, IsQuiet, IsPairInside, entry_loaded, life_loaded}
-
-pair_decided : (q p : Pair) → (q ≡ p) ⊎ (q ≢ p)
-pair_decided q p = by (eq_by_cmp pair_cmp q p) refl
-  where
-    by : (b : Bool) → eq_by_cmp pair_cmp q p ≡ b → (q ≡ p) ⊎ (q ≢ p)
-    by true e = inl (key_is pair_exact q p e)
-    by false e = inr (λ same. true≢false (sym (same_key pair_exact p) ∙ ap (λ x. eq_by_cmp pair_cmp x p) (sym same) ∙ e))
 
 module _ (v : CoreValue) (quiet : IsQuiet v) (safe : IsSafe v) where
   abbrev s : State

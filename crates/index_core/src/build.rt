@@ -15,7 +15,7 @@ ghost use Rattle.index_core.specs.Replies.{reply_by};
 ghost use Rattle.index_core.specs.Parts.{parts_of};
 ghost use Rattle.index_core.specs.Builds.{built, HasAttempted, HasPassed, HasTaken, HasNextNumber, IsUnplaced, IsUnrecorded, checkpointed, completed, placed};
 
-use crate::parts::{Parts, Ticket, number_after};
+use crate::parts::{Parts, Ticket};
 use crate::reply::BuildReply;
 use model::Life;
 use records::{ATTEMPTS_PER_CHECKPOINT, Action, Error, IndexAction, Pair, Record, RecordNumber};
@@ -47,18 +47,6 @@ fn ticket_of(number: RecordNumber) -> Ticket
 }
 
 impl<A: Allocator + Copy> Parts<A> {
-    /// The number of the next record.
-    pub(crate) fn next_number(&self) -> Result<RecordNumber, Error>
-        ensures number { IfOk result (λ n. n ≡ (parts_of self.now).last + 1) }
-        ensures left { OnOk result (HasNextNumber (parts_of self.now)) }
-        ensures exhausted { IfErr result (λ e. (e ≡ Error.Exhausted) × (LAST_NUMBER ≤ (parts_of self.now).last)) }
-    {
-        match number_after(self.last) {
-            Some(number) => Ok(number),
-            None => Err(Error::Exhausted),
-        }
-    }
-
     /// Puts a record of the index into the outbox. `NoMemory` leaves all as before.
     pub(crate) fn record_index(
         &mut self,

@@ -16,6 +16,7 @@ ghost use Rattle.txn_table.specs.Table as table;
 ghost use Rattle.index_core.specs.View.{CoreValue, IsSafe, Serves};
 ghost use Rattle.index_core.specs.Moves.{OwesOrNone, entry_stepped, row_stepped, IsUnchangeable, entry_in, first_made, mark_first, HasFreePlaces, HasNoChange, HasNoRecord, HasRecord, ended, IsAble, IsFreePlace, IsPlaceFor, IsReadyOrNone, IsUnroomy, MayStart, changes_of, fresh, next_change, reserved_of, row_first, row_progress, txn_of, with_change};
 ghost use Rattle.index_core.specs.Replies.{reply_by, reply_of_ticket};
+ghost use Rattle.index_core.specs.Builds.{HasNextNumber};
 ghost use Rattle.txn_table.specs.Sound.{IsSound};
 ghost use Rattle.index_core.specs.Parts.{parts_of};
 
@@ -62,8 +63,8 @@ pub(crate) struct Parts<A: Allocator> {
     pub(crate) outbox: VecDeque<Record, A>,
 }
 
-/// The number of the next record; none where no number is left.
-pub(crate) fn number_after(last: u64) -> Option<RecordNumber>
+// The number of the record after this one; none where no number is left.
+fn number_after(last: u64) -> Option<RecordNumber>
     ensures some { IfSome result (λ n. (n ≡ last + 1) × (last < LAST_NUMBER)) }
     ensures none { IfNone result (LAST_NUMBER ≤ last) }
 {
@@ -294,6 +295,15 @@ impl<A: Allocator + Copy> Parts<A> {
         self.txns.reserved(txn).unwrap_or(0)
     }
 
+    /// The number of the next record. The error is `Exhausted`.
+    pub(crate) fn next_number(&self) -> Result<RecordNumber, Error>
+        ensures number { IfOk result (λ n. n ≡ (parts_of self.now).last + 1) }
+        ensures left { OnOk result (HasNextNumber (parts_of self.now)) }
+        ensures exhausted { IfErr result (λ e. (e ≡ Error.Exhausted) × (LAST_NUMBER ≤ (parts_of self.now).last)) }
+    {
+        number_after(self.last).ok_or(Error::Exhausted)
+    }
+
     // The number of the next record, where the places of one more change may be reserved: the errors
     // are `IndexFull`, and then `Exhausted`.
     fn may_add(&self) -> Result<RecordNumber, Error>
@@ -305,10 +315,7 @@ impl<A: Allocator + Copy> Parts<A> {
         if !has_room {
             return Err(Error::IndexFull);
         }
-        match number_after(self.last) {
-            Some(number) => Ok(number),
-            None => Err(Error::Exhausted),
-        }
+        self.next_number()
     }
 
     // Where an insertion goes, and the number of its record; or why there is none, but for want of
@@ -578,10 +585,7 @@ impl<A: Allocator + Copy> Parts<A> {
         if !self.txns.is_active(txn) {
             return Err(Error::NoSuchTxn);
         }
-        match number_after(self.last) {
-            Some(number) => Ok(number),
-            None => Err(Error::Exhausted),
-        }
+        self.next_number()
     }
 
     // Ends the transaction with this record. `NoMemory` leaves all as before.
