@@ -4,6 +4,7 @@ ghost use Rattle.std.specs.FinMap as map;
 ghost use Rattle.records.specs.declared.pair.Mark.{Mark};
 ghost use Rattle.records.specs.declared.record.IndexAction.TheVariants as action;
 ghost use Rattle.model.specs.Pairs as pairs;
+ghost use Rattle.txn_table.specs.Table.{holder_of};
 ghost use Rattle.btree_node.specs.Above.{IsLeastAbove};
 ghost use Rattle.core_model.specs.Steps.{IsPassed};
 ghost use Rattle.core_contracts.specs.Events.{Event};
@@ -16,7 +17,7 @@ ghost use Rattle.index_core.specs.Cleaning.{MayClean, cleaner, taken_out};
 use crate::parts::Parts;
 use crate::reply::CleanReply;
 use model::Life;
-use records::{Action, Error, IndexAction, Mark, Pair, Record, compare_pairs};
+use records::{Action, Error, IndexAction, Mark, Pair, Record, Rid, compare_pairs};
 use std::alloc::Allocator;
 
 // Whether no builder comes to the pair any more.
@@ -40,12 +41,19 @@ impl<A: Allocator + Copy> Parts<A> {
         self.index.above(self.cleaned.as_ref())
     }
 
+    // Whether no transaction holds the row at the place.
+    fn is_unheld(&self, rid: Rid) -> bool
+        ensures { IsTrue result ↔ (holder_of rid (parts_of self.now).txns.active ≡ None) }
+    {
+        self.txns.holder(rid).is_none()
+    }
+
     // Whether the entry of this pair may be taken out.
     fn may_clean(&self, pair: &Pair) -> bool
         ensures { IsTrue result ↔ MayClean (parts_of self.now) pair.now }
     {
         self.index.get(pair) == Some(Mark::Marked)
-            && self.txns.holder(pair.rid).is_none()
+            && self.is_unheld(pair.rid)
             && is_passed(&self.life, pair)
     }
 
