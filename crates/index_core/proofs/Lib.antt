@@ -13,3 +13,4 @@ mod Building
 mod Cleaning
 mod Creating
 mod Loading
+mod Waiting

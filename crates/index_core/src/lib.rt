@@ -6,6 +6,7 @@ mod build;
 mod clean;
 mod create;
 mod load;
+mod outbox;
 mod parts;
 mod reply;
 mod store;

@@ -1,5 +1,5 @@
 //! The core.
-ghost use Rattle.std.specs.Prelude.{◌≡◌, ◌<◌, ◌≤◌, ◌⊎◌, ◌↔◌, Err, Some, is_some, option_and_then, IsSome, IsTrue, IfOk, IfErr, OnOk, OnErr};
+ghost use Rattle.std.specs.Prelude.{◌≡◌, ◌<◌, ◌≤◌, ◌-◌, ◌⊎◌, ◌↔◌, Err, Some, is_some, length, option_and_then, IsSome, IsTrue, IfOk, IfErr, OnOk, OnErr};
 ghost use Rattle.std.specs.FinMap as map;
 ghost use Rattle.std.specs.Option.{option_copied};
 ghost use Rattle.records.specs.Maps.{set_at};
@@ -12,13 +12,14 @@ ghost use Rattle.index_core.specs.Parts.{parts_of};
 ghost use Rattle.index_core.specs.Loading.{IsLifeInside, IsQuiet, IsPairInside, entry_loaded, life_loaded};
 ghost use Rattle.marked_index.specs.Index.{IsAbsent, IsFull};
 ghost use Rattle.index_core.specs.Asked.{owed, progress_of};
+ghost use Rattle.index_core.specs.Outbox.{HandsOn};
 ghost use Rattle.index_core.specs.Builds.{built};
 ghost use Rattle.index_core.specs.Cleaning.{cleaner};
 
 use crate::parts::{Parts, Ticket};
 use crate::reply::{BuildReply, CleanReply, Owed};
 use model::Life;
-use records::{Body, Error, Geometry, Key, LAST_NUMBER, Mark, Pair, Rid, Row, Txn};
+use records::{Body, Error, Geometry, Key, LAST_NUMBER, Mark, Pair, Rid, Row, Sink, Txn};
 use std::alloc::Allocator;
 use txn_table::Progress;
 
@@ -258,5 +259,16 @@ impl<A: Allocator + Copy> Core<A> {
         ensures { Serves (value_of self.old) Event.Clean (reply_by cleaner result) (value_of self.new) }
     {
         self.parts.clean_step()
+    }
+
+    /// Hands the records that wait on to the sink, in the order of their making. One that the sink
+    /// refuses stays, and so do those behind it. Nothing else changes.
+    ///
+    /// `most`: no more stay than those for which the sink had no room.
+    pub fn take_outbox<S: Sink>(&mut self, sink: &mut S)
+        ensures handed { HandsOn (value_of self.old) (value_of self.new) (S.taken sink.old) (S.taken sink.new) }
+        ensures most { length (value_of self.new).outbox ≤ length (value_of self.old).outbox - S.room sink.old }
+    {
+        self.parts.take_outbox(sink);
     }
 }
