@@ -29,37 +29,37 @@ nothing_refused : {A : Type 0} (n : ℕ) → n ≤ 6 → IsFirst ((⊥, Error.In
 nothing_refused n l = inr (λ h. h, inr (λ h. not_last n l h.0, refl))
 
 abbrev k0 : Standing
-k0 = record { made = 0; begun = 0; active = 0; commits = 0; attempts = 0; scanned = 0 }
+k0 = record { made = 0; begun = 0; active = 0; commits = 0; attempts = 0; all_attempts = 0; scanned = 0 }
 
 abbrev k1 : Standing
-k1 = record { made = 1; begun = 0; active = 0; commits = 0; attempts = 0; scanned = 0 }
+k1 = record { made = 1; begun = 0; active = 0; commits = 0; attempts = 0; all_attempts = 0; scanned = 0 }
 
 abbrev k2 : Standing
-k2 = record { made = 1; begun = 1; active = 1; commits = 0; attempts = 0; scanned = 0 }
+k2 = record { made = 1; begun = 1; active = 1; commits = 0; attempts = 0; all_attempts = 0; scanned = 0 }
 
 abbrev k3 : Standing
-k3 = record { made = 2; begun = 1; active = 1; commits = 0; attempts = 0; scanned = 0 }
+k3 = record { made = 2; begun = 1; active = 1; commits = 0; attempts = 0; all_attempts = 0; scanned = 0 }
 
 abbrev k4 : Standing
-k4 = record { made = 2; begun = 1; active = 1; commits = 0; attempts = 0; scanned = 1 }
+k4 = record { made = 2; begun = 1; active = 1; commits = 0; attempts = 0; all_attempts = 0; scanned = 1 }
 
 abbrev k5 : Standing
-k5 = record { made = 3; begun = 1; active = 1; commits = 0; attempts = 0; scanned = 1 }
+k5 = record { made = 3; begun = 1; active = 1; commits = 0; attempts = 0; all_attempts = 0; scanned = 1 }
 
 abbrev k6 : Standing
-k6 = record { made = 4; begun = 1; active = 1; commits = 0; attempts = 0; scanned = 1 }
+k6 = record { made = 4; begun = 1; active = 1; commits = 0; attempts = 0; all_attempts = 0; scanned = 1 }
 
 abbrev k7 : Standing
-k7 = record { made = 4; begun = 1; active = 1; commits = 0; attempts = 0; scanned = 1 }
+k7 = record { made = 4; begun = 1; active = 1; commits = 0; attempts = 0; all_attempts = 0; scanned = 1 }
 
 abbrev k8 : Standing
-k8 = record { made = 5; begun = 1; active = 0; commits = 0; attempts = 0; scanned = 1 }
+k8 = record { made = 5; begun = 1; active = 0; commits = 0; attempts = 0; all_attempts = 0; scanned = 1 }
 
 abbrev k9 : Standing
-k9 = record { made = 5; begun = 1; active = 0; commits = 0; attempts = 1; scanned = 0 }
+k9 = record { made = 5; begun = 1; active = 0; commits = 0; attempts = 1; all_attempts = 1; scanned = 0 }
 
 abbrev k10 : Standing
-k10 = record { made = 6; begun = 1; active = 0; commits = 0; attempts = 1; scanned = 0 }
+k10 = record { made = 6; begun = 1; active = 0; commits = 0; attempts = 1; all_attempts = 1; scanned = 0 }
 
 building≢absent : Building None ≡ Absent → ⊥
 building≢absent e = absurd (cc)

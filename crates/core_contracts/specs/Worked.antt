@@ -21,4 +21,4 @@ script =
 
 -- six records, no transaction
 abbrev pub standing : Standing
-standing = record { made = 6; begun = 1; active = 0; commits = 0; attempts = 1; scanned = 0 }
+standing = record { made = 6; begun = 1; active = 0; commits = 0; attempts = 1; all_attempts = 1; scanned = 0 }

@@ -71,6 +71,7 @@ module _ (g : GeometryValue) (base : ℕ) (le : base ≤ LAST_NUMBER) where
         begun = refl;
         active = refl;
         attempts = refl;
+        all_attempts = refl;
         commits = refl;
       };
       fit = opened_fit nothing fits;
@@ -168,6 +169,7 @@ module _ (v : CoreValue) (s : State) (k : Standing) (is : IsState v s k) where
     begun = ap (λ n. n + 1) same_begun;
     active = ap (λ n. n + 1) h.active ∙ sym (length-append v.txns.active ((v.txns.begun + 1, table.new_txn) ∷ []));
     attempts = h.attempts;
+    all_attempts = h.all_attempts;
     commits = h.commits;
   }
 
@@ -249,6 +251,7 @@ module _ (v : CoreValue) (r : Place) (o : Option Row) (inside : r.page < v.heap.
             begun = h.begun;
             active = h.active;
             attempts = h.attempts;
+            all_attempts = h.all_attempts;
             commits = h.commits;
           };
           fit = record {

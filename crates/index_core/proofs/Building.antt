@@ -8,7 +8,7 @@ use Rattle.std.specs.FinMap.{get, len, nat_cmp-IsAntisymmetric, slice_cmp-IsAnti
 use Rattle.std.specs.List.{Contains}
 use Rattle.std.specs.Option.{IfSome}
 use Rattle.std.specs.Ordering.{eq_by_cmp, nat_cmp}
-use Rattle.std.specs.Prelude.{Err, IfErr, IfOk, Ok, OnErr, Result, ◌↔◌}
+use Rattle.std.specs.Prelude.{Err, IfErr, IfOk, Ok, OnErr, Result, min, ◌-◌, ◌^◌, ◌↔◌}
 use Rattle.records.specs.Maps.{IsExact, key_is, pair_exact, same_key, set_at, set_at-get}
 use Rattle.records.specs.Orders.{pair_cmp, pair_cmp_total}
 use Rattle.records.specs.declared.error.Error.{Error}
@@ -99,6 +99,10 @@ module _ (v : CoreValue) (s : State) (k : Standing) (h : Shows v s k) where
     none_left = λ q over taken. either (s.missed q) (λ left. true≢false (sym (sym (bound_is q) ∙ over) ∙ end.none_above q (steady q taken left)));
   }
 
+-- ---- an attempt is counted, as far as the code counts
+one_attempt : (next now all most : ℕ) → next ≡ min (now + 1) most → now ≡ min all most → next ≡ min (all + 1) most
+one_attempt next now all most e f = omega (arith, e, f)
+
 -- ---- a page that was taken
 module _ (rows : Rows) (page : ℕ) (pairs : List Pair) (each : (p : Pair) → Contains pairs p ↔ IsPairOnPage rows page p) (p : Pair) where
   abbrev on_page : Bool
@@ -187,6 +191,7 @@ module _ (v : CoreValue) (s : State) (k : Standing) (st : IsState v s k) (built 
       begun = h.begun;
       active = h.active;
       attempts = refl;
+      all_attempts = h.all_attempts;
       commits = h.commits;
     }
 
@@ -227,6 +232,7 @@ module _ (v : CoreValue) (s : State) (k : Standing) (st : IsState v s k) (built 
         begun = h.begun;
         active = h.active;
         attempts = h.attempts;
+        all_attempts = h.all_attempts;
         commits = h.commits;
       }
 
@@ -278,6 +284,7 @@ module _ (v : CoreValue) (s : State) (k : Standing) (st : IsState v s k) (built 
           begun = h.begun;
           active = h.active;
           attempts = h.attempts;
+          all_attempts = h.all_attempts;
           commits = h.commits;
         }
 
@@ -328,8 +335,8 @@ module _ (v : CoreValue) (s : State) (k : Standing) (st : IsState v s k) (built 
         same_entries : set_at s.entries p (after_action BuildPut (get s.entries p)) ≡ v.index.entries
         same_entries = ap (set_at s.entries p) (same_put (get s.entries p) (λ e. there (sym entry_is ∙ e))) ∙ set_at-get pair_exact s.entries p ∙ h.entries
 
-        rejected_shown : (w : ScanValue) → ((r : ScanRun) → HasRun v.scan r → HasRun w (with_step r (HandedOut p))) → w.last ≡ Some p → w.pages ≡ v.scan.pages → Shows (record v { scan = w; tried = v.tried + 1 }) (after s (Attempt p)) (standing_after k rejected)
-        rejected_shown w went last pages = record {
+        rejected_shown : (w : ScanValue) (attempts : ℕ) → ((r : ScanRun) → HasRun v.scan r → HasRun w (with_step r (HandedOut p))) → w.last ≡ Some p → w.pages ≡ v.scan.pages → attempts ≡ min (v.attempts + 1) (2 ^ 64 - 1) → Shows (record v { scan = w; tried = v.tried + 1; attempts = attempts }) (after s (Attempt p)) (standing_after k rejected)
+        rejected_shown w attempts went last pages counted = record {
           rows = h.rows;
           entries = same_entries;
           txns = h.txns;
@@ -347,12 +354,13 @@ module _ (v : CoreValue) (s : State) (k : Standing) (st : IsState v s k) (built 
           begun = h.begun;
           active = h.active;
           attempts = ap (λ n. n + 1) h.attempts;
+          all_attempts = one_attempt attempts v.attempts k.all_attempts (2 ^ 64 - 1) counted h.all_attempts;
           commits = h.commits;
         }
 
         pub rejected_made : (v' : CoreValue) → HasPassed v p v' → Answers v s k Event.Build rejected v'
         rejected_made v' t = subst (Answers v s k Event.Build rejected) (sym t.others)
-            (made v s k h Event.Build (λ x. x) tt first rejected (Attempt p) rejected_due (λ n. there (sym entry_is ∙ n.0)) (λ n. absurd (n none_made)) (record v { scan = v'.scan; tried = v.tried + 1 }) (rejected_shown v'.scan t.run t.last_pair t.pages)
+            (made v s k h Event.Build (λ x. x) tt first rejected (Attempt p) rejected_due (λ n. there (sym entry_is ∙ n.0)) (λ n. absurd (n none_made)) (record v { scan = v'.scan; tried = v.tried + 1; attempts = v'.attempts }) (rejected_shown v'.scan v'.attempts t.run t.last_pair t.pages t.counted)
             (sym (append-nil v.outbox) ∙ ap (λ o. v.outbox ++ one_record v.last o) (sym none_made)))
 
       module _ (absent : IsAbsent v.index.entries p) where
@@ -384,8 +392,8 @@ module _ (v : CoreValue) (s : State) (k : Standing) (st : IsState v s k) (built 
           pub place_refused : (error : Error) → IsUnrecorded v error → Answers v s k Event.Build (Refused error) v
           place_refused error why = unrecorded put (Attempt p) placed_due has_place makes error why
 
-          placed_shown : (w : ScanValue) → ((r : ScanRun) → HasRun v.scan r → HasRun w (with_step r (HandedOut p))) → w.last ≡ Some p → w.pages ≡ v.scan.pages → Shows (record (placed v p) { scan = w; tried = v.tried + 1 }) (after s (Attempt p)) (standing_after k put)
-          placed_shown w went last pages = record {
+          placed_shown : (w : ScanValue) (attempts : ℕ) → ((r : ScanRun) → HasRun v.scan r → HasRun w (with_step r (HandedOut p))) → w.last ≡ Some p → w.pages ≡ v.scan.pages → attempts ≡ min (v.attempts + 1) (2 ^ 64 - 1) → Shows (record (placed v p) { scan = w; tried = v.tried + 1; attempts = attempts }) (after s (Attempt p)) (standing_after k put)
+          placed_shown w attempts went last pages counted = record {
             rows = h.rows;
             entries = ap (λ m. set_at m p (after_action BuildPut (get m p))) h.entries;
             txns = h.txns;
@@ -403,12 +411,13 @@ module _ (v : CoreValue) (s : State) (k : Standing) (st : IsState v s k) (built 
             begun = h.begun;
             active = h.active;
             attempts = ap (λ n. n + 1) h.attempts;
+            all_attempts = one_attempt attempts v.attempts k.all_attempts (2 ^ 64 - 1) counted h.all_attempts;
             commits = h.commits;
           }
 
           pub placed_made : HasNextNumber v → (v' : CoreValue) → HasPassed (placed v p) p v' → Answers v s k Event.Build put v'
           placed_made left v' t = subst (Answers v s k Event.Build put) (sym t.others)
-              (made v s k h Event.Build (λ x. x) tt first put (Attempt p) placed_due has_place (λ n. left) (record (placed v p) { scan = v'.scan; tried = v.tried + 1 }) (placed_shown v'.scan t.run t.last_pair t.pages)
+              (made v s k h Event.Build (λ x. x) tt first put (Attempt p) placed_due has_place (λ n. left) (record (placed v p) { scan = v'.scan; tried = v.tried + 1; attempts = v'.attempts }) (placed_shown v'.scan v'.attempts t.run t.last_pair t.pages t.counted)
               (ap (λ o. v.outbox ++ one_record v.last o) (sym one_made)))
 
 -- ---- what a safe core knows

@@ -92,6 +92,7 @@ module _ (v : CoreValue) (s : State) (k : Standing) (st : IsState v s k) (indexe
       begun = h.begun;
       active = h.active;
       attempts = h.attempts;
+      all_attempts = h.all_attempts;
       commits = h.commits;
     }
 
@@ -159,6 +160,7 @@ module _ (v : CoreValue) (s : State) (k : Standing) (st : IsState v s k) (indexe
         begun = h.begun;
         active = h.active;
         attempts = h.attempts;
+        all_attempts = h.all_attempts;
         commits = h.commits;
       }
 
@@ -191,6 +193,7 @@ module _ (v : CoreValue) (s : State) (k : Standing) (st : IsState v s k) (indexe
         begun = h.begun;
         active = h.active;
         attempts = h.attempts;
+        all_attempts = h.all_attempts;
         commits = h.commits;
       }
 

@@ -81,6 +81,7 @@ module _ (v : CoreValue) (s : State) (k : Standing) (st : IsState v s k) where
         begun = h.begun;
         active = h.active;
         attempts = refl;
+        all_attempts = h.all_attempts;
         commits = h.commits;
       }
 

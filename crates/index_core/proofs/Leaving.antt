@@ -99,6 +99,7 @@ module _ (v : CoreValue) (s : State) (k : Standing) (h : Shows v s k) (t : ℕ) 
     begun = h.begun;
     active = fewer _ _ _ (shorter t x v.txns.active here) h.active;
     attempts = h.attempts;
+    all_attempts = h.all_attempts;
     commits = refl;
   }
     where

@@ -72,6 +72,7 @@ module _ (v : CoreValue) (quiet : IsQuiet v) (safe : IsSafe v) where
           begun = h.begun;
           active = h.active;
           attempts = h.attempts;
+          all_attempts = h.all_attempts;
           commits = h.commits;
         };
         fit = record {
@@ -128,6 +129,7 @@ module _ (v : CoreValue) (quiet : IsQuiet v) (safe : IsSafe v) where
           begun = h.begun;
           active = h.active;
           attempts = refl;
+          all_attempts = h.all_attempts;
           commits = h.commits;
         };
         fit = record {

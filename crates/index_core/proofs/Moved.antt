@@ -6,6 +6,7 @@ use Rattle.std.proofs.lemmas.List.{length-append}
 use Rattle.std.proofs.Common.{true, false}
 use Rattle.std.specs.FinMap.{get, insert}
 use Rattle.std.specs.Option.{option_map}
+use Rattle.std.specs.Prelude.{min, ◌-◌, ◌^◌}
 use Rattle.records.specs.Maps.{get-set_at_other, get-set_at_same, nat_exact}
 use Rattle.records.specs.Values.{Place}
 use Rattle.txn_table.specs.Table as table
@@ -63,6 +64,7 @@ pub record KeepsRest (v : CoreValue) (s : State) (v' : CoreValue) (s' : State) :
   pub cleaned : v'.cleaned ≡ v.cleaned
   pub scan : v'.scan ≡ v.scan
   pub tried : v'.tried ≡ v.tried
+  pub attempts : v'.attempts ≡ v.attempts
   pub commits : v'.commits ≡ v.commits
   pub begun : v'.txns.begun ≡ v.txns.begun
   pub many : length v'.txns.active ≡ length v.txns.active
@@ -148,5 +150,6 @@ module _ (v : CoreValue) (s : State) (k : Standing) (h : Shows v s k) (t : ℕ) 
           begun = ap (λ (n : Standing). n.begun) did.standing ∙ h.begun ∙ sym r.begun;
           active = ap (λ (n : Standing). n.active) did.standing ∙ h.active ∙ sym r.many;
           attempts = ap (λ (n : Standing). n.attempts) did.standing ∙ h.attempts ∙ sym r.tried;
+          all_attempts = r.attempts ∙ h.all_attempts ∙ ap (λ (n : Standing). min n.all_attempts (2 ^ 64 - 1)) (sym did.standing);
           commits = ap (λ (n : Standing). n.commits) did.standing ∙ h.commits ∙ sym r.commits;
         }

@@ -159,6 +159,7 @@ module _ (v : CoreValue) (s : State) (k : Standing) (st : IsState v s k) (t : â„
         cleaned = refl;
         scan = refl;
         tried = refl;
+        attempts = refl;
         commits = refl;
         begun = refl;
         many = long (put_at (row_progress (new_pair indexed c)) (reserved_of (txn_of v t))) t v.txns.active;
@@ -235,6 +236,7 @@ module _ (v : CoreValue) (s : State) (k : Standing) (st : IsState v s k) (t : â„
         cleaned = refl;
         scan = refl;
         tried = refl;
+        attempts = refl;
         commits = refl;
         begun = refl;
         many = long (put_at Ready (reserved_of (txn_of v t) - used)) t v.txns.active;

@@ -159,6 +159,7 @@ module _ (v : CoreValue) (s : State) (k : Standing) (h : Shows v s k) (t : ℕ) 
         cleaned = refl;
         scan = refl;
         tried = refl;
+        attempts = refl;
         commits = refl;
         begun = refl;
         many = many_changed v.txns.active t x here c _ _;
@@ -218,6 +219,7 @@ module _ (v : CoreValue) (s : State) (k : Standing) (h : Shows v s k) (t : ℕ) 
         cleaned = refl;
         scan = refl;
         tried = refl;
+        attempts = refl;
         commits = refl;
         begun = refl;
         many = many_changed v.txns.active t x here c OwesRow (reserved_of (txn_of v t) + left_over);

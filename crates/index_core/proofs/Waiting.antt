@@ -55,6 +55,7 @@ other_outbox v waiting safe = record { state = safe.state; standing = safe.stand
       begun = h.begun;
       active = h.active;
       attempts = h.attempts;
+      all_attempts = h.all_attempts;
       commits = h.commits;
     }
 

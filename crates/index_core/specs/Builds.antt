@@ -1,6 +1,6 @@
 -- What the builder does to the core, and what it answers.
 use Rattle.std.specs.FinMap.{get}
-use Rattle.std.specs.Prelude.{List, None, Option, Some, [], Contains, ℕ, true, ◌++◌, ◌+◌, ◌<◌, ◌∷◌, ◌≡◌, ◌≢◌, ◌≤◌, ◌⊎◌, ◌↔◌}
+use Rattle.std.specs.Prelude.{List, None, Option, Some, [], Contains, min, ℕ, true, ◌++◌, ◌+◌, ◌-◌, ◌^◌, ◌<◌, ◌∷◌, ◌≡◌, ◌≢◌, ◌≤◌, ◌⊎◌, ◌↔◌}
 use Rattle.records.specs.Maps.{set_at}
 use Rattle.records.specs.declared.error.Error.{Error}
 use Rattle.records.specs.declared.error.Error.TheVariants.{Exhausted, IndexFull, NoMemory}
@@ -54,7 +54,8 @@ pub record HasPassed (v : CoreValue) (p : Pair) (v' : CoreValue) : Type 0 where
   pub run : (r : ScanRun) → HasRun v.scan r → HasRun v'.scan (with_step r (HandedOut p))
   pub last_pair : v'.scan.last ≡ Some p
   pub pages : v'.scan.pages ≡ v.scan.pages
-  pub others : v' ≡ record v { scan = v'.scan; tried = v.tried + 1 }
+  pub counted : v'.attempts ≡ min (v.attempts + 1) (2 ^ 64 - 1)
+  pub others : v' ≡ record v { scan = v'.scan; tried = v.tried + 1; attempts = v'.attempts }
 
 -- the builder's entry is there, with its record
 abbrev pub placed : CoreValue → Pair → CoreValue

@@ -166,6 +166,7 @@ fresh g base = record {
   cleaned = None;
   last = base;
   tried = 0;
+  attempts = 0;
   commits = 0;
   outbox = [];
 }

@@ -12,6 +12,7 @@ parts_of c = record {
   cleaned = c.cleaned;
   last = c.last;
   tried = c.tried;
+  attempts = c.attempts;
   commits = c.commits;
   outbox = c.outbox.items;
 }

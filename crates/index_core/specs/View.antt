@@ -2,7 +2,7 @@
 use Rattle.core_model.specs.Changes.{as_list}
 use Rattle.std.specs.FinMap.{get}
 use Rattle.std.specs.Option.{option_map}
-use Rattle.std.specs.Prelude.{◌≤◌, Bool, List, None, Option, Some, length, ℕ, ◌++◌, ◌≡◌}
+use Rattle.std.specs.Prelude.{◌≤◌, Bool, List, None, Option, Some, length, min, ℕ, ◌++◌, ◌-◌, ◌^◌, ◌≡◌}
 use Rattle.records.specs.RecordValue.{RecordValue}
 use Rattle.records.specs.Values.{Place}
 use Rattle.records.specs.declared.pair.Pair.{Pair}
@@ -31,6 +31,7 @@ pub record CoreValue : Type 0 where
   pub cleaned : Option Pair  -- the cleaner's place
   pub last : ℕ  -- the number of the last record made
   pub tried : ℕ  -- the attempts since the last checkpoint, the creation or the restart
+  pub attempts : ℕ  -- the attempts since the restart, as far as the code counts
   pub commits : ℕ  -- the commits since the restart
   pub outbox : List RecordValue
 
@@ -84,6 +85,7 @@ pub record Shows (v : CoreValue) (s : State) (k : Standing) : Type 0 where
   pub begun : k.begun ≡ v.txns.begun
   pub active : k.active ≡ length v.txns.active
   pub attempts : k.attempts ≡ v.tried
+  pub all_attempts : v.attempts ≡ min k.all_attempts (2 ^ 64 - 1)
   pub commits : k.commits ≡ v.commits
 
 -- a state that the core stands for, whatever its loaded cells were

@@ -93,6 +93,7 @@ impl<A: Allocator + Copy> Parts<A> {
     {
         let _handed = self.scan.hand_out();
         self.tried += 1;
+        self.attempts = self.attempts.saturating_add(1);
     }
 
     // Why an attempt of a pair that has no entry is refused, but for want of memory, or the number

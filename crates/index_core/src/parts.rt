@@ -58,6 +58,8 @@ pub(crate) struct Parts<A: Allocator> {
     pub(crate) last: u64,
     // the builder's attempts since its last checkpoint, the creation or the start
     pub(crate) tried: u64,
+    // the builder's attempts since the start, as far as they can be counted
+    pub(crate) attempts: u64,
     // the commits since the start
     pub(crate) commits: u64,
     pub(crate) outbox: VecDeque<Record, A>,
@@ -254,6 +256,7 @@ impl<A: Allocator + Copy> Parts<A> {
             cleaned: None,
             last: base,
             tried: 0,
+            attempts: 0,
             commits: 0,
             outbox: VecDeque::new(alloc),
         })

@@ -99,6 +99,14 @@ impl<A: Allocator + Copy> Core<A> {
         self.parts.life
     }
 
+    /// How many attempts the builder has made since the core was made: each that was placed or
+    /// rejected, and no refused one. It never falls, and stays at 2^64 - 1.
+    pub fn attempts(&self) -> u64
+        ensures { result ≡ (value_of self.now).attempts }
+    {
+        self.parts.attempts
+    }
+
     /// The least entry whose pair comes after the given one, or the least of all.
     pub fn above(&self, pair: Option<&Pair>) -> Option<(Pair, Mark)>
         ensures { IsLeastAbove (value_of self.now).index.entries (option_copied pair.entry) result }

@@ -16,6 +16,7 @@ returns-in-Err-clause-unchanged g c =
       cleaned = c.args.self.now.cleaned;
       last = c.args.self.now.last;
       tried = c.args.self.now.tried;
+      attempts = c.args.self.now.attempts;
       commits = c.args.self.now.commits;
       outbox = c.in-Err.ensures.unchanged.1 i;
     }

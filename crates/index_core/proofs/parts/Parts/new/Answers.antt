@@ -22,6 +22,7 @@ returns-clause-made g c =
       cleaned = None;
       last = c.args.base;
       tried = 0;
+      attempts = 0;
       commits = 0;
       outbox = c.new-5.ensures.items i;
     }
