@@ -48,7 +48,7 @@ use Rattle.index_core.proofs.Due.{made, no_number, refusal, still, ticket_answer
 pub no_index : (v : CoreValue) → v.life ≡ Absent → Serves v Event.Build (Refused Error.NoIndex) v
 no_index v e s k st = refusal v s k Event.Build Error.NoIndex st.shown (refused (λ x. x) tt Error.NoIndex (inl (st.shown.life ∙ e, refl)))
 
-complete_apart : (life : Life) → life ≡ Complete → life ≡ Absent → ⊥
+pub complete_apart : (life : Life) → life ≡ Complete → life ≡ Absent → ⊥
 complete_apart life e f = cc
 
 pub idle : (v : CoreValue) → v.life ≡ Complete → Serves v Event.Build (events.Built events.Idle) v
@@ -56,7 +56,7 @@ idle v e s k st = still v s k Event.Build (events.Built events.Idle) st.shown re
     (accepted (λ x. x) tt (inr (complete_apart s.life (st.shown.life ∙ e), refl)) (events.Built events.Idle) None (events.Idle, st.shown.life ∙ e, refl, refl) refl)
 
 -- ---- the machine's words for a scan
-building_apart : (life : Life) (highest : Option Pair) → life ≡ Building highest → life ≡ Absent → ⊥
+pub building_apart : (life : Life) (highest : Option Pair) → life ≡ Building highest → life ≡ Absent → ⊥
 building_apart life highest e f = cc
 
 above_is : (o : Option Pair) (q : Pair) → above o q ≡ is_above o q

@@ -13,4 +13,5 @@ mod Building
 mod Cleaning
 mod Creating
 mod Loading
+mod Finding
 mod Waiting

@@ -5,6 +5,7 @@
 mod build;
 mod clean;
 mod create;
+mod find;
 mod load;
 mod outbox;
 mod parts;

@@ -107,6 +107,16 @@ impl<A: Allocator + Copy> Core<A> {
         self.parts.attempts
     }
 
+    /// The places of the live entries of a key, ascending: those of the rows with this key, committed
+    /// or not.
+    ///
+    /// `NoIndex`, then `NotBuilt` while the index is built, and `NoMemory`.
+    pub fn find(&self, key: Key) -> Result<Vec<Rid, A>, Error>
+        ensures { Serves (value_of self.now) (Event.Find key) (reply_by (λ rids. Reply.Found rids.items) result) (value_of self.now) }
+    {
+        self.parts.find(key)
+    }
+
     /// The least entry whose pair comes after the given one, or the least of all.
     pub fn above(&self, pair: Option<&Pair>) -> Option<(Pair, Mark)>
         ensures { IsLeastAbove (value_of self.now).index.entries (option_copied pair.entry) result }

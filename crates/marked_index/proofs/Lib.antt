@@ -1,3 +1,4 @@
 mod Actions
 mod Places
 mod Listing
+pub mod LivePlaces
