@@ -1,5 +1,5 @@
 -- The builder's steps: the reply that is due, and what the core shows after it.
-use Rattle.std.proofs.Common.{Bool, List, None, Option, Some, [], ap, append-nil, arith, eq-eqb, false, inl, inr, nat_eq, not, refl, subst, sym, true, true≢false, ℕ, ◌&&◌, ◌++◌, ◌+◌, ◌<◌, ◌∙◌, ◌||◌, ◌≡◌, ◌≢◌, ◌≤◌, ◌⊎◌}
+use Rattle.std.proofs.Common.{Bool, List, None, Option, Some, ap, append-nil, arith, eq-eqb, false, inl, inr, nat_eq, not, refl, subst, sym, true, true≢false, ℕ, ◌&&◌, ◌++◌, ◌+◌, ◌<◌, ◌∙◌, ◌||◌, ◌≡◌, ◌≢◌, ◌≤◌}
 use Rattle.std.proofs.lemmas.Bool.Decides.{eqb_tells}
 use Rattle.std.proofs.lemmas.Cmp.{eq_by_cmp_equiv}
 use Rattle.std.proofs.lemmas.Map.Views.{Contains-from_any, list_any-from_Contains}
@@ -9,10 +9,9 @@ use Rattle.std.specs.List.{Contains}
 use Rattle.std.specs.Option.{IfSome}
 use Rattle.std.specs.Ordering.{eq_by_cmp, nat_cmp}
 use Rattle.std.specs.Prelude.{Err, IfErr, IfOk, Ok, OnErr, Result, min, ◌-◌, ◌^◌, ◌↔◌}
-use Rattle.records.specs.Maps.{IsExact, key_is, pair_exact, same_key, set_at, set_at-get}
-use Rattle.records.specs.Orders.{pair_cmp, pair_cmp_total}
+use Rattle.records.specs.Maps.{key_is, pair_exact, same_key, set_at, set_at-get}
+use Rattle.records.specs.Orders.{pair_cmp_total}
 use Rattle.records.specs.declared.error.Error.{Error}
-use Rattle.records.specs.declared.number.TheConstants.{LAST_NUMBER}
 use Rattle.records.specs.declared.limits.TheConstants.{ATTEMPTS_PER_CHECKPOINT}
 use Rattle.records.specs.declared.pair.Mark.{Mark}
 use Rattle.records.specs.declared.pair.Pair.{Pair}
@@ -26,7 +25,7 @@ use Rattle.model.specs.declared.life.Life.TheVariants.{Absent, Building, Complet
 use Rattle.marked_index.specs.Index.{IsAbsent, IsFull}
 use Rattle.sorted_scan.specs.Pairs.{is_above, is_among}
 use Rattle.sorted_scan.specs.Runs.{HandedOut, IsAtEnd, IsNextOf, IsSteady, ScanRun, Took, is_given, is_missed, is_taken, last_pair, taken_in_a_row, with_step}
-use Rattle.sorted_scan.specs.Scans.{HasRun, ScanValue, next_of}
+use Rattle.sorted_scan.specs.Scans.{HasRun, ScanValue}
 use Rattle.core_model.proofs.Laws.{build_put_some, not_none}
 use Rattle.core_model.specs.Logs.{one_record}
 use Rattle.core_model.specs.Records.{action_of, place_action}
@@ -34,7 +33,7 @@ use Rattle.core_model.specs.States.{State}
 use Rattle.core_model.specs.Steps.{Attempt, CanFinish, Checkpoint, Finish, Step, Take, above, after, all_reserved, is_pair_of}
 use Rattle.core_contracts.specs.Events as events
 use Rattle.core_contracts.specs.Events.{Event, Refused, Reply, Standing, standing_after}
-use Rattle.core_contracts.specs.Replies.{HasNoPlace, IsAllowed, IsBetween, IsBuildDue, IsDue, IsFirst, IsNextPair, accepted, refusals, refused, refused_last}
+use Rattle.core_contracts.specs.Replies.{HasNoPlace, IsBetween, IsDue, IsFirst, IsNextPair, accepted, refusals, refused, refused_last}
 use Rattle.index_core.specs.View.{Answers, CoreValue, IsSafe, IsScan, IsState, Serves, Shows}
 use Rattle.index_core.specs.Builds as builds
 use Rattle.index_core.specs.Builds.{HasAttempted, HasPassed, HasTaken, HasNextNumber, IsUnplaced, IsUnrecorded, checkpointed, completed, placed}

@@ -1,5 +1,5 @@
 -- The cleaner's steps: the reply that is due, and what the core shows after it.
-use Rattle.std.proofs.Common.{None, Option, Some, [], ap, append-nil, false, inl, inr, refl, subst, sym, true, true≢false, ℕ, ◌++◌, ◌+◌, ◌∙◌, ◌≡◌, ◌≢◌, ◌⊎◌}
+use Rattle.std.proofs.Common.{None, Option, Some, ap, append-nil, false, inl, inr, refl, subst, sym, true, true≢false, ◌+◌, ◌∙◌, ◌≡◌}
 use Rattle.std.specs.FinMap.{get}
 use Rattle.std.specs.Ordering.{is_lt}
 use Rattle.std.specs.declared.cmp.Ordering.{Ordering}
@@ -8,7 +8,6 @@ use Rattle.records.specs.Maps.{set_at}
 use Rattle.records.specs.Orders.{pair_cmp}
 use Rattle.records.specs.declared.error.Error.{Error}
 use Rattle.records.specs.declared.pair.Mark.{Mark}
-use Rattle.records.specs.declared.pair.Mark.TheVariants.{Marked}
 use Rattle.records.specs.declared.pair.Pair.{Pair}
 use Rattle.model.specs.KeyActions.{after_action}
 use Rattle.model.specs.Pairs.{is_indexed}

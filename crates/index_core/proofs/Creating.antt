@@ -1,5 +1,5 @@
 -- The creation of the index: the reply that is due, and what the core shows after it.
-use Rattle.std.proofs.Common.{Bool, Err, List, None, Ok, Option, Result, Some, [], ap, cond, eqb, false, inl, inr, refl, subst, sym, true, true≢false, ℕ, ◌+◌, ◌∙◌, ◌∷◌, ◌≡◌, ◌≢◌, ◌⊎◌}
+use Rattle.std.proofs.Common.{Err, List, None, Ok, Result, Some, [], ap, cond, false, inl, inr, refl, subst, sym, true, true≢false, ℕ, ◌+◌, ◌∙◌, ◌∷◌, ◌≡◌, ◌≢◌}
 use Rattle.std.specs.Prelude.{IfErr, IfOk, OnErr, OnOk}
 use Rattle.records.specs.declared.error.Error.{Error}
 use Rattle.model.specs.Pairs.{is_indexed}
@@ -7,10 +7,10 @@ use Rattle.txn_table.specs.Table as table
 use Rattle.txn_table.specs.Table.{TxnState}
 use Rattle.sorted_scan.specs.Scans.{HasRun, begun, begun_run}
 use Rattle.core_model.proofs.Laws.{not_none}
-use Rattle.core_model.specs.States.{Active, State}
+use Rattle.core_model.specs.States.{State}
 use Rattle.core_model.specs.Steps.{Step, after}
 use Rattle.core_contracts.specs.Events.{Event, Refused, Reply, Standing, standing_after}
-use Rattle.core_contracts.specs.Replies.{IsAnyActive, IsDue, IsFirst, refusals, refused}
+use Rattle.core_contracts.specs.Replies.{IsDue, IsFirst, refusals, refused}
 use Rattle.index_core.specs.View.{Answers, AreOne, CoreValue, IsState, Serves, Shows}
 use Rattle.index_core.specs.Replies.{reply_by, reply_of_ticket}
 use Rattle.index_core.specs.Builds.{HasNextNumber, IsUnrecorded}

@@ -1,10 +1,9 @@
 -- What is found of a key.
-use Rattle.std.proofs.Common.{suc, Err, List, None, Ok, Option, Result, Some, [], ap, arith, inl, inr, length, refl, subst, sym, ℕ, ◌+◌, ◌<◌, ◌∙◌, ◌∷◌, ◌≡◌, ◌⊎◌}
+use Rattle.std.proofs.Common.{suc, Err, List, None, Ok, Option, Result, Some, [], arith, inl, inr, length, refl, subst, sym, ℕ, ◌<◌, ◌∙◌, ◌∷◌, ◌≡◌}
 use Rattle.std.specs.FinMap.{get}
 use Rattle.std.specs.List.{AllByRecursion, AllPairs, Contains}
 use Rattle.std.specs.List.Sorted.{IsStrictlySortedBy}
 use Rattle.std.specs.Prelude.{IfErr, IfOk, slice_index_or, ◌↔◌}
-use Rattle.std.specs.declared.cmp.Ordering.{Ordering}
 use Rattle.std.specs.declared.cmp.Ordering.TheVariants.{Less}
 use Rattle.records.specs.Orders.{rid_cmp}
 use Rattle.records.specs.Values.{Place}
@@ -15,8 +14,8 @@ use Rattle.model.specs.declared.life.Life.{Life}
 use Rattle.model.specs.declared.life.Life.TheVariants.{Absent, Building, Complete}
 use Rattle.marked_index.proofs.LivePlaces.{live_places}
 use Rattle.marked_index.specs.Shown.{mark_at}
-use Rattle.core_contracts.specs.Events.{Event, Found, Refused, Reply, Standing}
-use Rattle.core_contracts.specs.Replies.{AreFound, IsDue, IsFirst, accepted, no_memory, refusals, refused}
+use Rattle.core_contracts.specs.Events.{Event, Found, Refused, Standing}
+use Rattle.core_contracts.specs.Replies.{IsDue, IsFirst, accepted, no_memory, refusals, refused}
 use Rattle.core_model.specs.States.{State}
 use Rattle.index_core.specs.Replies.{reply_by}
 use Rattle.index_core.specs.View.{Answers, CoreValue, IsState, Serves, Shows}

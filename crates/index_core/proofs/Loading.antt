@@ -1,5 +1,5 @@
 -- A core into which an entry or a life is loaded stands for some state.
-use Rattle.std.proofs.Common.{None, Option, Some, [], ap, arith, false, inl, inr, refl, subst, sym, true≢false, ℕ, ◌+◌, ◌<◌, ◌∙◌, ◌≡◌, ◌≢◌, ◌≤◌}
+use Rattle.std.proofs.Common.{None, Option, Some, ap, arith, false, inl, inr, refl, subst, sym, true≢false, ℕ, ◌+◌, ◌<◌, ◌∙◌, ◌≡◌, ◌≢◌, ◌≤◌}
 use Rattle.std.specs.FinMap.{get, len}
 use Rattle.records.specs.Maps.{get-set_at_other, pair_exact, set_at}
 use Rattle.records.specs.declared.pair.Mark.{Mark}

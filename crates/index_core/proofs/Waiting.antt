@@ -2,8 +2,6 @@
 use Rattle.std.proofs.Common.{◌≡◌, ◌<◌, List, [], ◌∷◌, ◌++◌, Result, Ok, Err, false, length, drop, sym, ap, ◌∙◌, append_assoc, arith, subst}
 use Rattle.std.specs.Prelude.{slice_index_or, MatchResult, is_err}
 use Rattle.records.specs.RecordValue.{RecordValue}
-use Rattle.core_contracts.specs.Events.{Standing}
-use Rattle.core_model.specs.States.{State}
 use Rattle.index_core.specs.View.{CoreValue, IsSafe, Shows}
 use Rattle.index_core.specs.Outbox.{HandsOn}
 

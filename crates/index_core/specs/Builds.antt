@@ -1,18 +1,15 @@
 -- What the builder does to the core, and what it answers.
 use Rattle.std.specs.FinMap.{get}
-use Rattle.std.specs.Prelude.{List, None, Option, Some, [], Contains, min, ℕ, true, ◌++◌, ◌+◌, ◌-◌, ◌^◌, ◌<◌, ◌∷◌, ◌≡◌, ◌≢◌, ◌≤◌, ◌⊎◌, ◌↔◌}
-use Rattle.records.specs.Maps.{set_at}
+use Rattle.std.specs.Prelude.{List, None, Some, Contains, min, ℕ, ◌+◌, ◌-◌, ◌^◌, ◌<◌, ◌≡◌, ◌≢◌, ◌≤◌, ◌⊎◌, ◌↔◌}
 use Rattle.records.specs.declared.error.Error.{Error}
 use Rattle.records.specs.declared.error.Error.TheVariants.{Exhausted, IndexFull, NoMemory}
 use Rattle.records.specs.declared.number.TheConstants.{LAST_NUMBER}
 use Rattle.records.specs.declared.pair.Pair.{Pair}
-use Rattle.records.specs.declared.record.Action.{Action}
 use Rattle.records.specs.declared.record.Action.TheVariants.{OfIndex}
 use Rattle.records.specs.declared.record.IndexAction.TheVariants as action
 use Rattle.heap_pages.specs.Pages.{IsPairOnPage}
 use Rattle.model.specs.declared.key_action.KeyAction.{KeyAction}
-use Rattle.model.specs.declared.life.Life.{Life}
-use Rattle.model.specs.declared.life.Life.TheVariants.{Absent, Building, Complete}
+use Rattle.model.specs.declared.life.Life.TheVariants.{Building, Complete}
 use Rattle.marked_index.specs.Index.{IsAbsent, IsFull, entries_after}
 use Rattle.sorted_scan.specs.Runs.{HandedOut, ScanRun, Took, with_step}
 use Rattle.sorted_scan.specs.Scans.{HasRun}

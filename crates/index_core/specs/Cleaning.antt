@@ -1,6 +1,6 @@
 -- What the cleaner does to the core, and what it answers.
 use Rattle.std.specs.FinMap.{get}
-use Rattle.std.specs.Prelude.{None, Option, Some, true, ◌≡◌}
+use Rattle.std.specs.Prelude.{None, Some, true, ◌≡◌}
 use Rattle.records.specs.declared.pair.Mark.TheVariants.{Marked}
 use Rattle.records.specs.declared.pair.Pair.{Pair}
 use Rattle.records.specs.declared.record.Action.TheVariants.{OfIndex}

@@ -1,5 +1,5 @@
 use Rattle.std.proofs.Common.{subst, sym, ◌∙◌, ◌≡◌}
-use Rattle.sorted_scan.specs.Scans.{HasRun, ScanValue, begun, begun_run}
+use Rattle.sorted_scan.specs.Scans.{HasRun, begun, begun_run}
 use Rattle.core_model.specs.Histories.{highest_of}
 use Rattle.index_core.specs.View.{CoreValue, IsSafe}
 use Rattle.index_core.specs.Parts.{parts_of}
