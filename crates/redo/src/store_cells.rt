@@ -9,7 +9,7 @@ ghost use Rattle.redo.specs.Restored.{given_in};
 
 use crate::refusal::{Refusal, Stopped};
 use crate::restored::Restored;
-use model::{CellMaps, Life, Recovered};
+use model::{CellMaps, Life};
 use records::{Change, Geometry, Mark, Pair, Record, Rid, Row, Txn};
 use std::alloc::{AllocError, Allocator};
 use std::marker::Model;
@@ -146,18 +146,13 @@ impl<A: Allocator + Copy> StoreCells<A> {
             last,
             ..
         } = self;
-        let Recovered {
-            rows,
-            entries,
-            life,
-            last,
-        } = maps.recover(last)?;
+        let found = maps.recover(last)?;
         Ok(Restored {
             geometry,
-            rows,
-            entries,
-            life,
-            last,
+            rows: found.rows,
+            entries: found.entries,
+            life: found.life,
+            last: found.last,
         })
     }
 }

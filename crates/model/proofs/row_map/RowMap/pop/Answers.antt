@@ -1,6 +1,6 @@
 use Rattle.records.specs.Maps.{rid_exact}
 use Rattle.model.proofs.MapLaws.{popped_fewer, popped_taken, popped_there}
-use Rattle.model.proofs.row_map.RowMap.pop_least.Goals as goal
+use Rattle.model.proofs.row_map.RowMap.pop.Goals as goal
 
 pub returns-clause-some : goal.returns-clause-some
 returns-clause-some g c = popped_there rid_exact c.self.inside.rows c.pop_first.new.self c.args.self.now c.self.view_is c.pop_first.result c.pop_first.ensures.removal

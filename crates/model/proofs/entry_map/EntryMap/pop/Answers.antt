@@ -1,6 +1,6 @@
 use Rattle.records.specs.Maps.{pair_exact}
 use Rattle.model.proofs.MapLaws.{popped_fewer, popped_taken, popped_there}
-use Rattle.model.proofs.entry_map.EntryMap.pop_least.Goals as goal
+use Rattle.model.proofs.entry_map.EntryMap.pop.Goals as goal
 
 pub returns-clause-some : goal.returns-clause-some
 returns-clause-some g c = popped_there pair_exact c.self.inside.marks c.pop_first.new.self c.args.self.now c.self.view_is c.pop_first.result c.pop_first.ensures.removal
