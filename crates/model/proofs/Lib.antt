@@ -14,3 +14,4 @@ pub mod PlacesLaws
 pub mod PlacedLaws
 pub mod ImageLaws
 pub mod GivenLaws
+pub mod InsideLaws

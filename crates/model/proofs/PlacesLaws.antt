@@ -34,7 +34,7 @@ module _ (pages : ℕ) where
   abbrev AreHere : Pending → Type 0
   AreHere pending = (txn : ℕ) → All Here (list_of pending txn)
 
-  set_within : (rows : Table) (k : Place) (v : Option Row) → k.page < pages → IsWithin pages rows → IsWithin pages (set_at rows k v)
+  pub set_within : (rows : Table) (k : Place) (v : Option Row) → k.page < pages → IsWithin pages rows → IsWithin pages (set_at rows k v)
   set_within rows k v inside is q row found = by_key (eq_by_cmp rid_cmp q k) refl
     where
       by_key : (b : Bool) → eq_by_cmp rid_cmp q k ≡ b → q.page < pages
@@ -77,7 +77,7 @@ module _ (pages : ℕ) where
   list_here cells txn Commit changes can here = All-nil Here
   list_here cells txn End changes can here = All-nil Here
 
-  with_list_here : (pending : Pending) (txn : ℕ) (list : Option (List ChangeValue)) → All Here (unwrap_or list []) → AreHere pending → AreHere (with_list pending txn list)
+  pub with_list_here : (pending : Pending) (txn : ℕ) (list : Option (List ChangeValue)) → All Here (unwrap_or list []) → AreHere pending → AreHere (with_list pending txn list)
   with_list_here pending txn list new here other =
       elim (cases_eq other txn) [
         | inl is ↦ subst (λ n. All Here (list_of (with_list pending txn list) n)) (sym is) (All-same Here _ _ (list_of-with_list pending txn list) new)
@@ -88,7 +88,7 @@ module _ (pages : ℕ) where
   abbrev AreIn : Cells → Type 0
   AreIn cells = IsWithin pages cells.rows × AreHere cells.pending
 
-  step_in : (cells : Cells) (action : Action) → CanFollowBy pages cells action → AreIn cells → AreIn (set_by cells action)
+  pub step_in : (cells : Cells) (action : Action) → CanFollowBy pages cells action → AreIn cells → AreIn (set_by cells action)
   step_in cells (OfTxn txn action) can is = (
     rows_by_txn_within cells txn action can is.0,
     with_list_here cells.pending txn (list_by (list_of cells.pending txn) action) (list_here cells txn action (list_of cells.pending txn) can (is.1 txn)) is.1,

@@ -1,8 +1,10 @@
 //! Redo, the plain slow way.
-ghost use Rattle.std.specs.Prelude.{◌≡◌, ◌↔◌, IsTrue, OnOk, IfOk};
+ghost use Rattle.std.specs.Prelude.{◌≡◌, ◌≢◌, ◌↔◌, List, None, IsTrue, OnOk, OnErr, IfOk};
 ghost use Rattle.std.specs.FinMap as map;
-ghost use Rattle.model.specs.Redo.{cells_of, given_of, IsRedone};
-ghost use Rattle.model.specs.Cells.{set_by, cells_after};
+ghost use Rattle.records.specs.ChangeValue.{ChangeValue};
+ghost use Rattle.records.specs.declared.record.Action.TheVariants.{OfTxn};
+ghost use Rattle.model.specs.Redo.{cells_of, given_of, with_part, IsRedone};
+ghost use Rattle.model.specs.Cells.{list_by, set_by, cells_after};
 ghost use Rattle.model.specs.Following.{CanFollow, CanFollowBy, CanFollowTxn};
 ghost use Rattle.model.specs.Given.{recovered};
 
@@ -10,7 +12,7 @@ use crate::entry_map::EntryMap;
 use crate::life::Life;
 use crate::list_map::ListMap;
 use crate::row_map::RowMap;
-use records::{Action, Record, Txn, TxnAction};
+use records::{Action, Part, Record, Txn, TxnAction};
 use std::alloc::{AllocError, Allocator};
 
 /// All cells.
@@ -54,14 +56,46 @@ impl<A: Allocator + Copy> CellMaps<A> {
         }
     }
 
-    fn redo_one(&mut self, alloc: A, action: &Action) -> Result<(), AllocError>
-        ensures { OnOk result (cells_of self.new ≡ set_by (cells_of self.old) action.now) }
+    // Sets the row or the entry of which a transaction's record of this action speaks.
+    fn set_part(&mut self, action: &TxnAction) -> Result<(), AllocError>
+        ensures ok { OnOk result (cells_of self.new ≡ with_part (cells_of self.old) action.now) }
+        ensures err { OnErr result (cells_of self.new ≡ cells_of self.old) }
+        ensures step { OnErr result ((changes : List ChangeValue) → list_by changes action.now ≢ None) }
     {
-        self.rows.redo(action)?;
-        self.entries.redo(action)?;
-        self.lists.redo(alloc, action)?;
-        self.life = self.life.redo(action);
+        match action {
+            TxnAction::Forward { part, .. } | TxnAction::Undo { part, .. } => match part {
+                Part::Slot => self.rows.redo_txn(action),
+                Part::OldEntry | Part::NewEntry => self.entries.redo_txn(action),
+            },
+            TxnAction::Commit | TxnAction::End => Ok(()),
+        }
+    }
+
+    fn redo_txn(&mut self, alloc: A, txn: Txn, action: &TxnAction) -> Result<(), AllocError>
+        ensures ok { OnOk result (cells_of self.new ≡ set_by (cells_of self.old) (OfTxn txn action.now)) }
+        ensures err { OnErr result (cells_of self.new ≡ cells_of self.old) }
+    {
+        let was = self.lists.redo_txn(alloc, txn, action)?;
+        if let Err(error) = self.set_part(action) {
+            self.lists.put_back(txn, was);
+            return Err(error);
+        }
         Ok(())
+    }
+
+    /// Sets the cells of which a record of this action speaks. Where there is no memory they are as before.
+    pub fn redo_one(&mut self, alloc: A, action: &Action) -> Result<(), AllocError>
+        ensures ok { OnOk result (cells_of self.new ≡ set_by (cells_of self.old) action.now) }
+        ensures err { OnErr result (cells_of self.new ≡ cells_of self.old) }
+    {
+        match action {
+            Action::OfTxn { txn, action } => self.redo_txn(alloc, *txn, action),
+            Action::OfIndex { .. } => {
+                self.entries.redo(action)?;
+                self.life = self.life.redo(action);
+                Ok(())
+            }
+        }
     }
 
     /// The cells after these records, the first of them first.

@@ -23,7 +23,9 @@ ghost use Rattle.records.specs.declared.record.Action.TheVariants.{OfTxn};
 ghost use Rattle.records.specs.declared.record.TxnAction.TheVariants.{Forward, Undo, Commit, End};
 ghost use Rattle.records.specs.declared.record.Part.TheVariants.{Slot};
 ghost use Rattle.model.specs.Cells.{Cells, cells_after, rows_after, set_by, reverted, changed, AreChanges, Pending, list_of, with_list, noted, taken_off};
-ghost use Rattle.model.specs.Following.{CanFollow, AreFollowing, ArePlaced, IsFirstUnfit, IsWithin};
+ghost use Rattle.records.specs.declared.record.Action.{Action};
+ghost use Rattle.model.specs.Inside.{AreInside, IsInside};
+ghost use Rattle.model.specs.Following.{CanFollow, CanFollowBy, AreFollowing, ArePlaced, IsFirstUnfit, IsWithin};
 ghost use Rattle.model.specs.History.{Item, Committed, table_after, table_with, life_after, life_with, up_to, AreRising};
 
 /// A record after others sets its cells last.
@@ -140,4 +142,10 @@ pub fn beginnings()
     ensures itself { (given : Given) (items : List Item) → AreRising given.last items → ((p : Pair) → map.get given.entries p ≡ Some Live → IsPairOf given.table p) → IsBeginning given items given.last given }
     ensures further { (opening : Given) (items later : List Item) (floor : ℕ) (given : Given) → IsBeginning opening items floor given → AreRising given.last later → IsBeginning opening (items ++ later) floor given }
     ensures lower { (opening : Given) (items : List Item) (floor lower : ℕ) (given : Given) → IsBeginning opening items floor given → lower ≤ floor → IsBeginning opening items lower given }
+{}
+
+/// What the cells of a store hold stays in its pages by each record that can follow, and so does what is recovered of them.
+pub fn inside_pages()
+    ensures record { (pages : ℕ) (cells : Cells) (action : Action) → CanFollowBy pages cells action → AreInside pages cells → AreInside pages (set_by cells action) }
+    ensures recovered { (pages : ℕ) (cells : Cells) (last : ℕ) → AreInside pages cells → IsInside pages (recovered cells last) }
 {}

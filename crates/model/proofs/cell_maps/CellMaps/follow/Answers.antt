@@ -25,7 +25,7 @@ loop-index-preserved g c =
     (subst (λ n. CanFollow c.args.pages n (cells_of c.loop-index.self) r) is.number here) in
     record {
       cells =
-          c.in_ok-redo_one.ensures
+          c.in_ok-redo_one.ensures.ok
           ∙ ap (λ (x : RecordValue). set_by (cells_of c.loop-index.self) x.action) c.record.view_is
           ∙ ap (λ (x : Cells). set_by x r.action) is.cells
           ∙ sym (cells_one_more c.args.pages c.args.last (cells_of c.args.self) c.args.records.now c.loop-index.index r (omega arith) c.index-records-index.is is.following);

@@ -1,0 +1,38 @@
+use Rattle.std.proofs.Common.{ap, arith, subst, sym, ◌∙◌, ◌≡◌, ◌≤◌}
+use Rattle.std.specs.FinMap as map
+use Rattle.records.specs.GeometryValue.{GeometryValue}
+use Rattle.model.specs.Following.{IsWithin}
+use Rattle.redo.specs.Restored.{given_in}
+use Rattle.core_model.specs.Histories.{opened}
+use Rattle.core_contracts.specs.Events.{standing_at}
+use Rattle.index_core.specs.Loading.{IsLifeWithin, with_life}
+use Rattle.index_core.specs.Moves.{fresh}
+use Rattle.index_core.specs.Value.{value_of}
+use Rattle.index_core.specs.View.{CoreValue, IsState}
+use Rattle.core_loader.specs.Loaded.{store_of, with_entries, with_rows}
+use Rattle.core_loader.proofs.Loading.{stands_for}
+use Rattle.core_loader.proofs.loaded_core.load.Goals as goal
+
+pub load_rows-requires-clause-within : goal.load_rows-requires-clause-within
+load_rows-requires-clause-within g c = subst (λ (v : CoreValue). IsWithin v.heap.pages c.args.found.rows) (sym c.in_ok-core.ensures.made) c.args.found.inside.rows
+
+pub load_life-requires-clause-inside : goal.load_life-requires-clause-inside
+load_life-requires-clause-inside g c =
+    let f = c.args.found in
+    let rows : value_of c.load_rows.new.core ≡ with_rows (fresh f.geometry f.last) f.rows = c.load_rows.ensures ∙ ap (λ (v : CoreValue). with_rows v f.rows) c.in_ok-core.ensures.made in
+    let entries : value_of c.load_entries.new.core ≡ with_entries (with_rows (fresh f.geometry f.last) f.rows) f.entries = c.in_ok-load_entries.ensures.ok ∙ ap (λ (v : CoreValue). with_entries v f.entries) rows in
+    subst (λ (v : CoreValue). IsLifeWithin v f.life) (sym entries) f.inside.life
+
+pub returns-clause-made : goal.returns-clause-made
+returns-clause-made g c =
+    let f = c.args.found in
+    let rows : value_of c.load_rows.new.core ≡ with_rows (fresh f.geometry f.last) f.rows = c.load_rows.ensures ∙ ap (λ (v : CoreValue). with_rows v f.rows) c.in_ok-core.ensures.made in
+    let entries : value_of c.load_entries.new.core ≡ with_entries (with_rows (fresh f.geometry f.last) f.rows) f.entries = c.in_ok-load_entries.ensures.ok ∙ ap (λ (v : CoreValue). with_entries v f.entries) rows in
+    c.load_life.ensures ∙ ap (λ (v : CoreValue). with_life v f.life) entries
+
+pub returns-clause-opened : goal.returns-clause-opened
+returns-clause-opened g c =
+    let f = c.args.found in
+    let most = ap (λ (x : GeometryValue). x.entries) c.geometry.view_is in
+    let room : map.len f.entries ≤ f.geometry.entries = omega (arith, c.len.ensures, most, c.if-len-geometry.false) in
+    subst (λ (v : CoreValue). IsState v (opened (store_of f)) (standing_at f.last)) (sym (returns-clause-made g c)) (stands_for f.geometry (given_in f) f.inside room f.numbered)

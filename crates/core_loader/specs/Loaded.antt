@@ -1,0 +1,24 @@
+-- A core over what is given.
+use Rattle.records.specs.GeometryValue.{GeometryValue}
+use Rattle.model.specs.Given.{Given}
+use Rattle.model.specs.Table.{Index, Table}
+use Rattle.redo.specs.Restored.{given_in}
+use Rattle.redo.specs.declared.restored.Restored.{Restored}
+use Rattle.core_model.specs.Histories.{Opened}
+use Rattle.index_core.specs.Loading.{with_life}
+use Rattle.index_core.specs.Moves.{fresh}
+use Rattle.index_core.specs.View.{CoreValue}
+
+abbrev pub with_rows : CoreValue → Table → CoreValue
+with_rows v rows = record v { heap = record v.heap { rows = rows } }
+
+abbrev pub with_entries : CoreValue → Index → CoreValue
+with_entries v entries = record v { index = record v.index { entries = entries } }
+
+-- a core of this geometry with just what is given, and no transaction
+abbrev pub holding : GeometryValue → Given → CoreValue
+holding geometry given = with_life (with_entries (with_rows (fresh geometry given.last) given.table) given.entries) given.life
+
+-- what the abstract core begins with
+abbrev pub store_of : {A : Type 0} → Restored A → Opened
+store_of found = record { given = given_in found; pages = found.geometry.pages; places = found.geometry.entries }

@@ -1,0 +1,77 @@
+//! A core is loaded.
+ghost use Rattle.std.specs.Prelude.{◌≡◌, ◌⊎◌, ◌↔◌, ◌+◌, ◌<◌, ◌≤◌, Err, IfOk, IfErr, OnOk};
+ghost use Rattle.std.specs.FinMap as map;
+ghost use Rattle.model.specs.Following.{IsWithin};
+ghost use Rattle.model.specs.Inside.{AreEntriesWithin};
+ghost use Rattle.core_model.specs.Histories.{opened};
+ghost use Rattle.core_contracts.specs.Events.{standing_at};
+ghost use Rattle.index_core.specs.Loading.{IsQuiet};
+ghost use Rattle.index_core.specs.Value.{value_of};
+ghost use Rattle.index_core.specs.View.{IsState};
+ghost use Rattle.core_loader.specs.Loaded.{holding, store_of, with_entries, with_rows};
+ghost use Rattle.redo.specs.Restored.{given_in};
+
+use index_core::Core;
+use model::{EntryMap, RowMap};
+use records::Error;
+use redo::Restored;
+use std::alloc::Allocator;
+
+// Loads these rows into a core that has none.
+fn load_rows<A: Allocator + Copy>(core: &mut Core<A>, mut rows: RowMap<A>)
+    requires none { (value_of core.old).heap.rows ≡ map.empty }
+    requires within { IsWithin (value_of core.old).heap.pages rows }
+    ensures { value_of core.new ≡ with_rows (value_of core.old) rows }
+{
+    while let Some(entry) = rows.pop() {
+        let (rid, row) = entry;
+        core.load_row(rid, Some(row));
+    }
+}
+
+// Loads these entries into a core that has none, but room for them.
+fn load_entries<A: Allocator + Copy>(
+    core: &mut Core<A>,
+    mut entries: EntryMap<A>,
+) -> Result<(), Error>
+    requires quiet { IsQuiet (value_of core.old) }
+    requires none { (value_of core.old).index.entries ≡ map.empty }
+    requires within { AreEntriesWithin (value_of core.old).heap.pages entries }
+    requires room { map.len entries + (value_of core.old).index.pledged ≤ (value_of core.old).index.capacity }
+    ensures ok { OnOk result (value_of core.new ≡ with_entries (value_of core.old) entries) }
+    ensures no_memory { IfErr result (λ e. e ≡ Error.NoMemory) }
+{
+    while let Some(entry) = entries.pop() {
+        let (pair, mark) = entry;
+        core.load_entry(&pair, Some(mark))?;
+    }
+    Ok(())
+}
+
+/// A core that holds just what was restored, with no transaction: the rows, the entries, how far the index is, and the
+/// number of the last record. An entry that is not there is not loaded.
+///
+/// `IndexFull` where there are more entries than the geometry has room for, which comes of no store that a crash left;
+/// else `NoMemory`.
+pub fn load<A: Allocator + Copy>(alloc: A, found: Restored<A>) -> Result<Core<A>, Error>
+    ensures made { IfOk result (λ core. value_of core ≡ holding found.geometry (given_in found)) }
+    ensures opened { IfOk result (λ core. IsState (value_of core) (opened (store_of found)) (standing_at found.last)) }
+    ensures full { (result ≡ Err Error.IndexFull) ↔ (found.geometry.entries < map.len found.entries) }
+    ensures refused { IfErr result (λ e. (e ≡ Error.IndexFull) ⊎ (e ≡ Error.NoMemory)) }
+{
+    let Restored {
+        geometry,
+        rows,
+        entries,
+        life,
+        last,
+    } = found;
+    if entries.len() > geometry.entries as usize {
+        return Err(Error::IndexFull);
+    }
+    let mut core = Core::new(alloc, geometry, last)?;
+    load_rows(&mut core, rows);
+    load_entries(&mut core, entries)?;
+    core.load_life(life);
+    Ok(core)
+}

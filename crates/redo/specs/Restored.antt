@@ -1,0 +1,6 @@
+-- What is restored of a store.
+use Rattle.model.specs.Given.{Given}
+use Rattle.redo.specs.declared.restored.Restored.{Restored}
+
+abbrev pub given_in : {A : Type 0} → Restored A → Given
+given_in found = record { table = found.rows; entries = found.entries; life = found.life; last = found.last }
