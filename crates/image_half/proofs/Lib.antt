@@ -1,0 +1,9 @@
+mod Lists
+mod Maps
+mod Cut
+mod OneImage
+mod Sound
+mod Growing
+mod Bytes
+mod Refusing
+mod Heads
