@@ -7,3 +7,4 @@ mod Growing
 mod Bytes
 mod Refusing
 mod Heads
+mod Told

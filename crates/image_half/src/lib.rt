@@ -8,6 +8,6 @@ mod pieces;
 mod read;
 mod sink;
 
-pub use laws::{one_damage, one_image};
+pub use laws::{one_damage, one_image, told_by_its_sectors};
 pub use read::read_image;
 pub use sink::CellSink;
