@@ -8,6 +8,8 @@ use Rattle.records.specs.declared.error.Error.{Error}
 use Rattle.records.specs.declared.error.Error.TheVariants.{DeviceFailed, NotFormatted, Damaged, DeviceTooSmall}
 use Rattle.records.specs.GeometryValue.{GeometryValue, IsGeometry, sectors_of}
 use Rattle.records.specs.Spelling.{u32}
+use Rattle.model.specs.Cells.{Cells}
+use Rattle.image_half.specs.Image.{IsImage}
 use Rattle.flip_image.specs.declared.half.Half.{Half}
 use Rattle.flip_image.specs.declared.half.Half.TheVariants.{A, B}
 use Rattle.flip_image.specs.declared.half.TheConstants.{FLIP_SECTOR}
@@ -44,6 +46,10 @@ pub record IsStore (g : GeometryValue) (half : Half) (image : Image) : Type 0 wh
 -- any bytes in the flip sector.
 abbrev pub IsFlipping : Disk → Image → Type 0
 IsFlipping old image = SameOutside (λ n. old.unsynced n ≡ true) old.content image ⊎ SameOutside (λ n. n ≡ FLIP_SECTOR) old.content image
+
+-- the half holds the image of these cells, which record `base` left
+abbrev pub HoldsImage : GeometryValue → Half → Image → ℕ → Cells → Type 0
+HoldsImage g half image base cells = IsImage g (header_sector g half) image base cells
 
 -- ---- a half as `format` leaves it
 

@@ -4,17 +4,21 @@ ghost use Rattle.sector_device.specs.Disk.{sector, IsSynced, SameOutside};
 ghost use Rattle.sector_device.specs.History.{OnlyReads, LeavesOnly, CountsFailure};
 ghost use Rattle.sector_device.specs.Values.{zero_sector};
 ghost use Rattle.records.specs.GeometryValue.{GeometryValue, IsGeometry, sectors_of};
-ghost use Rattle.flip_image.specs.Layout.{other, log_first};
-ghost use Rattle.flip_image.specs.Store.{Names, IsFlipping, IsSuperblock, IsStore, IsFresh, IsFormatted, AreGatesClosed, AreLogGatesZero, IsFormatSector, IsRefused, IsFirstUsed, AreZeros, IsDeviceFailure, IsUntitled, IsSuperblockDamaged};
+ghost use Rattle.image_half.specs.Image.{nothing};
+ghost use Rattle.image_half.specs.Damage.{IsUnread};
+ghost use Rattle.flip_image.specs.Layout.{other, header_sector, log_first};
+ghost use Rattle.flip_image.specs.Store.{Names, IsFlipping, IsSuperblock, IsStore, IsFresh, HoldsImage, IsFormatted, AreGatesClosed, AreLogGatesZero, IsFormatSector, IsRefused, IsFirstUsed, AreZeros, IsDeviceFailure, IsUntitled, IsSuperblockDamaged};
 
 use crate::flip::write_flip_sector;
 use crate::half::{FLIP_SECTOR, Half};
 use crate::superblock::{SUPERBLOCK_SECTOR, geometry_of, superblock};
 use crate::zeros::read_zeros;
+use image_half::{CellSink, read_image};
 use records::{
     Error, FRONT_SECTORS, Geometry, HEADER_SECTORS, HEADS_SECTORS, PAGE_SECTORS, SLOT_SECTORS,
 };
 use sector_device::{Device, Failed, SECTOR_SIZE, is_marked, write_zeros, zero_sector};
+use std::alloc::Allocator;
 use std::marker::Model;
 
 /// The two halves of a store, as its superblock and its flip sector say: how large they are, and which one is current.
@@ -110,6 +114,28 @@ impl Halves {
         check_half(device, self.geometry, self.current)
     }
 
+    /// Reads the image of the current half into an empty sink. The answer is the image's base, the number of the last record
+    /// made as it began. Nothing is written.
+    ///
+    /// `Damaged` names the first sector with a part that says nothing: the header, the transaction heads, an undo item, the
+    /// first sector of a page, or an entry. `NoMemory` where the sink refuses a cell.
+    pub fn read_image<D: Device, S: CellSink, A: Allocator + Copy>(
+        &self,
+        alloc: A,
+        device: &mut D,
+        sink: &mut S,
+    ) -> Result<u64, Error>
+        requires empty { S.cells sink.old ≡ nothing }
+        requires inside { sectors_of self.now.geometry ≤ length (D.history device.old).disk.content }
+        ensures read { IfOk result (λ base. HoldsImage self.now.geometry self.now.current (D.history device.old).disk.content base (S.cells sink.new)) }
+        ensures refused { IfErr result (IsUnread self.now.geometry (header_sector self.now.geometry self.now.current) (D.history device.old).disk.content (D.failures device.old) (D.failures device.new)) }
+        ensures reads { OnlyReads (D.history device.old) (D.history device.new) }
+        ensures quiet { OnOk result (D.failures device.new ≡ D.failures device.old) }
+        ensures later { D.failures device.old ≤ D.failures device.new }
+    {
+        read_half(alloc, device, self.geometry, self.current, sink)
+    }
+
     /// Makes the other half current, whose image and log must be whole: syncs, writes the flip sector, and syncs.
     ///
     /// A crash leaves what it might leave before, until all is synced, and from then on that with any bytes in the flip
@@ -156,6 +182,26 @@ impl Halves {
     {
         self.current.log_first(self.geometry)
     }
+}
+
+// What `read_image` does, for a half of a store.
+fn read_half<D: Device, S: CellSink, A: Allocator + Copy>(
+    alloc: A,
+    device: &mut D,
+    geometry: Geometry,
+    half: Half,
+    sink: &mut S,
+) -> Result<u64, Error>
+    requires empty { S.cells sink.old ≡ nothing }
+    requires inside { sectors_of geometry ≤ length (D.history device.old).disk.content }
+    ensures read { IfOk result (λ base. HoldsImage geometry half (D.history device.old).disk.content base (S.cells sink.new)) }
+    ensures refused { IfErr result (IsUnread geometry (header_sector geometry half) (D.history device.old).disk.content (D.failures device.old) (D.failures device.new)) }
+    ensures reads { OnlyReads (D.history device.old) (D.history device.new) }
+    ensures quiet { OnOk result (D.failures device.new ≡ D.failures device.old) }
+    ensures later { D.failures device.old ≤ D.failures device.new }
+{
+    let first = half.header_sector(geometry);
+    read_image(alloc, device, geometry, first, sink)
 }
 
 // Writes what `format` writes, and syncs.

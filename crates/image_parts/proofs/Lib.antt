@@ -1,2 +1,3 @@
 mod Bytes
 mod Again
+pub mod OneReading

@@ -1,6 +1,6 @@
 -- Words for the private steps of reading: what stands at the front of some bytes, whatever the padding is. No public clause
 -- cites them.
-use Rattle.std.specs.Prelude.{ℕ, List, length, take, drop, Option, Some, None, if◌then◌else◌, nat_lt, ◌==◌}
+use Rattle.std.specs.Prelude.{ℕ, ◌-◌, List, length, take, drop, Option, Some, None, if◌then◌else◌, nat_lt, ◌==◌}
 use Rattle.records.specs.declared.key.TheConstants.{KEY_MAX, BODY_MAX}
 use Rattle.records.specs.declared.change.TheConstants.{CHANGES_MAX}
 use Rattle.records.specs.declared.row.Row.{Row}
@@ -10,6 +10,8 @@ use Rattle.records.specs.declared.pair.Mark.TheVariants.{Live, Marked}
 use Rattle.records.specs.Reading.{◌>>=◌, u16_at, u32_at, u64_at, byte_at, rid_at, rows_of}
 use Rattle.model.specs.declared.life.Life.{Life}
 use Rattle.model.specs.declared.life.Life.TheVariants.{Absent, Building, Complete}
+use Rattle.image_parts.specs.declared.row.TheConstants.{ROW_SIZE}
+use Rattle.image_parts.specs.declared.fields.TheConstants.{PAIR_SIZE}
 use Rattle.image_parts.specs.declared.head.Head.{Head}
 use Rattle.image_parts.specs.declared.header.Header.{Header}
 use Rattle.image_parts.specs.declared.item.UndoItem.{UndoItem}
@@ -25,7 +27,7 @@ padded_at max bytes = do
 unfoldable pub row_at : List ℕ → Option (Option Row × List ℕ)
 row_at bytes = do
   tag ← byte_at bytes
-  if tag.0 == 0 then (skipped 63 tag.1 >>= λ rest. Some (None, rest)) else (padded_at KEY_MAX tag.1 >>= λ key. padded_at BODY_MAX key.1 >>= λ body. Some (Some (record { key = key.0; body = body.0 }), body.1))
+  if tag.0 == 0 then (skipped (ROW_SIZE - 1) tag.1 >>= λ rest. Some (None, rest)) else (padded_at KEY_MAX tag.1 >>= λ key. padded_at BODY_MAX key.1 >>= λ body. Some (Some (record { key = key.0; body = body.0 }), body.1))
 
 unfoldable pub pair_at : List ℕ → Option (Pair × List ℕ)
 pair_at bytes = do
@@ -36,7 +38,7 @@ pair_at bytes = do
 unfoldable pub highest_at : List ℕ → Option (Option Pair × List ℕ)
 highest_at bytes = do
   tag ← byte_at bytes
-  if tag.0 == 0 then (skipped 31 tag.1 >>= λ rest. Some (None, rest)) else (pair_at tag.1 >>= λ p. Some (Some p.0, p.1))
+  if tag.0 == 0 then (skipped PAIR_SIZE tag.1 >>= λ rest. Some (None, rest)) else (pair_at tag.1 >>= λ p. Some (Some p.0, p.1))
 
 unfoldable pub life_at : List ℕ → Option (Life × List ℕ)
 life_at bytes = do

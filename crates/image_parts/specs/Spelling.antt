@@ -14,6 +14,7 @@ use Rattle.model.specs.declared.life.Life.TheVariants.{Absent, Building, Complet
 use Rattle.image_parts.specs.declared.row.TheConstants.{ROW_SIZE}
 use Rattle.image_parts.specs.declared.head.TheConstants.{HEAD_SIZE}
 use Rattle.image_parts.specs.declared.item.TheConstants.{ITEM_SIZE}
+use Rattle.image_parts.specs.declared.header.TheConstants.{HIGHEST_SIZE}
 use Rattle.image_parts.specs.declared.head.Head.{Head}
 use Rattle.image_parts.specs.declared.header.Header.{Header}
 use Rattle.image_parts.specs.declared.item.UndoItem.{UndoItem}
@@ -56,7 +57,7 @@ item i = filled ITEM_SIZE (1 ∷ (rid i.rid ++ (row (old_row i.rows) ++ row (new
 
 -- 0, or 1 and the pair
 abbrev pub highest : Option Pair → List ℕ
-highest None = zeros 32
+highest None = zeros HIGHEST_SIZE
 highest (Some p) = 1 ∷ pair p
 
 -- how far the index is, and up to which pair it is built

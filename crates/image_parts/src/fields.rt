@@ -5,8 +5,15 @@ ghost use Rattle.records.specs.Spelling.{RidFits, PairFits};
 ghost use Rattle.image_parts.specs.Spelling.{padded, row, pair, RowFitsIfSome};
 
 use crate::buffer::Buffer;
+use crate::row::ROW_SIZE;
 use byteorder::{BigEndian, ByteOrder};
 use records::{BODY_MAX, KEY_MAX, Pair, Rid, Row};
+
+// The bytes of a place: page and slot.
+pub(crate) const RID_SIZE: usize = 4 + 2;
+
+// The bytes of a pair: the length of its key, the key with its padding, and its place.
+pub(crate) const PAIR_SIZE: usize = 1 + KEY_MAX + RID_SIZE;
 
 #[tactic(auto, unfolding(records::specs::Spelling::u16))]
 pub(crate) fn put_u16<const N: usize>(out: &mut Buffer<N>, n: u16)
@@ -55,10 +62,10 @@ pub(crate) fn put_padded<const N: usize>(out: &mut Buffer<N>, max: u8, bytes: &[
 
 // A place: page and slot.
 pub(crate) fn put_rid<const N: usize>(out: &mut Buffer<N>, rid: Rid)
-    requires { length out.old + 6 ≤ N }
+    requires { length out.old + RID_SIZE ≤ N }
     ensures put { out.new ≡ out.old ++ as_bytes.rid rid }
     ensures fits { RidFits rid }
-    ensures size { length out.new ≡ length out.old + 6 }
+    ensures size { length out.new ≡ length out.old + RID_SIZE }
 {
     put_u32(out, rid.page);
     put_u16(out, rid.slot);
@@ -66,10 +73,10 @@ pub(crate) fn put_rid<const N: usize>(out: &mut Buffer<N>, rid: Rid)
 
 // A pair: its key and its place.
 pub(crate) fn put_pair<const N: usize>(out: &mut Buffer<N>, found: &Pair)
-    requires { length out.old + 31 ≤ N }
+    requires { length out.old + PAIR_SIZE ≤ N }
     ensures put { out.new ≡ out.old ++ pair found.now }
     ensures fits { PairFits found.now }
-    ensures size { length out.new ≡ length out.old + 31 }
+    ensures size { length out.new ≡ length out.old + PAIR_SIZE }
 {
     put_padded(out, KEY_MAX as u8, found.key.as_slice());
     put_rid(out, found.rid);
@@ -77,13 +84,13 @@ pub(crate) fn put_pair<const N: usize>(out: &mut Buffer<N>, found: &Pair)
 
 // 1 and the row, or zeros.
 pub(crate) fn put_row<const N: usize>(out: &mut Buffer<N>, found: &Option<Row>)
-    requires { length out.old + 64 ≤ N }
+    requires { length out.old + ROW_SIZE ≤ N }
     ensures put { out.new ≡ out.old ++ row found.now }
     ensures fits { RowFitsIfSome found.now }
-    ensures size { length out.new ≡ length out.old + 64 }
+    ensures size { length out.new ≡ length out.old + ROW_SIZE }
 {
     match found {
-        None => out.push_zeros(64),
+        None => out.push_zeros(ROW_SIZE),
         Some(row) => {
             out.push(&[1]);
             put_padded(out, KEY_MAX as u8, row.key.as_slice());

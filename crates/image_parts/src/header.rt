@@ -6,11 +6,17 @@ ghost use Rattle.image_parts.specs.Reading.{highest_at, life_at, header_at};
 ghost use Rattle.image_parts.specs.Spelling.{header, highest, life, PairFitsIfSome, LifeFits, HeaderFits};
 
 use crate::buffer::Buffer;
-use crate::fields::{put_pair, put_u32, put_u64};
+use crate::fields::{PAIR_SIZE, put_pair, put_u32, put_u64};
 use crate::take::{byte_of, pair_of, skip, u32_of, u64_of};
 use model::Life;
 use records::{LAST_NUMBER, Pair};
 use sector_device::SECTOR_SIZE;
+
+// The bytes of a highest pair: whether there is one, and the pair.
+pub(crate) const HIGHEST_SIZE: usize = 1 + PAIR_SIZE;
+
+// The bytes of a life: its kind, and the highest pair.
+const LIFE_SIZE: usize = 1 + HIGHEST_SIZE;
 
 /// What an image's header says.
 #[derive(Clone, Copy, Debug, PartialEq, Eq)]
@@ -25,13 +31,13 @@ pub struct Header {
 
 // 0, or 1 and the pair.
 fn put_highest<const N: usize>(out: &mut Buffer<N>, found: &Option<Pair>)
-    requires { length out.old + 32 ≤ N }
+    requires { length out.old + HIGHEST_SIZE ≤ N }
     ensures put { out.new ≡ out.old ++ highest found.now }
     ensures fits { PairFitsIfSome found.now }
-    ensures size { length out.new ≡ length out.old + 32 }
+    ensures size { length out.new ≡ length out.old + HIGHEST_SIZE }
 {
     match found {
-        None => out.push_zeros(32),
+        None => out.push_zeros(HIGHEST_SIZE),
         Some(pair) => {
             out.push(&[1]);
             put_pair(out, pair);
@@ -41,10 +47,10 @@ fn put_highest<const N: usize>(out: &mut Buffer<N>, found: &Option<Pair>)
 
 // How far the index is, and up to which pair it is built.
 fn put_life<const N: usize>(out: &mut Buffer<N>, found: &Life)
-    requires { length out.old + 33 ≤ N }
+    requires { length out.old + LIFE_SIZE ≤ N }
     ensures put { out.new ≡ out.old ++ life found.now }
     ensures fits { LifeFits found.now }
-    ensures size { length out.new ≡ length out.old + 33 }
+    ensures size { length out.new ≡ length out.old + LIFE_SIZE }
 {
     match found {
         Life::Absent => {
@@ -80,7 +86,7 @@ fn highest_of(bytes: &[u8]) -> Option<(Option<Pair>, &[u8])>
 {
     let (tag, rest) = byte_of(bytes)?;
     if tag == 0 {
-        let rest = skip(31, rest)?;
+        let rest = skip(PAIR_SIZE, rest)?;
         return Some((None, rest));
     }
     let Some((pair, rest)) = pair_of(rest) else {

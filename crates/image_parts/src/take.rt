@@ -4,6 +4,7 @@ ghost use Rattle.std.specs.Option.{option_map};
 ghost use Rattle.records.specs.Reading.{u16_at, u32_at, u64_at, byte_at, rid_at, rows_of};
 ghost use Rattle.image_parts.specs.Reading.{skipped, padded_at, row_at, pair_at};
 
+use crate::row::ROW_SIZE;
 use byteorder::{BigEndian, ByteOrder};
 use records::{BODY_MAX, Body, KEY_MAX, Key, Pair, Rid, Row, Rows, SLOTS_PER_PAGE};
 
@@ -110,7 +111,7 @@ pub(crate) fn row_of(bytes: &[u8]) -> Option<(Option<Row>, &[u8])>
 {
     let (tag, rest) = byte_of(bytes)?;
     if tag == 0 {
-        let rest = skip(63, rest)?;
+        let rest = skip(ROW_SIZE - 1, rest)?;
         return Some((None, rest));
     }
     let Some((key, rest)) = key_of(rest) else {

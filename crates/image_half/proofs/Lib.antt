@@ -1,0 +1,10 @@
+mod Lists
+mod Maps
+mod Cut
+mod OneImage
+mod Sound
+mod Growing
+mod Bytes
+mod Refusing
+mod Heads
+mod Told

@@ -1,0 +1,106 @@
+-- What an image says, each part by its bytes, and what it is to hold the image of some cells.
+use Rattle.std.specs.Prelude.{◌≡◌, ℕ, ◌+◌, ◌*◌, ◌<◌, ◌≤◌, List, length, map, Option, Some, None, slice_get}
+use Rattle.std.specs.FinMap as finite
+use Rattle.sector_device.specs.Disk.{Image, sector}
+use Rattle.records.specs.Values.{Place}
+use Rattle.records.specs.ChangeValue.{ChangeValue}
+use Rattle.records.specs.GeometryValue.{GeometryValue}
+use Rattle.records.specs.Spelling.{PairFits}
+use Rattle.records.specs.declared.rid.TheConstants.{SLOTS_PER_PAGE}
+use Rattle.records.specs.declared.txn.TheConstants.{TXNS_MAX}
+use Rattle.records.specs.declared.change.TheConstants.{CHANGES_MAX}
+use Rattle.records.specs.declared.row.Row.{Row}
+use Rattle.records.specs.declared.pair.Pair.{Pair}
+use Rattle.records.specs.declared.pair.Mark.{Mark}
+use Rattle.model.specs.declared.life.Life.TheVariants.{Absent, Building}
+use Rattle.model.specs.Cells.{Cells}
+use Rattle.image_parts.specs.declared.row.TheConstants.{ROW_SIZE}
+use Rattle.image_parts.specs.declared.head.TheConstants.{HEAD_SIZE}
+use Rattle.image_parts.specs.declared.item.TheConstants.{ITEM_SIZE}
+use Rattle.image_parts.specs.declared.entry.TheConstants.{ENTRY_SIZE}
+use Rattle.image_parts.specs.declared.head.Head.{Head}
+use Rattle.image_parts.specs.declared.header.Header.{Header}
+use Rattle.image_parts.specs.declared.item.UndoItem.{UndoItem}
+use Rattle.image_parts.specs.Spelling.{row, entry, head, item, header, RowFitsIfSome, HeadFits, ItemFits, HeaderFits}
+use Rattle.image_half.specs.Layout.{heads_at, undo_at, page_at, entries_at, cut, piece}
+
+-- ---- the parts, each by its bytes
+
+-- The sector says this in a store of this geometry: no more entries than there is room for, and a highest pair that names
+-- a row of the store's pages.
+pub record IsHeader (g : GeometryValue) (bytes : List ℕ) (h : Header) : Type 0 where
+  pub spelled : bytes ≡ header h
+  pub fits : HeaderFits h
+  pub room : h.entries ≤ g.entries
+  pub inside : (p : Pair) → h.life ≡ Building (Some p) → p.rid.page < g.pages
+
+-- The sector has these heads and zeros behind them, the transactions in the order of their numbers.
+pub record AreHeads (bytes : List ℕ) (heads : List Head) : Type 0 where
+  pub count : length heads ≤ TXNS_MAX
+  pub spelled : (k : ℕ) → k < TXNS_MAX → cut bytes HEAD_SIZE k ≡ head (slice_get heads k)
+  pub fits : (k : ℕ) (h : Head) → slice_get heads k ≡ Some h → HeadFits h
+  pub rising : (k : ℕ) (a b : Head) → slice_get heads k ≡ Some a → slice_get heads (k + 1) ≡ Some b → a.txn < b.txn
+
+-- the change of a row of the store's pages
+pub record IsItem (g : GeometryValue) (bytes : List ℕ) (i : UndoItem) : Type 0 where
+  pub spelled : bytes ≡ item i
+  pub fits : ItemFits i
+  pub inside : i.rid.page < g.pages
+
+-- a row, or none
+pub record IsRow (bytes : List ℕ) (o : Option Row) : Type 0 where
+  pub spelled : bytes ≡ row o
+  pub fits : RowFitsIfSome o
+
+-- an entry that names a row of the store's pages
+pub record IsEntry (g : GeometryValue) (bytes : List ℕ) (e : Pair × Mark) : Type 0 where
+  pub spelled : bytes ≡ entry e
+  pub fits : PairFits e.0
+  pub inside : e.0.rid.page < g.pages
+
+-- ---- where they stand in the image that begins at sector `first`
+
+-- the undo item of a head at a position
+abbrev pub item_bytes : Image → (first h position : ℕ) → List ℕ
+item_bytes image first h position = piece image (undo_at first) ITEM_SIZE (CHANGES_MAX * h + position)
+
+-- the k-th piece of a page: its front, and behind it the rows of its slots
+abbrev pub row_bytes : Image → (first page k : ℕ) → List ℕ
+row_bytes image first page k = piece image (page_at first page) ROW_SIZE k
+
+abbrev pub entry_bytes : GeometryValue → Image → (first i : ℕ) → List ℕ
+entry_bytes g image first i = piece image (entries_at g first) ENTRY_SIZE i
+
+-- ---- the image
+
+-- what the header says of these cells, with this number of the last record
+abbrev pub header_of : ℕ → Cells → Header
+header_of base cells = record { life = cells.life; base = base; entries = length (finite.entries cells.entries) }
+
+-- the head of a transaction with its list
+abbrev pub head_of : ℕ × List ChangeValue → Head
+head_of list = record { txn = list.0; changes = length list.1 }
+
+-- a change without its position
+abbrev pub item_of : ChangeValue → UndoItem
+item_of c = record { rid = c.rid; rows = c.rows }
+
+-- These changes are the first undo items of a head, each a change of a row of the store's pages. They are numbered from 0.
+pub record HoldsList (g : GeometryValue) (first : ℕ) (image : Image) (h : ℕ) (changes : List ChangeValue) : Type 0 where
+  pub positions : (p : ℕ) (c : ChangeValue) → slice_get changes p ≡ Some c → c.position ≡ p
+  pub items : (p : ℕ) (c : ChangeValue) → slice_get changes p ≡ Some c → IsItem g (item_bytes image first h p) (item_of c)
+
+-- From sector `first` on lies the image of these cells, which record `base` left: life, lists, rows and entries, each in its
+-- place, and each of the store's pages.
+pub record IsImage (g : GeometryValue) (first : ℕ) (image : Image) (base : ℕ) (cells : Cells) : Type 0 where
+  pub header-is : IsHeader g (sector image first) (header_of base cells)
+  pub heads-are : AreHeads (sector image (heads_at first)) (map head_of (finite.entries cells.pending))
+  pub lists : (h : ℕ) (list : ℕ × List ChangeValue) → slice_get (finite.entries cells.pending) h ≡ Some list → HoldsList g first image h list.1
+  pub fronts : (page : ℕ) → page < g.pages → IsRow (row_bytes image first page 0) None
+  pub rows : (q : Place) → q.page < g.pages → q.slot < SLOTS_PER_PAGE → IsRow (row_bytes image first q.page (q.slot + 1)) (finite.get cells.rows q)
+  pub within : (q : Place) (r : Row) → finite.get cells.rows q ≡ Some r → (q.page < g.pages) × (q.slot < SLOTS_PER_PAGE)
+  pub entries : (i : ℕ) (e : Pair × Mark) → slice_get (finite.entries cells.entries) i ≡ Some e → IsEntry g (entry_bytes g image first i) e
+
+-- no row, no entry, no transaction and no index
+abbrev pub nothing : Cells
+nothing = record { rows = finite.empty; entries = finite.empty; pending = finite.empty; life = Absent }

@@ -1,0 +1,4 @@
+pub mod Layout
+pub mod Image
+pub mod Damage
+pub mod Steps

@@ -1,0 +1,83 @@
+-- Words for the private steps of reading an image. No public clause cites them.
+use Rattle.std.specs.Prelude.{◌≡◌, ◌⊎◌, ℕ, ◌+◌, ◌-◌, ◌<◌, ◌≤◌, List, length, map, Option, Some, None, slice_get}
+use Rattle.std.specs.FinMap as finite
+use Rattle.sector_device.specs.Disk.{Image}
+use Rattle.records.specs.Values.{Place}
+use Rattle.records.specs.ChangeValue.{ChangeValue}
+use Rattle.records.specs.GeometryValue.{GeometryValue}
+use Rattle.records.specs.declared.rid.TheConstants.{SLOTS_PER_PAGE}
+use Rattle.records.specs.declared.row.Row.{Row}
+use Rattle.records.specs.declared.pair.Pair.{Pair}
+use Rattle.records.specs.declared.pair.Mark.{Mark}
+use Rattle.records.specs.declared.error.Error.{Error}
+use Rattle.records.specs.declared.error.Error.TheVariants.{Damaged}
+use Rattle.model.specs.Table.{Table, Index}
+use Rattle.model.specs.Cells.{Pending}
+use Rattle.image_parts.specs.declared.head.Head.{Head}
+use Rattle.image_parts.specs.declared.head.TheConstants.{HEAD_SIZE}
+use Rattle.image_parts.specs.Spelling.{head, HeadFits}
+use Rattle.image_half.specs.Layout.{cut}
+use Rattle.image_half.specs.Image.{HoldsList, IsRow, IsEntry, row_bytes, entry_bytes, head_of}
+use Rattle.image_half.specs.Damage.{AnItem, APage, AnEntry, sector_of, IsSound, Refuses}
+
+-- the head may stand at index k behind these: each of those before it is used, and the last one has a lesser number
+pub record IsNextHead (heads : List Head) (k : ℕ) (h : Head) : Type 0 where
+  pub used : length heads ≡ k
+  pub above : (last : Head) → slice_get heads (k - 1) ≡ Some last → last.txn < h.txn
+
+-- the first k heads of the sector are these, with zeros behind them
+pub record AreFirstHeads (bytes : List ℕ) (k : ℕ) (heads : List Head) : Type 0 where
+  pub count : length heads ≤ k
+  pub spelled : (j : ℕ) → j < k → cut bytes HEAD_SIZE j ≡ head (slice_get heads j)
+  pub fits : (j : ℕ) (h : Head) → slice_get heads j ≡ Some h → HeadFits h
+  pub rising : (j : ℕ) (a b : Head) → slice_get heads j ≡ Some a → slice_get heads (j + 1) ≡ Some b → a.txn < b.txn
+
+-- these lists are those of the heads
+pub record HoldsLists (g : GeometryValue) (first : ℕ) (image : Image) (heads : List Head) (pending : Pending) : Type 0 where
+  pub heads-are : map head_of (finite.entries pending) ≡ heads
+  pub each : (h : ℕ) (list : ℕ × List ChangeValue) → slice_get (finite.entries pending) h ≡ Some list → HoldsList g first image h list.1
+
+-- these rows are those of the first n pages
+pub record HoldsPages (g : GeometryValue) (first : ℕ) (image : Image) (n : ℕ) (rows : Table) : Type 0 where
+  pub fronts : (page : ℕ) → page < n → IsRow (row_bytes image first page 0) None
+  pub slots : (q : Place) → q.page < n → q.slot < SLOTS_PER_PAGE → IsRow (row_bytes image first q.page (q.slot + 1)) (finite.get rows q)
+  pub within : (q : Place) (r : Row) → finite.get rows q ≡ Some r → (q.page < n) × (q.slot < SLOTS_PER_PAGE)
+
+-- these rows are those of the slots before this one of page n, and those of earlier pages
+pub record HoldsSlots (first : ℕ) (image : Image) (n slot : ℕ) (before rows : Table) : Type 0 where
+  pub slots : (q : Place) → q.page ≡ n → q.slot < slot → IsRow (row_bytes image first n (q.slot + 1)) (finite.get rows q)
+  pub behind : (q : Place) → q.page ≡ n → ¬ (q.slot < slot) → finite.get rows q ≡ None
+  pub others : (q : Place) → ¬ (q.page ≡ n) → finite.get rows q ≡ finite.get before q
+
+-- these are the first n entries
+pub record HoldsEntries (g : GeometryValue) (first : ℕ) (image : Image) (n : ℕ) (entries : Index) : Type 0 where
+  pub count : length (finite.entries entries) ≡ n
+  pub each : (i : ℕ) (e : Pair × Mark) → slice_get (finite.entries entries) i ≡ Some e → IsEntry g (entry_bytes g image first i) e
+
+-- the pair of the last of the first n entries
+abbrev pub IsLastPair : Index → ℕ → Option Pair → Type 0
+IsLastPair entries n None = n ≡ 0
+IsLastPair entries n (Some pair) = (m : ℕ) × (e : Pair × Mark) × (n ≡ m + 1) × (slice_get (finite.entries entries) m ≡ Some e) × (e.0 ≡ pair)
+
+-- Why a step of reading was refused: there was no memory, or the device failed, or the part is the first of its kind that
+-- says nothing.
+abbrev pub IsItemRefused : GeometryValue → ℕ → Image → (h count before now : ℕ) → Error → Type 0
+IsItemRefused g first image h count before now e = Refuses before now e
+    ⊎ ((p : ℕ) × (p < count) × (e ≡ Damaged (sector_of g first (AnItem h p))) × (¬ IsSound g first image (AnItem h p)) × ((q : ℕ) → q < p → IsSound g first image (AnItem h q)))
+
+abbrev pub AreListsRefused : GeometryValue → ℕ → Image → List Head → (before now : ℕ) → Error → Type 0
+AreListsRefused g first image heads before now e = Refuses before now e
+    ⊎ ((h : ℕ) × (p : ℕ) × (x : Head) × (slice_get heads h ≡ Some x) × (p < x.changes) × (e ≡ Damaged (sector_of g first (AnItem h p))) × (¬ IsSound g first image (AnItem h p))
+    × ((q : ℕ) → q < p → IsSound g first image (AnItem h q)) × ((k q : ℕ) (y : Head) → k < h → slice_get heads k ≡ Some y → q < y.changes → IsSound g first image (AnItem k q)))
+
+abbrev pub IsPageRefused : GeometryValue → ℕ → Image → (page before now : ℕ) → Error → Type 0
+IsPageRefused g first image page before now e = Refuses before now e
+    ⊎ ((e ≡ Damaged (sector_of g first (APage page))) × (¬ IsSound g first image (APage page)))
+
+abbrev pub ArePagesRefused : GeometryValue → ℕ → Image → (before now : ℕ) → Error → Type 0
+ArePagesRefused g first image before now e = Refuses before now e
+    ⊎ ((page : ℕ) × (page < g.pages) × (e ≡ Damaged (sector_of g first (APage page))) × (¬ IsSound g first image (APage page)) × ((earlier : ℕ) → earlier < page → IsSound g first image (APage earlier)))
+
+abbrev pub AreEntriesRefused : GeometryValue → ℕ → Image → (count before now : ℕ) → Error → Type 0
+AreEntriesRefused g first image count before now e = Refuses before now e
+    ⊎ ((i : ℕ) × (i < count) × (e ≡ Damaged (sector_of g first (AnEntry i))) × (¬ IsSound g first image (AnEntry i)) × ((j : ℕ) → j < i → IsSound g first image (AnEntry j)))

@@ -1,0 +1,13 @@
+//! The image of a store in the sectors of a half: life, lists of changes, rows and entries, each in its place. It is read
+//! part by part, and refused at the first sector that says nothing.
+#![tactic(auto)]
+
+mod laws;
+mod parts;
+mod pieces;
+mod read;
+mod sink;
+
+pub use laws::{one_damage, one_image, told_by_its_sectors};
+pub use read::read_image;
+pub use sink::CellSink;

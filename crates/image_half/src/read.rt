@@ -1,0 +1,295 @@
+//! An image is read.
+ghost use Rattle.std.specs.Prelude.{◌≡◌, ◌⊎◌, ◌+◌, ◌*◌, ◌^◌, ◌≤◌, ◌<◌, ℕ, List, length, slice_get, Some, None, OnOk, IfOk, IfErr};
+ghost use Rattle.std.specs.FinMap as finite;
+ghost use Rattle.sector_device.specs.Disk.{sector};
+ghost use Rattle.sector_device.specs.History.{OnlyReads};
+ghost use Rattle.records.specs.Maps.{set_at};
+ghost use Rattle.records.specs.declared.txn.TheConstants.{TXNS_MAX};
+ghost use Rattle.records.specs.declared.change.TheConstants.{CHANGES_MAX};
+ghost use Rattle.image_half.specs.Layout.{heads_at, undo_at, page_at, entries_at, image_end};
+ghost use Rattle.image_half.specs.Image.{IsHeader, AreHeads, IsImage, HoldsList, nothing};
+ghost use Rattle.image_half.specs.Damage.{IsSound, TheHeader, TheHeads, AnItem, APage, AnEntry, Refuses, IsUnread};
+ghost use Rattle.image_half.specs.Steps.{HoldsLists, HoldsPages, HoldsEntries, IsItemRefused, AreListsRefused, IsPageRefused, ArePagesRefused, AreEntriesRefused};
+
+use crate::parts::{entry_in, header_in, heads_in, is_above, item_in};
+use crate::pieces::{load, piece_of};
+use crate::sink::CellSink;
+use image_parts::{ENTRY_SIZE, Head, Header, ITEM_SIZE, ROW_SIZE, read_row};
+use records::{
+    CHANGES_MAX, Change, ENTRIES_PER_SECTOR, Error, Geometry, HEADER_SECTORS, HEADS_SECTORS,
+    PAGE_SECTORS, Rid, Row, SLOTS_PER_PAGE, UNDO_SECTORS,
+};
+use sector_device::{Device, SECTOR_SIZE, zero_sector};
+use std::alloc::{AllocError, Allocator};
+
+// How many undo items lie in a sector.
+const ITEMS_PER_SECTOR: u64 = 2;
+
+// How many rows lie in a sector.
+const ROWS_PER_SECTOR: u64 = 8;
+
+// The first sector of a page of the image that begins at sector `first`.
+fn page_at(first: u64, page: u64) -> u64
+    requires { page_at first page < 2 ^ 64 }
+    ensures { result ≡ page_at first page }
+{
+    first + HEADER_SECTORS + HEADS_SECTORS + UNDO_SECTORS + PAGE_SECTORS * page
+}
+
+// What the header says.
+fn read_header<D: Device>(device: &mut D, geometry: Geometry, first: u64) -> Result<Header, Error>
+    requires inside { first < length (D.history device.old).disk.content }
+    ensures found { IfOk result (IsHeader geometry (sector (D.history device.old).disk.content first)) }
+    ensures refused { IfErr result (λ e. Refuses (D.failures device.old) (D.failures device.new) e
+        ⊎ ((e ≡ Error.Damaged first) × (¬ IsSound geometry first (D.history device.old).disk.content TheHeader))) }
+    ensures reads { OnlyReads (D.history device.old) (D.history device.new) }
+    ensures quiet { OnOk result (D.failures device.new ≡ D.failures device.old) }
+    ensures later { D.failures device.old ≤ D.failures device.new }
+{
+    let mut bytes = zero_sector();
+    if device.read(first, &mut bytes).is_err() {
+        return Err(Error::DeviceFailed);
+    }
+    header_in(geometry, &bytes).ok_or(Error::Damaged { sector: first })
+}
+
+// The transaction heads that are used.
+fn read_heads<D: Device, A: Allocator + Copy>(
+    alloc: A,
+    device: &mut D,
+    geometry: Geometry,
+    first: u64,
+) -> Result<Vec<Head, A>, Error>
+    requires inside { heads_at first < length (D.history device.old).disk.content }
+    requires number { heads_at first < 2 ^ 64 }
+    ensures found { IfOk result (λ heads. AreHeads (sector (D.history device.old).disk.content (heads_at first)) heads.items) }
+    ensures refused { IfErr result (λ e. Refuses (D.failures device.old) (D.failures device.new) e
+        ⊎ ((e ≡ Error.Damaged (heads_at first)) × (¬ IsSound geometry first (D.history device.old).disk.content TheHeads))) }
+    ensures reads { OnlyReads (D.history device.old) (D.history device.new) }
+    ensures quiet { OnOk result (D.failures device.new ≡ D.failures device.old) }
+    ensures later { D.failures device.old ≤ D.failures device.new }
+{
+    let at = first + HEADER_SECTORS;
+    let mut bytes = zero_sector();
+    if device.read(at, &mut bytes).is_err() {
+        return Err(Error::DeviceFailed);
+    }
+    heads_in(alloc, &bytes)?.ok_or(Error::Damaged { sector: at })
+}
+
+// The first `count` changes of head h.
+fn read_list<D: Device, A: Allocator + Copy>(
+    alloc: A,
+    device: &mut D,
+    geometry: Geometry,
+    first: u64,
+    h: u64,
+    count: u8,
+) -> Result<Vec<Change, A>, Error>
+    requires head { h < TXNS_MAX }
+    requires count { count ≤ CHANGES_MAX }
+    requires inside { page_at first 0 ≤ length (D.history device.old).disk.content }
+    requires number { page_at first 0 < 2 ^ 64 }
+    ensures count { IfOk result (λ changes. length changes.items ≡ count) }
+    ensures held { IfOk result (λ changes. HoldsList geometry first (D.history device.old).disk.content h changes.items) }
+    ensures refused { IfErr result (IsItemRefused geometry first (D.history device.old).disk.content h count (D.failures device.old) (D.failures device.new)) }
+    ensures reads { OnlyReads (D.history device.old) (D.history device.new) }
+    ensures quiet { OnOk result (D.failures device.new ≡ D.failures device.old) }
+    ensures later { D.failures device.old ≤ D.failures device.new }
+{
+    let at = first + HEADER_SECTORS + HEADS_SECTORS;
+    let mut buffer = zero_sector();
+    let mut changes = Vec::with_capacity(alloc, usize::from(count))?;
+    for position in 0..count {
+        let i = u64::from(CHANGES_MAX) * h + u64::from(position);
+        load(device, &mut buffer, at, i, ITEMS_PER_SECTOR)?;
+        let bytes = piece_of::<ITEM_SIZE>(&buffer, (i % ITEMS_PER_SECTOR) as usize);
+        let Some(item) = item_in(geometry, &bytes) else {
+            return Err(Error::Damaged {
+                sector: at + i / ITEMS_PER_SECTOR,
+            });
+        };
+        changes.push(Change {
+            position,
+            rid: item.rid,
+            rows: item.rows,
+        })?;
+    }
+    Ok(changes)
+}
+
+// The lists of these heads.
+fn read_lists<D: Device, S: CellSink, A: Allocator + Copy>(
+    alloc: A,
+    device: &mut D,
+    geometry: Geometry,
+    first: u64,
+    heads: &[Head],
+    sink: &mut S,
+) -> Result<(), Error>
+    requires heads { AreHeads (sector (D.history device.old).disk.content (heads_at first)) heads.now }
+    requires empty { (S.cells sink.old).pending ≡ finite.empty }
+    requires inside { page_at first 0 ≤ length (D.history device.old).disk.content }
+    requires number { page_at first 0 < 2 ^ 64 }
+    ensures held { OnOk result (HoldsLists geometry first (D.history device.old).disk.content heads.now (S.cells sink.new).pending) }
+    ensures rest { OnOk result (S.cells sink.new ≡ record (S.cells sink.old) { pending = (S.cells sink.new).pending }) }
+    ensures refused { IfErr result (AreListsRefused geometry first (D.history device.old).disk.content heads.now (D.failures device.old) (D.failures device.new)) }
+    ensures reads { OnlyReads (D.history device.old) (D.history device.new) }
+    ensures quiet { OnOk result (D.failures device.new ≡ D.failures device.old) }
+    ensures later { D.failures device.old ≤ D.failures device.new }
+{
+    for (h, head) in heads.iter().enumerate() {
+        let changes = read_list(alloc, device, geometry, first, h as u64, head.changes)?;
+        sink.set_list(head.txn, &changes)?;
+    }
+    Ok(())
+}
+
+// Sets the row at a place that has none yet, where there is one.
+fn put_row<S: CellSink>(sink: &mut S, rid: Rid, found: Option<Row>) -> Result<(), AllocError>
+    requires { finite.get (S.cells sink.old).rows rid ≡ None }
+    ensures { OnOk result (S.cells sink.new ≡ record (S.cells sink.old) { rows = set_at (S.cells sink.old).rows rid found }) }
+{
+    match found {
+        None => Ok(()),
+        Some(row) => sink.set_row(rid, row),
+    }
+}
+
+// The rows of a page.
+fn read_page<D: Device, S: CellSink>(
+    device: &mut D,
+    geometry: Geometry,
+    first: u64,
+    page: u32,
+    sink: &mut S,
+) -> Result<(), Error>
+    requires page { page < geometry.pages }
+    requires inside { entries_at geometry first ≤ length (D.history device.old).disk.content }
+    requires number { entries_at geometry first < 2 ^ 64 }
+    requires held { HoldsPages geometry first (D.history device.old).disk.content page (S.cells sink.old).rows }
+    ensures held { OnOk result (HoldsPages geometry first (D.history device.old).disk.content (page + 1) (S.cells sink.new).rows) }
+    ensures rest { OnOk result (S.cells sink.new ≡ record (S.cells sink.old) { rows = (S.cells sink.new).rows }) }
+    ensures refused { IfErr result (IsPageRefused geometry first (D.history device.old).disk.content page (D.failures device.old) (D.failures device.new)) }
+    ensures reads { OnlyReads (D.history device.old) (D.history device.new) }
+    ensures quiet { OnOk result (D.failures device.new ≡ D.failures device.old) }
+    ensures later { D.failures device.old ≤ D.failures device.new }
+{
+    let at = page_at(first, u64::from(page));
+    let mut buffer = zero_sector();
+    load(device, &mut buffer, at, 0, ROWS_PER_SECTOR)?;
+    let front = piece_of::<ROW_SIZE>(&buffer, 0);
+    let Some(front_row) = read_row(&front) else {
+        return Err(Error::Damaged { sector: at });
+    };
+    if front_row.is_some() {
+        return Err(Error::Damaged { sector: at });
+    }
+    for slot in 0..SLOTS_PER_PAGE {
+        let i = u64::from(slot) + 1;
+        load(device, &mut buffer, at, i, ROWS_PER_SECTOR)?;
+        let bytes = piece_of::<ROW_SIZE>(&buffer, (i % ROWS_PER_SECTOR) as usize);
+        let Some(found) = read_row(&bytes) else {
+            return Err(Error::Damaged { sector: at });
+        };
+        put_row(sink, Rid { page, slot }, found)?;
+    }
+    Ok(())
+}
+
+// The rows of all pages.
+fn read_pages<D: Device, S: CellSink>(
+    device: &mut D,
+    geometry: Geometry,
+    first: u64,
+    sink: &mut S,
+) -> Result<(), Error>
+    requires empty { (S.cells sink.old).rows ≡ finite.empty }
+    requires inside { entries_at geometry first ≤ length (D.history device.old).disk.content }
+    requires number { entries_at geometry first < 2 ^ 64 }
+    ensures held { OnOk result (HoldsPages geometry first (D.history device.old).disk.content geometry.pages (S.cells sink.new).rows) }
+    ensures rest { OnOk result (S.cells sink.new ≡ record (S.cells sink.old) { rows = (S.cells sink.new).rows }) }
+    ensures refused { IfErr result (ArePagesRefused geometry first (D.history device.old).disk.content (D.failures device.old) (D.failures device.new)) }
+    ensures reads { OnlyReads (D.history device.old) (D.history device.new) }
+    ensures quiet { OnOk result (D.failures device.new ≡ D.failures device.old) }
+    ensures later { D.failures device.old ≤ D.failures device.new }
+{
+    for page in 0..geometry.pages {
+        read_page(device, geometry, first, page, sink)?;
+    }
+    Ok(())
+}
+
+// The first `count` entries.
+fn read_entries<D: Device, S: CellSink>(
+    device: &mut D,
+    geometry: Geometry,
+    first: u64,
+    count: u32,
+    sink: &mut S,
+) -> Result<(), Error>
+    requires count { count ≤ geometry.entries }
+    requires empty { (S.cells sink.old).entries ≡ finite.empty }
+    requires inside { image_end geometry first ≤ length (D.history device.old).disk.content }
+    requires number { image_end geometry first < 2 ^ 64 }
+    ensures held { OnOk result (HoldsEntries geometry first (D.history device.old).disk.content count (S.cells sink.new).entries) }
+    ensures rest { OnOk result (S.cells sink.new ≡ record (S.cells sink.old) { entries = (S.cells sink.new).entries }) }
+    ensures refused { IfErr result (AreEntriesRefused geometry first (D.history device.old).disk.content count (D.failures device.old) (D.failures device.new)) }
+    ensures reads { OnlyReads (D.history device.old) (D.history device.new) }
+    ensures quiet { OnOk result (D.failures device.new ≡ D.failures device.old) }
+    ensures later { D.failures device.old ≤ D.failures device.new }
+{
+    let at = page_at(first, u64::from(geometry.pages));
+    let mut buffer = zero_sector();
+    let mut last = None;
+    for n in 0..count {
+        let i = u64::from(n);
+        load(device, &mut buffer, at, i, ENTRIES_PER_SECTOR)?;
+        let bytes = piece_of::<ENTRY_SIZE>(&buffer, (i % ENTRIES_PER_SECTOR) as usize);
+        let damaged = Error::Damaged {
+            sector: at + i / ENTRIES_PER_SECTOR,
+        };
+        let Some((pair, mark)) = entry_in(geometry, &bytes) else {
+            return Err(damaged);
+        };
+        if !is_above(&pair, &last) {
+            return Err(damaged);
+        }
+        sink.set_entry(pair, mark)?;
+        last = Some(pair);
+    }
+    Ok(())
+}
+
+/// Reads the image of a store of this geometry that begins at sector `first`, into an empty sink. The answer is its base,
+/// the number of the last record made as the image began. Each of its sectors is read once at most, and nothing is written.
+///
+/// `Damaged` names the first sector with a part that says nothing: the header, the transaction heads, an undo item of a
+/// head that is used, the first sector of a page, or an entry, which is above the one before it. A place in a page that the
+/// geometry doesn't have says nothing. `NoMemory` where the sink refuses a cell.
+pub fn read_image<D: Device, S: CellSink, A: Allocator + Copy>(
+    alloc: A,
+    device: &mut D,
+    geometry: Geometry,
+    first: u64,
+    sink: &mut S,
+) -> Result<u64, Error>
+    requires empty { S.cells sink.old ≡ nothing }
+    requires inside { image_end geometry first ≤ length (D.history device.old).disk.content }
+    requires number { image_end geometry first < 2 ^ 64 }
+
+    // This is the only image that lies there, by the law `one_image`, and where one does no sector is damaged.
+    ensures read { IfOk result (λ base. IsImage geometry first (D.history device.old).disk.content base (S.cells sink.new)) }
+    ensures refused { IfErr result (IsUnread geometry first (D.history device.old).disk.content (D.failures device.old) (D.failures device.new)) }
+    ensures reads { OnlyReads (D.history device.old) (D.history device.new) }
+    ensures quiet { OnOk result (D.failures device.new ≡ D.failures device.old) }
+    ensures later { D.failures device.old ≤ D.failures device.new }
+{
+    let header = read_header(device, geometry, first)?;
+    let heads = read_heads(alloc, device, geometry, first)?;
+    read_lists(alloc, device, geometry, first, &heads, sink)?;
+    read_pages(device, geometry, first, sink)?;
+    read_entries(device, geometry, first, header.entries, sink)?;
+    sink.set_life(header.life);
+    Ok(header.base)
+}
