@@ -13,3 +13,5 @@ mod Building
 mod Cleaning
 mod Creating
 mod Loading
+mod Stepped
+mod Undoing

@@ -8,3 +8,4 @@ pub mod Cleaning
 pub mod Creation
 pub mod Loading
 pub mod Asked
+pub mod Undoing

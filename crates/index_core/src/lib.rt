@@ -6,10 +6,13 @@ mod build;
 mod clean;
 mod create;
 mod load;
+mod owed;
 mod parts;
 mod reply;
+mod step;
 mod store;
+mod undo;
 
 pub use parts::Ticket;
-pub use reply::{BuildReply, CleanReply, Owed};
+pub use reply::{BuildReply, CleanReply, Owed, Undone};
 pub use store::Core;
