@@ -15,3 +15,5 @@ mod Creating
 mod Loading
 mod Finding
 mod Waiting
+mod Stepped
+mod Undoing

@@ -1,8 +1,12 @@
 -- The newest change of a transaction.
-use Rattle.std.proofs.Common.{List, None, Option, Some, [], ap, arith, inl, inr, length, refl, subst, suc, sym, ℕ, ◌++◌, ◌+◌, ◌-◌, ◌<◌, ◌∙◌, ◌∷◌, ◌≡◌, ◌≤◌, ◌⊎◌, get_or, slice_get}
+use Rattle.std.proofs.Common.{List, None, Option, Some, [], ap, arith, cond, inl, inr, is_some, length, refl, subst, suc, sym, ℕ, ◌++◌, ◌+◌, ◌-◌, ◌<◌, ◌∙◌, ◌∷◌, ◌≡◌, ◌≤◌, ◌⊎◌, get_or, slice_get}
 use Rattle.std.proofs.lemmas.List.{length-append}
 use Rattle.std.proofs.lemmas.Option.{slice_get_cases}
 use Rattle.records.specs.ChangeValue.{ChangeValue}
+use Rattle.std.specs.FinMap.{get}
+use Rattle.records.specs.declared.pair.Mark.{Mark}
+use Rattle.records.specs.declared.pair.Pair.{Pair}
+use Rattle.marked_index.specs.Index.{places_used}
 use Rattle.model.specs.Pairs.{is_indexed, new_pair, old_pair}
 use Rattle.txn_table.specs.Table.{TxnState, last_change}
 use Rattle.core_model.proofs.Laws.{not_none}
@@ -77,3 +81,26 @@ module _ (v : CoreValue) (s : State) (k : Standing) (is : IsState v s k) (t : �
       where
         part : (a b r res : ℕ) → a + r ≤ res → res ≡ b → a ≤ b
         part a b r res l e = omega (arith, l, e)
+
+    old_is : old_pair (is_indexed s.life) c ≡ old_pair (is_indexed v.life) c
+    old_is = ap (λ life. old_pair (is_indexed life) c) h.life
+
+    new_is : new_pair (is_indexed s.life) c ≡ new_pair (is_indexed v.life) c
+    new_is = ap (λ life. new_pair (is_indexed life) c) h.life
+
+    one_place : (o : Option Mark) → cond (is_some o) 0 1 ≡ places_used o
+    one_place None = refl
+    one_place (Some m) = refl
+
+    -- the transaction has reserved a place for the entry of either row, where there is none
+    pub old_paid : (p : Pair) → old_pair (is_indexed v.life) c ≡ Some p → places_used (get v.index.entries p) ≤ x.reserved
+    old_paid p e = part _ _ _ paid (ap (lacks s.entries) (old_is ∙ e) ∙ one_place (get s.entries p) ∙ ap (λ m. places_used (get m p)) h.entries)
+      where
+        part : (a b r : ℕ) {n : ℕ} → a + b ≤ r → a ≡ n → n ≤ r
+        part a b r l e = omega (arith, l, e)
+
+    pub new_paid : (p : Pair) → new_pair (is_indexed v.life) c ≡ Some p → places_used (get v.index.entries p) ≤ x.reserved
+    new_paid p e = part _ _ _ paid (ap (lacks s.entries) (new_is ∙ e) ∙ one_place (get s.entries p) ∙ ap (λ m. places_used (get m p)) h.entries)
+      where
+        part : (a b r : ℕ) {n : ℕ} → a + b ≤ r → b ≡ n → n ≤ r
+        part a b r l e = omega (arith, l, e)

@@ -1,6 +1,6 @@
 -- The step that a transaction owes.
-use Rattle.std.proofs.Common.{Bool, None, Option, Some, ap, arith, cond, false, inl, inr, is_some, refl, subst, sym, ℕ, ◌++◌, ◌+◌, ◌-◌, ◌<◌, ◌∙◌, ◌≡◌, ◌≢◌, ◌≤◌, ◌⊎◌}
-use Rattle.std.specs.FinMap.{get, insert, len}
+use Rattle.std.proofs.Common.{Bool, None, Option, Some, ap, arith, false, inl, inr, refl, subst, sym, ℕ, ◌++◌, ◌+◌, ◌-◌, ◌<◌, ◌∙◌, ◌≡◌, ◌≢◌, ◌≤◌, ◌⊎◌}
+use Rattle.std.specs.FinMap.{get}
 use Rattle.std.specs.Option.{option_map}
 use Rattle.std.specs.Prelude.{option_and_then}
 use Rattle.records.specs.declared.record.TxnAction.{TxnAction}
@@ -10,7 +10,6 @@ use Rattle.records.specs.Spelling.{new_row}
 use Rattle.records.specs.declared.error.Error.{Error}
 use Rattle.records.specs.declared.error.Error.TheVariants.{NoSuchTxn}
 use Rattle.records.specs.declared.number.TheConstants.{LAST_NUMBER}
-use Rattle.records.specs.declared.pair.Mark.{Mark}
 use Rattle.records.specs.declared.pair.Mark.TheVariants.{Live}
 use Rattle.records.specs.declared.pair.Pair.{Pair}
 use Rattle.records.specs.declared.record.Action.TheVariants.{OfTxn}
@@ -20,10 +19,9 @@ use Rattle.model.specs.Pairs.{is_indexed, new_pair}
 use Rattle.txn_table.specs.Table.{TxnState, last_change, put_at, rolls}
 use Rattle.txn_table.specs.declared.progress.Progress.{Progress}
 use Rattle.txn_table.specs.declared.progress.Progress.TheVariants.{OwesEntry, OwesRow, Ready}
-use Rattle.txn_table.proofs.TableLaws.{holder_of-put_at}
 use Rattle.marked_index.specs.Index.{places_used}
 use Rattle.core_model.proofs.Laws.{not_none}
-use Rattle.core_model.specs.Invariants.{HasShape, IsShaped, lacks}
+use Rattle.core_model.specs.Invariants.{HasShape, IsShaped}
 use Rattle.core_model.specs.Logs.{one_record}
 use Rattle.core_model.specs.Records.{action_of, next_action}
 use Rattle.core_model.specs.Changes.{Changes, Unchanged, ◌▹◌}
@@ -37,10 +35,11 @@ use Rattle.index_core.specs.Moves.{HasNoRecord, HasRecord, OwesOrNone, entry_ste
 use Rattle.index_core.proofs.Due.{made, no_number, refusal, wants_memory}
 use Rattle.index_core.proofs.Inserting.{no_txn}
 use Rattle.index_core.proofs.Leaving.{there}
-use Rattle.index_core.proofs.Moved.{HasMoved, at, known, listed, moved_shown, one, places_are}
-use Rattle.index_core.proofs.Newest.{inside, newest_last, none_changed, paid, phase_of, shape, shaped}
+use Rattle.index_core.proofs.Moved.{at, known, listed, one}
+use Rattle.index_core.proofs.Newest.{inside, new_paid, newest_last, none_changed, phase_of, shape, shaped}
 use Rattle.index_core.proofs.Places.{reserved_within}
-use Rattle.index_core.proofs.Started.{grown, long, none_rolls, phase_is, state_set}
+use Rattle.index_core.proofs.Started.{none_rolls, phase_is}
+use Rattle.index_core.proofs.Stepped.{entry_moved, put_now, row_moved}
 
 row_phase : (x : Progress) (phase : Phase) → x ≡ OwesRow → IsAt x phase → phase ≡ OldMarked
 row_phase x phase e a = subst (λ p. IsAt p phase) e a
@@ -81,16 +80,7 @@ module _ (v : CoreValue) (safe : IsSafe v) (t : ℕ) (x : TxnState) (here : txn_
     inside_by = inside v s k safe.is t x here c first.0 first.1
 
     paid_by : (p : Pair) → new_pair (is_indexed v.life) c ≡ Some p → places_used (get v.index.entries p) ≤ x.reserved
-    paid_by p e =
-        let pair : new_pair (is_indexed s.life) c ≡ Some p = ap (λ life. new_pair (is_indexed life) c) safe.is.shown.life ∙ e in
-        part _ _ _ (paid v s k safe.is t x here c first.0 first.1) (ap (lacks s.entries) pair ∙ one_place (get s.entries p) ∙ ap (λ m. places_used (get m p)) safe.is.shown.entries)
-      where
-        one_place : (o : Option Mark) → cond (is_some o) 0 1 ≡ places_used o
-        one_place None = refl
-        one_place (Some m) = refl
-
-        part : (a b r : ℕ) {n : ℕ} → a + b ≤ r → b ≡ n → n ≤ r
-        part a b r l e = omega (arith, l, e)
+    paid_by = new_paid v s k safe.is t x here c first.0 first.1
 
 -- ---- the step
 module _ (v : CoreValue) (s : State) (k : Standing) (st : IsState v s k) (t : ℕ) (x : TxnState) (here : txn_of v t ≡ Some x) (c : ChangeValue) (last : last_change x ≡ Some c) where
@@ -112,14 +102,8 @@ module _ (v : CoreValue) (s : State) (k : Standing) (st : IsState v s k) (t : �
   same_places : reserved_of (txn_of v t) ≡ x.reserved
   same_places = ap reserved_of here
 
-  now_reserved : reserved s.pledges t ≡ reserved_of (txn_of v t)
-  now_reserved = places_are v s k h t x here ∙ sym same_places
-
   not_rolling : rolls x.progress ≡ false → (txn_at s t).rolling ≡ false
   not_rolling e = ap (λ (y : Active). y.rolling) (at v s k h t x here) ∙ (one v s k h t x here).2.rolling ∙ e
-
-  same_standing : record k { made = k.made + 1 } ≡ record k { made = v.last + 1 }
-  same_standing = ap (λ n. record k { made = n + 1 }) h.made
 
   module _ (owes : x.progress ≡ OwesRow) where
     is_row : (txn_at s t).phase ≡ OldMarked
@@ -128,58 +112,20 @@ module _ (v : CoreValue) (s : State) (k : Standing) (st : IsState v s k) (t : �
     abbrev row_value : CoreValue
     row_value = row_stepped v t (row_progress (new_pair indexed c)) c.rid (new_row c.rows) (Forward Slot c)
 
-    abbrev row_txn : TxnState
-    row_txn = put_at (row_progress (new_pair indexed c)) (reserved_of (txn_of v t)) x
-
     abbrev row_state : State
     row_state = record (carried_on s t (txn_at s t) (older.0 ▹ c) OldMarked) { pledges = with_places s t 0 s.entries }
 
     row_is : after s (Next t) ≡ row_state
     row_is = λ i. record (carried_on s t (txn_at s t) (older.1 i) (is_row i)) { pledges = with_places s t 0 (carried_on s t (txn_at s t) (older.1 i) (is_row i)).entries }
 
-    did_row : HasMoved v s k h t x here row_txn row_value row_state (record k { made = k.made + 1 })
-    did_row = record {
-      rows = ap (λ m. set_at m c.rid (new_row c.rows)) h.rows;
-      entries = h.entries;
-      txn = with_phase (txn_at s t) (row_made (new_pair (is_indexed s.life) c));
-      txns = refl;
-      is = record {
-        changes = listed v s k h t x here;
-        phase = subst (λ b. IsAt (row_progress (new_pair indexed c)) (row_made (new_pair b c))) (sym same_index) (phase_is (new_pair indexed c));
-        rolling = not_rolling (ap rolls owes) ∙ sym (none_rolls (new_pair indexed c));
-      };
-      holder = λ q. h.holder q ∙ sym (holder_of-put_at (row_progress (new_pair indexed c)) (reserved_of (txn_of v t)) t q v.txns.active);
-      places = ap (insert s.pledges t) (sums _ (len s.entries) _ now_reserved);
-      pledged = ap (λ n. v.index.pledged + n) (sym same_places);
-      states = state_set v.txns.active t x here (put_at (row_progress (new_pair indexed c)) (reserved_of (txn_of v t)));
-      rest = record {
-        life = refl;
-        pages = refl;
-        capacity = refl;
-        cleaned = refl;
-        scan = refl;
-        tried = refl;
-        attempts = refl;
-        commits = refl;
-        begun = refl;
-        many = long (put_at (row_progress (new_pair indexed c)) (reserved_of (txn_of v t))) t v.txns.active;
-        same_life = refl;
-        same_pages = refl;
-        same_places = refl;
-        same_cleaned = refl;
-        same_bound = refl;
-        same_given = refl;
-        same_missed = refl;
-        same_taken = refl;
-      };
-      standing = same_standing;
-    }
-      where
-        sums : (r n r' : ℕ) → r ≡ r' → r + 0 - (n - n) ≡ r'
-        sums r n r' e = omega (arith, e)
-
     row_shown : Shows row_value (after s (Next t)) (record k { made = k.made + 1 })
-    row_shown = subst (λ z. Shows row_value z (record k { made = k.made + 1 })) (sym row_is) (moved_shown v s k h t x here row_txn row_value row_state (record k { made = k.made + 1 }) did_row)
+    row_shown = subst (λ z. Shows row_value z (record k { made = k.made + 1 })) (sym row_is)
+        (row_moved v s k h t x here (put_at (row_progress (new_pair indexed c)) (reserved_of (txn_of v t)) x) (with_phase (txn_at s t) (row_made (new_pair (is_indexed s.life) c)))
+        (record {
+          changes = listed v s k h t x here;
+          phase = subst (λ b. IsAt (row_progress (new_pair indexed c)) (row_made (new_pair b c))) (sym same_index) (phase_is (new_pair indexed c));
+          rolling = not_rolling (ap rolls owes) ∙ sym (none_rolls (new_pair indexed c));
+        }) _ (put_now v.txns.active t x here _ _) row_value.outbox c.rid (new_row c.rows) same_places)
 
     row_action : action_of s (Next t) ≡ Some (OfTxn t (Forward Slot c))
     row_action = λ i. next_action t (older.1 i) (is_row i)
@@ -196,9 +142,6 @@ module _ (v : CoreValue) (s : State) (k : Standing) (st : IsState v s k) (t : �
 
     abbrev entry_value : CoreValue
     entry_value = entry_stepped v t Ready p Live (Forward NewEntry c)
-
-    abbrev entry_txn : TxnState
-    entry_txn = put_at Ready (reserved_of (txn_of v t) - used) x
 
     abbrev entry_state : State
     entry_state = record s {
@@ -218,48 +161,11 @@ module _ (v : CoreValue) (s : State) (k : Standing) (st : IsState v s k) (t : �
     enough : used ≤ x.reserved
     enough = paid_by v safe t x here c last p pair
 
-    did_entry : HasMoved v s k h t x here entry_txn entry_value entry_state (record k { made = k.made + 1 })
-    did_entry = record {
-      rows = h.rows;
-      entries = ap (λ m. set_at m p (Some Live)) h.entries;
-      txn = with_phase (txn_at s t) Made;
-      txns = refl;
-      is = record { changes = listed v s k h t x here; phase = refl; rolling = not_rolling (ap rolls owes) };
-      holder = λ q. h.holder q ∙ sym (holder_of-put_at Ready (reserved_of (txn_of v t) - used) t q v.txns.active);
-      places = ap (insert s.pledges t) (sums _ _ _ _ now_reserved (grown s.entries p Live ∙ ap (λ m. places_used (get m p)) h.entries));
-      pledged = paid_sums _ _ _ _ same_places enough (reserved_within v t x here safe);
-      states = state_set v.txns.active t x here (put_at Ready (reserved_of (txn_of v t) - used));
-      rest = record {
-        life = refl;
-        pages = refl;
-        capacity = refl;
-        cleaned = refl;
-        scan = refl;
-        tried = refl;
-        attempts = refl;
-        commits = refl;
-        begun = refl;
-        many = long (put_at Ready (reserved_of (txn_of v t) - used)) t v.txns.active;
-        same_life = refl;
-        same_pages = refl;
-        same_places = refl;
-        same_cleaned = refl;
-        same_bound = refl;
-        same_given = refl;
-        same_missed = refl;
-        same_taken = refl;
-      };
-      standing = same_standing;
-    }
-      where
-        sums : (r u r' u' : ℕ) → r ≡ r' → u ≡ u' → r + 0 - u ≡ r' - u'
-        sums r u r' u' e f = omega (arith, e, f)
-
-        paid_sums : (pledged u r res : ℕ) → r ≡ res → u ≤ res → res ≤ pledged → pledged - u + res ≡ pledged + (r - u)
-        paid_sums pledged u r res e l m = omega (arith, e, l, m)
-
     entry_shown : Shows entry_value (after s (Next t)) (record k { made = k.made + 1 })
-    entry_shown = subst (λ z. Shows entry_value z (record k { made = k.made + 1 })) (sym entry_is) (moved_shown v s k h t x here entry_txn entry_value entry_state (record k { made = k.made + 1 }) did_entry)
+    entry_shown = subst (λ z. Shows entry_value z (record k { made = k.made + 1 })) (sym entry_is)
+        (entry_moved v s k h t x here (put_at Ready (reserved_of (txn_of v t) - used) x) (with_phase (txn_at s t) Made)
+        (record { changes = listed v s k h t x here; phase = refl; rolling = not_rolling (ap rolls owes) })
+        _ (put_now v.txns.active t x here _ _) entry_value.outbox p Live (ap (λ n. n - used) same_places) enough (reserved_within v t x here safe))
 
     entry_action : action_of s (Next t) ≡ Some (OfTxn t (Forward NewEntry c))
     entry_action = λ i. next_action t (older.1 i) (is_entry i)
@@ -332,11 +238,11 @@ owed_pair v t x c here last owes none safe =
     not_none has.is (ap (λ life. new_pair (is_indexed life) c) safe.is.shown.life ∙ none)
 
 -- ---- of what the table answers
-some_txn : (o : Option TxnState) (c : ChangeValue) → option_and_then last_change o ≡ Some c → (x : TxnState) × (o ≡ Some x) × (last_change x ≡ Some c)
+pub some_txn : (o : Option TxnState) (c : ChangeValue) → option_and_then last_change o ≡ Some c → (x : TxnState) × (o ≡ Some x) × (last_change x ≡ Some c)
 some_txn None c e = absurd cc
 some_txn (Some x) c e = (x, refl, e)
 
-so_far : (x : TxnState) (o : Option TxnState) → o ≡ Some x → (f p : Progress) → (◌≡◌ {A = Option Progress} (Some f) (option_map (λ (y : TxnState). y.progress) o)) → f ≡ p → x.progress ≡ p
+pub so_far : (x : TxnState) (o : Option TxnState) → o ≡ Some x → (f p : Progress) → (◌≡◌ {A = Option Progress} (Some f) (option_map (λ (y : TxnState). y.progress) o)) → f ≡ p → x.progress ≡ p
 so_far x None here f p e is = absurd cc
 so_far x (Some y) here f p e is = let same : (◌≡◌ {A = Option Progress} (Some f) (Some x.progress)) = e ∙ ap (option_map (λ (z : TxnState). z.progress)) here in sym (inside_of f x.progress same) ∙ is
   where

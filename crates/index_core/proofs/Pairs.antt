@@ -14,14 +14,14 @@ use Rattle.model.proofs.PairLaws.{key_test}
 use Rattle.model.specs.Pairs.{new_pair, old_pair, pair_of}
 use Rattle.std.specs.Option.{option_map}
 use Rattle.core_steps.specs.Keys.{moved_pair}
-use Rattle.core_steps.specs.Steps.{marks_old, puts_new}
+use Rattle.core_steps.specs.Steps.{marks_new, marks_old, puts_new, puts_old}
 use Rattle.core_steps.specs.declared.step.Step.{Step}
 use Rattle.txn_table.specs.declared.progress.Progress.TheVariants.{OwesEntry, Ready}
 use Rattle.index_core.specs.Moves.{entry_in, row_progress}
 use Rattle.std.specs.Prelude.{option_and_then}
 use Rattle.records.specs.declared.record.Part.TheVariants.{NewEntry, OldEntry}
 use Rattle.records.specs.declared.record.TxnAction.{TxnAction}
-use Rattle.records.specs.declared.record.TxnAction.TheVariants.{Forward}
+use Rattle.records.specs.declared.record.TxnAction.TheVariants.{Forward, Undo}
 use Rattle.records.specs.declared.pair.Mark.{Mark}
 use Rattle.core_steps.specs.Steps.{entry_step}
 
@@ -102,3 +102,16 @@ new_none b c e = sym (new_moves b c) ∙ none_by _ _ _ e
 
 pub new_some : (b : Bool) (c : ChangeValue) (m : Pair × TxnAction) → Some m ≡ option_and_then entry_in (puts_new b c) → (new_pair b c ≡ Some m.0) × (m.1 ≡ Forward NewEntry c)
 new_some b c m e = let s = some_by _ _ _ m e in (sym (new_moves b c) ∙ s.0, s.1)
+
+-- ---- the entry of an undo's step
+pub new_unmarked : (b : Bool) (c : ChangeValue) → None ≡ option_and_then entry_in (marks_new b c) → new_pair b c ≡ None
+new_unmarked b c e = sym (new_moves b c) ∙ none_by _ _ _ e
+
+pub new_marked : (b : Bool) (c : ChangeValue) (m : Pair × TxnAction) → Some m ≡ option_and_then entry_in (marks_new b c) → (new_pair b c ≡ Some m.0) × (m.1 ≡ Undo NewEntry c false)
+new_marked b c m e = let s = some_by _ _ _ m e in (sym (new_moves b c) ∙ s.0, s.1)
+
+pub old_unput : (b : Bool) (c : ChangeValue) → None ≡ option_and_then entry_in (puts_old b c) → old_pair b c ≡ None
+old_unput b c e = sym (old_moves b c) ∙ none_by _ _ _ e
+
+pub old_put : (b : Bool) (c : ChangeValue) (m : Pair × TxnAction) → Some m ≡ option_and_then entry_in (puts_old b c) → (old_pair b c ≡ Some m.0) × (m.1 ≡ Undo OldEntry c true)
+old_put b c m e = let s = some_by _ _ _ m e in (sym (old_moves b c) ∙ s.0, s.1)

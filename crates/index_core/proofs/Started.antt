@@ -34,7 +34,7 @@ use Rattle.index_core.specs.View.{CoreValue, IsAt, Shows}
 use Rattle.index_core.specs.Moves.{reserved_of, row_first, row_progress, txn_of, with_change}
 use Rattle.index_core.proofs.Moved.{HasMoved, is_ready, listed, moved_shown, places_are, same_number}
 
-either : {X : Type 0} (b : Bool) (p q r : X) → cond b p (cond b q r) ≡ cond b p r
+pub either : {X : Type 0} (b : Bool) (p q r : X) → cond b p (cond b q r) ≡ cond b p r
 either true p q r = refl
 either false p q r = refl
 

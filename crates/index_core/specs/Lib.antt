@@ -9,3 +9,4 @@ pub mod Creation
 pub mod Loading
 pub mod Asked
 pub mod Outbox
+pub mod Undoing

@@ -8,10 +8,13 @@ mod create;
 mod find;
 mod load;
 mod outbox;
+mod owed;
 mod parts;
 mod reply;
+mod step;
 mod store;
+mod undo;
 
 pub use parts::Ticket;
-pub use reply::{BuildReply, CleanReply, Owed};
+pub use reply::{BuildReply, CleanReply, Owed, Undone};
 pub use store::Core;

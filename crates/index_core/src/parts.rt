@@ -14,7 +14,7 @@ ghost use Rattle.core_model.specs.Steps.{places_of};
 ghost use Rattle.core_contracts.specs.Events.{Event, Reply};
 ghost use Rattle.txn_table.specs.Table as table;
 ghost use Rattle.index_core.specs.View.{CoreValue, IsSafe, Serves};
-ghost use Rattle.index_core.specs.Moves.{OwesOrNone, entry_stepped, row_stepped, IsUnchangeable, entry_in, first_made, mark_first, HasFreePlaces, HasNoChange, HasNoRecord, HasRecord, ended, IsAble, IsFreePlace, IsPlaceFor, IsReadyOrNone, IsUnroomy, MayStart, changes_of, fresh, next_change, reserved_of, row_first, row_progress, txn_of, with_change};
+ghost use Rattle.index_core.specs.Moves.{IsUnchangeable, entry_in, first_made, mark_first, HasFreePlaces, HasNoChange, HasNoRecord, HasRecord, ended, IsAble, IsFreePlace, IsPlaceFor, IsReadyOrNone, IsUnroomy, MayStart, changes_of, fresh, next_change, reserved_of, row_first, row_progress, txn_of, with_change};
 ghost use Rattle.index_core.specs.Replies.{reply_by, reply_of_ticket};
 ghost use Rattle.index_core.specs.Builds.{HasNextNumber};
 ghost use Rattle.txn_table.specs.Sound.{IsSound};
@@ -85,7 +85,7 @@ fn may_reserve<A: Allocator + Clone>(index: &MarkedIndex<A>, indexed: bool) -> b
 }
 
 // How far a transaction is once the row of this change is set.
-fn progress_after_row(change: &Change, indexed: bool) -> Progress
+pub(crate) fn progress_after_row(change: &Change, indexed: bool) -> Progress
     ensures { result ≡ row_progress (pairs.new_pair indexed change.now) }
 {
     match core_steps::put_new(change, indexed) {
@@ -94,7 +94,7 @@ fn progress_after_row(change: &Change, indexed: bool) -> Progress
     }
 }
 
-fn record_of(number: RecordNumber, txn: Txn, action: TxnAction) -> Record
+pub(crate) fn record_of(number: RecordNumber, txn: Txn, action: TxnAction) -> Record
     requires { IsTrue (txn_has_rows action) }
     ensures { result ≡ record { number = number; action = Action.OfTxn txn action } }
 {
@@ -153,7 +153,7 @@ fn reserve<A: Allocator + Copy>(
 
 // The entry that a step sets, and what its record says; none where it sets a row, or where there is
 // no step.
-fn entry_of(step: Option<Step>) -> Option<(Pair, TxnAction)>
+pub(crate) fn entry_of(step: Option<Step>) -> Option<(Pair, TxnAction)>
     ensures { result ≡ option_and_then entry_in step }
 {
     let Step { cell, action } = step?;
@@ -209,35 +209,6 @@ fn unmark<A: Allocator + Clone>(
     index.release(left);
 }
 
-// Puts the record into the outbox, and the entry of a pair, in a reserved place where there is none;
-// answers how many places that used. `NoMemory` leaves both as before.
-fn put_in_reserved_place<A: Allocator + Copy>(
-    index: &mut MarkedIndex<A>,
-    outbox: &mut VecDeque<Record, A>,
-    made: Record,
-    pair: &Pair,
-) -> Result<usize, Error>
-    requires { places_used (map.get index.old.entries pair.now) ≤ index.old.pledged }
-    ensures used { IfOk result (λ used. used ≡ places_used (map.get index.old.entries pair.now)) }
-    ensures index { OnOk result (index.new ≡ record index.old {
-      entries = set_at index.old.entries pair.now (Some Mark.Live);
-      pledged = index.old.pledged - places_used (map.get index.old.entries pair.now);
-    }) }
-    ensures outbox { OnOk result (outbox.new.items ≡ outbox.old.items ++ made ∷ []) }
-    ensures unchanged { OnErr result ((index.new ≡ index.old) × (outbox.new.items ≡ outbox.old.items)) }
-    ensures no_memory { IfErr result (λ e. e ≡ Error.NoMemory) }
-{
-    outbox.push_back(made)?;
-    match index.txn_put(pair) {
-        Ok(Stepped::Added) => Ok(1),
-        Ok(Stepped::Found) => Ok(0),
-        Err(error) => {
-            outbox.pop_back();
-            Err(error)
-        }
-    }
-}
-
 impl<A: Allocator + Copy> Parts<A> {
     /// No row, entry or transaction, and no index; the next record has the number after `base`.
     pub(crate) fn new(alloc: A, geometry: Geometry, base: u64) -> Result<Self, Error>
@@ -288,7 +259,7 @@ impl<A: Allocator + Copy> Parts<A> {
     }
 
     // How many entry places the transaction has reserved and not used.
-    fn reserved(&self, txn: Txn) -> usize
+    pub(crate) fn reserved(&self, txn: Txn) -> usize
         requires { ∥ IsSafe (parts_of self.now) ∥₁ }
         ensures number { result ≡ reserved_of (txn_of (parts_of self.now) txn) }
         ensures few { result ≤ 65536 }
@@ -490,97 +461,8 @@ impl<A: Allocator + Copy> Parts<A> {
         Ok(rid)
     }
 
-    // The newest change of a transaction that owes a step of it.
-    fn owed_change(&self, txn: Txn) -> Change
-        requires safe { ∥ IsSafe (parts_of self.now) ∥₁ }
-        requires asked { OwesOrNone (txn_of (parts_of self.now) txn) }
-        requires active { txn_of (parts_of self.now) txn ≢ None }
-        ensures { option_and_then table.last_change (txn_of (parts_of self.now) txn) ≡ Some result }
-    {
-        let Some(change) = self.txns.newest(txn) else {
-            unreachable!()
-        };
-        change
-    }
-
-    // Sets the row of the newest change, which is owed. `NoMemory` leaves all as before.
-    fn set_owed(&mut self, number: RecordNumber, txn: Txn, change: Change) -> Result<(), Error>
-        requires safe { ∥ IsSafe (parts_of self.old) ∥₁ }
-        requires newest { option_and_then table.last_change (txn_of (parts_of self.old) txn) ≡ Some change }
-        requires number { number ≡ (parts_of self.old).last + 1 }
-        ensures ok { OnOk result (parts_of self.new ≡ row_stepped (parts_of self.old) txn (row_progress (pairs.new_pair (pairs.is_indexed (parts_of self.old).life) change)) change.rid (new_row change.rows) (TxnAction.Forward Part.Slot change)) }
-        ensures unchanged { OnErr result (parts_of self.new ≡ parts_of self.old) }
-        ensures no_memory { IfErr result (λ e. e ≡ Error.NoMemory) }
-    {
-        let reserved = self.reserved(txn);
-        let progress = progress_after_row(&change, self.indexed());
-        let action = core_steps::set_new(&change).action;
-        self.outbox.push_back(record_of(number, txn, action))?;
-        self.txns.put(txn, progress, reserved);
-        self.heap.set(change.rid, change.rows.new());
-        self.last += 1;
-        Ok(())
-    }
-
-    // Puts the entry of the newest change, which is owed. `NoMemory` leaves all as before.
-    fn put_owed(
-        &mut self,
-        number: RecordNumber,
-        txn: Txn,
-        put: (Pair, TxnAction),
-    ) -> Result<(), Error>
-        requires safe { ∥ IsSafe (parts_of self.old) ∥₁ }
-        requires places { places_used (map.get (parts_of self.old).index.entries put.0) ≤ reserved_of (txn_of (parts_of self.old) txn) }
-        requires number { number ≡ (parts_of self.old).last + 1 }
-        requires whole { IsTrue (txn_has_rows put.1) }
-        ensures ok { OnOk result (parts_of self.new ≡ entry_stepped (parts_of self.old) txn Progress.Ready put.0 Mark.Live put.1) }
-        ensures unchanged { OnErr result (parts_of self.new ≡ parts_of self.old) }
-        ensures no_memory { IfErr result (λ e. e ≡ Error.NoMemory) }
-    {
-        let (pair, action) = put;
-        let reserved = self.reserved(txn);
-        let made = record_of(number, txn, action);
-        let used = put_in_reserved_place(&mut self.index, &mut self.outbox, made, &pair)?;
-        self.txns.put(txn, Progress::Ready, reserved - used);
-        self.last += 1;
-        Ok(())
-    }
-
-    // The owed step of this change. `NoMemory` leaves all as before.
-    fn carry_on(&mut self, number: RecordNumber, txn: Txn, change: Change) -> Result<(), Error>
-        requires safe { ∥ IsSafe (parts_of self.old) ∥₁ }
-        requires asked { OwesOrNone (txn_of (parts_of self.old) txn) }
-        requires has { HasRecord (parts_of self.old) txn }
-        requires newest { option_and_then table.last_change (txn_of (parts_of self.old) txn) ≡ Some change }
-        requires number { number ≡ (parts_of self.old).last + 1 }
-        ensures { Serves (parts_of self.old) (Event.Step txn) (reply_by (λ _. Reply.Stepped) result) (parts_of self.new) }
-    {
-        match self.txns.progress(txn) {
-            Some(Progress::OwesRow) => self.set_owed(number, txn, change)?,
-            Some(Progress::OwesEntry) => {
-                let Some(put) = entry_of(core_steps::put_new(&change, self.indexed())) else {
-                    unreachable!()
-                };
-                self.put_owed(number, txn, put)?
-            }
-            _ => unreachable!(),
-        }
-        Ok(())
-    }
-
-    /// The step that a transaction owes.
-    pub(crate) fn next_step(&mut self, txn: Txn) -> Result<(), Error>
-        requires safe { ∥ IsSafe (parts_of self.old) ∥₁ }
-        requires asked { OwesOrNone (txn_of (parts_of self.old) txn) }
-        ensures { Serves (parts_of self.old) (Event.Step txn) (reply_by (λ _. Reply.Stepped) result) (parts_of self.new) }
-    {
-        let number = self.number_for(txn)?;
-        let change = self.owed_change(txn);
-        self.carry_on(number, txn, change)
-    }
-
     // The number of the transaction's next record: the errors are `NoSuchTxn`, and then `Exhausted`.
-    fn number_for(&self, txn: Txn) -> Result<RecordNumber, Error>
+    pub(crate) fn number_for(&self, txn: Txn) -> Result<RecordNumber, Error>
         ensures has { OnOk result (HasRecord (parts_of self.now) txn) }
         ensures number { IfOk result (λ n. n ≡ (parts_of self.now).last + 1) }
         ensures err { IfErr result (λ e. HasNoRecord (parts_of self.now) txn e) }

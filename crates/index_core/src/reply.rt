@@ -12,6 +12,15 @@ pub enum Owed {
     KeyPut,
 }
 
+/// What a step of an undo did.
+#[derive(Clone, Copy, Debug, PartialEq, Eq)]
+pub enum Undone {
+    /// It took back a part of the newest change, or the last of it.
+    Step,
+    /// No change was left to take back.
+    Empty,
+}
+
 /// What a step of the builder did.
 #[derive(Clone, Copy, Debug, PartialEq, Eq)]
 pub enum BuildReply {

@@ -15,9 +15,10 @@ ghost use Rattle.index_core.specs.Asked.{owed, progress_of};
 ghost use Rattle.index_core.specs.Outbox.{HandsOn};
 ghost use Rattle.index_core.specs.Builds.{built};
 ghost use Rattle.index_core.specs.Cleaning.{cleaner};
+ghost use Rattle.index_core.specs.Undoing.{undone};
 
 use crate::parts::{Parts, Ticket};
-use crate::reply::{BuildReply, CleanReply, Owed};
+use crate::reply::{BuildReply, CleanReply, Owed, Undone};
 use model::Life;
 use records::{Body, Error, Geometry, Key, LAST_NUMBER, Mark, Pair, Rid, Row, Sink, Txn};
 use std::alloc::Allocator;
@@ -218,6 +219,20 @@ impl<A: Allocator + Copy> Core<A> {
         ensures { Serves (value_of self.old) (Event.Step txn) (reply_by (λ _. Reply.Stepped) result) (value_of self.new) }
     {
         self.parts.next_step(txn)
+    }
+
+    /// Makes the next step that takes the transaction's newest change back, or answers that no change
+    /// is left. With an index such a step marks the entry of the new row, sets the row as it was
+    /// before, and makes the entry of the old row live again, as far as the change has them; with the
+    /// last step the change is off the list. The row stays held, and the places stay reserved. From the
+    /// first call on the transaction is rolling back: it makes no other step and doesn't commit.
+    ///
+    /// `NoSuchTxn`, and where a change is left `Exhausted`, where no number is left for a record, and
+    /// `NoMemory`; never for want of room. After a refusal the core is as before.
+    pub fn undo_step(&mut self, txn: Txn) -> Result<Undone, Error>
+        ensures { Serves (value_of self.old) (Event.Undo txn) (reply_by undone result) (value_of self.new) }
+    {
+        self.parts.undo_step(txn)
     }
 
     /// Ends a transaction that has no change left, which is then no longer active, and holds no row.
