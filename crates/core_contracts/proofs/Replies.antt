@@ -16,7 +16,7 @@ use Rattle.core_contracts.specs.Served.{HasStanding, IsEnabledAny}
 use Rattle.core_model.proofs.Laws.{nat_decided, not_none}
 use Rattle.core_model.specs.Invariants.{IsWellFormed}
 use Rattle.core_model.specs.States.{Active, State}
-use Rattle.core_model.specs.Steps.{Attempt, CanStart, HasFreePlaces, IsActive, IsEnabled, IsReady, Start, Step, all_reserved, is_indexed, new_txn, txn_at}
+use Rattle.core_model.specs.Steps.{Attempt, CanStart, HasFreePlaces, IsActive, IsEnabled, IsReady, Start, MachineStep, all_reserved, is_indexed, new_txn, txn_at}
 
 -- ---- a step that is not refused is enabled
 not_refused : {A B : Type 0} {e : Error} → (A × (◌≡◌ {A = Option Error} None (Some e))) ⊎ ((A → ⊥) × B) → (A → ⊥) × B
@@ -30,7 +30,7 @@ is_active s t h = by_txn (s.txns t) refl
     by_txn None e = absurd (h e)
     by_txn (Some x) e = e ∙ ap (λ o. Some (unwrap_or o new_txn)) (sym e)
 
-last_room : (s : State) (k : Standing) (e : Step) → IsFirst (last_refusals s k e) None → HasNoPlace s e → ⊥
+last_room : (s : State) (k : Standing) (e : MachineStep) → IsFirst (last_refusals s k e) None → HasNoPlace s e → ⊥
 last_room s k e f = (not_refused f).0
 
 least_more : (n m : ℕ) → (m < n → ⊥) → n ≤ m
@@ -73,7 +73,7 @@ no_txn_above s n h = by_txn (s.txns (n + 1)) refl
 
 -- ---- of which step an event is
 module _ (s : State) (k : Standing) (i : IsWellFormed s) (h : HasStanding s k) where
-  by_step : (e : Step) (step : Option Step) → step ≡ Some e → (IsFirst (last_refusals s k e) None → IsEnabled s e) → IsFirst (refusals_of s k step) None → IsEnabledAny s step
+  by_step : (e : MachineStep) (step : Option MachineStep) → step ≡ Some e → (IsFirst (last_refusals s k e) None → IsEnabled s e) → IsFirst (refusals_of s k step) None → IsEnabledAny s step
   by_step e step is f last = subst (IsEnabledAny s) (sym is) (f (subst (λ o. IsFirst (refusals_of s k o) None) is last))
 
   change_enabled : (t : ℕ) (r : Place) (rows : Rows) → (s.txns t ≡ None → ⊥) → IsReady (txn_at s t) → get s.rows r ≡ old_row rows → (IsHeldByOther s t r → ⊥) → r.page < s.pages
@@ -115,7 +115,7 @@ module _ (s : State) (k : Standing) (i : IsWellFormed s) (h : HasStanding s k) w
   clean_enabled (Kept p) d = tt
   clean_enabled Wrapped d = tt
 
-  pub due_enabled : (e : Event) (reply : Reply) (step : Option Step) → (IsOfNone s e → ⊥) → IsProper s e → IsFirst (refusals s k e) None → IsDue s k e reply step → IsFirst (refusals_of s k step) None → IsEnabledAny s step
+  pub due_enabled : (e : Event) (reply : Reply) (step : Option MachineStep) → (IsOfNone s e → ⊥) → IsProper s e → IsFirst (refusals s k e) None → IsDue s k e reply step → IsFirst (refusals_of s k step) None → IsEnabledAny s step
   due_enabled Event.Begin reply step known proper first d last = by_step _ step d.1 (λ l. no_txn_above s k.begun h.begun) last
   due_enabled (Event.Insert t row) reply step known proper first d last =
       by_step _ step d.3 (change_enabled t d.0 (Inserted row) known proper d.1.free.empty (λ held. not_none held.1 d.1.free.unheld) d.1.free.inside) last

@@ -31,7 +31,7 @@ use Rattle.core_model.specs.Changes.{Changes, Unchanged, new_pair, old_pair, ◌
 use Rattle.core_model.specs.Histories.{CanOpen, IsFaithful, Opened, deeds_of, no_writes, opened, writes_after}
 use Rattle.core_model.specs.Invariants.{Invariant, IsShaped, IsWellFormed}
 use Rattle.core_model.specs.States.{Active, Made, NewMarked, OldMarked, OldSet, Phase, Pledges, RowSet, State}
-use Rattle.core_model.specs.Steps.{IsActive, IsBuilding, Next, Start, Step, after, carried_on, is_indexed, new_txn, row_made, row_undone, started, txn_at, undoing, undone, undone_first, update, with_change, with_phase, with_txn, without_newest}
+use Rattle.core_model.specs.Steps.{IsActive, IsBuilding, Next, Start, MachineStep, after, carried_on, is_indexed, new_txn, row_made, row_undone, started, txn_at, undoing, undone, undone_first, update, with_change, with_phase, with_txn, without_newest}
 
 -- ---- what the standing says stays
 record SameScan (s s' : State) : Type 0 where
@@ -193,10 +193,10 @@ module _ (s : State) (k : Standing) (h : HasStanding s k) where
   cleaned_standing Wrapped = standing_kept _ _ (record { pages = refl; bound = refl; taken = refl; life = refl }) refl refl h.begun
 
   -- with the reply and the step that are due
-  at_due : (e : Step) (right : Reply) (reply : Reply) (step : Option Step) → reply ≡ right → step ≡ Some e → Stands (after s e) (standing_after k right) → Stands (after_any s step) (standing_after k reply)
+  at_due : (e : MachineStep) (right : Reply) (reply : Reply) (step : Option MachineStep) → reply ≡ right → step ≡ Some e → Stands (after s e) (standing_after k right) → Stands (after_any s step) (standing_after k reply)
   at_due e right reply step p q a = rw (p, q) a
 
-  at_rest : (right : Reply) (reply : Reply) (step : Option Step) → reply ≡ right → step ≡ None → Stands s (standing_after k right) → Stands (after_any s step) (standing_after k reply)
+  at_rest : (right : Reply) (reply : Reply) (step : Option MachineStep) → reply ≡ right → step ≡ None → Stands s (standing_after k right) → Stands (after_any s step) (standing_after k reply)
   at_rest right reply step p q a = rw (p, q) a
 
   other_made : (s' : State) (pledges : Pledges) → SameScan s s' → SameScan s (record s' { pledges = pledges })
@@ -207,7 +207,7 @@ module _ (s : State) (k : Standing) (h : HasStanding s k) where
       standing_kept _ k' (other_made _ _ (scan_started s t (txn_at s t) c (old_pair (is_indexed s.life) c))) a b
       (λ u y e. rw n (started_le s k.begun h.begun t (txn_at s t) active c (old_pair (is_indexed s.life) c) u y e))
 
-  due_stands : (e : Event) (reply : Reply) (step : Option Step) → (IsOfNone s e → ⊥) → IsDue s k e reply step → Stands (after_any s step) (standing_after k reply)
+  due_stands : (e : Event) (reply : Reply) (step : Option MachineStep) → (IsOfNone s e → ⊥) → IsDue s k e reply step → Stands (after_any s step) (standing_after k reply)
   due_stands Event.Begin reply step known d = at_due _ _ reply step d.0 d.1 (standing_kept _ _ (record { pages = refl; bound = refl; taken = refl; life = refl }) refl refl (begun_le s k.begun h.begun))
   due_stands (Event.Insert t row) reply step known d = at_due _ _ reply step d.2 d.3 (start_standing t (change_of s t d.0 (Inserted row)) _ (is_active s t known) refl refl refl)
   due_stands (Event.Delete t r) reply step known d = at_due _ _ reply step d.2 d.3 (start_standing t (change_of s t r (Deleted d.0)) _ (is_active s t known) refl refl refl)
@@ -216,17 +216,17 @@ module _ (s : State) (k : Standing) (h : HasStanding s k) where
       at_due (Next t) Stepped reply step d.0 d.1 (standing_kept _ _ (other_made _ _ (scan_carried s t (txn_at s t) (txn_at s t).changes (txn_at s t).phase)) refl refl
       (carried_le s k.begun h.begun t (txn_at s t) (is_active s t known) (txn_at s t).changes (txn_at s t).phase))
   due_stands (Event.Undo t) reply step known d = elim d.0 [
-    | inl empty ↦ at_due (Step.Undo t) Empty reply step empty.1 d.1 (undone_standing t k (is_active s t known) refl refl refl)
-    | inr more ↦ at_due (Step.Undo t) Undone reply step more.1 d.1 (undone_standing t (standing_after k Undone) (is_active s t known) refl refl refl)
+    | inl empty ↦ at_due (MachineStep.Undo t) Empty reply step empty.1 d.1 (undone_standing t k (is_active s t known) refl refl refl)
+    | inr more ↦ at_due (MachineStep.Undo t) Undone reply step more.1 d.1 (undone_standing t (standing_after k Undone) (is_active s t known) refl refl refl)
   ]
     where
-      undone_standing : (t : ℕ) (k' : Standing) → IsActive s t → k'.scanned ≡ k.scanned → k'.attempts ≡ k.attempts → k'.begun ≡ k.begun → Stands (after s (Step.Undo t)) k'
+      undone_standing : (t : ℕ) (k' : Standing) → IsActive s t → k'.scanned ≡ k.scanned → k'.attempts ≡ k.attempts → k'.begun ≡ k.begun → Stands (after s (MachineStep.Undo t)) k'
       undone_standing t k' active a b n =
           standing_kept _ k' (other_made _ _ (scan_undone s t (txn_at s t) (txn_at s t).changes (txn_at s t).phase)) a b
           (λ u y e. rw n (undone_le s k.begun h.begun t (txn_at s t) active (txn_at s t).changes (txn_at s t).phase u y e))
   due_stands (Event.End t) reply step known d = at_due _ _ reply step d.0 d.1 (standing_kept _ _ (record { pages = refl; bound = refl; taken = refl; life = refl }) refl refl (gone_le s k.begun h.begun t))
   due_stands (Event.Commit t) reply step known d = at_due _ _ reply step d.0 d.1 (standing_kept _ _ (record { pages = refl; bound = refl; taken = refl; life = refl }) refl refl (gone_le s k.begun h.begun t))
-  due_stands Event.Create reply step known d = at_due Step.Create (Reply.Created (k.made + 1)) reply step d.0 d.1 (record {
+  due_stands Event.Create reply step known d = at_due MachineStep.Create (Reply.Created (k.made + 1)) reply step d.0 d.1 (record {
     begun = h.begun;
     in_a_row = omega arith;
     taken = λ n l. absurd (omega (arith, l));
@@ -270,7 +270,7 @@ module _ (s : State) (k : Standing) (i : IsWellFormed s) (h : HasStanding s k) w
   put_counts : (t n : ℕ) (s' : State) (k' : Standing) → IsActive s t → s'.pledges ≡ insert s.pledges t n → k'.active ≡ k.active → k'.begun ≡ k.begun → k.made ≤ k'.made → HasCounts s' k'
   put_counts t n s' k' active p a b m = same_counts s' k' a b m (ap len p ∙ present_len s.pledges t n (is_pledged t active))
 
-  begun_counts : (TXNS_MAX ≤ k.active → ⊥) → HasCounts (after s (Step.Begin (k.begun + 1))) (standing_after k (Txn (k.begun + 1)))
+  begun_counts : (TXNS_MAX ≤ k.active → ⊥) → HasCounts (after s (MachineStep.Begin (k.begun + 1))) (standing_after k (Txn (k.begun + 1)))
   begun_counts fewer =
       let active : k.active ≡ len s.pledges = h.counts.active in
       let ended : k.begun ≤ k.made + k.active = h.counts.ended in
@@ -308,22 +308,22 @@ module _ (s : State) (k : Standing) (i : IsWellFormed s) (h : HasStanding s k) w
   cleaned_counts (Kept p) = same_counts _ _ refl refl (omega arith) refl
   cleaned_counts Wrapped = same_counts _ _ refl refl (omega arith) refl
 
-  counts_by : (right : Reply) (want : Option Step) (reply : Reply) (step : Option Step) → reply ≡ right → step ≡ want → HasCounts (after_any s want) (standing_after k right) → HasCounts (after_any s step) (standing_after k reply)
+  counts_by : (right : Reply) (want : Option MachineStep) (reply : Reply) (step : Option MachineStep) → reply ≡ right → step ≡ want → HasCounts (after_any s want) (standing_after k right) → HasCounts (after_any s step) (standing_after k reply)
   counts_by right want reply step p q a = rw (p, q) a
 
   one_refused : {A : Type 0} {error : Error} → IsFirst ((A, error) ∷ []) None → A → ⊥
   one_refused (inl refuses) a = not_none refuses.1 refl
   one_refused (inr allows) a = allows.0 a
 
-  due_counts : (e : Event) (reply : Reply) (step : Option Step) → (IsOfNone s e → ⊥) → IsFirst (refusals s k e) None → IsDue s k e reply step → HasCounts (after_any s step) (standing_after k reply)
-  due_counts Event.Begin reply step known first d = counts_by (Txn (k.begun + 1)) (Some (Step.Begin (k.begun + 1))) reply step d.0 d.1 (begun_counts (one_refused first))
+  due_counts : (e : Event) (reply : Reply) (step : Option MachineStep) → (IsOfNone s e → ⊥) → IsFirst (refusals s k e) None → IsDue s k e reply step → HasCounts (after_any s step) (standing_after k reply)
+  due_counts Event.Begin reply step known first d = counts_by (Txn (k.begun + 1)) (Some (MachineStep.Begin (k.begun + 1))) reply step d.0 d.1 (begun_counts (one_refused first))
   due_counts (Event.Insert t row) reply step known first d = counts_by _ _ reply step d.2 d.3 (put_counts t _ _ _ (is_active s t known) refl refl refl (omega arith))
   due_counts (Event.Delete t r) reply step known first d = counts_by _ _ reply step d.2 d.3 (put_counts t _ _ _ (is_active s t known) refl refl refl (omega arith))
   due_counts (Event.Update t r row) reply step known first d = counts_by _ _ reply step d.2 d.3 (put_counts t _ _ _ (is_active s t known) refl refl refl (omega arith))
   due_counts (Event.Step t) reply step known first d = counts_by _ _ reply step d.0 d.1 (put_counts t _ _ _ (is_active s t known) refl refl refl (omega arith))
   due_counts (Event.Undo t) reply step known first d = elim d.0 [
-    | inl empty ↦ counts_by Empty (Some (Step.Undo t)) reply step empty.1 d.1 (put_counts t _ _ k (is_active s t known) refl refl refl (omega arith))
-    | inr more ↦ counts_by Undone (Some (Step.Undo t)) reply step more.1 d.1 (put_counts t _ _ (standing_after k Undone) (is_active s t known) refl refl refl (omega arith))
+    | inl empty ↦ counts_by Empty (Some (MachineStep.Undo t)) reply step empty.1 d.1 (put_counts t _ _ k (is_active s t known) refl refl refl (omega arith))
+    | inr more ↦ counts_by Undone (Some (MachineStep.Undo t)) reply step more.1 d.1 (put_counts t _ _ (standing_after k Undone) (is_active s t known) refl refl refl (omega arith))
   ]
   due_counts (Event.End t) reply step known first d = counts_by _ _ reply step d.0 d.1 (gone_counts t _ _ (is_active s t known) refl refl refl refl)
   due_counts (Event.Commit t) reply step known first d = counts_by _ _ reply step d.0 d.1 (gone_counts t _ _ (is_active s t known) refl refl refl refl)
@@ -335,20 +335,20 @@ module _ (s : State) (k : Standing) (i : IsWellFormed s) (h : HasStanding s k) w
   due_counts Event.Life reply step known first d = counts_by _ _ reply step d.0 d.1 h.counts
 
 -- ---- the history
-abbrev pub items_any : (ℕ → List Write) → ℕ → Option Step → List Item
+abbrev pub items_any : (ℕ → List Write) → ℕ → Option MachineStep → List Item
 items_any writes last None = []
 items_any writes last (Some e) = map (item_at last) (deeds_of writes e)
 
-abbrev pub writes_any : (ℕ → List Write) → Option Step → ℕ → List Write
+abbrev pub writes_any : (ℕ → List Write) → Option MachineStep → ℕ → List Write
 writes_any writes None = writes
 writes_any writes (Some e) = writes_after writes e
 
-pub record Tells (writes : ℕ → List Write) (last : ℕ) (e : Event) (reply : Reply) (step : Option Step) : Type 0 where
+pub record Tells (writes : ℕ → List Write) (last : ℕ) (e : Event) (reply : Reply) (step : Option MachineStep) : Type 0 where
   pub items : items_at writes reply e ≡ items_any writes last step
   pub asked : asked_after writes reply e ≡ writes_any writes step
 
 module _ (writes : ℕ → List Write) (last : ℕ) (e : Event) where
-  tells_by : (right reply : Reply) (step want : Option Step) → reply ≡ right → step ≡ want → Tells writes last e right want → Tells writes last e reply step
+  tells_by : (right reply : Reply) (step want : Option MachineStep) → reply ≡ right → step ≡ want → Tells writes last e right want → Tells writes last e reply step
   tells_by right reply step want p q a = rw (p, q) a
 
 built_tells : (s : State) (k : Standing) (writes : ℕ → List Write) (b : BuildReply) → IsBuildDue s k b → Tells writes k.made Event.Build (Built b) (build_step b)
@@ -364,7 +364,7 @@ cleaned_tells writes last (Cleaned p) = record { items = refl; asked = refl }
 cleaned_tells writes last (Kept p) = record { items = refl; asked = refl }
 cleaned_tells writes last Wrapped = record { items = refl; asked = refl }
 
-due_tells : (s : State) (k : Standing) (writes : ℕ → List Write) (e : Event) (reply : Reply) (step : Option Step) → IsDue s k e reply step → Tells writes k.made e reply step
+due_tells : (s : State) (k : Standing) (writes : ℕ → List Write) (e : Event) (reply : Reply) (step : Option MachineStep) → IsDue s k e reply step → Tells writes k.made e reply step
 due_tells s k writes Event.Begin reply step d = tells_by writes k.made Event.Begin _ reply step _ d.0 d.1 (record { items = refl; asked = refl })
 due_tells s k writes (Event.Insert t row) reply step d = tells_by writes k.made (Event.Insert t row) _ reply step _ d.2 d.3 (record { items = refl; asked = refl })
 due_tells s k writes (Event.Delete t r) reply step d = tells_by writes k.made (Event.Delete t r) _ reply step _ d.2 d.3 (record { items = refl; asked = refl })
@@ -447,10 +447,10 @@ module _ (s : State) (k : Standing) (i : IsWellFormed s) where
   cleaned_made (Kept p) = refl
   cleaned_made Wrapped = refl
 
-  made_by : (right reply : Reply) (step want : Option Step) → reply ≡ right → step ≡ want → (standing_after k right).made ≡ number_after s k.made want → (standing_after k reply).made ≡ number_after s k.made step
+  made_by : (right reply : Reply) (step want : Option MachineStep) → reply ≡ right → step ≡ want → (standing_after k right).made ≡ number_after s k.made want → (standing_after k reply).made ≡ number_after s k.made step
   made_by right reply step want p q a = rw (p, q) a
 
-  due_made : (e : Event) (reply : Reply) (step : Option Step) → (IsOfNone s e → ⊥) → IsProper s e → IsDue s k e reply step → (standing_after k reply).made ≡ number_after s k.made step
+  due_made : (e : Event) (reply : Reply) (step : Option MachineStep) → (IsOfNone s e → ⊥) → IsProper s e → IsDue s k e reply step → (standing_after k reply).made ≡ number_after s k.made step
   due_made Event.Begin reply step known proper d = made_by _ reply step _ d.0 d.1 refl
   due_made (Event.Insert t row) reply step known proper d = made_by _ reply step _ d.2 d.3 refl
   due_made (Event.Delete t r) reply step known proper d = made_by _ reply step _ d.2 d.3 refl
@@ -471,7 +471,7 @@ module _ (s : State) (k : Standing) (i : IsWellFormed s) where
   due_made Event.Life reply step known proper d = made_by _ reply step _ d.0 d.1 refl
 
 -- the number of the last record stays within the limit
-number_within : (s : State) (k : Standing) (step : Option Step) → IsFirst (refusals_of s k step) None → k.made ≤ LAST_NUMBER → number_after s k.made step ≤ LAST_NUMBER
+number_within : (s : State) (k : Standing) (step : Option MachineStep) → IsFirst (refusals_of s k step) None → k.made ≤ LAST_NUMBER → number_after s k.made step ≤ LAST_NUMBER
 number_within s k None last le = le
 number_within s k (Some e) last le = by_action (action_of s e) refl
   where
@@ -487,7 +487,7 @@ number_within s k (Some e) last le = by_action (action_of s e) refl
     ]
 
 module _ (s : State) (k : Standing) (i : IsWellFormed s) (h : HasStanding s k) where
-  due_standing : (e : Event) (reply : Reply) (step : Option Step) → (IsOfNone s e → ⊥) → IsProper s e → IsFirst (refusals s k e) None → IsDue s k e reply step → IsFirst (refusals_of s k step) None → HasStanding (after_any s step) (standing_after k reply)
+  due_standing : (e : Event) (reply : Reply) (step : Option MachineStep) → (IsOfNone s e → ⊥) → IsProper s e → IsFirst (refusals s k e) None → IsDue s k e reply step → IsFirst (refusals_of s k step) None → HasStanding (after_any s step) (standing_after k reply)
   due_standing e reply step known proper first d last =
       let a : Stands (after_any s step) (standing_after k reply) = due_stands s k h e reply step known d in
       record {
@@ -500,7 +500,7 @@ module _ (s : State) (k : Standing) (i : IsWellFormed s) (h : HasStanding s k) w
       }
 
 -- ---- one event
-pub fit_any : (s : State) (step : Option Step) → IsWellFormed s → IsEnabledAny s step → IsWellFormed (after_any s step)
+pub fit_any : (s : State) (step : Option MachineStep) → IsWellFormed s → IsEnabledAny s step → IsWellFormed (after_any s step)
 fit_any s None i a = i
 fit_any s (Some e) i a = fit_step s e i a
 
@@ -516,7 +516,7 @@ asked_last writes [] e reply = refl
 asked_last writes (p ∷ pairs) e reply = asked_last (asked_after writes p.1 p.0) pairs e reply
 
 -- one allowed reply more
-serves_last : (s : State) (k : Standing) (pairs : List (Event × Reply)) (s' : State) (k' : Standing) (e : Event) (reply : Reply) (step : Option Step) → Serves s k pairs s' k' → IsAllowed s' k' e reply step
+serves_last : (s : State) (k : Standing) (pairs : List (Event × Reply)) (s' : State) (k' : Standing) (e : Event) (reply : Reply) (step : Option MachineStep) → Serves s k pairs s' k' → IsAllowed s' k' e reply step
     → Serves s k (pairs ++ (e, reply) ∷ []) (after_any s' step) (standing_after k' reply)
 serves_last s k pairs s' k' e reply step nothing allowed = served e reply step [] allowed nothing
 serves_last s k pairs s' k' e reply step (served first_event first_reply first_step rest first_allowed r) allowed =
@@ -536,7 +536,7 @@ module _ (o : Opened) (can : CanOpen o) (made : List RecordValue) (pairs : List 
       let more : length (made ++ one_record k.made (Some action)) ≡ length made + 1 = length-append made (one_record k.made (Some action)) in
       omega (arith, e, number, more)
 
-  go_on : (e : Event) (reply : Reply) (step : Option Step) → IsAllowed s k e reply step → IsEnabledAny s step → HasStanding (after_any s step) (standing_after k reply) → Tells asked k.made e reply step → (standing_after k reply).made ≡ number_after s k.made step
+  go_on : (e : Event) (reply : Reply) (step : Option MachineStep) → IsAllowed s k e reply step → IsEnabledAny s step → HasStanding (after_any s step) (standing_after k reply) → Tells asked k.made e reply step → (standing_after k reply).made ≡ number_after s k.made step
       → HasServed o (made ++ records_by s k.made step) (pairs ++ (e, reply) ∷ []) (after_any s step) (standing_after k reply)
   go_on e reply None allowed a standing t m = record {
     served = serves_last (opened o) (standing_at o.given.last) pairs s k e reply None h.served allowed;
@@ -565,7 +565,7 @@ module _ (o : Opened) (can : CanOpen o) (made : List RecordValue) (pairs : List 
       few_pledged e l = omega (arith, e, l)
 
   -- the reply that is due
-  served_due : (e : Event) (reply : Reply) (step : Option Step) → (IsOfNone s e → ⊥) → IsProper s e → IsFirst (refusals s k e) None → IsDue s k e reply step → IsFirst (refusals_of s k step) None
+  served_due : (e : Event) (reply : Reply) (step : Option MachineStep) → (IsOfNone s e → ⊥) → IsProper s e → IsFirst (refusals s k e) None → IsDue s k e reply step → IsFirst (refusals_of s k step) None
       → HasServed o (made ++ records_by s k.made step) (pairs ++ (e, reply) ∷ []) (after_any s step) (standing_after k reply)
   served_due e reply step known proper first due last =
       let i : IsWellFormed s = served_holds.fit in
@@ -575,7 +575,7 @@ module _ (o : Opened) (can : CanOpen o) (made : List RecordValue) (pairs : List 
   without_step : (e : Event) (reply : Reply) → IsAllowed s k e reply None → standing_after k reply ≡ k → items_at asked reply e ≡ [] → asked_after asked reply e ≡ asked → HasServed o (made ++ []) (pairs ++ (e, reply) ∷ []) s (standing_after k reply)
   without_step e reply allowed stays none same = go_on e reply None allowed tt (subst (HasStanding s) (sym stays) h.standing) (record { items = none; asked = same }) (ap (λ (n : Standing). n.made) stays)
 
-  pub served_allowed : (e : Event) (reply : Reply) (step : Option Step) → IsAllowed s k e reply step → HasServed o (made ++ records_by s k.made step) (pairs ++ (e, reply) ∷ []) (after_any s step) (standing_after k reply)
+  pub served_allowed : (e : Event) (reply : Reply) (step : Option MachineStep) → IsAllowed s k e reply step → HasServed o (made ++ records_by s k.made step) (pairs ++ (e, reply) ∷ []) (after_any s step) (standing_after k reply)
   served_allowed e reply step (unknown a) = without_step e _ (unknown a) refl refl refl
   served_allowed e reply step (skipped a b) = without_step e _ (skipped a b) refl refl refl
   served_allowed e reply step (refused a b error c) = without_step e _ (refused a b error c) refl refl refl
@@ -641,7 +641,7 @@ served_crashed o can made pairs s k h handed waiting e n le =
     front [] (suc n) le = absurd (omega (arith, le))
     front (r ∷ rs) (suc n) le = ap (λ l. r ∷ l) (front rs n (omega (arith, le)))
 
-pub is_move : (s : State) (k : Standing) (e : Event) (reply : Reply) (step : Option Step) → IsWellFormed s → HasStanding s k → IsAllowed s k e reply step → IsMove s k step (standing_after k reply)
+pub is_move : (s : State) (k : Standing) (e : Event) (reply : Reply) (step : Option MachineStep) → IsWellFormed s → HasStanding s k → IsAllowed s k e reply step → IsMove s k step (standing_after k reply)
 is_move s k e reply step i h (unknown a) = record { enabled = tt; made = refl; fit = i; standing = h }
 is_move s k e reply step i h (skipped a b) = record { enabled = tt; made = refl; fit = i; standing = h }
 is_move s k e reply step i h (refused a b error c) = record { enabled = tt; made = refl; fit = i; standing = h }
@@ -693,7 +693,7 @@ module _ (s : State) (k : Standing) (writes : ℕ → List Write) where
   ticket_by : (e : Event) (right reply : Reply) → reply ≡ right → IsTicketed (items_at writes right e) k.made (standing_after k right).made → IsTicketed (items_at writes reply e) k.made (standing_after k reply).made
   ticket_by e right reply p a = rw p a
 
-  due_ticket : (e : Event) (reply : Reply) (step : Option Step) → IsDue s k e reply step → IsTicketed (items_at writes reply e) k.made (standing_after k reply).made
+  due_ticket : (e : Event) (reply : Reply) (step : Option MachineStep) → IsDue s k e reply step → IsTicketed (items_at writes reply e) k.made (standing_after k reply).made
   due_ticket Event.Begin reply step d = ticket_by Event.Begin _ reply d.0 (no_ticket _ _ (omega arith))
   due_ticket (Event.Insert t row) reply step d = ticket_by (Event.Insert t row) _ reply d.2 (no_ticket _ _ (more_made k.made))
   due_ticket (Event.Delete t r) reply step d = ticket_by (Event.Delete t r) _ reply d.2 (no_ticket _ _ (more_made k.made))
@@ -712,7 +712,7 @@ module _ (s : State) (k : Standing) (writes : ℕ → List Write) where
   due_ticket (Event.Find key) reply step d = ticket_by (Event.Find key) _ reply d.2 (no_ticket _ _ (omega arith))
   due_ticket Event.Life reply step d = ticket_by Event.Life _ reply d.0 (no_ticket _ _ (omega arith))
 
-ticketed : (s : State) (k : Standing) (e : Event) (reply : Reply) (step : Option Step) (writes : ℕ → List Write) → IsAllowed s k e reply step → IsTicketed (items_at writes reply e) k.made (standing_after k reply).made
+ticketed : (s : State) (k : Standing) (e : Event) (reply : Reply) (step : Option MachineStep) (writes : ℕ → List Write) → IsAllowed s k e reply step → IsTicketed (items_at writes reply e) k.made (standing_after k reply).made
 ticketed s k e reply step writes (unknown a) = no_ticket _ _ (omega arith)
 ticketed s k e reply step writes (skipped a b) = no_ticket _ _ (omega arith)
 ticketed s k e reply step writes (refused a b error c) = no_ticket _ _ (omega arith)

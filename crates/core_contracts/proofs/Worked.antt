@@ -20,7 +20,7 @@ use Rattle.core_model.proofs.Laws.{not_none}
 use Rattle.core_model.specs.Example.{insertion, last, opening, pair, place, row}
 use Rattle.core_model.specs.Histories.{opened}
 use Rattle.core_model.specs.States.{Active}
-use Rattle.core_model.specs.Steps.{Attempt, Finish, Start, Step, Take, update}
+use Rattle.core_model.specs.Steps.{Attempt, Finish, Start, MachineStep, Take, update}
 
 not_last : (n : ℕ) → n ≤ 6 → LAST_NUMBER ≤ n → ⊥
 not_last n l h = omega (arith, l, h)
@@ -95,13 +95,13 @@ no_changes h = omega (arith, h)
 next_pair : IsNextPair s8 pair
 next_pair = record { given = a9.given; rising = a9.rising; all_taken = a9.all_taken; none_left = a9.none_left }
 
-allowed_0 : IsAllowed (opened opening) k0 Event.Create (Reply.Created 1) (Some Step.Create)
+allowed_0 : IsAllowed (opened opening) k0 Event.Create (Reply.Created 1) (Some MachineStep.Create)
 unfolding update
-allowed_0 = accepted (λ h. h) tt (inr (λ e. true≢false (sym e), inr (λ h. active_there (sym h.2), refl))) (Reply.Created 1) (Some Step.Create) (refl, refl) (nothing_refused 0 (omega arith))
+allowed_0 = accepted (λ h. h) tt (inr (λ e. true≢false (sym e), inr (λ h. active_there (sym h.2), refl))) (Reply.Created 1) (Some MachineStep.Create) (refl, refl) (nothing_refused 0 (omega arith))
 
-allowed_1 : IsAllowed (s1) k1 Event.Begin (Txn 1) (Some (Step.Begin 1))
+allowed_1 : IsAllowed (s1) k1 Event.Begin (Txn 1) (Some (MachineStep.Begin 1))
 unfolding update
-allowed_1 = accepted (λ h. h) tt (inr (λ h. too_many h, refl)) (Txn 1) (Some (Step.Begin 1)) (refl, refl) (nothing_refused 1 (omega arith))
+allowed_1 = accepted (λ h. h) tt (inr (λ h. too_many h, refl)) (Txn 1) (Some (MachineStep.Begin 1)) (refl, refl) (nothing_refused 1 (omega arith))
 
 allowed_2 : IsAllowed (s2) k2 (Event.Insert 1 row) (Reply.Rid place) (Some (Start 1 insertion))
 unfolding update
@@ -111,21 +111,21 @@ allowed_3 : IsAllowed (s3) k3 Event.Build (Built (Scanned 0)) (Some (Take 0))
 unfolding update
 allowed_3 = accepted (λ h. h) tt (inr (λ e. building≢absent e, refl)) (Built (Scanned 0)) (Some (Take 0)) (Scanned 0, (((None, refl), omega arith), refl, omega arith), refl, refl) (nothing_refused 2 (omega arith))
 
-allowed_4 : IsAllowed (s4) k4 (Event.Undo 1) Undone (Some (Step.Undo 1))
+allowed_4 : IsAllowed (s4) k4 (Event.Undo 1) Undone (Some (MachineStep.Undo 1))
 unfolding update
-allowed_4 = accepted (λ h. active_there h) tt refl Undone (Some (Step.Undo 1)) (inr (λ e. absurd (cc), refl), refl) (nothing_refused 2 (omega arith))
+allowed_4 = accepted (λ h. active_there h) tt refl Undone (Some (MachineStep.Undo 1)) (inr (λ e. absurd (cc), refl), refl) (nothing_refused 2 (omega arith))
 
-allowed_5 : IsAllowed (s5) k5 (Event.Undo 1) Undone (Some (Step.Undo 1))
+allowed_5 : IsAllowed (s5) k5 (Event.Undo 1) Undone (Some (MachineStep.Undo 1))
 unfolding update
-allowed_5 = accepted (λ h. active_there h) tt refl Undone (Some (Step.Undo 1)) (inr (λ e. absurd (cc), refl), refl) (nothing_refused 3 (omega arith))
+allowed_5 = accepted (λ h. active_there h) tt refl Undone (Some (MachineStep.Undo 1)) (inr (λ e. absurd (cc), refl), refl) (nothing_refused 3 (omega arith))
 
-allowed_6 : IsAllowed (s6) k6 (Event.Undo 1) Empty (Some (Step.Undo 1))
+allowed_6 : IsAllowed (s6) k6 (Event.Undo 1) Empty (Some (MachineStep.Undo 1))
 unfolding update
-allowed_6 = accepted (λ h. active_there h) tt refl Empty (Some (Step.Undo 1)) (inl (refl, refl), refl) (nothing_refused 4 (omega arith))
+allowed_6 = accepted (λ h. active_there h) tt refl Empty (Some (MachineStep.Undo 1)) (inl (refl, refl), refl) (nothing_refused 4 (omega arith))
 
-allowed_7 : IsAllowed (s7) k7 (Event.End 1) Ended (Some (Step.End 1))
+allowed_7 : IsAllowed (s7) k7 (Event.End 1) Ended (Some (MachineStep.End 1))
 unfolding update
-allowed_7 = accepted (λ h. active_there h) refl refl Ended (Some (Step.End 1)) (refl, refl) (nothing_refused 4 (omega arith))
+allowed_7 = accepted (λ h. active_there h) refl refl Ended (Some (MachineStep.End 1)) (refl, refl) (nothing_refused 4 (omega arith))
 
 allowed_8 : IsAllowed (s8) k8 Event.Build (Built (Rejected pair)) (Some (Attempt pair))
 unfolding update
@@ -142,16 +142,16 @@ from_8 : Serves s8 k8 ((Event.Build, Built (Rejected pair)) ∷ (Event.Build, Bu
 from_8 = served {s = s8} {new = last} {k = k8} {next = standing} Event.Build (Built (Rejected pair)) (Some (Attempt pair)) ((Event.Build, Built (Done 6)) ∷ []) allowed_8 from_9
 
 from_7 : Serves s7 k7 ((Event.End 1, Ended) ∷ (Event.Build, Built (Rejected pair)) ∷ (Event.Build, Built (Done 6)) ∷ []) last standing
-from_7 = served {s = s7} {new = last} {k = k7} {next = standing} (Event.End 1) Ended (Some (Step.End 1)) ((Event.Build, Built (Rejected pair)) ∷ (Event.Build, Built (Done 6)) ∷ []) allowed_7 from_8
+from_7 = served {s = s7} {new = last} {k = k7} {next = standing} (Event.End 1) Ended (Some (MachineStep.End 1)) ((Event.Build, Built (Rejected pair)) ∷ (Event.Build, Built (Done 6)) ∷ []) allowed_7 from_8
 
 from_6 : Serves s6 k6 ((Event.Undo 1, Empty) ∷ (Event.End 1, Ended) ∷ (Event.Build, Built (Rejected pair)) ∷ (Event.Build, Built (Done 6)) ∷ []) last standing
-from_6 = served {s = s6} {new = last} {k = k6} {next = standing} (Event.Undo 1) Empty (Some (Step.Undo 1)) ((Event.End 1, Ended) ∷ (Event.Build, Built (Rejected pair)) ∷ (Event.Build, Built (Done 6)) ∷ []) allowed_6 from_7
+from_6 = served {s = s6} {new = last} {k = k6} {next = standing} (Event.Undo 1) Empty (Some (MachineStep.Undo 1)) ((Event.End 1, Ended) ∷ (Event.Build, Built (Rejected pair)) ∷ (Event.Build, Built (Done 6)) ∷ []) allowed_6 from_7
 
 from_5 : Serves s5 k5 ((Event.Undo 1, Undone) ∷ (Event.Undo 1, Empty) ∷ (Event.End 1, Ended) ∷ (Event.Build, Built (Rejected pair)) ∷ (Event.Build, Built (Done 6)) ∷ []) last standing
-from_5 = served {s = s5} {new = last} {k = k5} {next = standing} (Event.Undo 1) Undone (Some (Step.Undo 1)) ((Event.Undo 1, Empty) ∷ (Event.End 1, Ended) ∷ (Event.Build, Built (Rejected pair)) ∷ (Event.Build, Built (Done 6)) ∷ []) allowed_5 from_6
+from_5 = served {s = s5} {new = last} {k = k5} {next = standing} (Event.Undo 1) Undone (Some (MachineStep.Undo 1)) ((Event.Undo 1, Empty) ∷ (Event.End 1, Ended) ∷ (Event.Build, Built (Rejected pair)) ∷ (Event.Build, Built (Done 6)) ∷ []) allowed_5 from_6
 
 from_4 : Serves s4 k4 ((Event.Undo 1, Undone) ∷ (Event.Undo 1, Undone) ∷ (Event.Undo 1, Empty) ∷ (Event.End 1, Ended) ∷ (Event.Build, Built (Rejected pair)) ∷ (Event.Build, Built (Done 6)) ∷ []) last standing
-from_4 = served {s = s4} {new = last} {k = k4} {next = standing} (Event.Undo 1) Undone (Some (Step.Undo 1)) ((Event.Undo 1, Undone) ∷ (Event.Undo 1, Empty) ∷ (Event.End 1, Ended) ∷ (Event.Build, Built (Rejected pair)) ∷ (Event.Build, Built (Done 6)) ∷ []) allowed_4 from_5
+from_4 = served {s = s4} {new = last} {k = k4} {next = standing} (Event.Undo 1) Undone (Some (MachineStep.Undo 1)) ((Event.Undo 1, Undone) ∷ (Event.Undo 1, Empty) ∷ (Event.End 1, Ended) ∷ (Event.Build, Built (Rejected pair)) ∷ (Event.Build, Built (Done 6)) ∷ []) allowed_4 from_5
 
 from_3 : Serves s3 k3 ((Event.Build, Built (Scanned 0)) ∷ (Event.Undo 1, Undone) ∷ (Event.Undo 1, Undone) ∷ (Event.Undo 1, Empty) ∷ (Event.End 1, Ended) ∷ (Event.Build, Built (Rejected pair)) ∷ (Event.Build, Built (Done 6)) ∷ []) last standing
 from_3 = served {s = s3} {new = last} {k = k3} {next = standing} Event.Build (Built (Scanned 0)) (Some (Take 0)) ((Event.Undo 1, Undone) ∷ (Event.Undo 1, Undone) ∷ (Event.Undo 1, Empty) ∷ (Event.End 1, Ended) ∷ (Event.Build, Built (Rejected pair)) ∷ (Event.Build, Built (Done 6)) ∷ []) allowed_3 from_4
@@ -160,7 +160,7 @@ from_2 : Serves s2 k2 ((Event.Insert 1 row, Reply.Rid place) ∷ (Event.Build, B
 from_2 = served {s = s2} {new = last} {k = k2} {next = standing} (Event.Insert 1 row) (Reply.Rid place) (Some (Start 1 insertion)) ((Event.Build, Built (Scanned 0)) ∷ (Event.Undo 1, Undone) ∷ (Event.Undo 1, Undone) ∷ (Event.Undo 1, Empty) ∷ (Event.End 1, Ended) ∷ (Event.Build, Built (Rejected pair)) ∷ (Event.Build, Built (Done 6)) ∷ []) allowed_2 from_3
 
 from_1 : Serves s1 k1 ((Event.Begin, Txn 1) ∷ (Event.Insert 1 row, Reply.Rid place) ∷ (Event.Build, Built (Scanned 0)) ∷ (Event.Undo 1, Undone) ∷ (Event.Undo 1, Undone) ∷ (Event.Undo 1, Empty) ∷ (Event.End 1, Ended) ∷ (Event.Build, Built (Rejected pair)) ∷ (Event.Build, Built (Done 6)) ∷ []) last standing
-from_1 = served {s = s1} {new = last} {k = k1} {next = standing} Event.Begin (Txn 1) (Some (Step.Begin 1)) ((Event.Insert 1 row, Reply.Rid place) ∷ (Event.Build, Built (Scanned 0)) ∷ (Event.Undo 1, Undone) ∷ (Event.Undo 1, Undone) ∷ (Event.Undo 1, Empty) ∷ (Event.End 1, Ended) ∷ (Event.Build, Built (Rejected pair)) ∷ (Event.Build, Built (Done 6)) ∷ []) allowed_1 from_2
+from_1 = served {s = s1} {new = last} {k = k1} {next = standing} Event.Begin (Txn 1) (Some (MachineStep.Begin 1)) ((Event.Insert 1 row, Reply.Rid place) ∷ (Event.Build, Built (Scanned 0)) ∷ (Event.Undo 1, Undone) ∷ (Event.Undo 1, Undone) ∷ (Event.Undo 1, Empty) ∷ (Event.End 1, Ended) ∷ (Event.Build, Built (Rejected pair)) ∷ (Event.Build, Built (Done 6)) ∷ []) allowed_1 from_2
 
 pub served_script : Serves (opened opening) (standing_at 0) script last standing
-served_script = served {s = opened opening} {new = last} {k = k0} {next = standing} Event.Create (Reply.Created 1) (Some Step.Create) ((Event.Begin, Txn 1) ∷ (Event.Insert 1 row, Reply.Rid place) ∷ (Event.Build, Built (Scanned 0)) ∷ (Event.Undo 1, Undone) ∷ (Event.Undo 1, Undone) ∷ (Event.Undo 1, Empty) ∷ (Event.End 1, Ended) ∷ (Event.Build, Built (Rejected pair)) ∷ (Event.Build, Built (Done 6)) ∷ []) allowed_0 from_1
+served_script = served {s = opened opening} {new = last} {k = k0} {next = standing} Event.Create (Reply.Created 1) (Some MachineStep.Create) ((Event.Begin, Txn 1) ∷ (Event.Insert 1 row, Reply.Rid place) ∷ (Event.Build, Built (Scanned 0)) ∷ (Event.Undo 1, Undone) ∷ (Event.Undo 1, Undone) ∷ (Event.Undo 1, Empty) ∷ (Event.End 1, Ended) ∷ (Event.Build, Built (Rejected pair)) ∷ (Event.Build, Built (Done 6)) ∷ []) allowed_0 from_1

@@ -22,7 +22,7 @@ use Rattle.core_model.specs.Records.{action_of}
 use Rattle.records.specs.declared.limits.TheConstants.{ATTEMPTS_PER_CHECKPOINT}
 use Rattle.records.specs.declared.txn.TheConstants.{TXNS_MAX}
 use Rattle.core_model.specs.States.{Active, OldMarked, RowSet, State}
-use Rattle.core_model.specs.Steps.{Attempt, CanClean, CanFinish, Checkpoint, Finish, IsBuilding, IsReady, Keep, Next, Start, Step, Take, Wrap, above, after, all_reserved, is_indexed, places_of, txn_at}
+use Rattle.core_model.specs.Steps.{Attempt, CanClean, CanFinish, Checkpoint, Finish, IsBuilding, IsReady, Keep, Next, Start, MachineStep, Take, Wrap, above, after, all_reserved, is_indexed, places_of, txn_at}
 use Rattle.core_model.specs.Changes.{Unchanged, as_list}
 
 -- ---- what an event asks for first
@@ -92,16 +92,16 @@ refusals s k (Event.Find key) = (s.life ≡ Absent, Error.NoIndex) ∷ (IsBuildi
 refusals s k _ = []
 
 -- the step has no entry place to reserve or to use
-abbrev pub HasNoPlace : State → Step → Type 0
+abbrev pub HasNoPlace : State → MachineStep → Type 0
 HasNoPlace s (Start t c) = (is_indexed s.life ≡ true) × (s.places < len s.entries + all_reserved s.pledges + places_of true)
 HasNoPlace s (Attempt p) = (get s.entries p ≡ None) × (s.places ≤ len s.entries + all_reserved s.pledges)
 HasNoPlace s _ = ⊥
 
 -- and those that come last, of the step that is due
-abbrev pub last_refusals : State → Standing → Step → Refusals
+abbrev pub last_refusals : State → Standing → MachineStep → Refusals
 last_refusals s k e = (HasNoPlace s e, Error.IndexFull) ∷ ((LAST_NUMBER ≤ k.made) × (action_of s e ≢ None), Error.Exhausted) ∷ []
 
-abbrev pub refusals_of : State → Standing → Option Step → Refusals
+abbrev pub refusals_of : State → Standing → Option MachineStep → Refusals
 refusals_of s k None = []
 refusals_of s k (Some e) = last_refusals s k e
 
@@ -133,7 +133,7 @@ IsBuildDue s k (Placed p) = IsBetween s k × IsNextPair s p × (get s.entries p 
 IsBuildDue s k (Rejected p) = IsBetween s k × IsNextPair s p × (get s.entries p ≢ None)
 IsBuildDue s k (Done n) = IsBetween s k × CanFinish s × (n ≡ k.made + 1)
 
-abbrev pub build_step : BuildReply → Option Step
+abbrev pub build_step : BuildReply → Option MachineStep
 build_step (Scanned page) = Some (Take page)
 build_step (Placed p) = Some (Attempt p)
 build_step (Rejected p) = Some (Attempt p)
@@ -152,8 +152,8 @@ IsCleanDue s (Cleaned p) = IsNextEntry s p × CanClean s p
 IsCleanDue s (Kept p) = IsNextEntry s p × (CanClean s p → ⊥)
 IsCleanDue s Wrapped = (p : Pair) → above s.cleaned p ≡ true → get s.entries p ≡ None
 
-abbrev pub clean_step : CleanReply → Step
-clean_step (Cleaned p) = Step.Clean p
+abbrev pub clean_step : CleanReply → MachineStep
+clean_step (Cleaned p) = MachineStep.Clean p
 clean_step (Kept p) = Keep p
 clean_step Wrapped = Wrap
 
@@ -163,16 +163,16 @@ pub record AreFound (s : State) (key : List ℕ) (rids : List Place) : Type 0 wh
   pub in_order : IsStrictlySortedBy rid_cmp rids
 
 -- the reply of an event that succeeds, and its step, if it makes one
-abbrev pub IsDue : State → Standing → Event → Reply → Option Step → Type 0
-IsDue s k Event.Begin reply step = (reply ≡ Txn (k.begun + 1)) × (step ≡ Some (Step.Begin (k.begun + 1)))
+abbrev pub IsDue : State → Standing → Event → Reply → Option MachineStep → Type 0
+IsDue s k Event.Begin reply step = (reply ≡ Txn (k.begun + 1)) × (step ≡ Some (MachineStep.Begin (k.begun + 1)))
 IsDue s k (Event.Insert t row) reply step = (r : Place) × IsLeastFree s r × (reply ≡ Rid r) × (step ≡ Some (Start t (change_of s t r (Inserted row))))
 IsDue s k (Event.Delete t r) reply step = (old : Row) × (get s.rows r ≡ Some old) × (reply ≡ Stepped) × (step ≡ Some (Start t (change_of s t r (Deleted old))))
 IsDue s k (Event.Update t r row) reply step = (old : Row) × (get s.rows r ≡ Some old) × (reply ≡ Stepped) × (step ≡ Some (Start t (change_of s t r (Updated old row))))
 IsDue s k (Event.Step t) reply step = (reply ≡ Stepped) × (step ≡ Some (Next t))
-IsDue s k (Event.Undo t) reply step = ((((txn_at s t).changes ≡ Unchanged) × (reply ≡ Empty)) ⊎ (((txn_at s t).changes ≢ Unchanged) × (reply ≡ Undone))) × (step ≡ Some (Step.Undo t))
-IsDue s k (Event.End t) reply step = (reply ≡ Ended) × (step ≡ Some (Step.End t))
-IsDue s k (Event.Commit t) reply step = (reply ≡ Reply.Committed (k.made + 1) (k.commits + 1)) × (step ≡ Some (Step.Commit t))
-IsDue s k Event.Create reply step = (reply ≡ Reply.Created (k.made + 1)) × (step ≡ Some Step.Create)
+IsDue s k (Event.Undo t) reply step = ((((txn_at s t).changes ≡ Unchanged) × (reply ≡ Empty)) ⊎ (((txn_at s t).changes ≢ Unchanged) × (reply ≡ Undone))) × (step ≡ Some (MachineStep.Undo t))
+IsDue s k (Event.End t) reply step = (reply ≡ Ended) × (step ≡ Some (MachineStep.End t))
+IsDue s k (Event.Commit t) reply step = (reply ≡ Reply.Committed (k.made + 1) (k.commits + 1)) × (step ≡ Some (MachineStep.Commit t))
+IsDue s k Event.Create reply step = (reply ≡ Reply.Created (k.made + 1)) × (step ≡ Some MachineStep.Create)
 IsDue s k Event.Build reply step = (b : BuildReply) × IsBuildDue s k b × (reply ≡ Built b) × (step ≡ build_step b)
 IsDue s k Event.Clean reply step = (c : CleanReply) × IsCleanDue s c × (reply ≡ Cleaner c) × (step ≡ Some (clean_step c))
 IsDue s k (Event.Get r) reply step = (reply ≡ RowIs (get s.rows r)) × (step ≡ None)
@@ -187,18 +187,18 @@ WantsMemory (Event.Get r) = ⊥
 WantsMemory Event.Life = ⊥
 WantsMemory _ = Unit {0}
 
-abbrev pub after_any : State → Option Step → State
+abbrev pub after_any : State → Option MachineStep → State
 after_any s None = s
 after_any s (Some e) = after s e
 
 -- an event may get this reply, by this step or by none
-pub data IsAllowed (s : State) (k : Standing) (e : Event) : Reply → Option Step → Type 0 where
+pub data IsAllowed (s : State) (k : Standing) (e : Event) : Reply → Option MachineStep → Type 0 where
   unknown : IsOfNone s e → IsAllowed s k e (Refused Error.NoSuchTxn) None
   skipped : (IsOfNone s e → ⊥) → (IsProper s e → ⊥) → IsAllowed s k e Skipped None
   refused : (IsOfNone s e → ⊥) → IsProper s e → (error : Error) → IsFirst (refusals s k e) (Some error) → IsAllowed s k e (Refused error) None
-  refused_last : (IsOfNone s e → ⊥) → IsProper s e → IsFirst (refusals s k e) None → (reply : Reply) (step : Option Step) → IsDue s k e reply step
+  refused_last : (IsOfNone s e → ⊥) → IsProper s e → IsFirst (refusals s k e) None → (reply : Reply) (step : Option MachineStep) → IsDue s k e reply step
       → (error : Error) → IsFirst (refusals_of s k step) (Some error) → IsAllowed s k e (Refused error) None
-  no_memory : (IsOfNone s e → ⊥) → IsProper s e → IsFirst (refusals s k e) None → (reply : Reply) (step : Option Step) → IsDue s k e reply step
+  no_memory : (IsOfNone s e → ⊥) → IsProper s e → IsFirst (refusals s k e) None → (reply : Reply) (step : Option MachineStep) → IsDue s k e reply step
       → IsFirst (refusals_of s k step) None → WantsMemory e → IsAllowed s k e (Refused Error.NoMemory) None
-  accepted : (IsOfNone s e → ⊥) → IsProper s e → IsFirst (refusals s k e) None → (reply : Reply) (step : Option Step) → IsDue s k e reply step
+  accepted : (IsOfNone s e → ⊥) → IsProper s e → IsFirst (refusals s k e) None → (reply : Reply) (step : Option MachineStep) → IsDue s k e reply step
       → IsFirst (refusals_of s k step) None → IsAllowed s k e reply step

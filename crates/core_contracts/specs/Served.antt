@@ -16,12 +16,12 @@ use Rattle.core_model.specs.Logs.{HasMade, next_number, one_record}
 use Rattle.core_model.specs.Histories.{Opened, no_writes, opened}
 use Rattle.core_model.specs.Invariants.{IsWellFormed}
 use Rattle.core_model.specs.States.{Active, State}
-use Rattle.core_model.specs.Steps.{IsBuilding, IsEnabled, Step, update}
+use Rattle.core_model.specs.Steps.{IsBuilding, IsEnabled, MachineStep, update}
 
 -- one event after another, each with an allowed reply
 pub data Serves : State → Standing → List (Event × Reply) → State → Standing → Type 0 where
   nothing : {s : State} {k : Standing} → Serves s k [] s k
-  served : {s new : State} {k next : Standing} (e : Event) (reply : Reply) (step : Option Step) (rest : List (Event × Reply)) → IsAllowed s k e reply step → Serves (after_any s step) (standing_after k reply) rest new next → Serves s k ((e, reply) ∷ rest) new next
+  served : {s new : State} {k next : Standing} (e : Event) (reply : Reply) (step : Option MachineStep) (rest : List (Event × Reply)) → IsAllowed s k e reply step → Serves (after_any s step) (standing_after k reply) rest new next → Serves s k ((e, reply) ∷ rest) new next
 
 -- a transaction is asked for one write more
 abbrev pub one_write : (ℕ → List Write) → ℕ → Place → Option Row → ℕ → List Write
@@ -127,7 +127,7 @@ pub record HasStanding (s : State) (k : Standing) : Type 0 where
   pub within : k.made ≤ LAST_NUMBER
 
 -- the records of a step, or of none, behind the record `last`
-abbrev pub records_by : State → ℕ → Option Step → List RecordValue
+abbrev pub records_by : State → ℕ → Option MachineStep → List RecordValue
 records_by s last None = []
 records_by s last (Some e) = one_record last (action_of s e)
 
@@ -144,17 +144,17 @@ pub record HasServed (o : Opened) (made : List RecordValue) (pairs : List (Event
   pub number : k.made ≡ o.given.last + length made
   pub standing : HasStanding s k
 
-abbrev pub IsEnabledAny : State → Option Step → Type 0
+abbrev pub IsEnabledAny : State → Option MachineStep → Type 0
 IsEnabledAny s None = Unit {0}
 IsEnabledAny s (Some e) = IsEnabled s e
 
 -- the number of the last record after a step, or after none
-abbrev pub number_after : State → ℕ → Option Step → ℕ
+abbrev pub number_after : State → ℕ → Option MachineStep → ℕ
 number_after s last None = last
 number_after s last (Some e) = next_number last (action_of s e)
 
 -- what is left by one step, or by none
-pub record IsMove (s : State) (k : Standing) (step : Option Step) (k' : Standing) : Type 0 where
+pub record IsMove (s : State) (k : Standing) (step : Option MachineStep) (k' : Standing) : Type 0 where
   pub enabled : IsEnabledAny s step
   pub made : k'.made ≡ number_after s k.made step
   pub fit : IsWellFormed (after_any s step)

@@ -13,20 +13,20 @@ ghost use Rattle.core_contracts.specs.Worked.{script, standing};
 ghost use Rattle.core_model.specs.Example.{opening, last, pair};
 ghost use Rattle.core_contracts.specs.Served.{HasServed, HasStanding, IsMove, Serves, items_of, records_by};
 ghost use Rattle.core_contracts.specs.Replies.{IsAllowed, after_any};
-ghost use Rattle.core_model.specs.Steps.{Step, after};
+ghost use Rattle.core_model.specs.Steps.{MachineStep, after};
 ghost use Rattle.core_model.specs.Invariants.{IsWellFormed};
 ghost use Rattle.core_model.specs.Histories.{Opened, CanOpen, opened, IsFaithful, history, no_writes};
 
 /// An event that gets an allowed reply is one enabled step, or none, and makes at most one record,
 /// as the reply says.
 pub fn each_reply()
-    ensures { (s : State) (k : Standing) (e : Event) (reply : Reply) (step : Option Step) → IsWellFormed s → HasStanding s k → IsAllowed s k e reply step → IsMove s k step (standing_after k reply) }
+    ensures { (s : State) (k : Standing) (e : Event) (reply : Reply) (step : Option MachineStep) → IsWellFormed s → HasStanding s k → IsAllowed s k e reply step → IsMove s k step (standing_after k reply) }
 {}
 
 /// From what was opened on: each event with its reply adds its record, if it makes one, and its item to the history.
 pub fn each_service()
     ensures begins { (o : Opened) → o.given.last ≤ LAST_NUMBER → HasServed o [] [] (opened o) (standing_at o.given.last) }
-    ensures goes_on { (o : Opened) → CanOpen o → (made : List RecordValue) (pairs : List (Event × Reply)) (s : State) (k : Standing) → HasServed o made pairs s k → (e : Event) (reply : Reply) (step : Option Step) → IsAllowed s k e reply step
+    ensures goes_on { (o : Opened) → CanOpen o → (made : List RecordValue) (pairs : List (Event × Reply)) (s : State) (k : Standing) → HasServed o made pairs s k → (e : Event) (reply : Reply) (step : Option MachineStep) → IsAllowed s k e reply step
         → HasServed o (made ++ records_by s k.made step) (pairs ++ (e, reply) ∷ []) (after_any s step) (standing_after k reply) }
     ensures numbers { (o : Opened) (made : List RecordValue) (pairs : List (Event × Reply)) (s : State) (k : Standing) → HasServed o made pairs s k → (k.made ≤ LAST_NUMBER) × (k.begun ≤ LAST_NUMBER + TXNS_MAX) }
     ensures faithful { (o : Opened) → CanOpen o → (made : List RecordValue) (pairs : List (Event × Reply)) (s : State) (k : Standing) → HasServed o made pairs s k

@@ -21,7 +21,7 @@ use Rattle.core_model.proofs.Laws.{none_reserved, opened_fit}
 use Rattle.core_model.specs.Histories.{FitsStore, Opened, highest_of, opened}
 use Rattle.core_contracts.proofs.Laws.{opened_standing}
 use Rattle.core_contracts.specs.Events.{standing_at}
-use Rattle.index_core.specs.Loading.{IsQuiet, with_entry}
+use Rattle.index_core.specs.Loading.{IsQuiet, entry_loaded}
 use Rattle.index_core.specs.View.{CoreValue, IsState}
 use Rattle.marked_index.specs.Index.{IsFull}
 use Rattle.model.proofs.MapLaws.{len_less}
@@ -86,10 +86,10 @@ module _ (all left : Index) (old now : CoreValue) (so : AreEntriesLoaded all lef
       sums : (a b c d e : ℕ) → a < b → b + c + d ≤ e → e ≤ c + d → ⊥
       sums a b c d e f g h = absurd (omega (arith, f, g, h))
 
-  pub one_entry : (rest : Index) (new : CoreValue) → rest ≡ set_at left pair None → new ≡ with_entry now pair (Some mark) → AreEntriesLoaded all rest old new
+  pub one_entry : (rest : Index) (new : CoreValue) → rest ≡ set_at left pair None → new ≡ entry_loaded now pair (Some mark) → AreEntriesLoaded all rest old new
   one_entry rest new is then = record {
     done = set_at so.done pair (Some mark);
-    core = then ∙ ap (λ (v : CoreValue). with_entry v pair (Some mark)) so.core;
+    core = then ∙ ap (λ (v : CoreValue). entry_loaded v pair (Some mark)) so.core;
     moved = subst (λ (m : Index). IsMoved all m (set_at so.done pair (Some mark))) (sym is) (one_moved pair_exact all left so.done so.moved pair mark next);
     room = subst (λ (m : Index). len m + len (set_at so.done pair (Some mark)) + old.index.pledged ≤ old.index.capacity) (sym is)
         (sums (len (set_at left pair None) + len (set_at so.done pair (Some mark))) (len left + len so.done) old.index.pledged old.index.capacity (len_moved pair_exact all left so.done so.moved pair mark next) so.room);

@@ -5,7 +5,7 @@ use Rattle.model.specs.Table.{Index, Table}
 use Rattle.redo.specs.Restored.{given_in}
 use Rattle.redo.specs.declared.restored.Restored.{Restored}
 use Rattle.core_model.specs.Histories.{Opened}
-use Rattle.index_core.specs.Loading.{with_life}
+use Rattle.index_core.specs.Loading.{life_loaded}
 use Rattle.index_core.specs.Moves.{fresh}
 use Rattle.index_core.specs.View.{CoreValue}
 
@@ -17,7 +17,7 @@ with_entries v entries = record v { index = record v.index { entries = entries }
 
 -- a core of this geometry with just what is given, and no transaction
 abbrev pub holding : GeometryValue → Given → CoreValue
-holding geometry given = with_life (with_entries (with_rows (fresh geometry given.last) given.table) given.entries) given.life
+holding geometry given = life_loaded (with_entries (with_rows (fresh geometry given.last) given.table) given.entries) given.life
 
 -- what the abstract core begins with
 abbrev pub store_of : {A : Type 0} → Restored A → Opened

@@ -6,9 +6,9 @@ use Rattle.model.specs.declared.life.Life.TheVariants.{Absent, Building, Complet
 use Rattle.core_model.proofs.Orders.{above_trans}
 use Rattle.core_model.specs.Changes.{Changes, Unchanged, new_pair, old_pair, ◌▹◌}
 use Rattle.core_model.specs.Histories.{Opened, highest_of, opened}
-use Rattle.core_model.specs.Invariants.{Invariant, Run, no_step, one_step}
+use Rattle.core_model.specs.Invariants.{Invariant, Runs, no_step, one_step}
 use Rattle.core_model.specs.States.{Active, Made, NewMarked, OldMarked, OldSet, Phase, RowSet, State}
-use Rattle.core_model.specs.Steps.{Attempt, Begin, Checkpoint, Clean, Commit, Create, End, Finish, IsEnabled, Keep, Next, Start, Step, Take, Undo, Wrap, above, after, carried_on, is_indexed, moved_by, started, txn_at, undone, undone_first, undone_row}
+use Rattle.core_model.specs.Steps.{Attempt, Begin, Checkpoint, Clean, Commit, Create, End, Finish, IsEnabled, Keep, Next, Start, MachineStep, Take, Undo, Wrap, above, after, carried_on, is_indexed, moved_by, started, txn_at, undone, undone_first, undone_row}
 
 -- in this run
 pub above_checkpoint : (s : State) (p : Pair) → Invariant s → (highest : Option Pair) → s.life ≡ Building highest → IsEnabled s (Attempt p) → above highest p ≡ true
@@ -54,7 +54,7 @@ module _ (highest : Option Pair) where
     undone_past (older ▹ c) (NewMarked b) = row_past c older
     undone_past (older ▹ c) OldSet = record { indexed = h.indexed; past = h.past }
 
-  moved_past : (s : State) (e : Step) → IsPast s → IsEnabled s e → IsPast (moved_by s e)
+  moved_past : (s : State) (e : MachineStep) → IsPast s → IsEnabled s e → IsPast (moved_by s e)
   moved_past s (Begin t) h a = record { indexed = h.indexed; past = h.past }
   moved_past s (Start t c) h a = started_past s h t (txn_at s t) c (old_pair (is_indexed s.life) c)
   moved_past s (Next t) h a = carried_past s h t (txn_at s t) (txn_at s t).changes (txn_at s t).phase
@@ -70,15 +70,15 @@ module _ (highest : Option Pair) where
   moved_past s (Keep p) h a = record { indexed = h.indexed; past = h.past }
   moved_past s Wrap h a = record { indexed = h.indexed; past = h.past }
 
-  step_past : (s : State) (e : Step) → IsPast s → IsEnabled s e → IsPast (after s e)
+  step_past : (s : State) (e : MachineStep) → IsPast s → IsEnabled s e → IsPast (after s e)
   step_past s e h a = let m : IsPast (moved_by s e) = moved_past s e h a in record { indexed = m.indexed; past = m.past }
 
-  run_past : (s s' : State) (es : List Step) → Run s es s' → IsPast s → IsPast s'
+  run_past : (s s' : State) (es : List MachineStep) → Runs s es s' → IsPast s → IsPast s'
   run_past s s' es no_step h = h
   run_past s s' es (one_step e rest enabled r) h = run_past (after s e) s' rest r (step_past s e h enabled)
 
 -- after a restart
-pub above_opened : (o : Opened) (highest : Option Pair) → o.given.life ≡ Building highest → (steps : List Step) (s : State) → Run (opened o) steps s → (p : Pair) → IsEnabled s (Attempt p) → above highest p ≡ true
+pub above_opened : (o : Opened) (highest : Option Pair) → o.given.life ≡ Building highest → (steps : List MachineStep) (s : State) → Runs (opened o) steps s → (p : Pair) → IsEnabled s (Attempt p) → above highest p ≡ true
 above_opened o highest building steps s run p can =
     let first : IsPast highest (opened o) = record {
       indexed = λ e. building_not_absent highest (sym building ∙ e);

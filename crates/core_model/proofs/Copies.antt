@@ -16,13 +16,13 @@ use Rattle.core_model.proofs.Histories.{opened_holds, told_life, told_table}
 use Rattle.core_model.proofs.Logs.{IsRecovered, SameStore, UpTo, items_deeds, no_deeds, recovers_state, run_cells, same_store, up_here, up_to_record}
 use Rattle.core_model.proofs.Runs.{run_keeps}
 use Rattle.core_model.specs.Histories.{CanOpen, Opened, deeds_of, no_writes, opened, writes_after, writes_over}
-use Rattle.core_model.specs.Invariants.{Run, no_step, one_step}
+use Rattle.core_model.specs.Invariants.{Runs, no_step, one_step}
 use Rattle.core_model.specs.Logs.{HasMade, item_at, items_from, items_over, next_number, one_record, records_from, records_over}
 use Rattle.core_model.specs.Records.{HasCells, action_of}
 use Rattle.core_model.specs.States.{State}
-use Rattle.core_model.specs.Steps.{Step, after}
+use Rattle.core_model.specs.Steps.{MachineStep, after}
 
-run-append : (s s' s'' : State) (es later : List Step) → Run s es s' → Run s' later s'' → Run s (es ++ later) s''
+run-append : (s s' s'' : State) (es later : List MachineStep) → Runs s es s' → Runs s' later s'' → Runs s (es ++ later) s''
 run-append s s' s'' es later no_step r = r
 run-append s s' s'' es later (one_step e rest a first) r = one_step {s = s} {s' = s''} e (rest ++ later) a (run-append (after s e) s' s'' rest later first r)
 
@@ -30,7 +30,7 @@ shift : (last n : ℕ) (o : Option Action) (records : List RecordValue) → n �
 shift last n None records h = h
 shift last n (Some action) records h = omega (arith, h)
 
-items-append : (s s' : State) (es later : List Step) → Run s es s' → (writes : ℕ → List Write) (last n : ℕ) → n ≡ last + length (records_from s last es)
+items-append : (s s' : State) (es later : List MachineStep) → Runs s es s' → (writes : ℕ → List Write) (last n : ℕ) → n ≡ last + length (records_from s last es)
     → items_from writes s last (es ++ later) ≡ items_from writes s last es ++ items_from (writes_over writes es) s' n later
 items-append s s' es later no_step writes last n h = ap (λ m. items_from writes s m later) (sym (h ∙ no_more))
   where
@@ -41,7 +41,7 @@ items-append s s' es later (one_step f rest b r) writes last n h =
     ∙ sym (append_assoc (map (item_at last) (deeds_of writes f)) (items_from (writes_after writes f) (after s f) (next_number last (action_of s f)) rest) (items_from (writes_over (writes_after writes f) rest) s' n later))
 
 -- all items of a run are up to its last record
-all_up_to : (s s' : State) (es : List Step) → Run s es s' → (writes : ℕ → List Write) (last n : ℕ) → last + length (records_from s last es) ≤ n → up_to n (items_from writes s last es) ≡ items_from writes s last es
+all_up_to : (s s' : State) (es : List MachineStep) → Runs s es s' → (writes : ℕ → List Write) (last n : ℕ) → last + length (records_from s last es) ≤ n → up_to n (items_from writes s last es) ≡ items_from writes s last es
 all_up_to s s' es no_step writes last n le = refl
 all_up_to s s' es (one_step e rest a r) writes last n le =
     up_to-append n (map (item_at last) (deeds_of writes e)) (items_from (writes_after writes e) (after s e) (next_number last (action_of s e)) rest)
@@ -57,7 +57,7 @@ all_up_to s s' es (one_step e rest a r) writes last n le =
     fewer (Some action) le = omega (arith, le)
 
 module _ (o : Opened) (can : CanOpen o) (before : List RecordValue) (items : List Item) (writes : ℕ → List Write) (s : State) (h : HasMade o before items writes s) (cells : Cells) (c : HasCells s cells)
-    (es : List Step) (s' : State) (run : Run s es s') where
+    (es : List MachineStep) (s' : State) (run : Runs s es s') where
   abbrev base : ℕ
   base = o.given.last + length before
 
@@ -71,7 +71,7 @@ module _ (o : Opened) (can : CanOpen o) (before : List RecordValue) (items : Lis
     part : UpTo writes s base es k
     part = up_to_record s s' es run writes base k to
 
-    whole : Run (opened o) (h.steps ++ part.steps) part.end
+    whole : Runs (opened o) (h.steps ++ part.steps) part.end
     whole = run-append (opened o) s part.end h.steps part.steps h.run part.run
 
     set : HasCells part.end (cells_after image (take k log))

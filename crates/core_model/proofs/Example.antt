@@ -18,7 +18,7 @@ use Rattle.core_model.proofs.Orders.{above_self}
 use Rattle.core_model.proofs.Sums.{none_reserved, reserved_insert}
 use Rattle.core_model.specs.Example.{insertion, last, opening, pair, place, row, steps}
 use Rattle.core_model.specs.Histories.{CanOpen, opened}
-use Rattle.core_model.specs.Invariants.{Run, no_step, one_step}
+use Rattle.core_model.specs.Invariants.{Runs, no_step, one_step}
 use Rattle.core_model.specs.States.{Pledges, State}
 use Rattle.core_model.specs.Steps.{Attempt, Begin, Create, End, Finish, IsEnabled, Start, Take, Undo, above, after, all_reserved, is_pair_of, reserved, update}
 
@@ -153,34 +153,34 @@ pub a10 : IsEnabled s9 Finish
 unfolding update
 a10 = record { building = (None, refl); all_taken = page_zero; none_left = λ q a t. missed_other q (not_after q a) t }
 
-from_9 : Run s9 (Finish ∷ []) last
+from_9 : Runs s9 (Finish ∷ []) last
 from_9 = one_step {s = s9} {s' = last} Finish [] a10 no_step
 
-from_8 : Run s8 (Attempt pair ∷ Finish ∷ []) last
+from_8 : Runs s8 (Attempt pair ∷ Finish ∷ []) last
 from_8 = one_step {s = s8} {s' = last} (Attempt pair) (Finish ∷ []) a9 from_9
 
-from_7 : Run s7 (End 1 ∷ Attempt pair ∷ Finish ∷ []) last
+from_7 : Runs s7 (End 1 ∷ Attempt pair ∷ Finish ∷ []) last
 from_7 = one_step {s = s7} {s' = last} (End 1) (Attempt pair ∷ Finish ∷ []) a8 from_8
 
-from_6 : Run s6 (Undo 1 ∷ End 1 ∷ Attempt pair ∷ Finish ∷ []) last
+from_6 : Runs s6 (Undo 1 ∷ End 1 ∷ Attempt pair ∷ Finish ∷ []) last
 from_6 = one_step {s = s6} {s' = last} (Undo 1) (End 1 ∷ Attempt pair ∷ Finish ∷ []) a7 from_7
 
-from_5 : Run s5 (Undo 1 ∷ Undo 1 ∷ End 1 ∷ Attempt pair ∷ Finish ∷ []) last
+from_5 : Runs s5 (Undo 1 ∷ Undo 1 ∷ End 1 ∷ Attempt pair ∷ Finish ∷ []) last
 from_5 = one_step {s = s5} {s' = last} (Undo 1) (Undo 1 ∷ End 1 ∷ Attempt pair ∷ Finish ∷ []) a6 from_6
 
-from_4 : Run s4 (Undo 1 ∷ Undo 1 ∷ Undo 1 ∷ End 1 ∷ Attempt pair ∷ Finish ∷ []) last
+from_4 : Runs s4 (Undo 1 ∷ Undo 1 ∷ Undo 1 ∷ End 1 ∷ Attempt pair ∷ Finish ∷ []) last
 from_4 = one_step {s = s4} {s' = last} (Undo 1) (Undo 1 ∷ Undo 1 ∷ End 1 ∷ Attempt pair ∷ Finish ∷ []) a5 from_5
 
-from_3 : Run s3 (Take 0 ∷ Undo 1 ∷ Undo 1 ∷ Undo 1 ∷ End 1 ∷ Attempt pair ∷ Finish ∷ []) last
+from_3 : Runs s3 (Take 0 ∷ Undo 1 ∷ Undo 1 ∷ Undo 1 ∷ End 1 ∷ Attempt pair ∷ Finish ∷ []) last
 from_3 = one_step {s = s3} {s' = last} (Take 0) (Undo 1 ∷ Undo 1 ∷ Undo 1 ∷ End 1 ∷ Attempt pair ∷ Finish ∷ []) (None, refl) from_4
 
-from_2 : Run s2 (Start 1 insertion ∷ Take 0 ∷ Undo 1 ∷ Undo 1 ∷ Undo 1 ∷ End 1 ∷ Attempt pair ∷ Finish ∷ []) last
+from_2 : Runs s2 (Start 1 insertion ∷ Take 0 ∷ Undo 1 ∷ Undo 1 ∷ Undo 1 ∷ End 1 ∷ Attempt pair ∷ Finish ∷ []) last
 from_2 = one_step {s = s2} {s' = last} (Start 1 insertion) (Take 0 ∷ Undo 1 ∷ Undo 1 ∷ Undo 1 ∷ End 1 ∷ Attempt pair ∷ Finish ∷ []) a3 from_3
 
-from_1 : Run s1 (Begin 1 ∷ Start 1 insertion ∷ Take 0 ∷ Undo 1 ∷ Undo 1 ∷ Undo 1 ∷ End 1 ∷ Attempt pair ∷ Finish ∷ []) last
+from_1 : Runs s1 (Begin 1 ∷ Start 1 insertion ∷ Take 0 ∷ Undo 1 ∷ Undo 1 ∷ Undo 1 ∷ End 1 ∷ Attempt pair ∷ Finish ∷ []) last
 from_1 = one_step {s = s1} {s' = last} (Begin 1) (Start 1 insertion ∷ Take 0 ∷ Undo 1 ∷ Undo 1 ∷ Undo 1 ∷ End 1 ∷ Attempt pair ∷ Finish ∷ []) refl from_2
 
-pub example : Run (opened opening) steps last
+pub example : Runs (opened opening) steps last
 example = one_step {s = opened opening} {s' = last} Create (Begin 1 ∷ Start 1 insertion ∷ Take 0 ∷ Undo 1 ∷ Undo 1 ∷ Undo 1 ∷ End 1 ∷ Attempt pair ∷ Finish ∷ []) (refl, λ t. refl) from_1
 
 -- with no row and no entry a core may begin

@@ -19,7 +19,7 @@ use Rattle.core_model.proofs.Pledged.{pledged_step}
 use Rattle.core_model.specs.Changes.{Changes, Unchanged, as_list, new_pair, old_pair, ◌▹◌}
 use Rattle.core_model.specs.Invariants.{HasShape, IsFit, IsHolderOf, IsNumbered, IsShaped, IsWellFormed}
 use Rattle.core_model.specs.States.{Active, Made, NewMarked, OldMarked, OldSet, Phase, RowSet, State}
-use Rattle.core_model.specs.Steps.{Attempt, Begin, Checkpoint, Clean, Commit, Create, End, Finish, IsEnabled, Keep, Next, Start, Step, Take, Undo, Wrap, after, carried_on, freed, is_indexed, new_txn, row_made, row_undone, started, txn_at, undoing, undone, undone_first, update, with_change, with_phase, with_txn, without_newest}
+use Rattle.core_model.specs.Steps.{Attempt, Begin, Checkpoint, Clean, Commit, Create, End, Finish, IsEnabled, Keep, Next, Start, MachineStep, Take, Undo, Wrap, after, carried_on, freed, is_indexed, new_txn, row_made, row_undone, started, txn_at, undoing, undone, undone_first, update, with_change, with_phase, with_txn, without_newest}
 
 -- ---- the transactions
 row_shape : (indexed : Bool) (c : ChangeValue) (o : Option Pair) → new_pair indexed c ≡ o → HasShape indexed c (row_made o)
@@ -128,7 +128,7 @@ module _ (s : State) (w : IsWellFormed s) (t : ℕ) where
 indexed_same : (s : State) → IsWellFormed s → (b : Bool) → is_indexed s.life ≡ b → (t : ℕ) (x : Active) → s.txns t ≡ Some x → IsFit s.holder b t x
 indexed_same s w b e t x a = subst (λ i. IsFit s.holder i t x) e (w.txns t x a)
 
-txns_step : (s : State) (e : Step) → IsWellFormed s → IsEnabled s e → (t : ℕ) (x : Active) → (after s e).txns t ≡ Some x → IsFit (after s e).holder (is_indexed (after s e).life) t x
+txns_step : (s : State) (e : MachineStep) → IsWellFormed s → IsEnabled s e → (t : ℕ) (x : Active) → (after s e).txns t ≡ Some x → IsFit (after s e).holder (is_indexed (after s e).life) t x
 txns_step s (Begin t) w a = same_fit s w t new_txn (record { names = tt; shaped = refl; numbered = tt })
 txns_step s (Start t c) w a = started_fit s w t (txn_at s t) a.active c a.mine a.position (old_pair (is_indexed s.life) c) refl
 txns_step s (Next t) w a = carried_fit s w t (txn_at s t) a.0 (txn_at s t).changes refl (txn_at s t).phase
@@ -180,7 +180,7 @@ module _ (s : State) (w : IsWellFormed s) (t : ℕ) (x : Active) where
     undone_rows (older ▹ c) e (NewMarked b) = set_rows s.pages s.rows c.rid _ (change_inside s w t x active c older e) w.rows
     undone_rows (older ▹ c) e OldSet = w.rows
 
-rows_step : (s : State) (e : Step) → IsWellFormed s → IsEnabled s e → RowsInside (after s e).pages (after s e).rows
+rows_step : (s : State) (e : MachineStep) → IsWellFormed s → IsEnabled s e → RowsInside (after s e).pages (after s e).rows
 rows_step s (Begin t) w a = w.rows
 rows_step s (Start t c) w a = started_rows s w t (txn_at s t) c a.inside (old_pair (is_indexed s.life) c)
 rows_step s (Next t) w a = carried_rows s w t (txn_at s t) a.0 (txn_at s t).changes refl (txn_at s t).phase
@@ -239,7 +239,7 @@ module _ (s : State) (w : IsWellFormed s) (t : ℕ) (x : Active) where
   undone_held (older ▹ c) (NewMarked b) = w.held
   undone_held (older ▹ c) OldSet = w.held
 
-held_step : (s : State) (e : Step) → IsWellFormed s → IsEnabled s e → HeldInside (after s e).pages (after s e).holder
+held_step : (s : State) (e : MachineStep) → IsWellFormed s → IsEnabled s e → HeldInside (after s e).pages (after s e).holder
 held_step s (Begin t) w a = w.held
 held_step s (Start t c) w a = started_held s w t (txn_at s t) c a.inside (old_pair (is_indexed s.life) c)
 held_step s (Next t) w a = carried_held s w t (txn_at s t) (txn_at s t).changes (txn_at s t).phase
@@ -256,7 +256,7 @@ held_step s (Keep p) w a = w.held
 held_step s Wrap w a = w.held
 
 -- ---- all of it
-pub fit_step : (s : State) (e : Step) → IsWellFormed s → IsEnabled s e → IsWellFormed (after s e)
+pub fit_step : (s : State) (e : MachineStep) → IsWellFormed s → IsEnabled s e → IsWellFormed (after s e)
 fit_step s e w a = record {
   rows = rows_step s e w a;
   held = held_step s e w a;

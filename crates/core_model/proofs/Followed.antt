@@ -31,11 +31,11 @@ use Rattle.core_model.proofs.Records.{list_is, no_list, step_follows}
 use Rattle.core_model.proofs.Runs.{run_keeps}
 use Rattle.core_model.specs.Changes.{Changes, Unchanged, as_list, new_pair, old_pair, ◌▹◌}
 use Rattle.core_model.specs.Histories.{CanOpen, Opened, deeds_of, no_writes, opened, writes_after, writes_over}
-use Rattle.core_model.specs.Invariants.{Invariant, IsNumbered, IsShaped, IsWellFormed, Run, no_step, one_step}
+use Rattle.core_model.specs.Invariants.{Invariant, IsNumbered, IsShaped, IsWellFormed, Runs, no_step, one_step}
 use Rattle.core_model.specs.Logs.{HasMade, IsLogOf, RecoversPrefix, item_at, items_from, items_over, next_number, one_record, records_from, records_over}
 use Rattle.core_model.specs.Records.{HasCells, IsListOf, action_of, begun_action, first_action, next_action, place_action, set_by_any, undo_action}
 use Rattle.core_model.specs.States.{Active, Made, NewMarked, OldMarked, OldSet, Phase, RowSet, State}
-use Rattle.core_model.specs.Steps.{Attempt, Begin, Checkpoint, Clean, Commit, Create, End, Finish, IsBuilding, IsEnabled, IsPassed, Keep, Next, Start, Step, Take, Undo, Wrap, after, is_indexed, txn_at}
+use Rattle.core_model.specs.Steps.{Attempt, Begin, Checkpoint, Clean, Commit, Create, End, Finish, IsBuilding, IsEnabled, IsPassed, Keep, Next, Start, MachineStep, Take, Undo, Wrap, after, is_indexed, txn_at}
 
 -- ---- a map has no more entries than one that has all its keys
 some_len : {Y : Type 0} (n : FinMap nat_cmp Y) (k : ℕ) → get n k ≢ None → 1 ≤ len n
@@ -167,7 +167,7 @@ module _ (s : State) (i : IsWellFormed s) (cells : Cells) (k : HasCells s cells)
   place_follows p l b None = (l, (b.0, k.life ∙ b.1))
   place_follows p l b (Some mark) = tt
 
-  may_follow : len s.pledges ≤ TXNS_MAX → (e : Step) → IsEnabled s e → MayFollow s.pages cells (action_of s e)
+  may_follow : len s.pledges ≤ TXNS_MAX → (e : MachineStep) → IsEnabled s e → MayFollow s.pages cells (action_of s e)
   may_follow few (Begin t) a = tt
   may_follow few (Start t c) a = start_follows few t (txn_at s t) a.active c a.position a.inside _ refl
   may_follow few (Next t) a = next_follows few t (txn_at s t) a.0 (txn_at s t).changes refl (txn_at s t).phase (i.txns t (txn_at s t) a.0).shaped
@@ -183,7 +183,7 @@ module _ (s : State) (i : IsWellFormed s) (cells : Cells) (k : HasCells s cells)
   may_follow few (Keep p) a = tt
   may_follow few Wrap a = tt
 
-pub step_record : (s : State) (e : Step) (cells : Cells) (last : ℕ) (action : Action) → IsWellFormed s → IsEnabled s e → HasCells s cells → len s.pledges ≤ TXNS_MAX → action_of s e ≡ Some action
+pub step_record : (s : State) (e : MachineStep) (cells : Cells) (last : ℕ) (action : Action) → IsWellFormed s → IsEnabled s e → HasCells s cells → len s.pledges ≤ TXNS_MAX → action_of s e ≡ Some action
     → CanFollow s.pages last cells (record { number = last + 1; action = action })
 step_record s e cells last action i a k few is = record { number = refl; allowed = subst (MayFollow s.pages cells) is (may_follow s i cells k few e a) }
 
@@ -191,7 +191,7 @@ step_record s e cells last action i a k few is = record { number = refl; allowed
 pub log_begins : (pages base : ℕ) (cells : Cells) (s : State) → HasCells s cells → IsLogOf pages base cells [] s
 log_begins pages base cells s k = record { set = k; in_order = tt }
 
-pub log_goes_on : (base : ℕ) (cells : Cells) (log : List RecordValue) (s : State) → IsWellFormed s → IsLogOf s.pages base cells log s → (e : Step) → IsEnabled s e → len s.pledges ≤ TXNS_MAX
+pub log_goes_on : (base : ℕ) (cells : Cells) (log : List RecordValue) (s : State) → IsWellFormed s → IsLogOf s.pages base cells log s → (e : MachineStep) → IsEnabled s e → len s.pledges ≤ TXNS_MAX
     → IsLogOf s.pages base cells (log ++ one_record (base + length log) (action_of s e)) (after s e)
 log_goes_on base cells log s w h e a few = by_action (action_of s e) refl (step_follows s e (cells_after cells log) w a h.set)
   where
@@ -205,16 +205,16 @@ log_goes_on base cells log s w h e a few = by_action (action_of s e) refl (step_
     }
 
 -- ---- a run that goes on
-module _ (e : Step) where
-  run_more : (s s' : State) (es : List Step) → Run s es s' → IsEnabled s' e → Run s (es ++ e ∷ []) (after s' e)
+module _ (e : MachineStep) where
+  run_more : (s s' : State) (es : List MachineStep) → Runs s es s' → IsEnabled s' e → Runs s (es ++ e ∷ []) (after s' e)
   run_more s s' es no_step a = one_step {s = s} {s' = after s e} e [] a no_step
   run_more s s' es (one_step f rest b r) a = one_step {s = s} {s' = after s' e} f (rest ++ e ∷ []) b (run_more (after s f) s' rest r a)
 
-  writes_more : (es : List Step) (writes : ℕ → List Write) → writes_over writes (es ++ e ∷ []) ≡ writes_after (writes_over writes es) e
+  writes_more : (es : List MachineStep) (writes : ℕ → List Write) → writes_over writes (es ++ e ∷ []) ≡ writes_after (writes_over writes es) e
   writes_more [] writes = refl
   writes_more (f ∷ es) writes = writes_more es (writes_after writes f)
 
-  records_more : (s s' : State) (es : List Step) → Run s es s' → (last n : ℕ) → n ≡ last + length (records_from s last es) → records_from s last (es ++ e ∷ []) ≡ records_from s last es ++ one_record n (action_of s' e)
+  records_more : (s s' : State) (es : List MachineStep) → Runs s es s' → (last n : ℕ) → n ≡ last + length (records_from s last es) → records_from s last (es ++ e ∷ []) ≡ records_from s last es ++ one_record n (action_of s' e)
   records_more s s' es no_step last n h = ap (λ m. one_record m (action_of s e) ++ []) (sym (h ∙ no_more)) ∙ append-nil _
     where
       no_more : last + 0 ≡ last
@@ -227,7 +227,7 @@ module _ (e : Step) where
       shift None h = h
       shift (Some action) h = omega (arith, h)
 
-  items_more : (s s' : State) (es : List Step) → Run s es s' → (writes : ℕ → List Write) (last n : ℕ) → n ≡ last + length (records_from s last es)
+  items_more : (s s' : State) (es : List MachineStep) → Runs s es s' → (writes : ℕ → List Write) (last n : ℕ) → n ≡ last + length (records_from s last es)
       → items_from writes s last (es ++ e ∷ []) ≡ items_from writes s last es ++ map (item_at n) (deeds_of (writes_over writes es) e)
   items_more s s' es no_step writes last n h = ap (λ m. map (item_at m) (deeds_of writes e) ++ []) (sym (h ∙ no_more)) ∙ append-nil _
     where
@@ -258,7 +258,7 @@ module _ (o : Opened) (can : CanOpen o) (made : List RecordValue) (items : List 
         subst (λ (rs : List RecordValue). CanOpen (record o { given = given_after o.given (take n rs) })) (sym h.records) r.opens,
       )
 
-  module _ (e : Step) (a : IsEnabled s e) (few : len s.pledges ≤ TXNS_MAX) where
+  module _ (e : MachineStep) (a : IsEnabled s e) (few : len s.pledges ≤ TXNS_MAX) where
     abbrev last : ℕ
     last = o.given.last + length made
 

@@ -24,9 +24,9 @@ use Rattle.core_model.proofs.Sums.{none_reserved}
 use Rattle.core_model.proofs.Txns.{newest_last}
 use Rattle.core_model.specs.Changes.{Changes, Unchanged, as_list, new_pair, old_pair, pair_of, ◌▹◌}
 use Rattle.core_model.specs.Histories.{AreItemsOf, CanOpen, FitsStore, IsCovered, IsWhole, Opened, deeds_of, highest_of, history, no_writes, opened, write_of, writes_after}
-use Rattle.core_model.specs.Invariants.{Invariant, IsAhead, IsCoherent, IsUnfinished, IsWellFormed, Run, no_step, one_step}
+use Rattle.core_model.specs.Invariants.{Invariant, IsAhead, IsCoherent, IsUnfinished, IsWellFormed, Runs, no_step, one_step}
 use Rattle.core_model.specs.States.{Active, Made, NewMarked, OldMarked, OldSet, Phase, RowSet, State}
-use Rattle.core_model.specs.Steps.{Attempt, Begin, Checkpoint, Clean, Commit, Create, End, Finish, IsEnabled, Keep, Next, Start, Step, Take, Undo, Wrap, above, after, carried_on, is_indexed, new_txn, row_made, row_undone, started, txn_at, undoing, undone, undone_first, update, with_change, with_phase, without_newest}
+use Rattle.core_model.specs.Steps.{Attempt, Begin, Checkpoint, Clean, Commit, Create, End, Finish, IsEnabled, Keep, Next, Start, MachineStep, Take, Undo, Wrap, above, after, carried_on, is_indexed, new_txn, row_made, row_undone, started, txn_at, undoing, undone, undone_first, update, with_change, with_phase, without_newest}
 
 -- the table and the life after these deeds
 abbrev pub table_over : Table → List Deed → Table
@@ -208,7 +208,7 @@ same_undone s t x (older ▹ c) (NewMarked b) = refl
 same_undone s t x (older ▹ c) OldSet = refl
 
 -- a commit adds just what its transaction set
-pub table_step : (s : State) (writes : ℕ → List Write) → IsTold s.txns writes → (e : Step) → IsEnabled s e → (after s e).committed ≡ table_over s.committed (deeds_of writes e)
+pub table_step : (s : State) (writes : ℕ → List Write) → IsTold s.txns writes → (e : MachineStep) → IsEnabled s e → (after s e).committed ≡ table_over s.committed (deeds_of writes e)
 table_step s writes told (Begin t) a = refl
 table_step s writes told (Start t c) a = same_started s t (txn_at s t) c (old_pair (is_indexed s.life) c)
 table_step s writes told (Next t) a = same_carried s t (txn_at s t) (txn_at s t).changes (txn_at s t).phase
@@ -224,7 +224,7 @@ table_step s writes told (Clean p) a = refl
 table_step s writes told (Keep p) a = refl
 table_step s writes told Wrap a = refl
 
-pub told_step : (s : State) (writes : ℕ → List Write) → IsTold s.txns writes → (e : Step) → IsEnabled s e → IsTold (after s e).txns (writes_after writes e)
+pub told_step : (s : State) (writes : ℕ → List Write) → IsTold s.txns writes → (e : MachineStep) → IsEnabled s e → IsTold (after s e).txns (writes_after writes e)
 told_step s writes told (Begin t) a = told_now s.txns writes writes told t (λ u n. refl) new_txn (λ f. told.idle t a)
 told_step s writes told (Start t c) a = told_started s writes told t (txn_at s t) c a.active a.ready.1 (old_pair (is_indexed s.life) c)
 told_step s writes told (Next t) a = told_carried s writes told t (txn_at s t) a.0 (txn_at s t).changes (txn_at s t).phase
@@ -264,7 +264,7 @@ life_undone s t x (older ▹ c) Made = life_first s t x c older true (new_pair (
 life_undone s t x (older ▹ c) (NewMarked b) = refl
 life_undone s t x (older ▹ c) OldSet = refl
 
-pub life_step : (s : State) (writes : ℕ → List Write) (e : Step) → IsEnabled s e → (after s e).life ≡ life_over s.life (deeds_of writes e)
+pub life_step : (s : State) (writes : ℕ → List Write) (e : MachineStep) → IsEnabled s e → (after s e).life ≡ life_over s.life (deeds_of writes e)
 life_step s writes (Begin t) a = refl
 life_step s writes (Start t c) a = life_started s t (txn_at s t) c (old_pair (is_indexed s.life) c)
 life_step s writes (Next t) a = life_carried s t (txn_at s t) (txn_at s t).changes (txn_at s t).phase
@@ -289,7 +289,7 @@ life_over-append life [] es = refl
 life_over-append life (d ∷ ds) es = life_over-append (life_with life d) ds es
 
 -- the life is that of the history
-pub tells_life : (s s' : State) (es : List Step) → Run s es s' → (writes : ℕ → List Write) → s'.life ≡ life_over s.life (history writes es)
+pub tells_life : (s s' : State) (es : List MachineStep) → Runs s es s' → (writes : ℕ → List Write) → s'.life ≡ life_over s.life (history writes es)
 tells_life s s' es no_step writes = refl
 tells_life s s' es (one_step e rest a r) writes =
     tells_life (after s e) s' rest r (writes_after writes e)
@@ -297,7 +297,7 @@ tells_life s s' es (one_step e rest a r) writes =
     ∙ sym (life_over-append s.life (deeds_of writes e) (history (writes_after writes e) rest))
 
 -- the committed table is that of the history
-pub tells_table : (s s' : State) (es : List Step) → Run s es s' → (writes : ℕ → List Write) → IsTold s.txns writes → s'.committed ≡ table_over s.committed (history writes es)
+pub tells_table : (s s' : State) (es : List MachineStep) → Runs s es s' → (writes : ℕ → List Write) → IsTold s.txns writes → s'.committed ≡ table_over s.committed (history writes es)
 tells_table s s' es no_step writes told = refl
 tells_table s s' es (one_step e rest a r) writes told =
     tells_table (after s e) s' rest r (writes_after writes e) (told_step s writes told e a)
@@ -315,11 +315,11 @@ pub items_life : (life : Life) (items : List Item) → life_over life (map (λ (
 items_life life [] = refl
 items_life life (item ∷ items) = items_life (life_with life item.deed) items
 
-pub told_table : (o : Opened) (es : List Step) (s : State) → Run (opened o) es s → (items : List Item) → AreItemsOf items es → s.committed ≡ table_after o.given.table items
+pub told_table : (o : Opened) (es : List MachineStep) (s : State) → Runs (opened o) es s → (items : List Item) → AreItemsOf items es → s.committed ≡ table_after o.given.table items
 told_table o es s r items h = tells_table (opened o) s es r no_writes nothing_told ∙ ap (table_over o.given.table) (sym h) ∙ items_table o.given.table items
 
-pub told_life : (o : Opened) (es : List Step) (s : State) → Run (opened o) es s → (items : List Item) → AreItemsOf items es → s.life ≡ life_after o.given.life items
+pub told_life : (o : Opened) (es : List MachineStep) (s : State) → Runs (opened o) es s → (items : List Item) → AreItemsOf items es → s.life ≡ life_after o.given.life items
 told_life o es s r items h = tells_life (opened o) s es r no_writes ∙ ap (life_over o.given.life) (sym h) ∙ items_life o.given.life items
 
-pub interleaved_whole : (o : Opened) → CanOpen o → (es : List Step) (s : State) → Run (opened o) es s → s.life ≡ Complete → ((t : ℕ) → s.txns t ≡ None) → IsWhole s
+pub interleaved_whole : (o : Opened) → CanOpen o → (es : List MachineStep) (s : State) → Runs (opened o) es s → s.life ≡ Complete → ((t : ℕ) → s.txns t ≡ None) → IsWhole s
 interleaved_whole o can es s r complete quiet = whole s (run_keeps _ s es r (opened_holds o can)) complete quiet

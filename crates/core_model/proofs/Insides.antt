@@ -15,7 +15,7 @@ use Rattle.core_model.proofs.Latest.{Gone, gone_is, not_none}
 use Rattle.core_model.specs.Changes.{Changes, Unchanged, new_pair, old_pair, ◌▹◌}
 use Rattle.core_model.specs.Invariants.{IsHolderOf, IsInside, IsWellFormed}
 use Rattle.core_model.specs.States.{Active, Made, NewMarked, OldMarked, OldSet, Phase, RowSet, State}
-use Rattle.core_model.specs.Steps.{Attempt, Begin, Checkpoint, Clean, Commit, Create, End, Finish, IsEnabled, Keep, Next, Start, Step, Take, Undo, Wrap, after, carried_on, is_indexed, is_pair_of, moved_by, started, txn_at, undone, undone_first, undone_row, with_entry}
+use Rattle.core_model.specs.Steps.{Attempt, Begin, Checkpoint, Clean, Commit, Create, End, Finish, IsEnabled, Keep, Next, Start, MachineStep, Take, Undo, Wrap, after, carried_on, is_indexed, is_pair_of, moved_by, started, txn_at, undone, undone_first, undone_row, with_entry}
 
 -- each entry is of these pages
 abbrev EntriesInside : ℕ → Index → Type 0
@@ -101,7 +101,7 @@ highest_is e = cc
 not_complete : {o : Option Pair} → Complete ≡ Building o → ⊥
 not_complete e = absurd (cc)
 
-moved_inside : (s : State) (e : Step) → IsWellFormed s → IsInside s → IsEnabled s e → IsInside (moved_by s e)
+moved_inside : (s : State) (e : MachineStep) → IsWellFormed s → IsInside s → IsEnabled s e → IsInside (moved_by s e)
 moved_inside s (Begin t) i h a = record { entries = h.entries; bound = h.bound; highest = h.highest; given = h.given }
 moved_inside s (Start t c) i h a = started_inside s i h t (txn_at s t) c a.inside _ refl
 moved_inside s (Next t) i h a = carried_inside s i h t (txn_at s t) a.0 (txn_at s t).changes refl (txn_at s t).phase
@@ -127,5 +127,5 @@ moved_inside s (Clean p) i h a = record { entries = set_inside s.pages s.entries
 moved_inside s (Keep p) i h a = record { entries = h.entries; bound = h.bound; highest = h.highest; given = h.given }
 moved_inside s Wrap i h a = record { entries = h.entries; bound = h.bound; highest = h.highest; given = h.given }
 
-pub inside_step : (s : State) (e : Step) → IsWellFormed s → IsInside s → IsEnabled s e → IsInside (after s e)
+pub inside_step : (s : State) (e : MachineStep) → IsWellFormed s → IsInside s → IsEnabled s e → IsInside (after s e)
 inside_step s e i h a = let m : IsInside (moved_by s e) = moved_inside s e i h a in record { entries = m.entries; bound = m.bound; highest = m.highest; given = m.given }

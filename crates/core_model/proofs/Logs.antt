@@ -28,12 +28,12 @@ use Rattle.core_model.proofs.Restarts.{CanRestart, can_restart}
 use Rattle.core_model.proofs.Runs.{run_keeps, step_keeps}
 use Rattle.core_model.specs.Changes.{Changes, Unchanged, as_list, new_pair, old_pair, ◌▹◌}
 use Rattle.core_model.specs.Histories.{AreItemsOf, CanOpen, IsFaithful, Opened, deeds_of, history, no_writes, opened, writes_after}
-use Rattle.core_model.specs.Invariants.{Invariant, Run, no_step, one_step}
+use Rattle.core_model.specs.Invariants.{Invariant, Runs, no_step, one_step}
 use Rattle.core_model.specs.Logs.{RecoversPrefix, item_at, items_from, items_over, next_number, one_record, records_from, records_over}
 use Rattle.core_model.specs.Records.{HasCells, IsListOf, action_of, set_by_any}
 use Rattle.core_model.proofs.Undone.{IsListing, entries_back, entries_undone, restarted, rows_back, rows_undone}
 use Rattle.core_model.specs.States.{Active, Made, NewMarked, OldMarked, OldSet, Phase, RowSet, State}
-use Rattle.core_model.specs.Steps.{Attempt, Begin, Checkpoint, Clean, Commit, Create, End, Finish, IsEnabled, Keep, Next, Start, Step, Take, Undo, Wrap, after, carried_on, is_indexed, started, txn_at, undone, undone_first, update}
+use Rattle.core_model.specs.Steps.{Attempt, Begin, Checkpoint, Clean, Commit, Create, End, Finish, IsEnabled, Keep, Next, Start, MachineStep, Take, Undo, Wrap, after, carried_on, is_indexed, started, txn_at, undone, undone_first, update}
 
 -- ---- a list of changes, as a transaction has it
 abbrev behind : Changes → List ChangeValue → Changes
@@ -155,7 +155,7 @@ faithful s i = record {
 }
 
 -- whatever the order of the steps
-pub interleaved : (o : Opened) → CanOpen o → (es : List Step) (s : State) → Run (opened o) es s → (items : List Item) → AreItemsOf items es
+pub interleaved : (o : Opened) → CanOpen o → (es : List MachineStep) (s : State) → Runs (opened o) es s → (items : List Item) → AreItemsOf items es
     → IsFaithful s (table_after o.given.table items) × (s.life ≡ life_after o.given.life items)
 interleaved o can es s r items h = (
   subst (IsFaithful s) (told_table o es s r items h) (faithful s (run_keeps _ s es r (opened_holds o can))),
@@ -191,7 +191,7 @@ store_undone s t x (older ▹ c) Made = store_first s t x c older _ (new_pair (i
 store_undone s t x (older ▹ c) (NewMarked b) = record { pages = refl; places = refl }
 store_undone s t x (older ▹ c) OldSet = record { pages = refl; places = refl }
 
-store_step : (s : State) (e : Step) → SameStore s (after s e)
+store_step : (s : State) (e : MachineStep) → SameStore s (after s e)
 store_step s (Begin t) = record { pages = refl; places = refl }
 store_step s (Start t c) = let v : SameStore s _ = store_started s t (txn_at s t) c (old_pair (is_indexed s.life) c) in record { pages = v.pages; places = v.places }
 store_step s (Next t) = let v : SameStore s _ = store_carried s t (txn_at s t) (txn_at s t).changes (txn_at s t).phase in record { pages = v.pages; places = v.places }
@@ -207,7 +207,7 @@ store_step s (Clean p) = record { pages = refl; places = refl }
 store_step s (Keep p) = record { pages = refl; places = refl }
 store_step s Wrap = record { pages = refl; places = refl }
 
-pub same_store : (s s' : State) (es : List Step) → Run s es s' → SameStore s s'
+pub same_store : (s s' : State) (es : List MachineStep) → Runs s es s' → SameStore s s'
 same_store s s' es no_step = record { pages = refl; places = refl }
 same_store s s' es (one_step e rest a r) =
     let one : SameStore s (after s e) = store_step s e in
@@ -219,7 +219,7 @@ after-append : (cells : Cells) (last : ℕ) (o : Option Action) (records : List 
 after-append cells last None records = refl
 after-append cells last (Some action) records = refl
 
-pub run_cells : (s s' : State) (es : List Step) → Run s es s' → Invariant s → (last : ℕ) (cells : Cells) → HasCells s cells → HasCells s' (cells_after cells (records_from s last es))
+pub run_cells : (s s' : State) (es : List MachineStep) → Runs s es s' → Invariant s → (last : ℕ) (cells : Cells) → HasCells s cells → HasCells s' (cells_after cells (records_from s last es))
 run_cells s s' es no_step i last cells k = k
 run_cells s s' es (one_step e rest a r) i last cells k =
     subst (HasCells s') (sym (after-append cells last (action_of s e) (records_from (after s e) (next_number last (action_of s e)) rest)))
@@ -236,7 +236,7 @@ one_deeds : (last : ℕ) (ds : List Deed) → deeds (map (item_at last) ds) ≡ 
 one_deeds last [] = refl
 one_deeds last (d ∷ ds) = ap (λ l. d ∷ l) (one_deeds last ds)
 
-pub items_deeds : (writes : ℕ → List Write) (s : State) (last : ℕ) (es : List Step) → deeds (items_from writes s last es) ≡ history writes es
+pub items_deeds : (writes : ℕ → List Write) (s : State) (last : ℕ) (es : List MachineStep) → deeds (items_from writes s last es) ≡ history writes es
 items_deeds writes s last [] = refl
 items_deeds writes s last (e ∷ es) =
     map-append (λ (item : Item). item.deed) (map (item_at last) (deeds_of writes e)) (items_from (writes_after writes e) (after s e) (next_number last (action_of s e)) es)
@@ -245,7 +245,7 @@ items_deeds writes s last (e ∷ es) =
 
 -- ---- a prefix of the records is made by a prefix of the steps, and so are the items up to its last record
 -- a step with a deed makes a record
-pub no_deeds : (s : State) (writes : ℕ → List Write) (e : Step) → action_of s e ≡ None → deeds_of writes e ≡ []
+pub no_deeds : (s : State) (writes : ℕ → List Write) (e : MachineStep) → action_of s e ≡ None → deeds_of writes e ≡ []
 no_deeds s writes (Begin t) h = refl
 no_deeds s writes (Start t c) h = refl
 no_deeds s writes (Next t) h = refl
@@ -273,7 +273,7 @@ pub next_above : (last : ℕ) (o : Option Action) → last ≤ next_number last 
 next_above last None = omega arith
 next_above last (Some a) = omega arith
 
-none_up_to : (es : List Step) (writes : ℕ → List Write) (s : State) (last n : ℕ) → n ≤ last → up_to n (items_from writes s last es) ≡ []
+none_up_to : (es : List MachineStep) (writes : ℕ → List Write) (s : State) (last n : ℕ) → n ≤ last → up_to n (items_from writes s last es) ≡ []
 none_up_to [] writes s last n le = refl
 none_up_to (e ∷ es) writes s last n le =
     let above : last ≤ next_number last (action_of s e) = next_above last (action_of s e) in
@@ -281,14 +281,14 @@ none_up_to (e ∷ es) writes s last n le =
     ∙ ap (λ l. l ++ up_to n (items_from (writes_after writes e) (after s e) (next_number last (action_of s e)) es)) (up_above last n le (deeds_of writes e))
     ∙ none_up_to es (writes_after writes e) (after s e) (next_number last (action_of s e)) n (omega (arith, le, above))
 
-pub record UpTo (writes : ℕ → List Write) (s : State) (last : ℕ) (es : List Step) (n : ℕ) : Type 0 where
-  pub steps : List Step
+pub record UpTo (writes : ℕ → List Write) (s : State) (last : ℕ) (es : List MachineStep) (n : ℕ) : Type 0 where
+  pub steps : List MachineStep
   pub end : State
-  pub run : Run s steps end
+  pub run : Runs s steps end
   pub records : take n (records_from s last es) ≡ records_from s last steps
   pub items : up_to (last + n) (items_from writes s last es) ≡ items_from writes s last steps
 
-nothing_yet : (writes : ℕ → List Write) (s : State) (last : ℕ) (es : List Step) → UpTo writes s last es zero
+nothing_yet : (writes : ℕ → List Write) (s : State) (last : ℕ) (es : List MachineStep) → UpTo writes s last es zero
 nothing_yet writes s last es = record {
   steps = [];
   end = s;
@@ -297,20 +297,20 @@ nothing_yet writes s last es = record {
   items = none_up_to es writes s last (last + zero) (omega arith);
 }
 
-module _ (s : State) (e : Step) (rest : List Step) (a : IsEnabled s e) (writes : ℕ → List Write) (last k : ℕ) where
+module _ (s : State) (e : MachineStep) (rest : List MachineStep) (a : IsEnabled s e) (writes : ℕ → List Write) (last k : ℕ) where
   abbrev Later : Option Action → Type 0
   Later o = (m : ℕ) → m ≤ length (records_from (after s e) (next_number last o) rest) → UpTo (writes_after writes e) (after s e) (next_number last o) rest m
 
-  abbrev all_records : Option Action → List Step → List RecordValue
+  abbrev all_records : Option Action → List MachineStep → List RecordValue
   all_records o es = one_record last o ++ records_from (after s e) (next_number last o) es
 
-  abbrev all_items : Option Action → List Deed → List Step → List Item
+  abbrev all_items : Option Action → List Deed → List MachineStep → List Item
   all_items o ds es = map (item_at last) ds ++ items_from (writes_after writes e) (after s e) (next_number last o) es
 
   record Part (o : Option Action) (ds : List Deed) : Type 0 where
-    pub steps : List Step
+    pub steps : List MachineStep
     pub end : State
-    pub run : Run (after s e) steps end
+    pub run : Runs (after s e) steps end
     pub records : take (suc k) (all_records o rest) ≡ all_records o steps
     pub items : up_to (last + suc k) (all_items o ds rest) ≡ all_items o ds steps
 
@@ -333,7 +333,7 @@ module _ (s : State) (e : Step) (rest : List Step) (a : IsEnabled s e) (writes :
             ∙ ap (λ l. map (item_at last) ds ++ l) (ap (λ n. up_to n (items_from (writes_after writes e) (after s e) (last + 1) rest)) number ∙ p.items);
       }
 
-pub up_to_record : (s s' : State) (es : List Step) → Run s es s' → (writes : ℕ → List Write) (last n : ℕ) → n ≤ length (records_from s last es) → UpTo writes s last es n
+pub up_to_record : (s s' : State) (es : List MachineStep) → Runs s es s' → (writes : ℕ → List Write) (last n : ℕ) → n ≤ length (records_from s last es) → UpTo writes s last es n
 up_to_record s s' es r writes last zero le = nothing_yet writes s last es
 up_to_record s s' es no_step writes last (suc k) le = absurd (omega (arith, le))
 up_to_record s s' es (one_step e rest a r) writes last (suc k) le =
@@ -342,7 +342,7 @@ up_to_record s s' es (one_step e rest a r) writes last (suc k) le =
     record { steps = e ∷ p.steps; end = p.end; run = one_step e p.steps a p.run; records = p.records; items = p.items }
 
 -- ---- all of it
-module _ (o : Opened) (can : CanOpen o) (es : List Step) (s : State) (run : Run (opened o) es s) where
+module _ (o : Opened) (can : CanOpen o) (es : List MachineStep) (s : State) (run : Runs (opened o) es s) where
   abbrev set_cells : Cells
   set_cells = cells_after (opening_cells o.given) (records_over o es)
 
@@ -379,7 +379,7 @@ module _ (o : Opened) (can : CanOpen o) (es : List Step) (s : State) (run : Run 
   }
 
 -- of the cells of a state, wherever the run stops
-pub stopped : (o : Opened) → CanOpen o → (es : List Step) (s : State) → Run (opened o) es s → (items : List Item) → AreItemsOf items es → (cells : Cells) → HasCells s cells → (last : ℕ)
+pub stopped : (o : Opened) → CanOpen o → (es : List MachineStep) (s : State) → Runs (opened o) es s → (items : List Item) → AreItemsOf items es → (cells : Cells) → HasCells s cells → (last : ℕ)
     → ((recovered cells last).table ≡ table_after o.given.table items) × ((recovered cells last).life ≡ life_after o.given.life items) × CanOpen (record o { given = recovered cells last })
 stopped o can es s run items h cells k last =
     let r : IsRecovered s (recovered cells last) = recovers_state s (run_keeps _ s es run (opened_holds o can)) cells k last in
@@ -394,7 +394,7 @@ length_taken zero records le = refl
 length_taken (suc n) [] le = absurd (omega (arith, le))
 length_taken (suc n) (r ∷ records) le = let rest : length (take n records) ≡ n = length_taken n records (omega (arith, le)) in omega (arith, rest)
 
-pub recovers : (o : Opened) → CanOpen o → (es : List Step) (s : State) → Run (opened o) es s → (n : ℕ) → n ≤ length (records_over o es) → RecoversPrefix o es n
+pub recovers : (o : Opened) → CanOpen o → (es : List MachineStep) (s : State) → Runs (opened o) es s → (n : ℕ) → n ≤ length (records_over o es) → RecoversPrefix o es n
 recovers o can es s run n le =
     let p : UpTo no_writes (opened o) o.given.last es n = up_to_record (opened o) s es run no_writes o.given.last n le in
     let count : length (records_over o p.steps) ≡ n = ap length (sym p.records) ∙ length_taken n (records_over o es) le in

@@ -23,7 +23,7 @@ use Rattle.core_model.proofs.Sums.{left_apart, reserved_apart, reserved_insert, 
 use Rattle.core_model.specs.Changes.{Changes, Unchanged, gone, new_pair, old_pair, ◌▹◌}
 use Rattle.core_model.specs.Invariants.{HasPlaces, IsHolderOf, lacking, lacks}
 use Rattle.core_model.specs.States.{Active, Made, NewMarked, OldMarked, OldSet, Phase, RowSet, State}
-use Rattle.core_model.specs.Steps.{Attempt, Begin, CanAttempt, CanClean, Checkpoint, Clean, Commit, Create, End, Finish, HasFreePlaces, IsEnabled, Keep, Next, Start, Step, Take, Undo, Wrap, after, all_reserved, attempted, carried_on, is_indexed, left, new_txn, places_of, reserved, row_made, row_undone, started, txn_at, undoing, undone, undone_first, update, with_change, with_entry, with_phase, with_places, with_txn, without_newest}
+use Rattle.core_model.specs.Steps.{Attempt, Begin, CanAttempt, CanClean, Checkpoint, Clean, Commit, Create, End, Finish, HasFreePlaces, IsEnabled, Keep, Next, Start, MachineStep, Take, Undo, Wrap, after, all_reserved, attempted, carried_on, is_indexed, left, new_txn, places_of, reserved, row_made, row_undone, started, txn_at, undoing, undone, undone_first, update, with_change, with_entry, with_phase, with_places, with_txn, without_newest}
 
 -- ---- an entry is set
 
@@ -401,7 +401,7 @@ clean_places s i h p can = record {
 }
 
 -- ---- all steps
-pub places_step : (s : State) (e : Step) → ((t : ℕ) (x : Active) → s.txns t ≡ Some x → IsHolderOf s.holder t x.changes) → HasPlaces s → IsEnabled s e → HasPlaces (after s e)
+pub places_step : (s : State) (e : MachineStep) → ((t : ℕ) (x : Active) → s.txns t ≡ Some x → IsHolderOf s.holder t x.changes) → HasPlaces s → IsEnabled s e → HasPlaces (after s e)
 places_step s (Begin t) i p a = begin_places s p t
 places_step s (Start t c) i p a = start_places s p t (txn_at s t) c a.active a.room _ refl
 places_step s (Next t) i p a = next_places s p t (txn_at s t) a.0 (txn_at s t).changes refl (txn_at s t).phase

@@ -10,7 +10,7 @@ use Rattle.core_model.proofs.Orders.{apart, level, update_apart, update_here}
 use Rattle.core_model.specs.Changes.{Changes, Unchanged, new_pair, old_pair, ◌▹◌}
 use Rattle.core_model.specs.Invariants.{IsPledged}
 use Rattle.core_model.specs.States.{Active, Made, NewMarked, OldMarked, OldSet, Phase, Pledges, RowSet, State}
-use Rattle.core_model.specs.Steps.{Attempt, Begin, Checkpoint, Clean, Commit, Create, End, Finish, IsEnabled, Keep, Next, Start, Step, Take, Undo, Wrap, after, carried_on, is_indexed, new_txn, row_made, row_undone, started, txn_at, undoing, undone, undone_first, update, with_change, with_phase, with_txn, without_newest}
+use Rattle.core_model.specs.Steps.{Attempt, Begin, Checkpoint, Clean, Commit, Create, End, Finish, IsEnabled, Keep, Next, Start, MachineStep, Take, Undo, Wrap, after, carried_on, is_indexed, new_txn, row_made, row_undone, started, txn_at, undoing, undone, undone_first, update, with_change, with_phase, with_txn, without_newest}
 
 -- the transactions but for one are as they were, and that one is active
 pub record Goes (txns txns' : ℕ → Option Active) (t : ℕ) : Type 0 where
@@ -73,7 +73,7 @@ module _ (s : State) (h : IsPledged s) (t : ℕ) where
     | inr m ↦ ap is_some (left_other s.pledges t u m) ∙ h u ∙ ap is_some (sym (update_apart nat_cmp-IsAntisymmetric s.txns t None u m))
   ]
 
-pub pledged_step : (s : State) (e : Step) → IsPledged s → IsEnabled s e → IsPledged (after s e)
+pub pledged_step : (s : State) (e : MachineStep) → IsPledged s → IsEnabled s e → IsPledged (after s e)
 pledged_step s (Begin t) h a = pledged_with s h t _ (put_goes s t new_txn) _
 pledged_step s (Start t c) h a = pledged_with s h t _ (started_goes s t (txn_at s t) c (old_pair (is_indexed s.life) c)) _
 pledged_step s (Next t) h a = pledged_with s h t _ (carried_goes s t (txn_at s t) a.0 (txn_at s t).changes (txn_at s t).phase) _

@@ -31,7 +31,7 @@ use Rattle.core_model.proofs.Orders.{update_apart, update_here}
 use Rattle.core_model.specs.Changes.{Changes, Unchanged, gone, as_list, new_pair, old_pair, pair_at, ◌▹◌}
 use Rattle.core_model.specs.Invariants.{HasPair, IsShaped, IsWellFormed}
 use Rattle.core_model.specs.States.{Active, Made, NewMarked, OldMarked, OldSet, Phase, RowSet, State}
-use Rattle.core_model.specs.Steps.{Attempt, Begin, Checkpoint, Clean, Commit, Create, End, Finish, IsEnabled, Keep, Next, Start, Step, Take, Undo, Wrap, after, carried_on, is_indexed, left, moved_by, new_txn, row_made, row_undone, started, txn_at, undoing, undone, undone_first, update, with_change, with_entry, with_txn, without_newest}
+use Rattle.core_model.specs.Steps.{Attempt, Begin, Checkpoint, Clean, Commit, Create, End, Finish, IsEnabled, Keep, Next, Start, MachineStep, Take, Undo, Wrap, after, carried_on, is_indexed, left, moved_by, new_txn, row_made, row_undone, started, txn_at, undoing, undone, undone_first, update, with_change, with_entry, with_txn, without_newest}
 
 -- ---- the lists of the log
 module _ (older : Changes) (c : ChangeValue) (k : c.position ≡ length (as_list older)) where
@@ -189,7 +189,7 @@ attempt_cells s cells k p (Some mark) e = record {
   life = k.life;
 }
 
-moved_cells : (s : State) (e : Step) (cells : Cells) → IsWellFormed s → IsEnabled s e → HasCells s cells → HasCells (moved_by s e) (set_by_any cells (action_of s e))
+moved_cells : (s : State) (e : MachineStep) (cells : Cells) → IsWellFormed s → IsEnabled s e → HasCells s cells → HasCells (moved_by s e) (set_by_any cells (action_of s e))
 moved_cells s (Begin t) cells i a k = same_cells s cells k t new_txn (subst (λ l. IsListOf l (Some new_txn)) (sym (no_list (get cells.pending t) (subst (IsListOf (get cells.pending t)) a (k.pending t)))) refl)
 moved_cells s (Start t c) cells i a k = start_cells s cells k t (txn_at s t) a.active c a.position _ refl
 moved_cells s (Next t) cells i a k = next_cells s i cells k t (txn_at s t).changes (txn_at s t).phase (txn_at s t).rolling a.0
@@ -205,7 +205,7 @@ moved_cells s (Clean p) cells i a k = record { rows = k.rows; entries = ap (λ m
 moved_cells s (Keep p) cells i a k = record { rows = k.rows; entries = k.entries; pending = k.pending; life = k.life }
 moved_cells s Wrap cells i a k = record { rows = k.rows; entries = k.entries; pending = k.pending; life = k.life }
 
-pub step_follows : (s : State) (e : Step) (cells : Cells) → IsWellFormed s → IsEnabled s e → HasCells s cells → HasCells (after s e) (set_by_any cells (action_of s e))
+pub step_follows : (s : State) (e : MachineStep) (cells : Cells) → IsWellFormed s → IsEnabled s e → HasCells s cells → HasCells (after s e) (set_by_any cells (action_of s e))
 step_follows s e cells i a k =
     let h : HasCells (moved_by s e) (set_by_any cells (action_of s e)) = moved_cells s e cells i a k in
     record { rows = h.rows; entries = h.entries; pending = h.pending; life = h.life }
@@ -253,7 +253,7 @@ place_rows : (p : Pair) (o : Option Mark) → HasRows (place_action p o)
 place_rows p None = refl
 place_rows p (Some mark) = tt
 
-action_rows : (s : State) (e : Step) → IsWellFormed s → IsEnabled s e → HasRows (action_of s e)
+action_rows : (s : State) (e : MachineStep) → IsWellFormed s → IsEnabled s e → HasRows (action_of s e)
 action_rows s (Begin t) i a = tt
 action_rows s (Start t c) i a = first_rows (is_indexed s.life) t c _ refl
 action_rows s (Next t) i a = next_rows (is_indexed s.life) t (txn_at s t).changes (txn_at s t).phase (i.txns t (txn_at s t) a.0).shaped
@@ -269,5 +269,5 @@ action_rows s (Clean p) i a = refl
 action_rows s (Keep p) i a = tt
 action_rows s Wrap i a = tt
 
-pub record_rows : (s : State) (e : Step) (a : Action) → IsWellFormed s → IsEnabled s e → action_of s e ≡ Some a → IsTrue (has_rows a)
+pub record_rows : (s : State) (e : MachineStep) (a : Action) → IsWellFormed s → IsEnabled s e → action_of s e ≡ Some a → IsTrue (has_rows a)
 record_rows s e a i k is = subst HasRows is (action_rows s e i k)

@@ -4,9 +4,9 @@ use Rattle.model.specs.declared.life.Life.TheVariants.{Building}
 use Rattle.core_model.proofs.Builds.{attempt_keeps, checkpoint_keeps, clean_keeps, create_keeps, finish_keeps, place_keeps, take_keeps}
 use Rattle.core_model.proofs.Fits.{fit_step}
 use Rattle.core_model.proofs.Txns.{begin_keeps, commit_keeps, end_keeps, next_keeps, start_keeps, undo_keeps}
-use Rattle.core_model.specs.Invariants.{Invariant, IsCoherent, IsHeld, Run, TxnHolds, no_step, one_step}
+use Rattle.core_model.specs.Invariants.{Invariant, IsCoherent, IsHeld, Runs, TxnHolds, no_step, one_step}
 use Rattle.core_model.specs.States.{Pledges, State}
-use Rattle.core_model.specs.Steps.{Attempt, Begin, Checkpoint, Clean, Commit, Create, End, Finish, IsEnabled, Keep, Next, Start, Step, Take, Undo, Wrap, after, moved_by, pledges_after, txn_at}
+use Rattle.core_model.specs.Steps.{Attempt, Begin, Checkpoint, Clean, Commit, Create, End, Finish, IsEnabled, Keep, Next, Start, MachineStep, Take, Undo, Wrap, after, moved_by, pledges_after, txn_at}
 
 -- the reserved places have no part in the rest
 pub other_pledges : (s : State) (k : Pledges) → IsCoherent s → IsCoherent (record s { pledges = k })
@@ -22,7 +22,7 @@ other_pledges s k i = record {
   behind = i.behind;
 }
 
-moved_coherent : (s : State) (e : Step) → IsCoherent s → IsEnabled s e → IsCoherent (moved_by s e)
+moved_coherent : (s : State) (e : MachineStep) → IsCoherent s → IsEnabled s e → IsCoherent (moved_by s e)
 moved_coherent s (Begin t) i a = begin_keeps s i t a
 moved_coherent s (Start t c) i a = start_keeps s i t (txn_at s t) c a.active a.ready a.before a.mine a.inside _ refl
 moved_coherent s (Next t) i a = next_keeps s i t (txn_at s t) a.0 a.1
@@ -38,12 +38,12 @@ moved_coherent s (Clean p) i a = clean_keeps s i p a
 moved_coherent s (Keep p) i a = place_keeps s i (Some p)
 moved_coherent s Wrap i a = place_keeps s i None
 
-coherent_step : (s : State) (e : Step) → IsCoherent s → IsEnabled s e → IsCoherent (after s e)
+coherent_step : (s : State) (e : MachineStep) → IsCoherent s → IsEnabled s e → IsCoherent (after s e)
 coherent_step s e i a = other_pledges (moved_by s e) (pledges_after s e (moved_by s e).entries) (moved_coherent s e i a)
 
-pub step_keeps : (s : State) (e : Step) → Invariant s → IsEnabled s e → Invariant (after s e)
+pub step_keeps : (s : State) (e : MachineStep) → Invariant s → IsEnabled s e → Invariant (after s e)
 step_keeps s e i a = record { fit = fit_step s e i.fit a; coherent = coherent_step s e i.coherent a }
 
-pub run_keeps : (s s' : State) (es : List Step) → Run s es s' → Invariant s → Invariant s'
+pub run_keeps : (s s' : State) (es : List MachineStep) → Runs s es s' → Invariant s → Invariant s'
 run_keeps s s' es no_step i = i
 run_keeps s s' es (one_step e rest enabled r) i = run_keeps (after s e) s' rest r (step_keeps s e i enabled)

@@ -9,7 +9,7 @@ use Rattle.records.specs.declared.row.Row.{Row}
 use Rattle.model.specs.declared.life.Life.TheVariants.{Absent}
 use Rattle.core_model.specs.Histories.{Opened, opened}
 use Rattle.core_model.specs.States.{State}
-use Rattle.core_model.specs.Steps.{Attempt, Begin, Create, End, Finish, Start, Step, Take, Undo, after}
+use Rattle.core_model.specs.Steps.{Attempt, Begin, Create, End, Finish, Start, MachineStep, Take, Undo, after}
 
 -- The builder then leaves the marked entry as it is, and the index is complete without it.
 
@@ -29,10 +29,10 @@ insertion = record { position = 0; rid = place; rows = Inserted row }
 abbrev pub opening : Opened
 opening = record { given = record { table = empty; entries = empty; life = Absent; last = 0 }; pages = 1; places = 64 }
 
-abbrev pub steps : List Step
+abbrev pub steps : List MachineStep
 steps = Create ∷ Begin 1 ∷ Start 1 insertion ∷ Take 0 ∷ Undo 1 ∷ Undo 1 ∷ Undo 1 ∷ End 1 ∷ Attempt pair ∷ Finish ∷ []
 
-abbrev pub all_after : State → List Step → State
+abbrev pub all_after : State → List MachineStep → State
 all_after s [] = s
 all_after s (e ∷ es) = all_after (after s e) es
 

@@ -20,7 +20,7 @@ use Rattle.core_model.specs.Changes.{pair_of}
 use Rattle.core_model.specs.Invariants.{IsUnfinished}
 use Rattle.core_model.specs.Records.{HasCells}
 use Rattle.core_model.specs.States.{State}
-use Rattle.core_model.specs.Steps.{Attempt, Begin, Checkpoint, Clean, Commit, Create, End, Finish, Keep, Next, Start, Step, Take, Undo, Wrap, above, all_reserved, update}
+use Rattle.core_model.specs.Steps.{Attempt, Begin, Checkpoint, Clean, Commit, Create, End, Finish, Keep, Next, Start, MachineStep, Take, Undo, Wrap, above, all_reserved, update}
 
 -- ---- the history of a run, read off the changes that were asked for, the commits, the creation and the end of the build
 
@@ -31,7 +31,7 @@ abbrev pub write_of : ChangeValue → Write
 write_of c = record { rid = c.rid; row = new_row c.rows }
 
 -- what each transaction was asked to set, in order
-abbrev pub writes_after : (ℕ → List Write) → Step → ℕ → List Write
+abbrev pub writes_after : (ℕ → List Write) → MachineStep → ℕ → List Write
 writes_after writes (Begin t) = writes
 writes_after writes (Start t c) = update nat_cmp writes t (writes t ++ write_of c ∷ [])
 writes_after writes (Next t) = writes
@@ -47,7 +47,7 @@ writes_after writes (Clean p) = writes
 writes_after writes (Keep p) = writes
 writes_after writes Wrap = writes
 
-abbrev pub deeds_of : (ℕ → List Write) → Step → List Deed
+abbrev pub deeds_of : (ℕ → List Write) → MachineStep → List Deed
 deeds_of writes (Begin t) = []
 deeds_of writes (Start t c) = []
 deeds_of writes (Next t) = []
@@ -63,12 +63,12 @@ deeds_of writes (Clean p) = []
 deeds_of writes (Keep p) = []
 deeds_of writes Wrap = []
 
-abbrev pub history : (ℕ → List Write) → List Step → List Deed
+abbrev pub history : (ℕ → List Write) → List MachineStep → List Deed
 history writes [] = []
 history writes (e ∷ es) = deeds_of writes e ++ history (writes_after writes e) es
 
 -- these items have the deeds of the history
-abbrev pub AreItemsOf : List Item → List Step → Type 0
+abbrev pub AreItemsOf : List Item → List MachineStep → Type 0
 AreItemsOf items steps = map (λ (item : Item). item.deed) items ≡ history no_writes steps
 
 -- ---- a core over loaded cells
@@ -142,6 +142,6 @@ abbrev pub IsWhole : State → Type 0
 IsWhole s = (p : Pair) → (get s.entries p ≡ Some Live) ↔ IsPairOf s.rows p
 
 -- the writes after these steps
-abbrev pub writes_over : (ℕ → List Write) → List Step → ℕ → List Write
+abbrev pub writes_over : (ℕ → List Write) → List MachineStep → ℕ → List Write
 writes_over writes [] = writes
 writes_over writes (e ∷ es) = writes_over (writes_after writes e) es

@@ -12,7 +12,7 @@ use Rattle.model.specs.declared.life.Life.{Life}
 use Rattle.model.specs.declared.life.Life.TheVariants.{Absent, Building, Complete}
 use Rattle.core_model.specs.Changes.{Changes, Unchanged, latest, as_list, new_pair, old_pair, pair_of, ◌▹◌}
 use Rattle.core_model.specs.States.{Active, Made, NewMarked, OldMarked, OldSet, Phase, RowSet, State}
-use Rattle.core_model.specs.Steps.{IsEnabled, Step, above, after, all_reserved, is_applied, is_indexed, reserved}
+use Rattle.core_model.specs.Steps.{IsEnabled, MachineStep, above, after, all_reserved, is_applied, is_indexed, reserved}
 
 -- ---- rows, entries, builder
 
@@ -171,6 +171,6 @@ pub record Invariant (s : State) : Type 0 where
   pub coherent : IsCoherent s
 
 -- a run of the core
-pub data Run : State → List Step → State → Type 0 where
-  no_step : {s : State} → Run s [] s
-  one_step : {s s' : State} (e : Step) (es : List Step) → IsEnabled s e → Run (after s e) es s' → Run s (e ∷ es) s'
+pub data Runs : State → List MachineStep → State → Type 0 where
+  no_step : {s : State} → Runs s [] s
+  one_step : {s s' : State} (e : MachineStep) (es : List MachineStep) → IsEnabled s e → Runs (after s e) es s' → Runs s (e ∷ es) s'

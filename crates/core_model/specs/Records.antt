@@ -15,7 +15,7 @@ use Rattle.model.specs.Cells.{Cells, set_by}
 use Rattle.model.specs.Table.{applied}
 use Rattle.core_model.specs.Changes.{Changes, Unchanged, as_list, new_pair, old_pair, ◌▹◌}
 use Rattle.core_model.specs.States.{Active, Made, NewMarked, OldMarked, OldSet, Phase, RowSet, State}
-use Rattle.core_model.specs.Steps.{Attempt, Begin, Checkpoint, Clean, Commit, Create, End, Finish, Keep, Next, Start, Step, Take, Undo, Wrap, is_indexed, txn_at}
+use Rattle.core_model.specs.Steps.{Attempt, Begin, Checkpoint, Clean, Commit, Create, End, Finish, Keep, Next, Start, MachineStep, Take, Undo, Wrap, is_indexed, txn_at}
 
 -- The list that a log has of a transaction: its changes. One that has no change may have no list.
 abbrev pub IsListOf : Option (List ChangeValue) → Option Active → Type 0
@@ -71,7 +71,7 @@ place_action p None = Some (OfIndex (BuildPlace p))
 place_action p (Some mark) = None
 
 -- what a step puts into the log
-abbrev pub action_of : State → Step → Option Action
+abbrev pub action_of : State → MachineStep → Option Action
 action_of s (Begin t) = None
 action_of s (Start t c) = Some (first_action t c (old_pair (is_indexed s.life) c))
 action_of s (Next t) = next_action t (txn_at s t).changes (txn_at s t).phase

@@ -153,24 +153,24 @@ attempted s p = record s { entries = set_at s.entries p (after_action BuildPut (
 
 -- ---- all steps
 
-pub data Step : Type 0 where
-  Begin : (t : ℕ) → Step
-  Start : (t : ℕ) → ChangeValue → Step
-  Next : (t : ℕ) → Step
-  Undo : (t : ℕ) → Step
-  End : (t : ℕ) → Step
-  Commit : (t : ℕ) → Step
-  Create : Step
-  Take : (page : ℕ) → Step
-  Attempt : Pair → Step
-  Checkpoint : Pair → Step
-  Finish : Step
-  Clean : Pair → Step
-  Keep : Pair → Step
-  Wrap : Step
+pub data MachineStep : Type 0 where
+  Begin : (t : ℕ) → MachineStep
+  Start : (t : ℕ) → ChangeValue → MachineStep
+  Next : (t : ℕ) → MachineStep
+  Undo : (t : ℕ) → MachineStep
+  End : (t : ℕ) → MachineStep
+  Commit : (t : ℕ) → MachineStep
+  Create : MachineStep
+  Take : (page : ℕ) → MachineStep
+  Attempt : Pair → MachineStep
+  Checkpoint : Pair → MachineStep
+  Finish : MachineStep
+  Clean : Pair → MachineStep
+  Keep : Pair → MachineStep
+  Wrap : MachineStep
 
 -- what a step makes of the cells, the transactions, the builder and the cleaner
-abbrev pub moved_by : State → Step → State
+abbrev pub moved_by : State → MachineStep → State
 moved_by s (Begin t) = record s { txns = with_txn s t new_txn }
 moved_by s (Start t c) = started s t (txn_at s t) c (old_pair (is_indexed s.life) c)
 moved_by s (Next t) = carried_on s t (txn_at s t) (txn_at s t).changes (txn_at s t).phase
@@ -206,7 +206,7 @@ places_used pledges t more used = insert pledges t (reserved pledges t + more - 
 abbrev pub with_places : State → ℕ → ℕ → Index → Pledges
 with_places s t more entries = places_used s.pledges t more (len entries - len s.entries)
 
-abbrev pub pledges_after : State → Step → Index → Pledges
+abbrev pub pledges_after : State → MachineStep → Index → Pledges
 pledges_after s (Begin t) entries = insert s.pledges t 0
 pledges_after s (Start t c) entries = with_places s t (places_of (is_indexed s.life)) entries
 pledges_after s (Next t) entries = with_places s t 0 entries
@@ -215,7 +215,7 @@ pledges_after s (End t) entries = remove s.pledges t
 pledges_after s (Commit t) entries = remove s.pledges t
 pledges_after s _ entries = s.pledges
 
-abbrev pub after : State → Step → State
+abbrev pub after : State → MachineStep → State
 after s e = record (moved_by s e) { pledges = pledges_after s e (moved_by s e).entries }
 
 -- ---- when a step is enabled
@@ -265,7 +265,7 @@ pub record CanClean (s : State) (p : Pair) : Type 0 where
   pub free : s.holder p.rid ≡ None
   pub passed : IsPassed s.life p
 
-abbrev pub IsEnabled : State → Step → Type 0
+abbrev pub IsEnabled : State → MachineStep → Type 0
 IsEnabled s (Begin t) = s.txns t ≡ None
 IsEnabled s (Start t c) = CanStart s t c
 IsEnabled s (Next t) = IsActive s t × (txn_at s t).rolling ≡ false

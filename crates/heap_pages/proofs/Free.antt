@@ -9,7 +9,7 @@ use Rattle.records.specs.Orders.{rid_cmp}
 use Rattle.records.specs.declared.rid.TheConstants.{SLOTS_PER_PAGE}
 use Rattle.records.specs.declared.row.Row.{Row}
 use Rattle.heap_pages.specs.Slots.{Slots, is_among, IsFreeSlot, NoneFree}
-use Rattle.heap_pages.specs.Pages.{HeapValue, IsFree}
+use Rattle.heap_pages.specs.Pages.{HeapValue, IsEmptyAndUnheld}
 use Rattle.heap_pages.proofs.Cells.{at}
 use Rattle.heap_pages.proofs.Held.{among_from-Contains, not_among}
 use Rattle.heap_pages.proofs.RidOrder.{page_before, slot_before}
@@ -20,19 +20,19 @@ abbrev AreHeldSlots : ℕ → List Place → List Bool → Type 0
 AreHeldSlots n held taken = (s : ℕ) → s < SLOTS_PER_PAGE → slice_get taken s ≡ Some (is_among (at n s) held)
 
 abbrev NoneOnEarlierPages : HeapValue → List Place → ℕ → Type 0
-NoneOnEarlierPages h held n = (q : Place) → q.page < n → ¬ IsFree h held q
+NoneOnEarlierPages h held n = (q : Place) → q.page < n → ¬ IsEmptyAndUnheld h held q
 
 module _ (pages : List Slots) (h : HeapValue) (held : List Place) (n : ℕ) (page : Slots) (is : shown_of pages ≡ h) (here : slice_get pages n ≡ Some page) where
   -- a free place of page n is an empty slot
-  empty_slot : (q : Place) → IsFree h held q → q.page ≡ n → get page q.slot ≡ None
+  empty_slot : (q : Place) → IsEmptyAndUnheld h held q → q.page ≡ n → get page q.slot ≡ None
   empty_slot q free e = sym (row_of_page pages h n q.slot q page is (ap (λ k. at k q.slot) (sym e)) here free.inside.1) ∙ free.empty
 
   -- and a free one
-  free_slot : (taken : List Bool) (q : Place) → AreHeldSlots n held taken → IsFree h held q → q.page ≡ n → IsFreeSlot page taken q.slot
+  free_slot : (taken : List Bool) (q : Place) → AreHeldSlots n held taken → IsEmptyAndUnheld h held q → q.page ≡ n → IsFreeSlot page taken q.slot
   free_slot taken q each free e = (empty_slot q free e, each q.slot free.inside.1 ∙ ap Some (ap (λ k. is_among (at k q.slot) held) (sym e) ∙ not_among q held free.not_held))
 
   -- and a free slot of page n is a free place
-  pub free_place : (s : ℕ) (taken : List Bool) → AreHeldSlots n held taken → s < SLOTS_PER_PAGE → IsFreeSlot page taken s → IsFree h held (at n s)
+  pub free_place : (s : ℕ) (taken : List Bool) → AreHeldSlots n held taken → s < SLOTS_PER_PAGE → IsFreeSlot page taken s → IsEmptyAndUnheld h held (at n s)
   free_place s taken each within free = record {
     inside = (subst (λ (v : HeapValue). n < v.pages) is (slice_get_within pages n page here), within);
     empty = row_of_page pages h n s (at n s) page is refl here within ∙ free.0;
@@ -43,7 +43,7 @@ module _ (pages : List Slots) (h : HeapValue) (held : List Place) (n : ℕ) (pag
   }
 
   -- no free place is before the first free slot of the first page with one
-  pub none_before : (s : ℕ) (taken : List Bool) → AreHeldSlots n held taken → NoneOnEarlierPages h held n → NoneFree s page taken → (q : Place) → IsFree h held q → rid_cmp q (at n s) ≢ Less
+  pub none_before : (s : ℕ) (taken : List Bool) → AreHeldSlots n held taken → NoneOnEarlierPages h held n → NoneFree s page taken → (q : Place) → IsEmptyAndUnheld h held q → rid_cmp q (at n s) ≢ Less
   none_before s taken each none first q free less = by (eqb_tells q.page n)
     where
       by : ((eqb q.page n ≡ true) × (q.page ≡ n)) ⊎ ((eqb q.page n ≡ false) × (q.page ≢ n)) → ⊥
@@ -51,7 +51,7 @@ module _ (pages : List Slots) (h : HeapValue) (held : List Place) (n : ℕ) (pag
       by (inr p) = let ne = p.1 in let le = page_before q (at n s) less in none q (omega arith) free
 
   -- a page without a free place is passed
-  passed : ((q : Place) → q.page ≡ n → ¬ IsFree h held q) → NoneOnEarlierPages h held n → NoneOnEarlierPages h held (n + 1)
+  passed : ((q : Place) → q.page ≡ n → ¬ IsEmptyAndUnheld h held q) → NoneOnEarlierPages h held n → NoneOnEarlierPages h held (n + 1)
   passed none_here none q below free = by (eqb_tells q.page n)
     where
       by : ((eqb q.page n ≡ true) × (q.page ≡ n)) ⊎ ((eqb q.page n ≡ false) × (q.page ≢ n)) → ⊥

@@ -10,7 +10,7 @@ use Rattle.records.specs.Values.{Place}
 use Rattle.records.specs.declared.row.Row.{Row}
 use Rattle.records.specs.declared.pair.Pair.{Pair}
 use Rattle.records.specs.Orders.{rid_cmp, rid_cmp_total, rid_cmp-IsAntisymmetric}
-use Rattle.heap_pages.specs.Pages.{HeapValue, page_rows, page_entries, rows_of, pair_of, pairs_of}
+use Rattle.heap_pages.specs.Pages.{HeapValue, page_rows, page_entries, rows_of, row_pair, pairs_of}
 use Rattle.heap_pages.proofs.SlotLists.{cell}
 use Rattle.heap_pages.proofs.Cells.{at, get-rows_of, sorted-page, find_page, find_other}
 use Rattle.heap_pages.proofs.Writes.{value_of}
@@ -41,9 +41,9 @@ page_rows-rows_of pages n slots page =
         ∙ sym (find_in q n slots p.1)
     at_place q (inr p) = ap (λ b. cond b (map_of.get (rows_of pages) q) None) p.0 ∙ sym (find_out q n slots p.1)
 
-pub pairs_whole : (pages : List (List (Option Row))) (h : HeapValue) (n : ℕ) (slots : List (Option Row)) → value_of pages ≡ h → slice_get pages n ≡ Some slots → map pair_of (page_entries n 0 slots) ≡ pairs_of (page_rows h.rows n)
+pub pairs_whole : (pages : List (List (Option Row))) (h : HeapValue) (n : ℕ) (slots : List (Option Row)) → value_of pages ≡ h → slice_get pages n ≡ Some slots → map row_pair (page_entries n 0 slots) ≡ pairs_of (page_rows h.rows n)
 pairs_whole pages h n slots is page =
-    ap (map pair_of) (sym (ap map_of.entries (page_rows-rows_of pages n slots page) ∙ map_of.entries-from_sorted rid_cmp (page_entries n 0 slots) (subst T (sym (page_sorted n slots)) tt)))
+    ap (map row_pair) (sym (ap map_of.entries (page_rows-rows_of pages n slots page) ∙ map_of.entries-from_sorted rid_cmp (page_entries n 0 slots) (subst T (sym (page_sorted n slots)) tt)))
     ∙ ap (λ (v : HeapValue). pairs_of (page_rows v.rows n)) is
 
 page_entries-append : (n i : ℕ) (xs ys : List (Option Row)) → page_entries n i (xs ++ ys) ≡ page_entries n i xs ++ page_entries n (i + length xs) ys
@@ -61,14 +61,14 @@ one_more n i slots o here =
     ∙ ap (λ k. page_entries n 0 (take i slots) ++ page_entries n k (o ∷ [])) (omega (arith, length-take i slots))
 
 -- an empty slot adds no pair
-pub pairs_skip : (n i : ℕ) (slots : List (Option Row)) → slice_get slots i ≡ Some None → map pair_of (page_entries n 0 (take (i + 1) slots)) ≡ map pair_of (page_entries n 0 (take i slots))
-pairs_skip n i slots here = ap (map pair_of) (one_more n i slots None here ∙ append-nil (page_entries n 0 (take i slots)))
+pub pairs_skip : (n i : ℕ) (slots : List (Option Row)) → slice_get slots i ≡ Some None → map row_pair (page_entries n 0 (take (i + 1) slots)) ≡ map row_pair (page_entries n 0 (take i slots))
+pairs_skip n i slots here = ap (map row_pair) (one_more n i slots None here ∙ append-nil (page_entries n 0 (take i slots)))
 
 -- a row adds its pair
-pub pairs_push : (n i : ℕ) (slots : List (Option Row)) (row : Row) → slice_get slots i ≡ Some (Some row) → map pair_of (page_entries n 0 (take (i + 1) slots)) ≡ map pair_of (page_entries n 0 (take i slots)) ++ record { key = row.key; rid = at n i } ∷ []
-pairs_push n i slots row here = ap (map pair_of) (one_more n i slots (Some row) here) ∙ map-append pair_of (page_entries n 0 (take i slots)) ((at n i, row) ∷ [])
+pub pairs_push : (n i : ℕ) (slots : List (Option Row)) (row : Row) → slice_get slots i ≡ Some (Some row) → map row_pair (page_entries n 0 (take (i + 1) slots)) ≡ map row_pair (page_entries n 0 (take i slots)) ++ record { key = row.key; rid = at n i } ∷ []
+pairs_push n i slots row here = ap (map row_pair) (one_more n i slots (Some row) here) ∙ map-append row_pair (page_entries n 0 (take i slots)) ((at n i, row) ∷ [])
 
 -- all slots give all pairs
-pub all_pairs : (n k : ℕ) (slots : List (Option Row)) (pairs : List Pair) → k ≡ length slots → pairs ≡ map pair_of (page_entries n 0 (take k slots)) → pairs ≡ map pair_of (page_entries n 0 slots)
+pub all_pairs : (n k : ℕ) (slots : List (Option Row)) (pairs : List Pair) → k ≡ length slots → pairs ≡ map row_pair (page_entries n 0 (take k slots)) → pairs ≡ map row_pair (page_entries n 0 slots)
 all_pairs n k slots pairs long is =
-    is ∙ ap (λ j. map pair_of (page_entries n 0 (take j slots))) long ∙ ap (λ xs. map pair_of (page_entries n 0 xs)) (take-length slots)
+    is ∙ ap (λ j. map row_pair (page_entries n 0 (take j slots))) long ∙ ap (λ xs. map row_pair (page_entries n 0 xs)) (take-length slots)

@@ -26,7 +26,7 @@ abbrev pub IsInside : HeapValue → Place → Type 0
 IsInside h r = (r.page < h.pages) × (r.slot < SLOTS_PER_PAGE)
 
 -- a place of the heap that is empty and not among the held ones
-pub record IsFree (h : HeapValue) (held : List Place) (r : Place) : Type 0 where
+pub record IsEmptyAndUnheld (h : HeapValue) (held : List Place) (r : Place) : Type 0 where
   pub inside : IsInside h r
   pub empty : get h.rows r ≡ None
   pub not_held : ¬ Contains held r
@@ -43,12 +43,12 @@ abbrev pub page_rows : Rows → ℕ → Rows
 page_rows rows n = retain_keys rows (λ r. r.page == n)
 
 -- the key of the row and its place
-abbrev pub pair_of : Place × Row → Pair
-pair_of e = record { key = e.1.key; rid = e.0 }
+abbrev pub row_pair : Place × Row → Pair
+row_pair e = record { key = e.1.key; rid = e.0 }
 
 -- the pair of each row, in the order of the places
 abbrev pub pairs_of : Rows → List Pair
-pairs_of rows = map pair_of (entries rows)
+pairs_of rows = map row_pair (entries rows)
 
 -- the rows of a page's slots from slot i on
 abbrev pub page_entries : ℕ → ℕ → List (Option Row) → List (Place × Row)

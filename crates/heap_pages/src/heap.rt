@@ -7,7 +7,7 @@ ghost use Rattle.records.specs.Values.{Place};
 ghost use Rattle.records.specs.Orders.{rid_cmp};
 ghost use Rattle.records.specs.Maps.{set_at};
 ghost use Rattle.records.specs.declared.pair.Pair.{Pair};
-ghost use Rattle.heap_pages.specs.Pages.{IsInside, IsFree, IsPairOnPage, page_rows, pairs_of};
+ghost use Rattle.heap_pages.specs.Pages.{IsInside, IsEmptyAndUnheld, IsPairOnPage, page_rows, pairs_of};
 
 use crate::page::{HeapPage, held_slots};
 use records::{Error, Pair, Rid, Row, SLOTS_PER_PAGE};
@@ -91,10 +91,10 @@ impl<A: Allocator + Copy> Heap<A> {
     ///
     /// It takes no memory. The one error is `HeapFull`, where there is no such place.
     pub fn least_free(&self, held: &[Rid]) -> Result<Rid, Error>
-        ensures free { IfOk result (IsFree self.now held.now) }
+        ensures free { IfOk result (IsEmptyAndUnheld self.now held.now) }
         ensures least { IfOk result (λ r.
-            (q : Place) → IsFree self.now held.now q → rid_cmp q r ≢ Ordering.Less) }
-        ensures full { IsErr result → (q : Place) → ¬ IsFree self.now held.now q }
+            (q : Place) → IsEmptyAndUnheld self.now held.now q → rid_cmp q r ≢ Ordering.Less) }
+        ensures full { IsErr result → (q : Place) → ¬ IsEmptyAndUnheld self.now held.now q }
         ensures heap_full { IfErr result (λ e. e ≡ Error.HeapFull) }
     {
         for page in 0..self.pages() {

@@ -22,7 +22,7 @@ use Rattle.core_model.proofs.Laws.{nat_decided, rid_decided, none_reserved, not_
 use Rattle.core_model.specs.Histories.{FitsStore, Opened, opened}
 use Rattle.core_model.specs.States.{State}
 use Rattle.core_model.specs.Steps as core
-use Rattle.core_model.specs.Steps.{Begin, Step, after, all_reserved, reserved}
+use Rattle.core_model.specs.Steps.{Begin, MachineStep, after, all_reserved, reserved}
 use Rattle.core_contracts.proofs.Laws.{opened_standing}
 use Rattle.core_contracts.specs.Events.{Event, Refused, Reply, Standing, Txn, standing_at}
 use Rattle.core_contracts.specs.Replies.{accepted, refused}

@@ -30,7 +30,7 @@ use Rattle.core_model.proofs.Laws.{build_put_some, not_none}
 use Rattle.core_model.specs.Logs.{one_record}
 use Rattle.core_model.specs.Records.{action_of, place_action}
 use Rattle.core_model.specs.States.{State}
-use Rattle.core_model.specs.Steps.{Attempt, CanFinish, Checkpoint, Finish, Step, Take, above, after, all_reserved, is_pair_of}
+use Rattle.core_model.specs.Steps.{Attempt, CanFinish, Checkpoint, Finish, MachineStep, Take, above, after, all_reserved, is_pair_of}
 use Rattle.core_contracts.specs.Events as events
 use Rattle.core_contracts.specs.Events.{Event, Refused, Reply, Standing, standing_after}
 use Rattle.core_contracts.specs.Replies.{HasNoPlace, IsBetween, IsDue, IsFirst, IsNextPair, accepted, refusals, refused, refused_last}
@@ -153,7 +153,7 @@ module _ (v : CoreValue) (s : State) (k : Standing) (st : IsState v s k) (built 
   first = inr (building_apart s.life built.0 building.1, refl)
 
   -- why a step that is due and makes a record is refused
-  unrecorded : (reply : Reply) (step : Step) → IsDue s k Event.Build reply (Some step) → (HasNoPlace s step → ⊥) → action_of s step ≢ None → (error : Error) → IsUnrecorded v error → Answers v s k Event.Build (Refused error) v
+  unrecorded : (reply : Reply) (step : MachineStep) → IsDue s k Event.Build reply (Some step) → (HasNoPlace s step → ⊥) → action_of s step ≢ None → (error : Error) → IsUnrecorded v error → Answers v s k Event.Build (Refused error) v
   unrecorded reply step due roomy makes error (inl why) = subst (λ e. Answers v s k Event.Build (Refused e) v) (sym why.0) (no_number v s k h Event.Build (λ x. x) tt first reply step due roomy makes why.1)
   unrecorded reply step due roomy makes error (inr why) = subst (λ e. Answers v s k Event.Build (Refused e) v) (sym why.0) (wants_memory v s k h Event.Build (λ x. x) tt first reply step due roomy (λ n. why.1) tt)
 

@@ -26,7 +26,7 @@ use Rattle.core_model.proofs.Laws.{not_none}
 use Rattle.core_model.specs.Logs.{one_record}
 use Rattle.core_model.specs.Records.{action_of, first_action}
 use Rattle.core_model.specs.States.{State}
-use Rattle.core_model.specs.Steps.{IsReady, Start, Step, after, txn_at}
+use Rattle.core_model.specs.Steps.{IsReady, Start, MachineStep, after, txn_at}
 use Rattle.core_contracts.specs.Events.{Event, Refused, Standing, Stepped}
 use Rattle.core_contracts.specs.Replies.{HasNoMoreChanges, IsDue, IsFirst, IsHeldByOther, IsOfNone, IsProper, WantsMemory, change_of, refusals, refused, refused_last, unknown}
 use Rattle.index_core.specs.View.{Answers, CoreValue, IsState, Serves, Shows}
@@ -123,7 +123,7 @@ module _ (v : CoreValue) (t : ℕ) (r : Place) (e : Event) (rows : Row → Rows)
         first : IsFirst (refusals s k e) None
         first = is.refused s k None (inr (not_full v s k h t a, inr (no_other mine, inr (λ none. not_none found_is none, refl))))
 
-        abbrev step : Step
+        abbrev step : MachineStep
         step = Start t (change_of s t r (rows old))
 
         makes : action_of s step ≢ None

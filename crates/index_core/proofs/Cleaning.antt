@@ -17,7 +17,7 @@ use Rattle.model.specs.declared.life.Life.TheVariants.{Absent, Building, Complet
 use Rattle.btree_node.specs.Above.{IsAfter, IsLeastAbove}
 use Rattle.core_model.proofs.Laws.{not_none}
 use Rattle.core_model.specs.States.{State}
-use Rattle.core_model.specs.Steps.{CanClean, IsPassed, Keep, Step, Wrap, above, after}
+use Rattle.core_model.specs.Steps.{CanClean, IsPassed, Keep, MachineStep, Wrap, above, after}
 use Rattle.core_contracts.specs.Events as events
 use Rattle.core_contracts.specs.Events.{Event, Refused, Reply, Standing, standing_after}
 use Rattle.core_contracts.specs.Replies.{IsDue, IsFirst, IsNextEntry, refusals, refused}
@@ -133,14 +133,14 @@ module _ (v : CoreValue) (s : State) (k : Standing) (st : IsState v s k) (indexe
       abbrev out : Reply
       out = events.Cleaner (events.Cleaned p)
 
-      out_due : IsDue s k Event.Clean out (Some (Step.Clean p))
+      out_due : IsDue s k Event.Clean out (Some (MachineStep.Clean p))
       out_due = (events.Cleaned p, (next, can_is may), refl, refl)
 
       pub clean_refused : (error : Error) → IsUnrecorded v error → Answers v s k Event.Clean (Refused error) v
-      clean_refused error (inl why) = subst (λ e. Answers v s k Event.Clean (Refused e) v) (sym why.0) (no_number v s k h Event.Clean (λ x. x) tt first out (Step.Clean p) out_due (λ x. x) (λ e. not_none refl e) why.1)
-      clean_refused error (inr why) = subst (λ e. Answers v s k Event.Clean (Refused e) v) (sym why.0) (wants_memory v s k h Event.Clean (λ x. x) tt first out (Step.Clean p) out_due (λ x. x) (λ n. why.1) tt)
+      clean_refused error (inl why) = subst (λ e. Answers v s k Event.Clean (Refused e) v) (sym why.0) (no_number v s k h Event.Clean (λ x. x) tt first out (MachineStep.Clean p) out_due (λ x. x) (λ e. not_none refl e) why.1)
+      clean_refused error (inr why) = subst (λ e. Answers v s k Event.Clean (Refused e) v) (sym why.0) (wants_memory v s k h Event.Clean (λ x. x) tt first out (MachineStep.Clean p) out_due (λ x. x) (λ n. why.1) tt)
 
-      out_shown : Shows (taken_out v p) (after s (Step.Clean p)) (standing_after k out)
+      out_shown : Shows (taken_out v p) (after s (MachineStep.Clean p)) (standing_after k out)
       out_shown = record {
         rows = h.rows;
         entries = ap (λ m. set_at m p None) h.entries ∙ ap (λ o. set_at v.index.entries p (after_action (key.Clean true) o)) (sym may.marked);
@@ -164,7 +164,7 @@ module _ (v : CoreValue) (s : State) (k : Standing) (st : IsState v s k) (indexe
       }
 
       pub clean_made : HasNextNumber v → Answers v s k Event.Clean out (taken_out v p)
-      clean_made left = made v s k h Event.Clean (λ x. x) tt first out (Step.Clean p) out_due (λ x. x) (λ n. left) (taken_out v p) out_shown refl
+      clean_made left = made v s k h Event.Clean (λ x. x) tt first out (MachineStep.Clean p) out_due (λ x. x) (λ n. left) (taken_out v p) out_shown refl
 
     module _ (kept : MayClean v p → ⊥) where
       abbrev stays : Reply

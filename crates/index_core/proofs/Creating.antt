@@ -8,7 +8,7 @@ use Rattle.txn_table.specs.Table.{TxnState}
 use Rattle.sorted_scan.specs.Scans.{HasRun, begun, begun_run}
 use Rattle.core_model.proofs.Laws.{not_none}
 use Rattle.core_model.specs.States.{State}
-use Rattle.core_model.specs.Steps.{Step, after}
+use Rattle.core_model.specs.Steps.{MachineStep, after}
 use Rattle.core_contracts.specs.Events.{Event, Refused, Reply, Standing, standing_after}
 use Rattle.core_contracts.specs.Replies.{IsDue, IsFirst, refusals, refused}
 use Rattle.index_core.specs.View.{Answers, AreOne, CoreValue, IsState, Serves, Shows}
@@ -54,15 +54,15 @@ module _ (v : CoreValue) (s : State) (k : Standing) (st : IsState v s k) where
     abbrev reply : Reply
     reply = Reply.Created (v.last + 1)
 
-    due : IsDue s k Event.Create reply (Some Step.Create)
+    due : IsDue s k Event.Create reply (Some MachineStep.Create)
     due = (ap (λ n. Reply.Created (n + 1)) (sym h.made), refl)
 
     pub create_refused : (error : Error) → IsUnrecorded v error → Answers v s k Event.Create (Refused error) v
-    create_refused error (inl why) = subst (λ e. Answers v s k Event.Create (Refused e) v) (sym why.0) (no_number v s k h Event.Create (λ x. x) tt first reply Step.Create due (λ x. x) (λ e. not_none refl e) why.1)
-    create_refused error (inr why) = subst (λ e. Answers v s k Event.Create (Refused e) v) (sym why.0) (wants_memory v s k h Event.Create (λ x. x) tt first reply Step.Create due (λ x. x) (λ n. why.1) tt)
+    create_refused error (inl why) = subst (λ e. Answers v s k Event.Create (Refused e) v) (sym why.0) (no_number v s k h Event.Create (λ x. x) tt first reply MachineStep.Create due (λ x. x) (λ e. not_none refl e) why.1)
+    create_refused error (inr why) = subst (λ e. Answers v s k Event.Create (Refused e) v) (sym why.0) (wants_memory v s k h Event.Create (λ x. x) tt first reply MachineStep.Create due (λ x. x) (λ n. why.1) tt)
 
     module _ (run : HasRun (begun None v.heap.pages) (begun_run None v.heap.pages)) where
-      created_shown : Shows (index_created v) (after s Step.Create) (standing_after k reply)
+      created_shown : Shows (index_created v) (after s MachineStep.Create) (standing_after k reply)
       created_shown = record {
         rows = h.rows;
         entries = h.entries;
@@ -86,7 +86,7 @@ module _ (v : CoreValue) (s : State) (k : Standing) (st : IsState v s k) where
       }
 
       pub create_made : HasNextNumber v → Answers v s k Event.Create reply (index_created v)
-      create_made left = made v s k h Event.Create (λ x. x) tt first reply Step.Create due (λ x. x) (λ n. left) (index_created v) created_shown refl
+      create_made left = made v s k h Event.Create (λ x. x) tt first reply MachineStep.Create due (λ x. x) (λ n. left) (index_created v) created_shown refl
 
 -- ---- what the call serves, whatever state the core stands for
 pub no_creation : (v : CoreValue) (error : Error) → IsUncreatable v error → Serves v Event.Create (Refused error) v

@@ -29,7 +29,7 @@ use Rattle.core_model.proofs.Laws.{not_none}
 use Rattle.core_model.specs.Logs.{one_record}
 use Rattle.core_model.specs.Records.{action_of, first_action}
 use Rattle.core_model.specs.States.{State}
-use Rattle.core_model.specs.Steps.{IsReady, Start, Step, after, all_reserved, places_of, txn_at}
+use Rattle.core_model.specs.Steps.{IsReady, Start, MachineStep, after, all_reserved, places_of, txn_at}
 use Rattle.core_contracts.specs.Events.{Event, Refused, Reply, Standing}
 use Rattle.core_contracts.specs.Replies.{HasNoMoreChanges, IsDue, IsFirst, IsFree, IsLeastFree, change_of, refusals, refused, refused_last, unknown}
 use Rattle.index_core.specs.View.{Answers, AreOne, CoreValue, IsState, Serves, Shows}
@@ -107,7 +107,7 @@ unheld_by None h = refl
 unheld_by (Some u) h = absurd (h refl)
 
 -- what the heap finds is the place for the row
-pub is_place : (v : CoreValue) (held : List Place) → ((r : Place) → Contains held r ↔ IsSome (holder_of r v.txns.active)) → (r : Place) → heap.IsFree v.heap held r → ((q : Place) → heap.IsFree v.heap held q → rid_cmp q r ≢ Less) → IsPlaceFor v r
+pub is_place : (v : CoreValue) (held : List Place) → ((r : Place) → Contains held r ↔ IsSome (holder_of r v.txns.active)) → (r : Place) → heap.IsEmptyAndUnheld v.heap held r → ((q : Place) → heap.IsEmptyAndUnheld v.heap held q → rid_cmp q r ≢ Less) → IsPlaceFor v r
 is_place v held are r free least = record {
   free = record { inside = free.inside; empty = free.empty; unheld = unheld_by _ (λ some. free.not_held ((are r).1 some)) };
   least = λ q other. least q (record { inside = other.inside; empty = other.empty; not_held = λ has. none_or_some (holder_of q v.txns.active) other.unheld ((are q).0 has) });
@@ -126,7 +126,7 @@ module _ (v : CoreValue) (t : ℕ) (row : Row) (asked : IsReadyOrNone (txn_of v 
     ready : a.txn.progress ≡ Ready
     ready = subst IsReadyOrNone a.here asked
 
-    pub insert_unplaced : (held : List Place) → ((r : Place) → Contains held r ↔ IsSome (holder_of r v.txns.active)) → ((q : Place) → ¬ heap.IsFree v.heap held q) → Serves v e (Refused Error.HeapFull) v
+    pub insert_unplaced : (held : List Place) → ((r : Place) → Contains held r ↔ IsSome (holder_of r v.txns.active)) → ((q : Place) → ¬ heap.IsEmptyAndUnheld v.heap held q) → Serves v e (Refused Error.HeapFull) v
     insert_unplaced held are none s k st = refusal v s k e Error.HeapFull st.shown (refused (known v s k st.shown t a.txn a.here) (is_ready v s k st.shown t a.txn a.here ready) Error.HeapFull (inr (not_full v s k st.shown t a, inl (full_heap, refl))))
       where
         full_heap : (r : Place) → IsFree s r → ⊥
@@ -161,7 +161,7 @@ module _ (v : CoreValue) (t : ℕ) (row : Row) (asked : IsReadyOrNone (txn_of v 
       first : IsFirst (refusals s k e) None
       first = inr (not_full v s k h t a, inr (λ none. none r least.free, refl))
 
-      abbrev step : Step
+      abbrev step : MachineStep
       step = Start t (change_of s t r (Inserted row))
 
       due : IsDue s k e (Reply.Rid r) (Some step)

@@ -15,7 +15,7 @@ use Rattle.txn_table.specs.Sound.{IsSound}
 use Rattle.txn_table.proofs.TableLaws.{holder_of-without, holder_of-without_other, state_of-without}
 use Rattle.core_model.proofs.Laws.{nat_decided, not_none, reserved_left, update_apart, update_here}
 use Rattle.core_model.specs.States.{State}
-use Rattle.core_model.specs.Steps.{Step, after, all_reserved, freed, left}
+use Rattle.core_model.specs.Steps.{MachineStep, after, all_reserved, freed, left}
 use Rattle.model.specs.Table.{Table}
 use Rattle.core_contracts.specs.Events.{Ended, Event, Refused, Reply, Standing}
 use Rattle.core_contracts.specs.Replies.{unknown}
@@ -113,34 +113,34 @@ module _ (v : CoreValue) (t : ℕ) where
   end_refused asked error (inr why) s k is =
       let x = there v t why.1 in
       subst (λ n. Answers v s k (Event.End t) (Refused n) v) (sym why.0)
-      (no_number v s k is.shown (Event.End t) (known v s k is.shown t x.0 x.1) (unchanged _ (listed v s k is.shown t x.0 x.1 ∙ subst HasNoChange x.1 asked)) refl Ended (Step.End t) (refl, refl) (λ n. n) (λ n. not_none refl n) why.2)
+      (no_number v s k is.shown (Event.End t) (known v s k is.shown t x.0 x.1) (unchanged _ (listed v s k is.shown t x.0 x.1 ∙ subst HasNoChange x.1 asked)) refl Ended (MachineStep.End t) (refl, refl) (λ n. n) (λ n. not_none refl n) why.2)
 
   pub commit_refused : IsReadyOrNone (txn_of v t) → (error : Error) → HasNoRecord v t error → Serves v (Event.Commit t) (Refused error) v
   commit_refused asked error (inl why) s k is = subst (λ n. Answers v s k (Event.Commit t) (Refused n) v) (sym why.0) (refusal v s k (Event.Commit t) NoSuchTxn is.shown (unknown (no_txn v s k is.shown t why.1)))
   commit_refused asked error (inr why) s k is =
       let x = there v t why.1 in
       subst (λ n. Answers v s k (Event.Commit t) (Refused n) v) (sym why.0)
-      (no_number v s k is.shown (Event.Commit t) (known v s k is.shown t x.0 x.1) (is_ready v s k is.shown t x.0 x.1 (subst IsReadyOrNone x.1 asked)) refl (Reply.Committed (k.made + 1) (k.commits + 1)) (Step.Commit t) (refl, refl) (λ n. n) (λ n. not_none refl n) why.2)
+      (no_number v s k is.shown (Event.Commit t) (known v s k is.shown t x.0 x.1) (is_ready v s k is.shown t x.0 x.1 (subst IsReadyOrNone x.1 asked)) refl (Reply.Committed (k.made + 1) (k.commits + 1)) (MachineStep.Commit t) (refl, refl) (λ n. n) (λ n. not_none refl n) why.2)
 
   module _ (has : HasRecord v t) where
     pub end_wants : HasNoChange (txn_of v t) → (error : Error) (v' : CoreValue) → error ≡ Error.NoMemory → v' ≡ v → Serves v (Event.End t) (Refused error) v'
     end_wants asked error v' e same s k is =
         let x = there v t has.active in
         subst (λ w. Answers v s k (Event.End t) (Refused error) w) (sym same) (subst (λ n. Answers v s k (Event.End t) (Refused n) v) (sym e)
-        (wants_memory v s k is.shown (Event.End t) (known v s k is.shown t x.0 x.1) (unchanged _ (listed v s k is.shown t x.0 x.1 ∙ subst HasNoChange x.1 asked)) refl Ended (Step.End t) (refl, refl) (λ n. n) (λ n. has.numbered) tt))
+        (wants_memory v s k is.shown (Event.End t) (known v s k is.shown t x.0 x.1) (unchanged _ (listed v s k is.shown t x.0 x.1 ∙ subst HasNoChange x.1 asked)) refl Ended (MachineStep.End t) (refl, refl) (λ n. n) (λ n. has.numbered) tt))
 
     pub commit_wants : IsReadyOrNone (txn_of v t) → (error : Error) (v' : CoreValue) → error ≡ Error.NoMemory → v' ≡ v → Serves v (Event.Commit t) (Refused error) v'
     commit_wants asked error v' e same s k is =
         let x = there v t has.active in
         subst (λ w. Answers v s k (Event.Commit t) (Refused error) w) (sym same) (subst (λ n. Answers v s k (Event.Commit t) (Refused n) v) (sym e)
-        (wants_memory v s k is.shown (Event.Commit t) (known v s k is.shown t x.0 x.1) (is_ready v s k is.shown t x.0 x.1 (subst IsReadyOrNone x.1 asked)) refl (Reply.Committed (k.made + 1) (k.commits + 1)) (Step.Commit t) (refl, refl) (λ n. n) (λ n. has.numbered) tt))
+        (wants_memory v s k is.shown (Event.Commit t) (known v s k is.shown t x.0 x.1) (is_ready v s k is.shown t x.0 x.1 (subst IsReadyOrNone x.1 asked)) refl (Reply.Committed (k.made + 1) (k.commits + 1)) (MachineStep.Commit t) (refl, refl) (λ n. n) (λ n. has.numbered) tt))
 
     pub end_served : HasNoChange (txn_of v t) → IsSound v.txns → (v' : CoreValue) → v' ≡ ended v t TxnAction.End → Serves v (Event.End t) Ended v'
     end_served asked sound v' same s k is =
         let x = there v t has.active in
         subst (λ w. Answers v s k (Event.End t) Ended w) (sym same)
-        (made v s k is.shown (Event.End t) (known v s k is.shown t x.0 x.1) (unchanged _ (listed v s k is.shown t x.0 x.1 ∙ subst HasNoChange x.1 asked)) refl Ended (Step.End t) (refl, refl) (λ n. n) (λ n. has.numbered) (ended v t TxnAction.End)
-        (subst (λ n. Shows (ended v t TxnAction.End) (after s (Step.End t)) (record k { made = k.made + 1; active = k.active - 1; commits = n })) (sym is.shown.commits) (left_shown v s k is.shown t x.0 x.1 sound TxnAction.End s.committed v.commits)) refl)
+        (made v s k is.shown (Event.End t) (known v s k is.shown t x.0 x.1) (unchanged _ (listed v s k is.shown t x.0 x.1 ∙ subst HasNoChange x.1 asked)) refl Ended (MachineStep.End t) (refl, refl) (λ n. n) (λ n. has.numbered) (ended v t TxnAction.End)
+        (subst (λ n. Shows (ended v t TxnAction.End) (after s (MachineStep.End t)) (record k { made = k.made + 1; active = k.active - 1; commits = n })) (sym is.shown.commits) (left_shown v s k is.shown t x.0 x.1 sound TxnAction.End s.committed v.commits)) refl)
 
     pub commit_served : IsReadyOrNone (txn_of v t) → IsSound v.txns → (n c : ℕ) (v' : CoreValue) → n ≡ v.last + 1 → c ≡ v.commits + 1 → v' ≡ record (ended v t TxnAction.Commit) { commits = v.commits + 1 } → Serves v (Event.Commit t) (Reply.Committed n c) v'
     commit_served asked sound n c v' ns cs same s k is =
@@ -150,5 +150,5 @@ module _ (v : CoreValue) (t : ℕ) where
         subst (λ w. Answers v s k (Event.Commit t) (Reply.Committed n c) w) (sym same)
         (subst (λ m. Answers v s k (Event.Commit t) (Reply.Committed m c) (record (ended v t TxnAction.Commit) { commits = v.commits + 1 })) made_is
         (subst (λ m. Answers v s k (Event.Commit t) (Reply.Committed (k.made + 1) m) (record (ended v t TxnAction.Commit) { commits = v.commits + 1 })) commits_is
-        (made v s k is.shown (Event.Commit t) (known v s k is.shown t x.0 x.1) (is_ready v s k is.shown t x.0 x.1 (subst IsReadyOrNone x.1 asked)) refl (Reply.Committed (k.made + 1) (k.commits + 1)) (Step.Commit t) (refl, refl) (λ n. n) (λ n. has.numbered) (record (ended v t TxnAction.Commit) { commits = v.commits + 1 })
-        (subst (λ m. Shows (record (ended v t TxnAction.Commit) { commits = v.commits + 1 }) (after s (Step.Commit t)) (record k { made = k.made + 1; active = k.active - 1; commits = m + 1 })) (sym is.shown.commits) (left_shown v s k is.shown t x.0 x.1 sound TxnAction.Commit _ (v.commits + 1))) refl)))
+        (made v s k is.shown (Event.Commit t) (known v s k is.shown t x.0 x.1) (is_ready v s k is.shown t x.0 x.1 (subst IsReadyOrNone x.1 asked)) refl (Reply.Committed (k.made + 1) (k.commits + 1)) (MachineStep.Commit t) (refl, refl) (λ n. n) (λ n. has.numbered) (record (ended v t TxnAction.Commit) { commits = v.commits + 1 })
+        (subst (λ m. Shows (record (ended v t TxnAction.Commit) { commits = v.commits + 1 }) (after s (MachineStep.Commit t)) (record k { made = k.made + 1; active = k.active - 1; commits = m + 1 })) (sym is.shown.commits) (left_shown v s k is.shown t x.0 x.1 sound TxnAction.Commit _ (v.commits + 1))) refl)))

@@ -17,7 +17,7 @@ use Rattle.sorted_scan.specs.Runs.{ScanRun, is_given, is_missed, is_taken, taken
 use Rattle.sorted_scan.specs.Scans.{HasRun, ScanValue}
 use Rattle.core_model.specs.Invariants.{IsWellFormed}
 use Rattle.core_model.specs.States.{Active, Made, NewMarked, OldMarked, OldSet, Phase, RowSet, State}
-use Rattle.core_model.specs.Steps.{Step, all_reserved}
+use Rattle.core_model.specs.Steps.{MachineStep, all_reserved}
 use Rattle.core_contracts.specs.Events.{Event, Reply, Standing, standing_after}
 use Rattle.core_contracts.specs.Replies.{IsAllowed, after_any}
 use Rattle.core_contracts.specs.Served.{HasStanding, records_by}
@@ -105,7 +105,7 @@ pub record IsSafe (v : CoreValue) : Type 0 where
 
 -- the reply is allowed, by this step, and its record, if it makes one, waits behind the others
 pub record Answers (old : CoreValue) (s : State) (k : Standing) (e : Event) (reply : Reply) (new : CoreValue) : Type 0 where
-  pub step : Option Step
+  pub step : Option MachineStep
   pub allowed : IsAllowed s k e reply step
   pub shown : Shows new (after_any s step) (standing_after k reply)
   pub outbox : new.outbox ≡ old.outbox ++ records_by s k.made step

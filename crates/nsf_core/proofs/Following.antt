@@ -28,7 +28,7 @@ use Rattle.txn_table.specs.Table.{TxnState}
 use Rattle.txn_table.specs.Sound.{IsSound}
 use Rattle.nsf_core.specs.Value.{CoreValue, changes_of, insertion, deletion, replacement, changed, fresh, begun, inserted, deleted, updated, rolling_back, undone, committed, ended}
 use Rattle.nsf_core.specs.Refusals.{CanInsert, CanChange, is_active}
-use Rattle.nsf_core.specs.Follows.{HoldsCells, IsRedoOf, IsListOf}
+use Rattle.nsf_core.specs.Follows.{HoldsCells, IsRedoOf, IsListOfState}
 use Rattle.nsf_core.proofs.Txns.{Txns, changes_at, list_at, shorter, active_of, noted_own, popped_own, state_other, state_without, with_state_own}
 use Rattle.nsf_core.proofs.Lists.{has_room, list_is, new_list, no_list, one_list, own_list, same_list}
 use Rattle.nsf_core.proofs.Holders.{untouched, first_none, touched_by_none}
@@ -47,7 +47,7 @@ has_changes None (d ∷ earlier) c is = absurd cc
 
 module _ (s : CoreValue) (cells : Cells) (has : HoldsCells s cells) where
   -- the list of one transaction is set, and perhaps a row
-  cells_with : (later : CoreValue) (txn : ℕ) (list : Option (List ChangeValue)) (rows : Table) → rows ≡ later.heap.rows → IsListOf list (table.state_of txn later.txns.active)
+  cells_with : (later : CoreValue) (txn : ℕ) (list : Option (List ChangeValue)) (rows : Table) → rows ≡ later.heap.rows → IsListOfState list (table.state_of txn later.txns.active)
       → ((u : ℕ) → u ≢ txn → table.state_of u later.txns.active ≡ table.state_of u s.txns.active)
       → HoldsCells later (record { rows = rows; entries = cells.entries; pending = with_list cells.pending txn list; life = cells.life })
   cells_with later txn list rows is own others = record {
@@ -90,8 +90,8 @@ module _ (t : Table) (base : ℕ) (made : List RecordValue) (items : List Item) 
     still : is_some (table.state_of txn (changed s txn c).txns.active) ≡ true
     still = ap is_some (with_state_own (table.noted c) s.txns.active txn) ∙ mapped (table.noted c) (table.state_of txn s.txns.active) active
 
-    own : IsListOf (Some (noted (list_of cells.pending txn) c)) (table.state_of txn (changed s txn c).txns.active)
-    own = subst (λ xs. IsListOf (Some xs) (table.state_of txn (changed s txn c).txns.active)) longer (own_list (table.state_of txn (changed s txn c).txns.active) still)
+    own : IsListOfState (Some (noted (list_of cells.pending txn) c)) (table.state_of txn (changed s txn c).txns.active)
+    own = subst (λ xs. IsListOfState (Some xs) (table.state_of txn (changed s txn c).txns.active)) longer (own_list (table.state_of txn (changed s txn c).txns.active) still)
 
     pub change_is_redo : IsRedoOf t base (made ++ record_of (OfTxn txn (Forward Slot c)) ∷ []) items (changed s txn c)
     change_is_redo = record {
@@ -146,7 +146,7 @@ module _ (t : Table) (base : ℕ) (made : List RecordValue) (items : List Item) 
       last = one_more (OfTxn txn (Undo Slot c true));
       cells = after (OfTxn txn (Undo Slot c true)) (undone s txn c)
           (cells_with s cells has.cells (undone s txn c) txn (Some (taken_off (list_of cells.pending txn) true)) (set_at cells.rows c.rid (old_row c.rows)) (ap (λ (rows : Table). set_at rows c.rid (old_row c.rows)) has.cells.rows)
-          (subst (λ xs. IsListOf (Some xs) (table.state_of txn (undone s txn c).txns.active)) left (own_list (table.state_of txn (undone s txn c).txns.active) still_active))
+          (subst (λ xs. IsListOfState (Some xs) (table.state_of txn (undone s txn c).txns.active)) left (own_list (table.state_of txn (undone s txn c).txns.active) still_active))
           (λ u apart. state_other table.without_last s.txns.active txn u apart));
       in_order = let at = placed_last s.heap.pages 0 earlier c placed in
           ordered (OfTxn txn (Undo Slot c true)) (at.1, tt, (earlier, was_last, omega (arith, at.0)));
@@ -172,7 +172,7 @@ module _ (t : Table) (base : ℕ) (made : List RecordValue) (items : List Item) 
   over_cells : (later : CoreValue) (txn : ℕ) → later.heap.rows ≡ s.heap.rows → later.txns.active ≡ table.without txn s.txns.active → is_some (table.state_of txn (table.without txn s.txns.active)) ≡ false
       → HoldsCells later (record { rows = cells.rows; entries = cells.entries; pending = with_list cells.pending txn None; life = cells.life })
   over_cells later txn rows active over = cells_with s cells has.cells later txn None cells.rows (has.cells.rows ∙ sym rows)
-      (subst (λ (txns : Txns). IsListOf None (table.state_of txn txns)) (sym active) (no_list (table.state_of txn (table.without txn s.txns.active)) over))
+      (subst (λ (txns : Txns). IsListOfState None (table.state_of txn txns)) (sym active) (no_list (table.state_of txn (table.without txn s.txns.active)) over))
       (λ u apart. ap (table.state_of u) active ∙ state_without s.txns.active txn u apart)
 
   pub commit_is_redo : (txn : ℕ) → is_active (committed s txn) txn ≡ false
@@ -210,7 +210,7 @@ module _ (t : Table) (base : ℕ) (made : List RecordValue) (items : List Item) 
 pub fresh_is_redo : (pages base : ℕ) → IsRedoOf map.empty base [] [] (fresh pages base)
 fresh_is_redo pages base = record {
   last = omega arith;
-  cells = record { rows = refl; entries = refl; pending = λ u. subst (λ (o : Option (List ChangeValue)). IsListOf o None) (sym (map.get-empty nat_cmp u)) tt; life = refl };
+  cells = record { rows = refl; entries = refl; pending = λ u. subst (λ (o : Option (List ChangeValue)). IsListOfState o None) (sym (map.get-empty nat_cmp u)) tt; life = refl };
   in_order = tt;
   tells = at_first map.empty base;
 }

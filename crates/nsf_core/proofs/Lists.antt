@@ -12,14 +12,14 @@ use Rattle.model.specs.Cells.{Pending, list_of, with_list}
 use Rattle.model.specs.Following.{HasRoom}
 use Rattle.txn_table.specs.Table as table
 use Rattle.txn_table.specs.Table.{TxnState, new_txn}
-use Rattle.nsf_core.specs.Follows.{IsListOf}
+use Rattle.nsf_core.specs.Follows.{IsListOfState}
 use Rattle.nsf_core.proofs.Txns.{Txns, changes_at, list_at, other_number}
 
 -- the lists are those of these transactions
 abbrev pub AreListsOf : Pending → Txns → Type 0
-AreListsOf pending txns = (u : ℕ) → IsListOf (map.get pending u) (table.state_of u txns)
+AreListsOf pending txns = (u : ℕ) → IsListOfState (map.get pending u) (table.state_of u txns)
 
-listed : (list : Option (List ChangeValue)) (o : Option TxnState) → IsListOf list o → unwrap_or list [] ≡ changes_at o
+listed : (list : Option (List ChangeValue)) (o : Option TxnState) → IsListOfState list o → unwrap_or list [] ≡ changes_at o
 listed None None is = refl
 listed None (Some t) is = sym is
 listed (Some list) None is = absurd is
@@ -31,27 +31,27 @@ list_is pending txns are u = listed (map.get pending u) (table.state_of u txns) 
 -- ---- lists after a step
 
 -- the list of an active transaction is set
-pub one_list : (pending : Pending) (txns later : Txns) → AreListsOf pending txns → (txn : ℕ) (list : Option (List ChangeValue)) → IsListOf list (table.state_of txn later)
+pub one_list : (pending : Pending) (txns later : Txns) → AreListsOf pending txns → (txn : ℕ) (list : Option (List ChangeValue)) → IsListOfState list (table.state_of txn later)
     → ((u : ℕ) → u ≢ txn → table.state_of u later ≡ table.state_of u txns) → AreListsOf (with_list pending txn list) later
 one_list pending txns later are txn list own others u = elim (cases_eq u txn) [
   | inl is ↦
-      subst (λ n. IsListOf (map.get (with_list pending txn list) n) (table.state_of n later)) (sym is)
-      (subst (λ l. IsListOf l (table.state_of txn later)) (sym (get-set_at_same nat_exact pending txn list)) own)
+      subst (λ n. IsListOfState (map.get (with_list pending txn list) n) (table.state_of n later)) (sym is)
+      (subst (λ l. IsListOfState l (table.state_of txn later)) (sym (get-set_at_same nat_exact pending txn list)) own)
   | inr not ↦
-      subst (λ l. IsListOf l (table.state_of u later)) (sym (get-set_at_other nat_exact pending txn list u not))
-      (subst (IsListOf (map.get pending u)) (sym (others u not)) (are u))
+      subst (λ l. IsListOfState l (table.state_of u later)) (sym (get-set_at_other nat_exact pending txn list u not))
+      (subst (IsListOfState (map.get pending u)) (sym (others u not)) (are u))
 ]
 
 -- the changes of an active transaction
-pub own_list : (o : Option TxnState) → is_some o ≡ true → IsListOf (Some (changes_at o)) o
+pub own_list : (o : Option TxnState) → is_some o ≡ true → IsListOfState (Some (changes_at o)) o
 own_list None active = absurd cc
 own_list (Some t) active = refl
 
-pub no_list : (o : Option TxnState) → is_some o ≡ false → IsListOf None o
+pub no_list : (o : Option TxnState) → is_some o ≡ false → IsListOfState None o
 no_list None over = tt
 no_list (Some t) over = absurd cc
 
-still_empty : (f : TxnState → TxnState) → ((t : TxnState) → t.changes ≡ [] → (f t).changes ≡ []) → (list : Option (List ChangeValue)) (o : Option TxnState) → changes_at o ≡ [] → IsListOf list o → IsListOf list (option_map f o)
+still_empty : (f : TxnState → TxnState) → ((t : TxnState) → t.changes ≡ [] → (f t).changes ≡ []) → (list : Option (List ChangeValue)) (o : Option TxnState) → changes_at o ≡ [] → IsListOfState list o → IsListOfState list (option_map f o)
 still_empty f keeps None None none is = is
 still_empty f keeps None (Some t) none is = keeps t is
 still_empty f keeps (Some list) None none is = absurd is
@@ -62,17 +62,17 @@ pub same_list : (f : TxnState → TxnState) → ((t : TxnState) → t.changes �
     → table.state_of txn later ≡ option_map f (table.state_of txn txns) → ((u : ℕ) → u ≢ txn → table.state_of u later ≡ table.state_of u txns) → AreListsOf pending later
 same_list f keeps pending txns later are txn none own others u = elim (cases_eq u txn) [
   | inl is ↦
-      subst (λ n. IsListOf (map.get pending n) (table.state_of n later)) (sym is)
-      (subst (IsListOf (map.get pending txn)) (sym own) (still_empty f keeps (map.get pending txn) (table.state_of txn txns) none (are txn)))
-  | inr not ↦ subst (IsListOf (map.get pending u)) (sym (others u not)) (are u)
+      subst (λ n. IsListOfState (map.get pending n) (table.state_of n later)) (sym is)
+      (subst (IsListOfState (map.get pending txn)) (sym own) (still_empty f keeps (map.get pending txn) (table.state_of txn txns) none (are txn)))
+  | inr not ↦ subst (IsListOfState (map.get pending u)) (sym (others u not)) (are u)
 ]
 
 -- one transaction more, without a change
-pub new_list : (txns : Txns) (n u : ℕ) (list : Option (List ChangeValue)) → IsListOf list (table.state_of u txns) → IsListOf list (table.state_of u (txns ++ (n, new_txn) ∷ []))
+pub new_list : (txns : Txns) (n u : ℕ) (list : Option (List ChangeValue)) → IsListOfState list (table.state_of u txns) → IsListOfState list (table.state_of u (txns ++ (n, new_txn) ∷ []))
 new_list [] n u (Some list) is = absurd is
-new_list [] n u None is = elim (eqb u n) as (λ b. IsListOf None (cond b (Some new_txn) None)) [ true ↦ refl | false ↦ tt ]
+new_list [] n u None is = elim (eqb u n) as (λ b. IsListOfState None (cond b (Some new_txn) None)) [ true ↦ refl | false ↦ tt ]
 new_list (e ∷ es) n u list is =
-    elim (eqb u e.0) as (λ b. IsListOf list (cond b (Some e.1) (table.state_of u es)) → IsListOf list (cond b (Some e.1) (table.state_of u (es ++ (n, new_txn) ∷ [])))) [
+    elim (eqb u e.0) as (λ b. IsListOfState list (cond b (Some e.1) (table.state_of u es)) → IsListOfState list (cond b (Some e.1) (table.state_of u (es ++ (n, new_txn) ∷ [])))) [
       | true ↦ λ own. own
       | false ↦ λ other. new_list es n u list other
     ] is
@@ -123,7 +123,7 @@ fewer_lists (e ∷ es) pending txn are active none = elim (cases_eq txn e.0) [
       omega (arith, len_without pending e.0, fewer)
 ]
 
-active_by : (list : Option (List ChangeValue)) (o : Option TxnState) → IsListOf list o → list ≢ None → is_some o ≡ true
+active_by : (list : Option (List ChangeValue)) (o : Option TxnState) → IsListOfState list o → list ≢ None → is_some o ≡ true
 active_by list (Some t) is some = refl
 active_by None None is some = absurd (some refl)
 active_by (Some list) None is some = absurd is

@@ -57,7 +57,7 @@ abbrev AreHeld : CoreValue → List Place → Type 0
 AreHeld s held = (r : Place) → (Contains held r) ↔ (IsSome (holder_of r s.txns.active))
 
 -- a place that the heap calls free is free
-pub is_free : (s : CoreValue) (held : List Place) (r : Place) → AreHeld s held → heap.IsFree s.heap held r → IsFreePlace s r
+pub is_free : (s : CoreValue) (held : List Place) (r : Place) → AreHeld s held → heap.IsEmptyAndUnheld s.heap held r → IsFreePlace s r
 is_free s held r are free = record {
   inside = free.inside;
   empty = free.empty;
@@ -65,7 +65,7 @@ is_free s held r are free = record {
 }
 
 -- and where the heap has none, there is none
-pub none_free : (s : CoreValue) (held : List Place) → AreHeld s held → ((r : Place) → ¬ heap.IsFree s.heap held r) → (r : Place) → ¬ IsFreePlace s r
+pub none_free : (s : CoreValue) (held : List Place) → AreHeld s held → ((r : Place) → ¬ heap.IsEmptyAndUnheld s.heap held r) → (r : Place) → ¬ IsFreePlace s r
 none_free s held are none r free = none r (record {
   inside = free.inside;
   empty = free.empty;

@@ -14,17 +14,17 @@ use Rattle.txn_table.specs.Table.{TxnState}
 use Rattle.nsf_core.specs.Value.{CoreValue}
 
 -- The list that records leave of a transaction: its changes, the oldest first. An active one that has no change may have no list.
-abbrev pub IsListOf : Option (List ChangeValue) → Option TxnState → Type 0
-IsListOf None None = Unit {0}
-IsListOf None (Some t) = t.changes ≡ []
-IsListOf (Some list) None = ⊥
-IsListOf (Some list) (Some t) = list ≡ t.changes
+abbrev pub IsListOfState : Option (List ChangeValue) → Option TxnState → Type 0
+IsListOfState None None = Unit {0}
+IsListOfState None (Some t) = t.changes ≡ []
+IsListOfState (Some list) None = ⊥
+IsListOfState (Some list) (Some t) = list ≡ t.changes
 
 -- these are the cells of the state: its rows and the changes of its transactions, no entry and no index
 pub record HoldsCells (s : CoreValue) (cells : Cells) : Type 0 where
   pub rows : cells.rows ≡ s.heap.rows
   pub entries : cells.entries ≡ map.empty
-  pub pending : (txn : ℕ) → IsListOf (map.get cells.pending txn) (table.state_of txn s.txns.active)
+  pub pending : (txn : ℕ) → IsListOfState (map.get cells.pending txn) (table.state_of txn s.txns.active)
   pub life : cells.life ≡ Absent
 
 -- The core has made these records since the record `base`, over a table: they set what it holds, each can follow the one before, and they tell this history.

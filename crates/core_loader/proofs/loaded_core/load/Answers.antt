@@ -5,7 +5,7 @@ use Rattle.model.specs.Following.{IsWithin}
 use Rattle.redo.specs.Restored.{given_in}
 use Rattle.core_model.specs.Histories.{opened}
 use Rattle.core_contracts.specs.Events.{standing_at}
-use Rattle.index_core.specs.Loading.{IsLifeWithin, with_life}
+use Rattle.index_core.specs.Loading.{IsLifeInside, life_loaded}
 use Rattle.index_core.specs.Moves.{fresh}
 use Rattle.index_core.specs.Value.{value_of}
 use Rattle.index_core.specs.View.{CoreValue, IsState}
@@ -21,14 +21,14 @@ load_life-requires-clause-inside g c =
     let f = c.args.found in
     let rows : value_of c.load_rows.new.core ≡ with_rows (fresh f.geometry f.last) f.rows = c.load_rows.ensures ∙ ap (λ (v : CoreValue). with_rows v f.rows) c.in_ok-core.ensures.made in
     let entries : value_of c.load_entries.new.core ≡ with_entries (with_rows (fresh f.geometry f.last) f.rows) f.entries = c.in_ok-load_entries.ensures.ok ∙ ap (λ (v : CoreValue). with_entries v f.entries) rows in
-    subst (λ (v : CoreValue). IsLifeWithin v f.life) (sym entries) f.inside.life
+    subst (λ (v : CoreValue). IsLifeInside v f.life) (sym entries) f.inside.life
 
 pub returns-clause-made : goal.returns-clause-made
 returns-clause-made g c =
     let f = c.args.found in
     let rows : value_of c.load_rows.new.core ≡ with_rows (fresh f.geometry f.last) f.rows = c.load_rows.ensures ∙ ap (λ (v : CoreValue). with_rows v f.rows) c.in_ok-core.ensures.made in
     let entries : value_of c.load_entries.new.core ≡ with_entries (with_rows (fresh f.geometry f.last) f.rows) f.entries = c.in_ok-load_entries.ensures.ok ∙ ap (λ (v : CoreValue). with_entries v f.entries) rows in
-    c.load_life.ensures ∙ ap (λ (v : CoreValue). with_life v f.life) entries
+    c.load_life.ensures ∙ ap (λ (v : CoreValue). life_loaded v f.life) entries
 
 pub returns-clause-opened : goal.returns-clause-opened
 returns-clause-opened g c =

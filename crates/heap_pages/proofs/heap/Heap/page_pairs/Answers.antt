@@ -4,7 +4,7 @@ use Rattle.std.specs.List.Sorted.{IsStrictlyIncreasing}
 use Rattle.std.proofs.lemmas.Option.{slice_get_read}
 use Rattle.records.specs.declared.pair.Pair.{Pair}
 use Rattle.heap_pages.specs.Slots.{slots_of}
-use Rattle.heap_pages.specs.Pages.{pair_of}
+use Rattle.heap_pages.specs.Pages.{row_pair}
 use Rattle.heap_pages.proofs.SlotLists.{get-slots_of, length-slots_of, page_slots}
 use Rattle.heap_pages.proofs.Cells.{at}
 use Rattle.heap_pages.proofs.Writes.{by_slots}
@@ -74,7 +74,7 @@ loop-slot-preserved g c =
           let row : slice_get slots i ≡ Some (Some w.in-Some.row) = here ∙ ap Some (sym w.in-Some.ensures) in
           ap (λ v. v.items) w.pairs-is
           ∙ w.in_ok-push.ensures.items
-          ∙ ap (λ ps. ps ++ pair_of (at n i, w.in-Some.row) ∷ []) c.loop-slot.invariant
+          ∙ ap (λ ps. ps ++ row_pair (at n i, w.in-Some.row) ∷ []) c.loop-slot.invariant
           ∙ sym (pairs_push n i slots w.in-Some.row row)
       | in_default w ↦ ap (λ v. v.items) w.pairs-is ∙ c.loop-slot.invariant ∙ sym (pairs_skip n i slots (here ∙ ap Some (sym w.in_default.ensures)))
     ]
