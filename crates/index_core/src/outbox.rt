@@ -13,6 +13,7 @@ impl<A: Allocator + Copy> Parts<A> {
     pub(crate) fn take_outbox<S: Sink>(&mut self, sink: &mut S)
         ensures handed { HandsOn (parts_of self.old) (parts_of self.new) (S.taken sink.old) (S.taken sink.new) }
         ensures most { length (parts_of self.new).outbox ≤ length (parts_of self.old).outbox - S.room sink.old }
+        ensures place { S.place sink.new ≡ S.place sink.old }
     {
         while let Some(&next) = self.outbox.front() {
             if sink.take(next).is_err() {

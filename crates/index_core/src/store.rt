@@ -301,6 +301,7 @@ impl<A: Allocator + Copy> Core<A> {
     pub fn take_outbox<S: Sink>(&mut self, sink: &mut S)
         ensures handed { HandsOn (value_of self.old) (value_of self.new) (S.taken sink.old) (S.taken sink.new) }
         ensures most { length (value_of self.new).outbox ≤ length (value_of self.old).outbox - S.room sink.old }
+        ensures place { S.place sink.new ≡ S.place sink.old }
     {
         self.parts.take_outbox(sink);
     }
