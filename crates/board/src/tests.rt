@@ -2,6 +2,7 @@ ghost use Rattle.std.specs.Prelude.{◌≡◌, [], true, false};
 
 use crate::{Board, BuildView, FlushView, View};
 use std::alloc::Global;
+use std::process::Abort;
 use std::sync::Wait;
 use std::test::Fail;
 use std::thread;
@@ -9,29 +10,66 @@ use std::thread::{Threads, join};
 
 const LAST: u64 = 10_000;
 
+// The four words, as the view reads them.
+fn check(
+    rt: &impl Abort,
+    board: &Board<Global>,
+    view: &mut View,
+    numbers: (u64, u64),
+    flags: (bool, bool),
+)
+    requires { view.old.board ≡ board.now }
+    ensures { view.new.board ≡ board.now }
+{
+    assert_eq!(rt; (board.horizon(view), board.progress(view)), numbers);
+    assert_eq!(rt; (board.failed(view), board.stopped(view)), flags);
+}
+
+fn raise(
+    board: &Board<Global>,
+    flush: &mut FlushView,
+    build: &mut BuildView,
+    horizon: u64,
+    progress: u64,
+)
+    requires { (flush.old.board ≡ board.now) × (build.old.board ≡ board.now) }
+    ensures { (flush.new.board ≡ board.now) × (build.new.board ≡ board.now) }
+{
+    board.publish(flush, horizon);
+    board.raise_progress(build, progress);
+}
+
+// The numbers were raised to 7 and 3. The flags are set, and then both views have seen all.
+fn check_flags(
+    rt: &impl Abort,
+    board: &Board<Global>,
+    flush: &mut FlushView,
+    view: &mut View,
+    other: &mut View,
+)
+    requires { (flush.old.board ≡ board.now) × (view.old.board ≡ board.now) × (other.old.board ≡ board.now) }
+    ensures { (flush.new.board ≡ board.now) × (view.new.board ≡ board.now) × (other.new.board ≡ board.now) }
+{
+    board.fail(flush);
+    check(rt, board, view, (7, 3), (true, false));
+    board.stop(other);
+    check(rt, board, view, (7, 3), (true, true));
+    board.settle(flush, view);
+}
+
 #[test]
 fn each_call_once(rt: HostRuntime) -> Result<(), Fail> {
     let (board, mut flush, mut build, mut view) = Board::new(rt.alloc())?;
     let mut other = board.another(&mut view);
-    assert_eq!(rt; board.horizon(&mut view), 0);
-    assert_eq!(rt; board.progress(&mut view), 0);
-    assert!(rt; !board.failed(&mut view) && !board.stopped(&mut view));
-    board.publish(&mut flush, 7);
-    board.raise_progress(&mut build, 3);
-    assert_eq!(rt; board.horizon(&mut view), 7);
-    assert_eq!(rt; board.progress(&mut view), 3);
-    board.publish(&mut flush, 5);
-    board.raise_progress(&mut build, 2);
-    assert_eq!(rt; board.horizon(&mut other), 7);
-    assert_eq!(rt; board.progress(&mut other), 3);
-    board.fail(&mut flush);
-    assert!(rt; board.failed(&mut view) && !board.stopped(&mut view));
-    board.stop(&mut other);
-    assert!(rt; board.failed(&mut view) && board.stopped(&mut view));
-    board.settle(&mut flush, &mut view);
+    check(&rt, &board, &mut view, (0, 0), (false, false));
+    raise(&board, &mut flush, &mut build, 7, 3);
+    check(&rt, &board, &mut view, (7, 3), (false, false));
+    raise(&board, &mut flush, &mut build, 5, 2);
+    check(&rt, &board, &mut other, (7, 3), (false, false));
+    check_flags(&rt, &board, &mut flush, &mut view, &mut other);
     board.settle_progress(&mut build, &mut other);
-    assert_eq!(rt; board.horizon(&mut view), 7);
-    assert_eq!(rt; board.progress(&mut other), 3);
+    check(&rt, &board, &mut view, (7, 3), (true, true));
+    check(&rt, &board, &mut other, (7, 3), (true, true));
     Ok(())
 }
 

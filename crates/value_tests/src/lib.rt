@@ -11,3 +11,5 @@ mod record_tests;
 mod script_tests;
 #[cfg(test)]
 mod step_tests;
+#[cfg(test)]
+mod values;

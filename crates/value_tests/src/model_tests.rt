@@ -1,60 +1,12 @@
 //! Tests of the crate `model`.
+use crate::values::{FIRST, commit, insertion, number, row, txn};
 use model::{CellMaps, KeyAction, Life, ListMap, Redone, RowMap, Write, after_action};
-use records::{
-    Action, Body, Change, Key, Mark, Part, Record, RecordNumber, Rid, Row, Rows, Txn, TxnAction,
-};
+use records::{Action, Change, Mark, Part, Record, Rid, Row, Rows, TxnAction};
 use std::alloc::Global;
 use std::process::Abort;
 use std::test::Fail;
 
-const FIRST: Rid = Rid { page: 0, slot: 0 };
-
 const NEXT: Rid = Rid { page: 0, slot: 1 };
-
-fn row(key: &[u8], body: &[u8]) -> Result<Row, Fail> {
-    Ok(Row {
-        key: Key::new(key)?,
-        body: Body::new(body)?,
-    })
-}
-
-fn number(number: u64) -> Result<RecordNumber, Fail> {
-    Ok(RecordNumber::new(number).ok_or("a record's number")?)
-}
-
-fn txn(number: u64) -> Result<Txn, Fail> {
-    Ok(Txn::new(number).ok_or("a transaction")?)
-}
-
-// Transaction 1 inserts this row at the first place, as record `at`.
-fn insertion(at: u64, new: Row) -> Result<Record, Fail> {
-    let change = Change {
-        position: 0,
-        rid: FIRST,
-        rows: Rows::Inserted { new },
-    };
-    let part = Part::Slot;
-    let action = Action::OfTxn {
-        txn: txn(1)?,
-        action: TxnAction::Forward { part, change },
-    };
-    Ok(Record {
-        number: number(at)?,
-        action,
-    })
-}
-
-// Record 2: transaction 1 commits.
-fn commit() -> Result<Record, Fail> {
-    let action = Action::OfTxn {
-        txn: txn(1)?,
-        action: TxnAction::Commit,
-    };
-    Ok(Record {
-        number: number(2)?,
-        action,
-    })
-}
 
 // Transaction 2 updates the row at the first place.
 fn update(old: Row, new: Row) -> Change {
@@ -137,8 +89,8 @@ fn check_unfinished(
     of_first: usize,
     of_second: usize,
 ) -> Result<(), Fail> {
-    assert_eq!(rt; unfinished(cells, 1)?, of_first);
-    assert_eq!(rt; unfinished(cells, 2)?, of_second);
+    assert!(rt; unfinished(cells, 1)? == of_first);
+    assert!(rt; unfinished(cells, 2)? == of_second);
     Ok(())
 }
 
@@ -150,9 +102,9 @@ fn check_rows(
     row: Option<Row>,
     left: Option<Row>,
 ) -> Result<(), Fail> {
-    assert_eq!(rt; cells.life, Life::Absent);
-    assert_eq!(rt; cells.rows.get(FIRST), row);
-    assert_eq!(rt; committed(cells)?, left);
+    assert!(rt; cells.life == Life::Absent);
+    assert!(rt; cells.rows.get(FIRST) == row);
+    assert!(rt; committed(cells)? == left);
     Ok(())
 }
 
@@ -212,8 +164,8 @@ fn records_that_follow(rt: HostRuntime) -> Result<(), Fail> {
     let records = [insertion(8, there)?, insertion(9, there)?];
     match followed(rt.alloc(), &records)? {
         Redone::All(cells) => {
-            assert_eq!(rt; cells.rows.get(FIRST), Some(there));
-            assert_eq!(rt; recovered(cells)?, None);
+            assert!(rt; cells.rows.get(FIRST) == Some(there));
+            assert!(rt; recovered(cells)? == None);
         }
         Redone::Unfit(_) => return Err("records that follow")?,
     }
@@ -225,7 +177,7 @@ fn a_number_left_out(rt: HostRuntime) -> Result<(), Fail> {
     let there = row(b"p", b"1")?;
     let records = [insertion(8, there)?, insertion(10, there)?];
     match followed(rt.alloc(), &records)? {
-        Redone::Unfit(index) => assert_eq!(rt; index, 1),
+        Redone::Unfit(index) => assert!(rt; index == 1),
         Redone::All(_) => return Err("a record that can't follow")?,
     }
     Ok(())
@@ -243,8 +195,8 @@ fn a_commit_of_two_writes(rt: HostRuntime) -> Result<(), Fail> {
         writes.push(Write { rid, row })?;
     }
     let rows = applied(rt.alloc(), &writes)?;
-    assert_eq!(rt; rows.get(FIRST), None);
-    assert_eq!(rt; rows.get(NEXT), there);
+    assert!(rt; rows.get(FIRST) == None);
+    assert!(rt; rows.get(NEXT) == there);
     Ok(())
 }
 
@@ -261,8 +213,8 @@ fn actions_on_an_entry(rt: HostRuntime) {
         (KeyAction::Clean { allowed: false }, [None, live, marked]),
     ];
     for (action, [absent, was_live, was_marked]) in rows {
-        assert_eq!(rt; after_action(action, None), absent);
-        assert_eq!(rt; after_action(action, live), was_live);
-        assert_eq!(rt; after_action(action, marked), was_marked);
+        assert!(rt; after_action(action, None) == absent);
+        assert!(rt; after_action(action, live) == was_live);
+        assert!(rt; after_action(action, marked) == was_marked);
     }
 }

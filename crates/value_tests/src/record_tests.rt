@@ -1,60 +1,17 @@
 //! Tests of the crate `records`.
+use crate::values::{FIRST, commit, insertion, number, row};
 use linked_list_allocator::LocalHeap;
 use records::{
-    Action, Body, Change, Error, Geometry, IndexAction, Key, Pair, Part, Record, RecordNumber, Rid,
-    Row, Rows, SLOTS_PER_PAGE, Sink, Txn, TxnAction, compare_pairs, compare_rids,
+    Action, Body, Error, Geometry, IndexAction, Key, Pair, Record, Rid, SLOTS_PER_PAGE, Sink,
+    compare_pairs, compare_rids,
 };
 use std::alloc::Global;
 use std::process::Abort;
 use std::test::Fail;
 
-const FIRST: Rid = Rid { page: 0, slot: 0 };
-
 // Record 1: transaction 1 inserts the row `ant`, `x` at the first place.
 const FIRST_RECORD: &[u8] =
     b"\0\0\0\0\0\0\0\x01\0\0\0\0\0\0\0\x01\x01\0\0\0\0\0\0\0\0\x01\x03\x61\x6e\x74\x01\x78";
-
-fn number(number: u64) -> Result<RecordNumber, Fail> {
-    Ok(RecordNumber::new(number).ok_or("a number")?)
-}
-
-fn txn(number: u64) -> Result<Txn, Fail> {
-    Ok(Txn::new(number).ok_or("a transaction")?)
-}
-
-// Record 1: transaction 1 inserts a row at the first place.
-fn insertion(key: &[u8], body: &[u8]) -> Result<Record, Fail> {
-    let new = Row {
-        key: Key::new(key)?,
-        body: Body::new(body)?,
-    };
-    let change = Change {
-        position: 0,
-        rid: FIRST,
-        rows: Rows::Inserted { new },
-    };
-    let part = Part::Slot;
-    let action = Action::OfTxn {
-        txn: txn(1)?,
-        action: TxnAction::Forward { part, change },
-    };
-    Ok(Record {
-        number: number(1)?,
-        action,
-    })
-}
-
-// Record 2: transaction 1 commits.
-fn commit() -> Result<Record, Fail> {
-    let action = Action::OfTxn {
-        txn: txn(1)?,
-        action: TxnAction::Commit,
-    };
-    Ok(Record {
-        number: number(2)?,
-        action,
-    })
-}
 
 // The record that this was done to the index.
 fn by_index(at: u64, action: IndexAction) -> Result<Record, Fail> {
@@ -64,10 +21,10 @@ fn by_index(at: u64, action: IndexAction) -> Result<Record, Fail> {
     })
 }
 
-fn encoded(alloc: Global, record: &Record) -> Result<Vec<u8>, Fail> {
-    let mut bytes = Vec::new(alloc);
-    record.encode_into(&mut bytes)?;
-    Ok(bytes)
+// The calls of a record. None says anything before it runs.
+
+fn encode(record: &Record, bytes: &mut Vec<u8, &LocalHeap>) -> Result<(), Error> {
+    record.encode_into(bytes)
 }
 
 fn decoded(bytes: &[u8]) -> Option<(Record, usize)> {
@@ -81,15 +38,18 @@ fn check_spelling(
     record: Record,
     spelled: &[u8],
 ) -> Result<(), Fail> {
-    assert_eq!(rt; encoded(alloc, &record)?.as_slice(), spelled);
-    assert_eq!(rt; decoded(spelled), Some((record, spelled.len())));
+    let heap = LocalHeap::new(alloc, 1024)?;
+    let mut bytes = Vec::new(&heap);
+    encode(&record, &mut bytes)?;
+    assert!(rt; bytes.as_slice() == spelled);
+    assert!(rt; decoded(spelled) == Some((record, spelled.len())));
     Ok(())
 }
 
 // The vectors of the format document, both ways.
 #[test]
 fn records_of_transactions(rt: HostRuntime) -> Result<(), Fail> {
-    let inserted = insertion(b"ant", b"x")?;
+    let inserted = insertion(1, row(b"ant", b"x")?)?;
     check_spelling(&rt, rt.alloc(), inserted, FIRST_RECORD)?;
     let spelled = b"\0\0\0\0\0\0\0\x02\0\0\0\0\0\0\0\x01\x07";
     check_spelling(&rt, rt.alloc(), commit()?, spelled)
@@ -134,7 +94,7 @@ fn spellings_of_no_record(rt: HostRuntime) -> Result<(), Fail> {
     ];
     for (at, byte) in places {
         let changed = changed(rt.alloc(), at, byte)?;
-        assert_eq!(rt; decoded(&changed), None, "byte {at} is {byte}");
+        assert!(rt; decoded(&changed).is_none(), "byte {at} is {byte}");
     }
     Ok(())
 }
@@ -208,7 +168,7 @@ fn refusals_printed(rt: HostRuntime) -> Result<(), Fail> {
         (Error::BadScript { line: 2 }, "22 BadScript 2"),
     ];
     for (error, text) in texts {
-        assert_eq!(rt; printed(rt.alloc(), error)?.as_str(), text);
+        assert!(rt; printed(rt.alloc(), error)?.as_str() == text);
     }
     Ok(())
 }
@@ -219,8 +179,8 @@ fn sectors(pages: u32, entries: u32, slots: u32) -> Result<u64, Error> {
 
 #[test]
 fn sizes_of_a_store(rt: HostRuntime) {
-    assert_eq!(rt; sectors(1, 64, 4), Ok(1118));
-    assert_eq!(rt; sectors(256, 65_536, 256), Ok(17_414));
+    assert!(rt; sectors(1, 64, 4) == Ok(1118));
+    assert!(rt; sectors(256, 65_536, 256) == Ok(17_414));
     let outside = [
         (0, 64, 4),
         (257, 64, 4),
@@ -230,24 +190,24 @@ fn sizes_of_a_store(rt: HostRuntime) {
         (1, 64, 257),
     ];
     for (pages, entries, slots) in outside {
-        assert_eq!(rt; sectors(pages, entries, slots), Err(Error::BadGeometry));
+        assert!(rt; sectors(pages, entries, slots) == Err(Error::BadGeometry));
     }
 }
 
 // Whether a long record's spelling had room behind a byte that was there, in a
 // heap of so many bytes. Where it had none, that byte alone is there.
 fn is_encoded_in(rt: &impl Abort, heap: &LocalHeap) -> Result<bool, Fail> {
-    let record = insertion(&[1; 24], &[2; 37])?;
+    let record = insertion(1, row(&[1; 24], &[2; 37])?)?;
     let mut bytes = Vec::new(heap);
     bytes.push(9)?;
-    match record.encode_into(&mut bytes) {
+    match encode(&record, &mut bytes) {
         Ok(()) => {
-            assert_eq!(rt; bytes.len(), 1 + record.size());
+            assert!(rt; bytes.len() == 1 + record.size());
             Ok(true)
         }
         Err(error) => {
-            assert_eq!(rt; error, Error::NoMemory);
-            assert_eq!(rt; bytes.as_slice(), [9].as_slice());
+            assert!(rt; error == Error::NoMemory);
+            assert!(rt; bytes.as_slice() == [9].as_slice());
             Ok(false)
         }
     }
@@ -274,12 +234,12 @@ fn an_encoding_without_memory(rt: HostRuntime) -> Result<(), Fail> {
 // A vector takes a record where memory lets it grow, and gives it back where not.
 #[test]
 fn a_record_taken_or_given_back(rt: HostRuntime) -> Result<(), Fail> {
-    let record = insertion(b"a", b"")?;
+    let record = insertion(1, row(b"a", b"")?)?;
     for (size, answer, len) in [(64, Err(record), 0), (4096, Ok(()), 1)] {
         let heap = LocalHeap::new(rt.alloc(), size)?;
         let mut records = Vec::new(&heap);
-        assert_eq!(rt; records.take(record), answer);
-        assert_eq!(rt; records.len(), len);
+        assert!(rt; records.take(record) == answer);
+        assert!(rt; records.len() == len);
     }
     Ok(())
 }

@@ -1,5 +1,6 @@
 //! Tests of the crate `script`.
-use records::{Error, Rid, Txn};
+use crate::values::txn;
+use records::{Error, Rid};
 use script::{ByteText, Command, Fate, LINES_MAX, read};
 use std::alloc::Global;
 use std::process::Abort;
@@ -16,14 +17,10 @@ fn text(alloc: Global, bytes: &[u8]) -> Result<ByteText, Fail> {
     Ok(ByteText::new(Vec::from_slice(alloc, bytes)?))
 }
 
-fn txn(number: u64) -> Result<Txn, Fail> {
-    Ok(Txn::new(number).ok_or("no transaction")?)
-}
-
 // The line is this command.
 fn check_line(rt: &impl Abort, alloc: Global, line: &[u8], command: &Command) -> Result<(), Fail> {
     let commands = read(alloc, line)?;
-    assert_eq!(rt; commands.len(), 1);
+    assert!(rt; commands.len() == 1);
     assert!(rt; commands[0] == *command, "{line:?}");
     Ok(())
 }
@@ -248,8 +245,8 @@ fn lines_are_counted_from_one(rt: HostRuntime) -> Result<(), Fail> {
     ];
     for (script, answer) in scripts {
         match (read(rt.alloc(), script), answer) {
-            (Ok(commands), Ok(len)) => assert_eq!(rt; commands.len(), len),
-            (Err(error), Err(line)) => assert_eq!(rt; error, Error::BadScript { line }),
+            (Ok(commands), Ok(len)) => assert!(rt; commands.len() == len),
+            (Err(error), Err(line)) => assert!(rt; error == Error::BadScript { line }),
             _ => assert!(rt; false, "{script:?}"),
         }
     }
@@ -262,7 +259,7 @@ fn too_many_lines_are_named(rt: HostRuntime) -> Result<(), Fail> {
     for _ in 0..LINES_MAX {
         script.extend_from_slice(b"dump\n")?;
     }
-    assert_eq!(rt; read(rt.alloc(), &script)?.len(), 10_000);
+    assert!(rt; read(rt.alloc(), &script)?.len() == 10_000);
     let full = script.len();
     for line in [b"\n".as_slice(), b"#", b"dump", b"bad"] {
         script.truncate(full);
@@ -278,8 +275,8 @@ fn a_refused_allocation_is_no_memory(rt: HostRuntime) -> Result<(), Fail> {
         rt.alloc(),
         b"begin\ninsert 1 =ant :00\nupdate 1 0.0 =bee :01\n",
     ) {
-        Ok(commands) => assert_eq!(rt; commands.len(), 3),
-        Err(error) => assert_eq!(rt; error, Error::NoMemory),
+        Ok(commands) => assert!(rt; commands.len() == 3),
+        Err(error) => assert!(rt; error == Error::NoMemory),
     }
     Ok(())
 }

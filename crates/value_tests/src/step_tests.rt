@@ -1,17 +1,11 @@
 //! Tests of the crate `core_steps`.
+use crate::values::row;
 use core_steps::{Cell, Step, forward, undo};
-use records::{Body, Change, Error, Key, Mark, Pair, Part, Rid, Row, Rows, TxnAction};
+use records::{Body, Change, Key, Mark, Pair, Part, Rid, Row, Rows, TxnAction};
 use std::process::Abort;
 use std::test::Fail;
 
 const PLACE: Rid = Rid { page: 0, slot: 7 };
-
-fn row(key: &[u8]) -> Result<Row, Error> {
-    Ok(Row {
-        key: Key::new(key)?,
-        body: Body::new(b"x")?,
-    })
-}
 
 // The fourth change of its transaction.
 fn change(rows: Rows) -> Change {
@@ -23,7 +17,7 @@ fn change(rows: Rows) -> Change {
 }
 
 // The entry of the row with this key.
-fn entry(key: &[u8], mark: Mark) -> Result<Cell, Error> {
+fn entry(key: &[u8], mark: Mark) -> Result<Cell, Fail> {
     let pair = Pair {
         key: Key::new(key)?,
         rid: PLACE,
@@ -32,8 +26,8 @@ fn entry(key: &[u8], mark: Mark) -> Result<Cell, Error> {
 }
 
 // The row with this key, in its place.
-fn there(key: &[u8]) -> Result<Cell, Error> {
-    Ok(slot(Some(row(key)?)))
+fn there(key: &[u8]) -> Result<Cell, Fail> {
+    Ok(slot(Some(row(key, b"x")?)))
 }
 
 fn slot(row: Option<Row>) -> Cell {
@@ -46,9 +40,9 @@ fn check_steps(rt: &impl Abort, change: Change, steps: &[(Part, Cell)]) {
         let part = *part;
         let cell = *cell;
         let action = TxnAction::Forward { part, change };
-        assert_eq!(rt; forward(&change, true, made), Some(Step { cell, action }));
+        assert!(rt; forward(&change, true, made) == Some(Step { cell, action }));
     }
-    assert_eq!(rt; forward(&change, true, steps.len()), None);
+    assert!(rt; forward(&change, true, steps.len()) == None);
 }
 
 // The undo of the change has these steps.
@@ -58,14 +52,14 @@ fn check_undo(rt: &impl Abort, change: Change, steps: &[(Part, Cell)]) {
         let cell = *cell;
         let last = made + 1 == steps.len();
         let action = TxnAction::Undo { part, change, last };
-        assert_eq!(rt; undo(&change, true, made), Some(Step { cell, action }));
+        assert!(rt; undo(&change, true, made) == Some(Step { cell, action }));
     }
-    assert_eq!(rt; undo(&change, true, steps.len()), None);
+    assert!(rt; undo(&change, true, steps.len()) == None);
 }
 
 #[test]
 fn an_insertion(rt: HostRuntime) -> Result<(), Fail> {
-    let new = row(b"q")?;
+    let new = row(b"q", b"x")?;
     let inserted = change(Rows::Inserted { new });
     let put = entry(b"q", Mark::Live)?;
     let marked = entry(b"q", Mark::Marked)?;
@@ -79,7 +73,7 @@ fn an_insertion(rt: HostRuntime) -> Result<(), Fail> {
 
 #[test]
 fn a_deletion(rt: HostRuntime) -> Result<(), Fail> {
-    let old = row(b"p")?;
+    let old = row(b"p", b"x")?;
     let deleted = change(Rows::Deleted { old });
     let put = entry(b"p", Mark::Live)?;
     let marked = entry(b"p", Mark::Marked)?;
@@ -93,8 +87,8 @@ fn a_deletion(rt: HostRuntime) -> Result<(), Fail> {
 
 #[test]
 fn an_update(rt: HostRuntime) -> Result<(), Fail> {
-    let old = row(b"p")?;
-    let new = row(b"q")?;
+    let old = row(b"p", b"x")?;
+    let new = row(b"q", b"x")?;
     let updated = change(Rows::Updated { old, new });
     let steps = [
         (Part::OldEntry, entry(b"p", Mark::Marked)?),
@@ -113,7 +107,7 @@ fn an_update(rt: HostRuntime) -> Result<(), Fail> {
 
 #[test]
 fn an_update_that_keeps_the_key(rt: HostRuntime) -> Result<(), Fail> {
-    let old = row(b"p")?;
+    let old = row(b"p", b"x")?;
     let new = Row {
         key: old.key,
         body: Body::new(b"y")?,

@@ -1,4 +1,4 @@
-use Rattle.std.proofs.Common.{arith, ◌∙◌, sym, ap, ◌≡◌, Some, ◌<◌, ◌++◌}
+use Rattle.std.proofs.Common.{rules, arith, ◌∙◌, sym, ap, ◌≡◌, Some, ◌<◌, ◌++◌}
 use Rattle.node_parts.specs.Tree.{entries, count}
 use Rattle.node_parts.specs.Seen.{least_of}
 use Rattle.node_parts.proofs.Neighbours as level
@@ -24,3 +24,6 @@ pub returns-clause-label : goal.returns-clause-label
 returns-clause-label g c =
     let old : least_of (entries c.deref_mut.result.now) ≡ Some c.args.left.now.least = rw c.deref_mut.ensures.value c.requires.label in
     level.front_label _ _ _ _ _ c.level.ensures.joined (not_empty _ _ c.level.ensures.tree c.level.ensures.low) old
+
+pub returns-clause-upper : goal.returns-clause-upper
+returns-clause-upper g c = search rules

@@ -1,4 +1,4 @@
-use Rattle.std.proofs.Common.{◌≡◌, ◌<◌, true, is_some, sym, ap, subst, ◌∙◌, arith}
+use Rattle.std.proofs.Common.{rules, ◌≡◌, ◌<◌, true, is_some, sym, ap, subst, ◌∙◌, arith}
 use Rattle.std.specs.FinMap as map
 use Rattle.btree_node.specs.Contents.{contents}
 use Rattle.marked_index.specs.Index.{IndexValue, IsAbsent}
@@ -16,3 +16,6 @@ invariant_of-self-2 g c =
     let absent : IsAbsent (contents c.self.inside.tree) c.args.pair.now = subst (λ (v : IndexValue). IsAbsent v.entries c.args.pair.now) (sym c.self.view_is) none in
     let place : 0 < c.self.inside.pledged = subst (λ (v : IndexValue). 0 < v.pledged) (sym c.self.view_is) (c.requires.place none) in
     room_added (contents c.self.inside.tree) _ c.args.pair.now c.args.mark _ _ (omega (arith, place, c.self.invariant.within)) c.self.invariant.most absent c.in_ok-plant.ensures.planted
+
+pub returns-clause-ok : goal.returns-clause-ok
+returns-clause-ok g c = search rules
