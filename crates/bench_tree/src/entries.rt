@@ -12,11 +12,7 @@ pub(crate) fn pair_of(number: u32) -> Result<Pair, Error> {
 }
 
 /// Puts a pair in, unless it is there or the tree is full. Whether it did.
-pub(crate) fn put(
-    tree: &mut BTree<Global>,
-    pair: &Pair,
-    mark: Mark,
-) -> Result<bool, Error> {
+pub(crate) fn put(tree: &mut BTree<Global>, pair: &Pair, mark: Mark) -> Result<bool, Error> {
     let (found, _) = tree.get(pair);
     if found.is_some() || tree.len() >= ENTRIES_MAX {
         return Ok(false);
