@@ -1,7 +1,7 @@
 //! Changes of a tree that test first what the tree asks for.
 use btree_node::{BTree, ENTRIES_MAX};
 use records::{Error, Key, Mark, Pair, Rid};
-use std::alloc::Allocator;
+use std::alloc::Global;
 
 /// The pair whose key is a number in four bytes.
 pub(crate) fn pair_of(number: u32) -> Result<Pair, Error> {
@@ -12,11 +12,7 @@ pub(crate) fn pair_of(number: u32) -> Result<Pair, Error> {
 }
 
 /// Puts a pair in, unless it is there or the tree is full. Whether it did.
-pub(crate) fn put<A: Allocator + Clone>(
-    tree: &mut BTree<A>,
-    pair: &Pair,
-    mark: Mark,
-) -> Result<bool, Error> {
+pub(crate) fn put(tree: &mut BTree<Global>, pair: &Pair, mark: Mark) -> Result<bool, Error> {
     let (found, _) = tree.get(pair);
     if found.is_some() || tree.len() >= ENTRIES_MAX {
         return Ok(false);
@@ -27,7 +23,7 @@ pub(crate) fn put<A: Allocator + Clone>(
 }
 
 /// Gives a pair another mark, if it is there. Whether it was.
-pub(crate) fn mark<A: Allocator + Clone>(tree: &mut BTree<A>, pair: &Pair, mark: Mark) -> bool {
+pub(crate) fn mark(tree: &mut BTree<Global>, pair: &Pair, mark: Mark) -> bool {
     let (found, _) = tree.get(pair);
     if found.is_none() {
         return false;
@@ -37,7 +33,7 @@ pub(crate) fn mark<A: Allocator + Clone>(tree: &mut BTree<A>, pair: &Pair, mark:
 }
 
 /// Takes a pair out, if it is there. Whether it was.
-pub(crate) fn take<A: Allocator + Clone>(tree: &mut BTree<A>, pair: &Pair) -> bool {
+pub(crate) fn take(tree: &mut BTree<Global>, pair: &Pair) -> bool {
     let (found, _) = tree.get(pair);
     if found.is_none() {
         return false;

@@ -3,8 +3,6 @@
 
 mod against_vector;
 mod entries;
-#[cfg(test)]
-mod tests;
 mod timing;
 
 use std::env;

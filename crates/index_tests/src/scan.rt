@@ -2,11 +2,16 @@ use heap_pages::Heap;
 use linked_list_allocator::LocalHeap;
 use records::{Body, Error, Key, Pair, Rid, Row, SLOTS_PER_PAGE};
 use sorted_scan::Scan;
-use std::alloc::{Allocator, Global};
+use std::alloc::Global;
 use std::process::Abort;
 
 fn key_of(rt: &impl Abort, number: u16) -> Key {
     Key::new(&number.to_be_bytes()).expect(rt, "a key")
+}
+
+// Memory for any scan.
+fn memory_of(rt: &impl Abort, alloc: Global) -> LocalHeap {
+    LocalHeap::new(alloc, 1 << 24).expect(rt, "memory")
 }
 
 // Puts a row whose key is the number, in two bytes.
@@ -37,9 +42,9 @@ fn heap_of(rt: &impl Abort, alloc: Global, pages: u16, each: u16) -> Heap<Global
 }
 
 // Takes the page that is wanted, if one is, with the rows that the heap has now.
-fn take<A: Allocator + Copy>(
+fn take(
     rt: &impl Abort,
-    scan: &mut Scan<A>,
+    scan: &mut Scan<&LocalHeap>,
     heap: &Heap<Global>,
 ) -> Result<Option<u32>, Error> {
     let Some(page) = scan.wants_page() else {
@@ -52,9 +57,9 @@ fn take<A: Allocator + Copy>(
 }
 
 // Takes these pages, one after the other.
-fn take_pages<A: Allocator + Copy>(
+fn take_pages(
     rt: &impl Abort,
-    scan: &mut Scan<A>,
+    scan: &mut Scan<&LocalHeap>,
     heap: &Heap<Global>,
     from: u32,
     to: u32,
@@ -65,14 +70,14 @@ fn take_pages<A: Allocator + Copy>(
 }
 
 // The next pairs have these numbers as keys, in this order.
-fn numbers_come<A: Allocator + Copy>(rt: &impl Abort, scan: &mut Scan<A>, from: u16, to: u16) {
+fn numbers_come(rt: &impl Abort, scan: &mut Scan<&LocalHeap>, from: u16, to: u16) {
     for number in from..to {
         let key = scan.hand_out().map(|pair| pair.key);
         assert!(rt; key == Some(key_of(rt, number)));
     }
 }
 
-fn is_at_end<A: Allocator + Copy>(rt: &impl Abort, scan: &mut Scan<A>) {
+fn is_at_end(rt: &impl Abort, scan: &mut Scan<&LocalHeap>) {
     assert!(rt; scan.wants_page().is_none() && scan.remaining() == 0);
     assert!(rt; scan.hand_out().is_none());
 }
@@ -80,7 +85,7 @@ fn is_at_end<A: Allocator + Copy>(rt: &impl Abort, scan: &mut Scan<A>) {
 // All pages are taken, and then come these numbers, and no more.
 fn walk_gives(
     rt: &impl Abort,
-    scan: &mut Scan<Global>,
+    scan: &mut Scan<&LocalHeap>,
     heap: &Heap<Global>,
     pages: u32,
     from: u16,
@@ -92,31 +97,33 @@ fn walk_gives(
 }
 
 // The pairs above the one with this number come, of a heap of 4 pages with 50 rows each.
-fn pairs_above(rt: &impl Abort, alloc: Global, heap: &Heap<Global>, number: u16) {
+fn pairs_above(rt: &impl Abort, memory: &LocalHeap, heap: &Heap<Global>, number: u16) {
     let rid = Rid { page: 3, slot: 50 };
     let start = Pair {
         key: key_of(rt, number),
         rid,
     };
-    let mut scan = Scan::new(alloc, Some(start), 4);
+    let mut scan = Scan::new(memory, Some(start), 4);
     walk_gives(rt, &mut scan, heap, 4, number.wrapping_add(1), 200);
 }
 
 #[test]
 fn all_pairs_come_or_those_above_a_start(rt: HostRuntime) {
+    let memory = memory_of(&rt, rt.alloc());
     let heap = heap_of(&rt, rt.alloc(), 4, 50);
-    let mut scan = Scan::new(rt.alloc(), None, 4);
+    let mut scan = Scan::new(&memory, None, 4);
     walk_gives(&rt, &mut scan, &heap, 4, 0, 200);
     for number in [0, 127, 198, 199] {
-        pairs_above(&rt, rt.alloc(), &heap, number);
+        pairs_above(&rt, &memory, &heap, number);
     }
 }
 
 // Once its page was taken, a row's change is not seen; before that it is.
 #[test]
 fn rows_change_between_two_pages(rt: HostRuntime) {
+    let memory = memory_of(&rt, rt.alloc());
     let mut heap = heap_of(&rt, rt.alloc(), 2, 40);
-    let mut scan = Scan::new(rt.alloc(), None, 2);
+    let mut scan = Scan::new(&memory, None, 2);
     take_pages(&rt, &mut scan, &heap, 0, 1);
     put(&rt, &mut heap, 0, 19, 100);
     put(&rt, &mut heap, 1, 34, 200);
@@ -130,8 +137,9 @@ fn rows_change_between_two_pages(rt: HostRuntime) {
 // 256 full pages: three full runs, and one that is not.
 #[test]
 fn sixteen_thousand_pairs(rt: HostRuntime) {
+    let memory = memory_of(&rt, rt.alloc());
     let heap = heap_of(&rt, rt.alloc(), 256, SLOTS_PER_PAGE);
-    let mut scan = Scan::new(rt.alloc(), None, 256);
+    let mut scan = Scan::new(&memory, None, 256);
     walk_gives(&rt, &mut scan, &heap, 256, 0, 16_128);
 }
 

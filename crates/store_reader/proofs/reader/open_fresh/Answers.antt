@@ -1,4 +1,4 @@
-use Rattle.std.proofs.Common.{sym, ap, subst}
+use Rattle.std.proofs.Common.{rules, sym, ap, subst}
 use Rattle.std.proofs.lemmas.Result.{err_from_is_err_and}
 use Rattle.sector_device.specs.Disk.{Disk, Image}
 use Rattle.store_reader.proofs.Refusals.{Why, part_used}
@@ -11,3 +11,6 @@ returns-in_err-check_fresh-clause-refused g c =
     let told = part_used image _ c.in_ok-halves.halves.geometry c.in_ok-halves.halves.current _ _ _ _ c.in_ok-halves.ensures.opened same c.in_ok-halves.ensures.quiet c.in_err-check_fresh.ensures.refused in
     let p = err_from_is_err_and c.from_residual-in_err-check_fresh.result c.from_residual-in_err-check_fresh.ensures.1 in
     rw p.1 (subst (Why image _ _) (sym p.2) told)
+
+pub returns-clause-fresh : goal.returns-clause-fresh
+returns-clause-fresh g c = search rules
