@@ -1,3 +1,5 @@
+use Rattle.std.proofs.Common.{arith}
+use Rattle.std.proofs.lemmas.Grind.{common_steps}
 use Rattle.records.specs.Maps.{pair_exact}
 use Rattle.model.proofs.MapLaws.{popped_fewer, popped_taken, popped_there}
 use Rattle.model.proofs.entry_map.EntryMap.pop.Goals as goal
@@ -10,3 +12,6 @@ returns-clause-taken g c = popped_taken pair_exact c.self.inside.marks c.pop_fir
 
 pub returns-clause-fewer : goal.returns-clause-fewer
 returns-clause-fewer g c = popped_fewer pair_exact c.self.inside.marks c.pop_first.new.self c.args.self.now c.self.view_is c.pop_first.result c.pop_first.ensures.removal c.pop_first.ensures.updates
+
+pub returns-clause-none : goal.returns-clause-none
+returns-clause-none g c = grind (arith, common_steps)

@@ -1,3 +1,5 @@
+use Rattle.std.proofs.Common.{arith}
+use Rattle.std.proofs.lemmas.Grind.{common_steps}
 use Rattle.records.specs.Maps.{rid_exact}
 use Rattle.model.proofs.MapLaws.{popped_fewer, popped_taken, popped_there}
 use Rattle.model.proofs.row_map.RowMap.pop.Goals as goal
@@ -10,3 +12,6 @@ returns-clause-taken g c = popped_taken rid_exact c.self.inside.rows c.pop_first
 
 pub returns-clause-fewer : goal.returns-clause-fewer
 returns-clause-fewer g c = popped_fewer rid_exact c.self.inside.rows c.pop_first.new.self c.args.self.now c.self.view_is c.pop_first.result c.pop_first.ensures.removal c.pop_first.ensures.updates
+
+pub returns-clause-none : goal.returns-clause-none
+returns-clause-none g c = grind (arith, common_steps)
