@@ -1,0 +1,149 @@
+//! Plays events on a core.
+ghost use Rattle.std.specs.Prelude.{IsTrue};
+ghost use Rattle.index_core.specs.Moves.{HasNoChange, IsReadyOrNone, OwesOrNone, txn_of};
+ghost use Rattle.index_core.specs.Value.{value_of};
+
+use index_core::{BuildReply, CleanReply, Core, Ticket, Undone};
+use model::Life;
+use records::{Error, Mark, Pair, Rid, Row, Txn};
+use std::alloc::Global;
+use std::process::Abort;
+
+/// What is asked of a core; transactions by their numbers.
+#[derive(Clone, Copy, Debug)]
+pub(crate) enum Event {
+    Begin,
+    Insert(u64, Row),
+    Delete(u64, Rid),
+    Update(u64, Rid, Row),
+    Step(u64),
+    Undo(u64),
+    End(u64),
+    Commit(u64),
+    Create,
+    Build,
+    Clean,
+    Get(Rid),
+    /// The entry that has so many before it.
+    Entry(u32),
+    Life,
+}
+
+/// What the call answers.
+#[derive(Clone, Copy, Debug, PartialEq, Eq)]
+pub(crate) enum Reply {
+    Begun(Result<Txn, Error>),
+    Inserted(Result<Rid, Error>),
+    Changed(Result<(), Error>),
+    Undone(Result<Undone, Error>),
+    Ticket(Result<Ticket, Error>),
+    Built(Result<BuildReply, Error>),
+    Cleaned(Result<CleanReply, Error>),
+    Row(Option<Row>),
+    Entry(Option<(Pair, Mark)>),
+    Life(Life),
+    /// What the call asks of its caller doesn't hold.
+    Skipped,
+}
+
+fn is_ready(core: &Core<Global>, txn: Txn) -> bool
+    ensures { IsTrue result → IsReadyOrNone (txn_of (value_of core.now) txn) }
+{
+    !core.is_active(txn) || core.ready(txn)
+}
+
+fn is_owing(core: &Core<Global>, txn: Txn) -> bool
+    ensures { IsTrue result → OwesOrNone (txn_of (value_of core.now) txn) }
+{
+    !core.is_active(txn) || core.owes(txn).is_some()
+}
+
+fn insert(core: &mut Core<Global>, txn: Txn, row: Row) -> Reply {
+    if !is_ready(core, txn) {
+        return Reply::Skipped;
+    }
+    Reply::Inserted(core.start_insert(txn, row.key, row.body))
+}
+
+fn delete(core: &mut Core<Global>, txn: Txn, rid: Rid) -> Reply {
+    if !is_ready(core, txn) {
+        return Reply::Skipped;
+    }
+    Reply::Changed(core.start_delete(txn, rid))
+}
+
+fn update(core: &mut Core<Global>, txn: Txn, rid: Rid, row: Row) -> Reply {
+    if !is_ready(core, txn) {
+        return Reply::Skipped;
+    }
+    Reply::Changed(core.start_update(txn, rid, row.key, row.body))
+}
+
+fn step(core: &mut Core<Global>, txn: Txn) -> Reply {
+    if !is_owing(core, txn) {
+        return Reply::Skipped;
+    }
+    Reply::Changed(core.next_step(txn))
+}
+
+fn end(core: &mut Core<Global>, txn: Txn) -> Reply {
+    if !core.may_end(txn) {
+        return Reply::Skipped;
+    }
+    Reply::Changed(core.end(txn))
+}
+
+fn commit(core: &mut Core<Global>, txn: Txn) -> Reply {
+    if !is_ready(core, txn) {
+        return Reply::Skipped;
+    }
+    Reply::Ticket(core.commit(txn))
+}
+
+// The entry that has so many before it.
+fn entry(core: &Core<Global>, before: u32) -> Option<(Pair, Mark)> {
+    let mut entry = core.above(None);
+    for _ in 0..before {
+        let (pair, _) = entry?;
+        entry = core.above(Some(&pair));
+    }
+    entry
+}
+
+fn txn_of(rt: &impl Abort, number: u64) -> Txn {
+    Txn::new(number).expect(rt, "a transaction")
+}
+
+fn of_txn(rt: &impl Abort, core: &mut Core<Global>, event: Event) -> Reply {
+    match event {
+        Event::Insert(txn, row) => insert(core, txn_of(rt, txn), row),
+        Event::Delete(txn, rid) => delete(core, txn_of(rt, txn), rid),
+        Event::Update(txn, rid, row) => update(core, txn_of(rt, txn), rid, row),
+        Event::Step(txn) => step(core, txn_of(rt, txn)),
+        Event::Undo(txn) => Reply::Undone(core.undo_step(txn_of(rt, txn))),
+        Event::End(txn) => end(core, txn_of(rt, txn)),
+        Event::Commit(txn) => commit(core, txn_of(rt, txn)),
+        _ => Reply::Skipped,
+    }
+}
+
+/// What the core answers.
+pub(crate) fn serve(rt: &impl Abort, core: &mut Core<Global>, event: Event) -> Reply {
+    match event {
+        Event::Begin => Reply::Begun(core.begin()),
+        Event::Create => Reply::Ticket(core.create_index()),
+        Event::Build => Reply::Built(core.build_step()),
+        Event::Clean => Reply::Cleaned(core.clean_step()),
+        Event::Get(rid) => Reply::Row(core.get(rid)),
+        Event::Entry(before) => Reply::Entry(entry(core, before)),
+        Event::Life => Reply::Life(core.life()),
+        _ => of_txn(rt, core, event),
+    }
+}
+
+/// Each event gets this reply, one after the other.
+pub(crate) fn play(rt: &impl Abort, core: &mut Core<Global>, example: &[(Event, Reply)]) {
+    for (place, (event, reply)) in example.iter().enumerate() {
+        assert_eq!(rt; serve(rt, core, *event), *reply, "event {place}");
+    }
+}
