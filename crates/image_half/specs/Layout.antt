@@ -33,6 +33,10 @@ InImage g first n = (first ≤ n) × (n < image_end g first)
 abbrev pub InPage : ℕ → ℕ → ℕ → Type 0
 InPage first page n = (page_at first page ≤ n) × (n < page_at first page + PAGE_SECTORS)
 
+-- a sector of the first undo items of a head, this many of them
+abbrev pub InList : ℕ → (h count n : ℕ) → Type 0
+InList first h count n = (undo_at first + 32 * h ≤ n) × (n < undo_at first + 32 * h + sectors_for count 2)
+
 -- a sector of this many entries from the entry number `start` on, which begins a sector
 abbrev pub InEntries : GeometryValue → ℕ → (start count n : ℕ) → Type 0
 InEntries g first start count n = (entries_at g first + start / ENTRIES_PER_SECTOR ≤ n) × (n < entries_at g first + sectors_for (start + count) ENTRIES_PER_SECTOR)

@@ -14,9 +14,10 @@ use Rattle.records.specs.declared.error.Error.TheVariants.{Damaged}
 use Rattle.model.specs.Table.{Table, Index}
 use Rattle.model.specs.Cells.{Pending}
 use Rattle.image_parts.specs.declared.head.Head.{Head}
+use Rattle.image_parts.specs.declared.item.UndoItem.{UndoItem}
 use Rattle.image_parts.specs.declared.head.TheConstants.{HEAD_SIZE}
 use Rattle.records.specs.Spelling.{PairFits}
-use Rattle.image_parts.specs.Spelling.{entry, head, HeadFits}
+use Rattle.image_parts.specs.Spelling.{entry, head, item, HeadFits, ItemFits}
 use Rattle.image_half.specs.Layout.{cut}
 use Rattle.image_half.specs.Image.{HoldsList, IsRow, IsEntry, row_bytes, entry_bytes, head_of}
 use Rattle.image_half.specs.Damage.{AnItem, APage, AnEntry, sector_of, IsSound, Refuses}
@@ -54,6 +55,11 @@ pub record HoldsSlots (first : ℕ) (image : Image) (n slot : ℕ) (before rows 
 pub record IsEntryPiece (bytes : List ℕ) (e : Pair × Mark) : Type 0 where
   pub spelled : bytes ≡ entry e
   pub fits : PairFits e.0
+
+-- the bytes are this undo item's spelling
+pub record IsItemPiece (bytes : List ℕ) (i : UndoItem) : Type 0 where
+  pub spelled : bytes ≡ item i
+  pub fits : ItemFits i
 
 -- these are the first n entries
 pub record HoldsEntries (g : GeometryValue) (first : ℕ) (image : Image) (n : ℕ) (entries : Index) : Type 0 where

@@ -12,4 +12,4 @@ mod write;
 pub use laws::{one_damage, one_image, told_by_its_sectors};
 pub use read::read_image;
 pub use sink::CellSink;
-pub use write::{write_entries, write_header, write_heads, write_page};
+pub use write::{write_entries, write_header, write_heads, write_list, write_page};

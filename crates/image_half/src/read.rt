@@ -23,7 +23,7 @@ use sector_device::{Device, SECTOR_SIZE, zero_sector};
 use std::alloc::{AllocError, Allocator};
 
 // How many undo items lie in a sector.
-const ITEMS_PER_SECTOR: u64 = 2;
+pub(crate) const ITEMS_PER_SECTOR: u64 = 2;
 
 // How many rows lie in a sector.
 pub(crate) const ROWS_PER_SECTOR: u64 = 8;

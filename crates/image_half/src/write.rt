@@ -2,26 +2,31 @@
 ghost use Rattle.std.specs.Prelude.{◌≡◌, ◌⊎◌, ℕ, ◌+◌, ◌*◌, ◌%◌, ◌^◌, ◌<◌, ◌≤◌, ◌∷◌, Option, true, length, slice_get, Some, None, OnOk};
 ghost use Rattle.sector_device.specs.Disk.{sector, SameOutside};
 ghost use Rattle.sector_device.specs.History.{RunsWithin, CountsFailure};
+ghost use Rattle.records.specs.ChangeValue.{ChangeValue};
 ghost use Rattle.records.specs.declared.row.Row.{Row};
 ghost use Rattle.records.specs.declared.pair.Pair.{Pair};
 ghost use Rattle.records.specs.declared.pair.Mark.{Mark};
 ghost use Rattle.image_parts.specs.declared.head.Head.{Head};
 ghost use Rattle.image_parts.specs.Spelling.{HeaderFits, HeadFits, head};
-ghost use Rattle.image_half.specs.Layout.{cut, heads_at, page_at, entries_at, image_end, InPage, InEntries};
-ghost use Rattle.image_half.specs.Image.{IsHeader, AreHeads, IsRow, IsEntry, row_bytes, entry_bytes};
-ghost use Rattle.image_half.specs.Steps.{IsEntryPiece};
+ghost use Rattle.image_half.specs.Layout.{cut, heads_at, page_at, entries_at, image_end, InPage, InEntries, InList};
+ghost use Rattle.image_half.specs.Image.{IsHeader, AreHeads, HoldsList, IsRow, IsEntry, row_bytes, entry_bytes, item_of};
+ghost use Rattle.image_half.specs.Steps.{IsEntryPiece, IsItemPiece};
 
 use crate::pieces::put_piece;
-use crate::read::{ROWS_PER_SECTOR, page_at};
+use crate::read::{ITEMS_PER_SECTOR, ROWS_PER_SECTOR, page_at};
 use image_parts::{
-    ENTRY_SIZE, HEAD_SIZE, Head, Header, ROW_SIZE, spell_entry, spell_head, spell_header, spell_row,
+    ENTRY_SIZE, HEAD_SIZE, Head, Header, ITEM_SIZE, ROW_SIZE, UndoItem, spell_entry, spell_head,
+    spell_header, spell_item, spell_row,
 };
 use model::Life;
 use records::{
-    ENTRIES_PER_SECTOR, Geometry, HEADER_SECTORS, Mark, PAGE_SECTORS, Pair, Row, SLOTS_PER_PAGE,
-    TXNS_MAX,
+    CHANGES_MAX, Change, ENTRIES_PER_SECTOR, Geometry, HEADER_SECTORS, HEADS_SECTORS, Mark,
+    PAGE_SECTORS, Pair, Row, SLOTS_PER_PAGE, TXNS_MAX,
 };
 use sector_device::{Device, Failed, SECTOR_SIZE, zero_sector};
+
+// The sectors that the undo items of one head take.
+const LIST_SECTORS: u64 = 32;
 
 /// Writes the header of the image that begins at sector `first`. It counts the entries that are in the image, so it is
 /// written behind them.
@@ -180,4 +185,59 @@ pub fn write_heads<D: Device>(device: &mut D, first: u64, heads: &[Head]) -> Res
 {
     let bytes = heads_sector(heads);
     device.write(first + HEADER_SECTORS, &bytes)
+}
+
+// The spelling of the change at this position, or zeros behind the last one.
+fn item_piece(changes: &[Change], position: usize) -> [u8; ITEM_SIZE]
+    ensures { (c : ChangeValue) → slice_get changes.now position ≡ Some c → IsItemPiece result (item_of c) }
+{
+    match changes.get(position) {
+        Some(change) => spell_item(&UndoItem {
+            rid: change.rid,
+            rows: change.rows,
+        }),
+        None => [0; ITEM_SIZE],
+    }
+}
+
+// The k-th sector of these changes.
+fn items_sector(changes: &[Change], k: usize) -> [u8; SECTOR_SIZE]
+    requires { ITEMS_PER_SECTOR * k < length changes.now }
+    ensures { (j : ℕ) (c : ChangeValue) → j < ITEMS_PER_SECTOR → slice_get changes.now (ITEMS_PER_SECTOR * k + j) ≡ Some c → IsItemPiece (cut result ITEM_SIZE j) (item_of c) }
+{
+    let mut bytes = zero_sector();
+    for j in 0..ITEMS_PER_SECTOR as usize {
+        let piece = item_piece(changes, ITEMS_PER_SECTOR as usize * k + j);
+        put_piece(&mut bytes, j, &piece);
+    }
+    bytes
+}
+
+/// Writes the changes of a head, numbered from 0, as undo items of the image that begins at sector `first`. Each sector is
+/// written once.
+pub fn write_list<D: Device>(
+    device: &mut D,
+    geometry: Geometry,
+    first: u64,
+    h: u64,
+    changes: &[Change],
+) -> Result<(), Failed>
+    requires head { h < TXNS_MAX }
+    requires count { length changes.now ≤ CHANGES_MAX }
+    requires positions { (p : ℕ) (c : ChangeValue) → slice_get changes.now p ≡ Some c → c.position ≡ p }
+    requires pages { (p : ℕ) (c : ChangeValue) → slice_get changes.now p ≡ Some c → c.rid.page < geometry.pages }
+    requires inside { page_at first 0 ≤ length (D.history device.old).disk.content }
+    requires number { page_at first 0 < 2 ^ 64 }
+    ensures written { OnOk result (HoldsList geometry first (D.history device.new).disk.content h changes.now) }
+    ensures outside { SameOutside (InList first h (length changes.now)) (D.history device.old).disk.content (D.history device.new).disk.content }
+    ensures within { RunsWithin (λ n. InList first h (length changes.now) n ⊎ ((D.history device.old).disk.unsynced n ≡ true)) (D.history device.old).disk.content (D.history device.old) (D.history device.new) }
+    ensures counts { CountsFailure (D.failures device.old) (D.failures device.new) result }
+{
+    let at = first + HEADER_SECTORS + HEADS_SECTORS + LIST_SECTORS * h;
+    let sectors = (changes.len() as u64).div_ceil(ITEMS_PER_SECTOR);
+    for k in 0..sectors {
+        let bytes = items_sector(changes, k as usize);
+        device.write(at + k, &bytes)?;
+    }
+    Ok(())
 }
