@@ -1,5 +1,5 @@
 -- An image is told by its sectors.
-use Rattle.std.proofs.Common.{◌≡◌, ℕ, ◌+◌, ◌*◌, ◌/◌, ◌%◌, ◌<◌, ◌≤◌, List, length, map, Option, Some, None, refl, sym, ap, ◌∙◌, subst, arith}
+use Rattle.std.proofs.Common.{◌≡◌, ℕ, ◌+◌, ◌*◌, ◌/◌, ◌%◌, ◌<◌, ◌≤◌, List, length, map, Some, None, sym, ap, ◌∙◌, subst, arith}
 use Rattle.std.specs.Prelude.{slice_get}
 use Rattle.std.specs.Option.{option_map}
 use Rattle.std.specs.FinMap.{entries, get}
@@ -9,7 +9,7 @@ use Rattle.sector_device.specs.Disk.{Image, sector}
 use Rattle.records.specs.ChangeValue.{ChangeValue}
 use Rattle.records.specs.GeometryValue.{GeometryValue}
 use Rattle.model.specs.Cells.{Cells}
-use Rattle.image_half.specs.Layout.{heads_at, undo_at, page_at, entries_at, image_end, cut, InImage}
+use Rattle.image_half.specs.Layout.{heads_at, undo_at, page_at, entries_at, cut, InImage}
 use Rattle.image_half.specs.Image.{IsHeader, AreHeads, IsItem, IsRow, IsEntry, HoldsList, IsImage, header_of, head_of, item_of}
 
 module _ (g : GeometryValue) (first : ℕ) (image other : Image) (same : (n : ℕ) → InImage g first n → sector other n ≡ sector image n) (base : ℕ) (cells : Cells) (is : IsImage g first image base cells) where

@@ -29,6 +29,18 @@ image_end g first = entries_at g first + sectors_for g.entries ENTRIES_PER_SECTO
 abbrev pub InImage : GeometryValue → ℕ → ℕ → Type 0
 InImage g first n = (first ≤ n) × (n < image_end g first)
 
+-- a sector of a page
+abbrev pub InPage : ℕ → ℕ → ℕ → Type 0
+InPage first page n = (page_at first page ≤ n) × (n < page_at first page + PAGE_SECTORS)
+
+-- a sector of the first undo items of a head, this many of them
+abbrev pub InList : ℕ → (h count n : ℕ) → Type 0
+InList first h count n = (undo_at first + 32 * h ≤ n) × (n < undo_at first + 32 * h + sectors_for count 2)
+
+-- a sector of this many entries from the entry number `start` on, which begins a sector
+abbrev pub InEntries : GeometryValue → ℕ → (start count n : ℕ) → Type 0
+InEntries g first start count n = (entries_at g first + start / ENTRIES_PER_SECTOR ≤ n) × (n < entries_at g first + sectors_for (start + count) ENTRIES_PER_SECTOR)
+
 -- the j-th of the pieces of this size that some bytes are cut into
 abbrev pub cut : List ℕ → (size j : ℕ) → List ℕ
 cut bytes size j = slice_range bytes (size * j) (size * j + size)

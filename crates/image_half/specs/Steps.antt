@@ -14,8 +14,10 @@ use Rattle.records.specs.declared.error.Error.TheVariants.{Damaged}
 use Rattle.model.specs.Table.{Table, Index}
 use Rattle.model.specs.Cells.{Pending}
 use Rattle.image_parts.specs.declared.head.Head.{Head}
+use Rattle.image_parts.specs.declared.item.UndoItem.{UndoItem}
 use Rattle.image_parts.specs.declared.head.TheConstants.{HEAD_SIZE}
-use Rattle.image_parts.specs.Spelling.{head, HeadFits}
+use Rattle.records.specs.Spelling.{PairFits}
+use Rattle.image_parts.specs.Spelling.{entry, head, item, HeadFits, ItemFits}
 use Rattle.image_half.specs.Layout.{cut}
 use Rattle.image_half.specs.Image.{HoldsList, IsRow, IsEntry, row_bytes, entry_bytes, head_of}
 use Rattle.image_half.specs.Damage.{AnItem, APage, AnEntry, sector_of, IsSound, Refuses}
@@ -48,6 +50,16 @@ pub record HoldsSlots (first : ℕ) (image : Image) (n slot : ℕ) (before rows 
   pub slots : (q : Place) → q.page ≡ n → q.slot < slot → IsRow (row_bytes image first n (q.slot + 1)) (finite.get rows q)
   pub behind : (q : Place) → q.page ≡ n → ¬ (q.slot < slot) → finite.get rows q ≡ None
   pub others : (q : Place) → ¬ (q.page ≡ n) → finite.get rows q ≡ finite.get before q
+
+-- the bytes are this entry's spelling
+pub record IsEntryPiece (bytes : List ℕ) (e : Pair × Mark) : Type 0 where
+  pub spelled : bytes ≡ entry e
+  pub fits : PairFits e.0
+
+-- the bytes are this undo item's spelling
+pub record IsItemPiece (bytes : List ℕ) (i : UndoItem) : Type 0 where
+  pub spelled : bytes ≡ item i
+  pub fits : ItemFits i
 
 -- these are the first n entries
 pub record HoldsEntries (g : GeometryValue) (first : ℕ) (image : Image) (n : ℕ) (entries : Index) : Type 0 where

@@ -7,7 +7,9 @@ mod parts;
 mod pieces;
 mod read;
 mod sink;
+mod write;
 
 pub use laws::{one_damage, one_image, told_by_its_sectors};
 pub use read::read_image;
 pub use sink::CellSink;
+pub use write::{write_entries, write_header, write_heads, write_list, write_page};

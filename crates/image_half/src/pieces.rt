@@ -1,5 +1,5 @@
 //! Pieces of equal sizes, as many to a sector as fit.
-ghost use Rattle.std.specs.Prelude.{◌≡◌, ◌+◌, ◌/◌, ◌%◌, ◌^◌, ◌<◌, ◌≤◌, length, OnOk, IfErr};
+ghost use Rattle.std.specs.Prelude.{◌≡◌, ℕ, ◌+◌, ◌*◌, ◌/◌, ◌%◌, ◌^◌, ◌<◌, ◌≤◌, length, OnOk, IfErr};
 ghost use Rattle.sector_device.specs.Disk.{sector};
 ghost use Rattle.sector_device.specs.History.{OnlyReads};
 ghost use Rattle.image_half.specs.Layout.{cut};
@@ -41,4 +41,16 @@ pub(crate) fn piece_of<const N: usize>(buffer: &[u8; SECTOR_SIZE], j: usize) -> 
 {
     let (pieces, _) = buffer.as_chunks::<N>();
     pieces[j]
+}
+
+/// Puts the j-th piece of `N` bytes in its place. Those before it stay.
+pub(crate) fn put_piece<const N: usize>(buffer: &mut [u8; SECTOR_SIZE], j: usize, bytes: &[u8; N])
+    requires { N * j + N ≤ SECTOR_SIZE }
+    ensures put { cut buffer.new N j ≡ bytes.now }
+    ensures before { (k : ℕ) → k < j → cut buffer.new N k ≡ cut buffer.old N k }
+{
+    let start = N * j;
+    let end = start + N;
+    let all = &mut buffer[..];
+    all[start..end].copy_from_slice(bytes);
 }

@@ -23,13 +23,13 @@ use sector_device::{Device, SECTOR_SIZE, zero_sector};
 use std::alloc::{AllocError, Allocator};
 
 // How many undo items lie in a sector.
-const ITEMS_PER_SECTOR: u64 = 2;
+pub(crate) const ITEMS_PER_SECTOR: u64 = 2;
 
 // How many rows lie in a sector.
-const ROWS_PER_SECTOR: u64 = 8;
+pub(crate) const ROWS_PER_SECTOR: u64 = 8;
 
 // The first sector of a page of the image that begins at sector `first`.
-fn page_at(first: u64, page: u64) -> u64
+pub(crate) fn page_at(first: u64, page: u64) -> u64
     requires { page_at first page < 2 ^ 64 }
     ensures { result ≡ page_at first page }
 {

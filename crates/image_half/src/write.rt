@@ -1,0 +1,243 @@
+//! Parts of an image are written, without a sync. Until a sync a sector that was written may hold anything.
+ghost use Rattle.std.specs.Prelude.{◌≡◌, ◌⊎◌, ℕ, ◌+◌, ◌*◌, ◌%◌, ◌^◌, ◌<◌, ◌≤◌, ◌∷◌, Option, true, length, slice_get, Some, None, OnOk};
+ghost use Rattle.sector_device.specs.Disk.{sector, SameOutside};
+ghost use Rattle.sector_device.specs.History.{RunsWithin, CountsFailure};
+ghost use Rattle.records.specs.ChangeValue.{ChangeValue};
+ghost use Rattle.records.specs.declared.row.Row.{Row};
+ghost use Rattle.records.specs.declared.pair.Pair.{Pair};
+ghost use Rattle.records.specs.declared.pair.Mark.{Mark};
+ghost use Rattle.image_parts.specs.declared.head.Head.{Head};
+ghost use Rattle.image_parts.specs.Spelling.{HeaderFits, HeadFits, head};
+ghost use Rattle.image_half.specs.Layout.{cut, heads_at, page_at, entries_at, image_end, InPage, InEntries, InList};
+ghost use Rattle.image_half.specs.Image.{IsHeader, AreHeads, HoldsList, IsRow, IsEntry, row_bytes, entry_bytes, item_of};
+ghost use Rattle.image_half.specs.Steps.{IsEntryPiece, IsItemPiece};
+
+use crate::pieces::put_piece;
+use crate::read::{ITEMS_PER_SECTOR, ROWS_PER_SECTOR, page_at};
+use image_parts::{
+    ENTRY_SIZE, HEAD_SIZE, Head, Header, ITEM_SIZE, ROW_SIZE, UndoItem, spell_entry, spell_head,
+    spell_header, spell_item, spell_row,
+};
+use model::Life;
+use records::{
+    CHANGES_MAX, Change, ENTRIES_PER_SECTOR, Geometry, HEADER_SECTORS, HEADS_SECTORS, Mark,
+    PAGE_SECTORS, Pair, Row, SLOTS_PER_PAGE, TXNS_MAX,
+};
+use sector_device::{Device, Failed, SECTOR_SIZE, zero_sector};
+
+// The sectors that the undo items of one head take.
+const LIST_SECTORS: u64 = 32;
+
+/// Writes the header of the image that begins at sector `first`. It counts the entries that are in the image, so it is
+/// written behind them.
+pub fn write_header<D: Device>(
+    device: &mut D,
+    geometry: Geometry,
+    first: u64,
+    header: &Header,
+) -> Result<(), Failed>
+    requires fits { HeaderFits header.now }
+    requires room { header.now.entries ≤ geometry.entries }
+    requires pages { (p : Pair) → header.now.life ≡ Life.Building (Some p) → p.rid.page < geometry.pages }
+    requires inside { first < length (D.history device.old).disk.content }
+    ensures written { OnOk result (IsHeader geometry (sector (D.history device.new).disk.content first) header.now) }
+    ensures outside { SameOutside (λ n. n ≡ first) (D.history device.old).disk.content (D.history device.new).disk.content }
+    ensures within { RunsWithin (λ n. (n ≡ first) ⊎ ((D.history device.old).disk.unsynced n ≡ true)) (D.history device.old).disk.content (D.history device.old) (D.history device.new) }
+    ensures counts { CountsFailure (D.failures device.old) (D.failures device.new) result }
+{
+    let bytes = spell_header(header);
+    device.write(first, &bytes)
+}
+
+// The i-th piece of a page: none in front, and behind it the rows of its slots.
+fn row_behind(rows: &[Option<Row>], i: usize) -> Option<Row>
+    requires { i < length (None ∷ rows.now) }
+    ensures { slice_get (None ∷ rows.now) i ≡ Some result }
+{
+    if i == 0 { None } else { rows[i - 1] }
+}
+
+// The k-th sector of a page with these rows.
+fn page_sector(rows: &[Option<Row>], k: usize) -> [u8; SECTOR_SIZE]
+    requires rows { length rows.now ≡ SLOTS_PER_PAGE }
+    requires sector { k < PAGE_SECTORS }
+    ensures { (j : ℕ) (o : Option Row) → j < ROWS_PER_SECTOR → slice_get (None ∷ rows.now) (ROWS_PER_SECTOR * k + j) ≡ Some o → IsRow (cut result ROW_SIZE j) o }
+{
+    let mut bytes = zero_sector();
+    for j in 0..ROWS_PER_SECTOR as usize {
+        let found = row_behind(rows, ROWS_PER_SECTOR as usize * k + j);
+        let piece = spell_row(&found);
+        put_piece(&mut bytes, j, &piece);
+    }
+    bytes
+}
+
+/// Writes a page of the image that begins at sector `first`, with the rows of its slots in order, or none. Each of its eight
+/// sectors is written once.
+pub fn write_page<D: Device>(
+    device: &mut D,
+    geometry: Geometry,
+    first: u64,
+    page: u32,
+    rows: &[Option<Row>],
+) -> Result<(), Failed>
+    requires rows { length rows.now ≡ SLOTS_PER_PAGE }
+    requires page { page < geometry.pages }
+    requires inside { entries_at geometry first ≤ length (D.history device.old).disk.content }
+    requires number { entries_at geometry first < 2 ^ 64 }
+    ensures written { OnOk result ((i : ℕ) (o : Option Row) → slice_get (None ∷ rows.now) i ≡ Some o → IsRow (row_bytes (D.history device.new).disk.content first page i) o) }
+    ensures outside { SameOutside (InPage first page) (D.history device.old).disk.content (D.history device.new).disk.content }
+    ensures within { RunsWithin (λ n. InPage first page n ⊎ ((D.history device.old).disk.unsynced n ≡ true)) (D.history device.old).disk.content (D.history device.old) (D.history device.new) }
+    ensures counts { CountsFailure (D.failures device.old) (D.failures device.new) result }
+{
+    let at = page_at(first, u64::from(page));
+    for k in 0..PAGE_SECTORS {
+        let bytes = page_sector(rows, k as usize);
+        device.write(at + k, &bytes)?;
+    }
+    Ok(())
+}
+
+// The spelling of the i-th of these entries, or zeros behind the last one.
+fn entry_piece(entries: &[(Pair, Mark)], i: usize) -> [u8; ENTRY_SIZE]
+    ensures { (e : Pair × Mark) → slice_get entries.now i ≡ Some e → IsEntryPiece result e }
+{
+    match entries.get(i) {
+        Some(found) => spell_entry(found),
+        None => [0; ENTRY_SIZE],
+    }
+}
+
+// The k-th sector of these entries.
+fn entries_sector(entries: &[(Pair, Mark)], k: usize) -> [u8; SECTOR_SIZE]
+    requires { ENTRIES_PER_SECTOR * k < length entries.now }
+    ensures { (j : ℕ) (e : Pair × Mark) → j < ENTRIES_PER_SECTOR → slice_get entries.now (ENTRIES_PER_SECTOR * k + j) ≡ Some e → IsEntryPiece (cut result ENTRY_SIZE j) e }
+{
+    let mut bytes = zero_sector();
+    for j in 0..ENTRIES_PER_SECTOR as usize {
+        let piece = entry_piece(entries, ENTRIES_PER_SECTOR as usize * k + j);
+        put_piece(&mut bytes, j, &piece);
+    }
+    bytes
+}
+
+/// Writes these entries of the image that begins at sector `first`, from the entry number `start` on, which begins a sector.
+/// Each sector is written once, and what stood in the last one behind them is lost.
+pub fn write_entries<D: Device>(
+    device: &mut D,
+    geometry: Geometry,
+    first: u64,
+    start: u32,
+    entries: &[(Pair, Mark)],
+) -> Result<(), Failed>
+    requires start { start % ENTRIES_PER_SECTOR ≡ 0 }
+    requires room { start + length entries.now ≤ geometry.entries }
+    requires pages { (i : ℕ) (e : Pair × Mark) → slice_get entries.now i ≡ Some e → e.0.rid.page < geometry.pages }
+    requires inside { image_end geometry first ≤ length (D.history device.old).disk.content }
+    requires number { image_end geometry first < 2 ^ 64 }
+    ensures written { OnOk result ((i : ℕ) (e : Pair × Mark) → slice_get entries.now i ≡ Some e → IsEntry geometry (entry_bytes geometry (D.history device.new).disk.content first (start + i)) e) }
+    ensures outside { SameOutside (InEntries geometry first start (length entries.now)) (D.history device.old).disk.content (D.history device.new).disk.content }
+    ensures within { RunsWithin (λ n. InEntries geometry first start (length entries.now) n ⊎ ((D.history device.old).disk.unsynced n ≡ true)) (D.history device.old).disk.content (D.history device.old) (D.history device.new) }
+    ensures counts { CountsFailure (D.failures device.old) (D.failures device.new) result }
+{
+    let at = page_at(first, u64::from(geometry.pages)) + u64::from(start) / ENTRIES_PER_SECTOR;
+    let sectors = (entries.len() as u64).div_ceil(ENTRIES_PER_SECTOR);
+    for k in 0..sectors {
+        let bytes = entries_sector(entries, k as usize);
+        device.write(at + k, &bytes)?;
+    }
+    Ok(())
+}
+
+// The spelling of the k-th of these heads, or zeros behind the last one.
+fn head_piece(heads: &[Head], k: usize) -> [u8; HEAD_SIZE]
+    ensures { result ≡ head (slice_get heads.now k) }
+{
+    match heads.get(k) {
+        Some(found) => spell_head(&Some(*found)),
+        None => spell_head(&None),
+    }
+}
+
+// The sector of these heads.
+fn heads_sector(heads: &[Head]) -> [u8; SECTOR_SIZE]
+    ensures { (k : ℕ) → k < TXNS_MAX → cut result HEAD_SIZE k ≡ head (slice_get heads.now k) }
+{
+    let mut bytes = zero_sector();
+    for k in 0..TXNS_MAX {
+        let piece = head_piece(heads, k);
+        put_piece(&mut bytes, k, &piece);
+    }
+    bytes
+}
+
+/// Writes the transaction heads of the image that begins at sector `first`, of transactions in the order of their numbers.
+pub fn write_heads<D: Device>(device: &mut D, first: u64, heads: &[Head]) -> Result<(), Failed>
+    requires count { length heads.now ≤ TXNS_MAX }
+    requires fits { (k : ℕ) (h : Head) → slice_get heads.now k ≡ Some h → HeadFits h }
+    requires rising { (k : ℕ) (a b : Head) → slice_get heads.now k ≡ Some a → slice_get heads.now (k + 1) ≡ Some b → a.txn < b.txn }
+    requires inside { heads_at first < length (D.history device.old).disk.content }
+    requires number { heads_at first < 2 ^ 64 }
+    ensures written { OnOk result (AreHeads (sector (D.history device.new).disk.content (heads_at first)) heads.now) }
+    ensures outside { SameOutside (λ n. n ≡ heads_at first) (D.history device.old).disk.content (D.history device.new).disk.content }
+    ensures within { RunsWithin (λ n. (n ≡ heads_at first) ⊎ ((D.history device.old).disk.unsynced n ≡ true)) (D.history device.old).disk.content (D.history device.old) (D.history device.new) }
+    ensures counts { CountsFailure (D.failures device.old) (D.failures device.new) result }
+{
+    let bytes = heads_sector(heads);
+    device.write(first + HEADER_SECTORS, &bytes)
+}
+
+// The spelling of the change at this position, or zeros behind the last one.
+fn item_piece(changes: &[Change], position: usize) -> [u8; ITEM_SIZE]
+    ensures { (c : ChangeValue) → slice_get changes.now position ≡ Some c → IsItemPiece result (item_of c) }
+{
+    match changes.get(position) {
+        Some(change) => spell_item(&UndoItem {
+            rid: change.rid,
+            rows: change.rows,
+        }),
+        None => [0; ITEM_SIZE],
+    }
+}
+
+// The k-th sector of these changes.
+fn items_sector(changes: &[Change], k: usize) -> [u8; SECTOR_SIZE]
+    requires { ITEMS_PER_SECTOR * k < length changes.now }
+    ensures { (j : ℕ) (c : ChangeValue) → j < ITEMS_PER_SECTOR → slice_get changes.now (ITEMS_PER_SECTOR * k + j) ≡ Some c → IsItemPiece (cut result ITEM_SIZE j) (item_of c) }
+{
+    let mut bytes = zero_sector();
+    for j in 0..ITEMS_PER_SECTOR as usize {
+        let piece = item_piece(changes, ITEMS_PER_SECTOR as usize * k + j);
+        put_piece(&mut bytes, j, &piece);
+    }
+    bytes
+}
+
+/// Writes the changes of a head, numbered from 0, as undo items of the image that begins at sector `first`. Each sector is
+/// written once.
+pub fn write_list<D: Device>(
+    device: &mut D,
+    geometry: Geometry,
+    first: u64,
+    h: u64,
+    changes: &[Change],
+) -> Result<(), Failed>
+    requires head { h < TXNS_MAX }
+    requires count { length changes.now ≤ CHANGES_MAX }
+    requires positions { (p : ℕ) (c : ChangeValue) → slice_get changes.now p ≡ Some c → c.position ≡ p }
+    requires pages { (p : ℕ) (c : ChangeValue) → slice_get changes.now p ≡ Some c → c.rid.page < geometry.pages }
+    requires inside { page_at first 0 ≤ length (D.history device.old).disk.content }
+    requires number { page_at first 0 < 2 ^ 64 }
+    ensures written { OnOk result (HoldsList geometry first (D.history device.new).disk.content h changes.now) }
+    ensures outside { SameOutside (InList first h (length changes.now)) (D.history device.old).disk.content (D.history device.new).disk.content }
+    ensures within { RunsWithin (λ n. InList first h (length changes.now) n ⊎ ((D.history device.old).disk.unsynced n ≡ true)) (D.history device.old).disk.content (D.history device.old) (D.history device.new) }
+    ensures counts { CountsFailure (D.failures device.old) (D.failures device.new) result }
+{
+    let at = first + HEADER_SECTORS + HEADS_SECTORS + LIST_SECTORS * h;
+    let sectors = (changes.len() as u64).div_ceil(ITEMS_PER_SECTOR);
+    for k in 0..sectors {
+        let bytes = items_sector(changes, k as usize);
+        device.write(at + k, &bytes)?;
+    }
+    Ok(())
+}
