@@ -113,6 +113,10 @@ fn found(row: &Row) -> Reply {
     Reply::Row(Some(*row))
 }
 
+fn finds(rt: &impl Abort, key: &[u8]) -> Event {
+    Event::Find(Key::new(key).expect(rt, "a key"))
+}
+
 #[test]
 fn an_index_is_built_over_the_rows(rt: HostRuntime) {
     let mut core = new_core(&rt, rt.alloc(), 1, 64);
@@ -138,6 +142,11 @@ fn an_index_is_built_over_the_rows(rt: HostRuntime) {
             (Event::Build, Reply::Built(Ok(BuildReply::Idle))),
             (Event::Entry(0), live(&first)),
             (Event::Entry(1), live(&second)),
+            (
+                finds(&rt, b"a"),
+                Reply::Found(Ok((2, Some(at(0)), Some(at(1))))),
+            ),
+            (finds(&rt, b"c"), Reply::Found(Ok((0, None, None)))),
             (Event::Life, Reply::Life(Life::Complete)),
         ],
     );
@@ -170,6 +179,7 @@ fn a_deletion_behind_the_scan_leaves_a_marked_entry(rt: HostRuntime) {
             (Event::Entry(0), live(&first)),
             (Event::Entry(1), marked(&second)),
             (Event::Entry(2), Reply::Entry(None)),
+            (finds(&rt, b"b"), Reply::Found(Ok((0, None, None)))),
             (Event::Life, Reply::Life(Life::Complete)),
         ],
     );
@@ -246,11 +256,13 @@ fn an_index_is_created_once_and_with_no_transaction(rt: HostRuntime) {
         &rt,
         &mut core,
         &[
+            (finds(&rt, b"a"), Reply::Found(Err(Error::NoIndex))),
             (Event::Begin, begun(&rt, 1)),
             (Event::Create, Reply::Ticket(Err(Error::TxnsActive))),
             (Event::End(1), OK),
             (Event::Create, created(&rt, 2)),
             (Event::Create, Reply::Ticket(Err(Error::IndexExists))),
+            (finds(&rt, b"a"), Reply::Found(Err(Error::NotBuilt))),
         ],
     );
 }

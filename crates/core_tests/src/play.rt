@@ -5,7 +5,7 @@ ghost use Rattle.index_core.specs.Value.{value_of};
 
 use index_core::{BuildReply, CleanReply, Core, Ticket, Undone};
 use model::Life;
-use records::{Error, Mark, Pair, Rid, Row, Txn};
+use records::{Error, Key, Mark, Pair, Rid, Row, Txn};
 use std::alloc::Global;
 use std::process::Abort;
 
@@ -24,6 +24,7 @@ pub(crate) enum Event {
     Build,
     Clean,
     Get(Rid),
+    Find(Key),
     /// The entry that has so many before it.
     Entry(u32),
     Life,
@@ -40,6 +41,8 @@ pub(crate) enum Reply {
     Built(Result<BuildReply, Error>),
     Cleaned(Result<CleanReply, Error>),
     Row(Option<Row>),
+    /// How many places, and the first two of them.
+    Found(Result<(usize, Option<Rid>, Option<Rid>), Error>),
     Entry(Option<(Pair, Mark)>),
     Life(Life),
     /// What the call asks of its caller doesn't hold.
@@ -100,6 +103,13 @@ fn commit(core: &mut Core<Global>, txn: Txn) -> Reply {
     Reply::Ticket(core.commit(txn))
 }
 
+fn find(core: &Core<Global>, key: Key) -> Reply {
+    Reply::Found(match core.find(key) {
+        Ok(rids) => Ok((rids.len(), rids.first().copied(), rids.get(1).copied())),
+        Err(error) => Err(error),
+    })
+}
+
 // The entry that has so many before it.
 fn entry(core: &Core<Global>, before: u32) -> Option<(Pair, Mark)> {
     let mut entry = core.above(None);
@@ -135,6 +145,7 @@ pub(crate) fn serve(rt: &impl Abort, core: &mut Core<Global>, event: Event) -> R
         Event::Build => Reply::Built(core.build_step()),
         Event::Clean => Reply::Cleaned(core.clean_step()),
         Event::Get(rid) => Reply::Row(core.get(rid)),
+        Event::Find(key) => find(core, key),
         Event::Entry(before) => Reply::Entry(entry(core, before)),
         Event::Life => Reply::Life(core.life()),
         _ => of_txn(rt, core, event),
