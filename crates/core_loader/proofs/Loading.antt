@@ -156,6 +156,7 @@ module _ (g : GeometryValue) (given : Given) (inside : IsInside g.pages given) (
       begun = refl;
       active = refl;
       attempts = refl;
+      all_attempts = refl;
       commits = refl;
     };
     fit = opened_fit store fits;
