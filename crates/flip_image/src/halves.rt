@@ -175,6 +175,13 @@ impl Halves {
         self.current
     }
 
+    /// The sector of the header of the current half's image.
+    pub fn header_sector(&self) -> u64
+        ensures { result ≡ header_sector self.now.geometry self.now.current }
+    {
+        self.current.header_sector(self.geometry)
+    }
+
     /// The first sector of the current half's log, which has the geometry's slots and ends within the store.
     pub fn log_first(&self) -> u64
         ensures value { result ≡ log_first self.now.geometry self.now.current }
