@@ -1,16 +1,13 @@
 -- Laws of what records set, and of what is taken back.
-use Rattle.std.proofs.Common.{Option, ◌≡◌, ℕ, ◌-◌, List, [], ◌∷◌, ◌++◌, length, take, unwrap_or, cond, true, refl, sym, ap, ◌∙◌, arith, length-append}
+use Rattle.std.proofs.Common.{Option, ◌≡◌, ◌≢◌, ℕ, ◌-◌, List, [], ◌∷◌, ◌++◌, length, take, unwrap_or, true, refl, sym, ap, ◌∙◌, arith, length-append}
 use Rattle.std.proofs.Math.Seq.{take-append_seam, take-length}
-use Rattle.std.specs.Ordering.{eq_by_cmp}
 use Rattle.std.specs.FinMap as map
-use Rattle.records.specs.Values.{Place}
 use Rattle.records.specs.ChangeValue.{ChangeValue}
 use Rattle.records.specs.RecordValue.{RecordValue}
 use Rattle.records.specs.Spelling.{old_row, new_row}
-use Rattle.records.specs.Orders.{rid_cmp}
-use Rattle.records.specs.Maps.{set_at, rid_exact, nat_exact, get-set_at, get-set_at_same, set_at-again, set_at-get}
+use Rattle.records.specs.Maps.{set_at, rid_exact, nat_exact, get-set_at_same, get-set_at_other, set_at-again, set_at-get}
 use Rattle.model.specs.Table.{Table}
-use Rattle.model.specs.Cells.{Cells, cells_after, rows_after, set_by, Pending, list_of, with_list, reverted, found_at, changed, AreChanges, noted, taken_off}
+use Rattle.model.specs.Cells.{Cells, cells_after, rows_after, set_by, Pending, list_of, with_list, reverted, noted, taken_off}
 
 -- ---- records
 
@@ -31,6 +28,9 @@ rows-cells_after cells (r ∷ records) = rows-cells_after (set_by cells r.action
 pub list_of-with_list : (pending : Pending) (txn : ℕ) (list : Option (List ChangeValue)) → list_of (with_list pending txn list) txn ≡ unwrap_or list []
 list_of-with_list pending txn list = ap (λ o. unwrap_or o []) (get-set_at_same nat_exact pending txn list)
 
+pub list_of_other : (pending : Pending) (txn other : ℕ) (list : Option (List ChangeValue)) → other ≢ txn → list_of (with_list pending txn list) other ≡ list_of pending other
+list_of_other pending txn other list apart = ap (λ o. unwrap_or o []) (get-set_at_other nat_exact pending txn list other apart)
+
 -- ---- changes taken back
 
 pub reverted_one_more : (rows : Table) (changes : List ChangeValue) (c : ChangeValue) → reverted rows (changes ++ c ∷ []) ≡ reverted (set_at rows c.rid (old_row c.rows)) changes
@@ -44,16 +44,6 @@ made_and_taken rows c was =
 pub reverted_made : (rows : Table) (changes : List ChangeValue) (c : ChangeValue) → map.get rows c.rid ≡ old_row c.rows → reverted (set_at rows c.rid (new_row c.rows)) (changes ++ c ∷ []) ≡ reverted rows changes
 reverted_made rows changes c was =
     reverted_one_more (set_at rows c.rid (new_row c.rows)) changes c ∙ ap (λ (t : Table). reverted t changes) (made_and_taken rows c was)
-
-pub reverted-changed : (rows : Table) (changes : List ChangeValue) → AreChanges rows changes → reverted (changed rows changes) changes ≡ rows
-reverted-changed rows [] h = refl
-reverted-changed rows (c ∷ changes) h =
-    ap (λ (t : Table). set_at t c.rid (old_row c.rows)) (reverted-changed (set_at rows c.rid (new_row c.rows)) changes h.1) ∙ made_and_taken rows c h.0
-
-pub get-reverted : (rows : Table) (changes : List ChangeValue) (q : Place) → map.get (reverted rows changes) q ≡ found_at changes q (map.get rows q)
-get-reverted rows [] q = refl
-get-reverted rows (c ∷ changes) q =
-    get-set_at rid_exact (reverted rows changes) c.rid (old_row c.rows) q ∙ ap (cond (eq_by_cmp rid_cmp q c.rid) (old_row c.rows)) (get-reverted rows changes q)
 
 pub ruleset taking_back = (reverted_one_more, reverted_made)
 

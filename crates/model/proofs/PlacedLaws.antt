@@ -8,8 +8,7 @@ use Rattle.records.specs.declared.record.Action.{Action}
 use Rattle.records.specs.declared.record.Action.TheVariants.{OfTxn, OfIndex}
 use Rattle.model.specs.Cells.{Cells, Pending, cells_after, set_by, list_of, with_list, noted, taken_off}
 use Rattle.model.specs.Following.{IsLastOf, CanFollowBy, AreFollowing, ArePlaced}
-use Rattle.model.proofs.CellsLaws.{list_of-with_list, noted_first, noted_again, taken_off_last}
-use Rattle.model.proofs.ListLaws.{list_of_other}
+use Rattle.model.proofs.CellsLaws.{list_of-with_list, list_of_other, noted_first, noted_again, taken_off_last}
 
 module _ (pages : ℕ) where
   pub placed_one_more : (n : ℕ) (xs : List ChangeValue) (c : ChangeValue) → ArePlaced pages n xs → c.position ≡ n + length xs → c.rid.page < pages → ArePlaced pages n (xs ++ c ∷ [])

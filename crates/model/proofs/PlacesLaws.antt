@@ -1,13 +1,12 @@
 -- Rows that following records leave are in the store's pages, and so are those that a restart makes of them.
-use Rattle.std.proofs.Common.{◌≡◌, ℕ, ◌+◌, ◌<◌, Bool, true, false, cond, List, [], ◌∷◌, All, Option, Some, None, unwrap_or, inl, inr, refl, sym, ap, subst, ◌∙◌}
+use Rattle.std.proofs.Common.{◌≡◌, ℕ, ◌<◌, Bool, true, false, cond, List, [], ◌∷◌, All, Option, unwrap_or, inl, inr, refl, sym, ap, subst, ◌∙◌}
 use Rattle.std.proofs.lemmas.Bool.{cases_eq}
 use Rattle.std.proofs.lemmas.List.Elements.{All-nil, All-head, All-tail, All-append, All-cons, All-take, All-same}
 use Rattle.std.specs.List.{AllByRecursion}
-use Rattle.std.specs.Ordering.{nat_cmp, eq_by_cmp}
+use Rattle.std.specs.Ordering.{eq_by_cmp}
 use Rattle.std.specs.FinMap as map
 use Rattle.records.specs.Values.{Place}
 use Rattle.records.specs.ChangeValue.{ChangeValue}
-use Rattle.records.specs.RecordValue.{RecordValue}
 use Rattle.records.specs.Spelling.{old_row, new_row}
 use Rattle.records.specs.Orders.{rid_cmp}
 use Rattle.records.specs.Maps.{set_at, rid_exact, key_is, get-set_at}
@@ -18,12 +17,10 @@ use Rattle.records.specs.declared.record.TxnAction.TheVariants.{Forward, Undo, C
 use Rattle.records.specs.declared.record.Action.{Action}
 use Rattle.records.specs.declared.record.Action.TheVariants.{OfTxn, OfIndex}
 use Rattle.model.specs.Table.{Table}
-use Rattle.model.specs.Cells.{Cells, Pending, list_of, with_list, list_by, taken_off, rows_by_txn, reverted, set_by, cells_after}
+use Rattle.model.specs.Cells.{Cells, Pending, list_of, with_list, list_by, taken_off, rows_by_txn, reverted, set_by}
 use Rattle.model.specs.Recovery.{all_reverted, recovered_rows}
-use Rattle.model.specs.Prefixes.{at_rest}
-use Rattle.model.specs.Following.{CanFollowTxn, CanFollowBy, AreFollowing, IsWithin}
-use Rattle.model.proofs.CellsLaws.{list_of-with_list}
-use Rattle.model.proofs.CommittedLaws.{list_of_other}
+use Rattle.model.specs.Following.{CanFollowTxn, CanFollowBy, IsWithin}
+use Rattle.model.proofs.CellsLaws.{list_of-with_list, list_of_other}
 use Rattle.model.proofs.RecoveryLaws.{each_named}
 
 module _ (pages : ℕ) where
@@ -94,25 +91,3 @@ module _ (pages : ℕ) where
     with_list_here cells.pending txn (list_by (list_of cells.pending txn) action) (list_here cells txn action (list_of cells.pending txn) can (is.1 txn)) is.1,
   )
   step_in cells (OfIndex action) can is = is
-
-  after_in : (last : ℕ) (cells : Cells) (records : List RecordValue) → AreFollowing pages last cells records → AreIn cells → AreIn (cells_after cells records)
-  after_in last cells [] following is = is
-  after_in last cells (r ∷ records) following is = after_in (last + 1) (set_by cells r.action) records following.1 (step_in cells r.action following.0.allowed is)
-
-  pub following_within : (last : ℕ) (cells : Cells) (records : List RecordValue) → AreFollowing pages last cells records → AreHere cells.pending → IsWithin pages cells.rows
-      → IsWithin pages (recovered_rows (cells_after cells records))
-  following_within last cells records following here is =
-      let all = after_in last cells records following (is, here) in
-      recovered_within (cells_after cells records) all.1 all.0
-
--- over no rows
-pub records_within : (pages last : ℕ) (records : List RecordValue) → AreFollowing pages last (at_rest map.empty) records → IsWithin pages (recovered_rows (cells_after (at_rest map.empty) records))
-records_within pages last records following =
-    following_within pages last (at_rest map.empty) records following (λ txn. All-same (λ (c : ChangeValue). c.rid.page < pages) _ _ (no_list txn) (All-nil (λ (c : ChangeValue). c.rid.page < pages)))
-    (λ q row found. absurd (nothing q row found))
-  where
-    no_list : (txn : ℕ) → list_of map.empty txn ≡ []
-    no_list txn = ap (λ o. unwrap_or o []) (map.get-empty nat_cmp txn)
-
-    nothing : (q : Place) (row : Row) → map.get {R = rid_cmp} map.empty q ≡ Some row → ⊥
-    nothing q row found = let none : map.get {X = Row} {R = rid_cmp} map.empty q ≡ None = map.get-empty rid_cmp q in absurd cc

@@ -11,6 +11,7 @@ use Rattle.model.specs.Pairs.{is_indexed, new_pair, old_pair, with_entry}
 use Rattle.model.specs.Recovery.{recovered_rows}
 use Rattle.model.specs.Table.{Index, IsPairOf, Table}
 use Rattle.model.specs.declared.life.Life.{Life}
+use Rattle.model.specs.declared.life.Life.TheVariants.{Absent}
 
 -- rows, entries, the index's life with the pair that was checkpointed last, and the number of the last record
 pub record Given : Type 0 where
@@ -18,6 +19,10 @@ pub record Given : Type 0 where
   pub entries : Index
   pub life : Life
   pub last : ℕ
+
+-- no row, no entry, no index and no record
+abbrev pub nothing : Given
+nothing = record { table = map.empty; entries = map.empty; life = Absent; last = 0 }
 
 -- ---- the entries with changes taken back
 

@@ -5,7 +5,6 @@ pub mod History
 pub mod Committed
 pub mod Lists
 pub mod Recovery
-pub mod Prefixes
 pub mod Following
 pub mod Redo
 pub mod Pairs

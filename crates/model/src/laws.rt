@@ -1,7 +1,7 @@
 //! Laws of the definitions, for the crates above.
 ghost use Rattle.std.specs.Prelude.{◌≡◌, ◌<◌, ◌≤◌, ◌+◌, ◌++◌, [], ◌∷◌, ℕ, List, take, length};
 ghost use Rattle.std.specs.FinMap as map;
-ghost use Rattle.std.specs.Prelude.{Option, Some, None, true};
+ghost use Rattle.std.specs.Prelude.{Option, Some, true};
 ghost use Rattle.records.specs.Values.{Place};
 ghost use Rattle.records.specs.declared.row.Row.{Row};
 ghost use Rattle.records.specs.ChangeValue.{ChangeValue};
@@ -10,23 +10,17 @@ ghost use Rattle.records.specs.Spelling.{old_row, new_row};
 ghost use Rattle.records.specs.Maps.{set_at};
 ghost use Rattle.model.specs.declared.write.Write.{Write};
 ghost use Rattle.model.specs.declared.life.Life.{Life};
-ghost use Rattle.model.specs.Table.{Table, applied, written_at};
+ghost use Rattle.model.specs.Table.{Table, applied};
 ghost use Rattle.model.specs.Images.{IsCopied};
 ghost use Rattle.model.specs.Given.{Given, IsBeginning, given_after, opening_cells, recovered};
 ghost use Rattle.records.specs.declared.pair.Pair.{Pair};
 ghost use Rattle.records.specs.declared.pair.Mark.TheVariants.{Live};
 ghost use Rattle.model.specs.Table.{IsPairOf};
-ghost use Rattle.model.specs.Committed.{IsCommitted, IsHeldByNoOther, touches, writes_of};
-ghost use Rattle.model.specs.Recovery.{IsExclusive, recovered_rows};
-ghost use Rattle.model.specs.Prefixes.{TellsHistory, at_rest};
-ghost use Rattle.records.specs.declared.record.Action.TheVariants.{OfTxn};
-ghost use Rattle.records.specs.declared.record.TxnAction.TheVariants.{Forward, Undo, Commit, End};
-ghost use Rattle.records.specs.declared.record.Part.TheVariants.{Slot};
-ghost use Rattle.model.specs.Cells.{Cells, cells_after, rows_after, set_by, reverted, changed, AreChanges, Pending, list_of, with_list, noted, taken_off};
+ghost use Rattle.model.specs.Cells.{Cells, cells_after, rows_after, set_by, reverted, list_of, noted, taken_off};
 ghost use Rattle.records.specs.declared.record.Action.{Action};
 ghost use Rattle.model.specs.Inside.{AreInside, IsInside};
-ghost use Rattle.model.specs.Following.{CanFollow, CanFollowBy, AreFollowing, ArePlaced, IsFirstUnfit, IsWithin};
-ghost use Rattle.model.specs.History.{Item, Committed, table_after, table_with, life_after, life_with, up_to, AreRising};
+ghost use Rattle.model.specs.Following.{CanFollow, CanFollowBy, AreFollowing, ArePlaced, IsFirstUnfit};
+ghost use Rattle.model.specs.History.{Item, table_after, table_with, life_after, life_with, up_to, AreRising};
 
 /// A record after others sets its cells last.
 pub fn one_more_record()
@@ -57,11 +51,6 @@ pub fn listed_changes()
     ensures last { (changes : List ChangeValue) (c : ChangeValue) → taken_off (changes ++ c ∷ []) true ≡ changes }
 {}
 
-/// Changes that found what was there are taken back to it.
-pub fn unfinished_changes()
-    ensures { (rows : Table) (changes : List ChangeValue) → AreChanges rows changes → reverted (changed rows changes) changes ≡ rows }
-{}
-
 /// A commit after another applies last.
 pub fn commit_order()
     ensures { (table : Table) (writes later : List Write) → applied table (writes ++ later) ≡ applied (applied table writes) later }
@@ -70,38 +59,6 @@ pub fn commit_order()
 /// What was set at a place is there.
 pub fn set_is_there()
     ensures { (table : Table) (r : Place) (x : Option Row) → map.get (set_at table r x) r ≡ x }
-{}
-
-/// The committed table: a change that found its row leaves it, and a commit
-/// applies its transaction's writes.
-pub fn committed_table()
-    ensures step { (rows : Table) (pending : Pending) (table : Table) (txn : ℕ) (c : ChangeValue) → IsCommitted rows pending table → map.get rows c.rid ≡ old_row c.rows → IsHeldByNoOther pending txn c.rid → IsCommitted (set_at rows c.rid (new_row c.rows)) (with_list pending txn (Some (list_of pending txn ++ c ∷ []))) table }
-    ensures set { (rows : Table) (pending : Pending) (table : Table) (txn : ℕ) (place : Place) (row : Option Row) → IsCommitted rows pending table → touches (list_of pending txn) place ≡ true → IsHeldByNoOther pending txn place → IsCommitted (set_at rows place row) pending table }
-    ensures off { (rows : Table) (pending : Pending) (table : Table) (txn : ℕ) (changes : List ChangeValue) (c : ChangeValue) → IsCommitted rows pending table → list_of pending txn ≡ changes ++ c ∷ [] → map.get rows c.rid ≡ old_row c.rows → IsHeldByNoOther pending txn c.rid → IsCommitted rows (with_list pending txn (Some changes)) table }
-    ensures commit { (rows : Table) (pending : Pending) (table : Table) (txn : ℕ) → IsCommitted rows pending table → ((q : Place) → touches (list_of pending txn) q ≡ true → IsHeldByNoOther pending txn q) → ((q : Place) → touches (list_of pending txn) q ≡ true → written_at (writes_of (list_of pending txn)) q (map.get table q) ≡ map.get rows q) → IsCommitted rows (with_list pending txn None) (applied table (writes_of (list_of pending txn))) }
-{}
-
-/// Where no place is changed by two transactions, taking every unfinished one
-/// back gives the committed table.
-pub fn recovery()
-    ensures { (cells : Cells) (table : Table) → IsExclusive cells.pending → IsCommitted cells.rows cells.pending table → recovered_rows cells ≡ table }
-{}
-
-/// The history that records tell goes on by a forward step on a row, which
-/// found the row that was there, by a commit, by the undo of a transaction's
-/// last change, and by the end of a transaction that has no change left.
-pub fn told_history()
-    ensures first { (table : Table) (base : ℕ) → TellsHistory table base [] [] }
-    ensures row { (table : Table) (base : ℕ) (records : List RecordValue) (items : List Item) (r : RecordValue) (txn : ℕ) (c : ChangeValue) → TellsHistory table base records items
-        → r.action ≡ OfTxn txn (Forward Slot c) → c.position ≡ length (list_of (cells_after (at_rest table) records).pending txn) → map.get (cells_after (at_rest table) records).rows c.rid ≡ old_row c.rows
-        → IsHeldByNoOther (cells_after (at_rest table) records).pending txn c.rid → TellsHistory table base (records ++ r ∷ []) items }
-    ensures commit { (table : Table) (base : ℕ) (records : List RecordValue) (items : List Item) (r : RecordValue) (txn : ℕ) → TellsHistory table base records items
-        → r.action ≡ OfTxn txn Commit → r.number ≡ base + length records + 1
-        → TellsHistory table base (records ++ r ∷ []) (items ++ record { number = r.number; deed = Committed (writes_of (list_of (cells_after (at_rest table) records).pending txn)) } ∷ []) }
-    ensures undo { (table : Table) (base : ℕ) (records : List RecordValue) (items : List Item) (r : RecordValue) (txn : ℕ) (changes : List ChangeValue) (c : ChangeValue) → TellsHistory table base records items
-        → r.action ≡ OfTxn txn (Undo Slot c true) → list_of (cells_after (at_rest table) records).pending txn ≡ changes ++ c ∷ [] → TellsHistory table base (records ++ r ∷ []) items }
-    ensures end { (table : Table) (base : ℕ) (records : List RecordValue) (items : List Item) (r : RecordValue) (txn : ℕ) → TellsHistory table base records items
-        → r.action ≡ OfTxn txn End → list_of (cells_after (at_rest table) records).pending txn ≡ [] → TellsHistory table base (records ++ r ∷ []) items }
 {}
 
 /// Records follow one another where each part of them does, behind what the parts before it left, and not where one
@@ -119,11 +76,6 @@ pub fn following_records()
     ensures placed { (pages last : ℕ) (cells : Cells) (records : List RecordValue) → AreFollowing pages last cells records
         → ((txn : ℕ) → ArePlaced pages 0 (list_of cells.pending txn)) → (txn : ℕ) → ArePlaced pages 0 (list_of (cells_after cells records).pending txn) }
     ensures first { (pages last : ℕ) (cells : Cells) (records : List RecordValue) (m n : ℕ) → IsFirstUnfit pages last cells records m → IsFirstUnfit pages last cells records n → m ≡ n }
-{}
-
-/// What a restart makes of records that follow one another over no rows is in the store's pages.
-pub fn recovered_places()
-    ensures { (pages last : ℕ) (records : List RecordValue) → AreFollowing pages last (at_rest map.empty) records → IsWithin pages (recovered_rows (cells_after (at_rest map.empty) records)) }
 {}
 
 /// Records that are redone over an image that was copied while they were made give the cells that they were made in, once all

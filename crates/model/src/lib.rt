@@ -16,9 +16,8 @@ pub use cell_maps::{CellMaps, Recovered, Redone};
 pub use entry_map::EntryMap;
 pub use key_action::{KeyAction, after_action};
 pub use laws::{
-    beginnings, commit_order, committed_table, copied_image, following_records, inside_pages,
-    listed_changes, one_more_change, one_more_item, one_more_record, recovered_places, recovery,
-    set_is_there, told_history, unfinished_changes,
+    beginnings, commit_order, copied_image, following_records, inside_pages, listed_changes,
+    one_more_change, one_more_item, one_more_record, set_is_there,
 };
 pub use life::Life;
 pub use list_map::ListMap;
