@@ -1,2 +1,3 @@
 mod Moved
 mod Loading
+pub mod Laws

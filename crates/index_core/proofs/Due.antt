@@ -12,7 +12,7 @@ use Rattle.core_contracts.specs.Replies.{HasNoPlace, IsAllowed, IsDue, IsFirst, 
 use Rattle.core_contracts.specs.Served.{IsMove}
 use Rattle.index_core.specs.declared.parts.Ticket.{Ticket}
 use Rattle.index_core.specs.Replies.{ticket_by, ticketed}
-use Rattle.index_core.specs.View.{Answers, CoreValue, IsSafe, Serves, Shows}
+use Rattle.index_core.specs.View.{Answers, CoreValue, IsSafe, IsState, Serves, Shows}
 
 -- a call that was refused, or that only reads, leaves the core as it was
 pub still : (v : CoreValue) (s : State) (k : Standing) (e : Event) (reply : Reply) → Shows v s k → standing_after k reply ≡ k → IsAllowed s k e reply None → Answers v s k e reply v
@@ -82,8 +82,12 @@ counted k (LifeIs life) h = h
 counted k Skipped h = h
 counted k (Refused error) h = h
 
+pub stands : (old new : CoreValue) (s : State) (k : Standing) (e : Event) (reply : Reply) → IsState old s k → (a : Answers old s k e reply new) → IsState new (after_any s a.step) (standing_after k reply)
+stands old new s k e reply is a =
+    let m : IsMove s k a.step (standing_after k reply) = is_move s k e reply a.step is.fit is.standing a.allowed in
+    record { shown = a.shown; fit = m.fit; standing = m.standing; counted = counted k reply is.counted }
+
 pub stays_safe : (old : CoreValue) (e : Event) (reply : Reply) (new : CoreValue) → Serves old e reply new → IsSafe old → IsSafe new
 stays_safe old e reply new serves safe =
     let a : Answers old safe.state safe.standing e reply new = serves safe.state safe.standing safe.is in
-    let m : IsMove safe.state safe.standing a.step (standing_after safe.standing reply) = is_move safe.state safe.standing e reply a.step safe.is.fit safe.is.standing a.allowed in
-    record { state = after_any safe.state a.step; standing = standing_after safe.standing reply; is = record { shown = a.shown; fit = m.fit; standing = m.standing; counted = counted safe.standing reply safe.is.counted } }
+    record { state = after_any safe.state a.step; standing = standing_after safe.standing reply; is = stands old new safe.state safe.standing e reply safe.is a }

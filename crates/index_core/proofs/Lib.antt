@@ -17,3 +17,5 @@ mod Finding
 mod Waiting
 mod Stepped
 mod Undoing
+mod Skipping
+pub mod Offered

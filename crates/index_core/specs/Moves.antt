@@ -43,6 +43,16 @@ abbrev pub IsReadyOrNone : Option TxnState → Type 0
 IsReadyOrNone None = Unit {0}
 IsReadyOrNone (Some x) = x.progress ≡ Ready
 
+-- it is active, and owes a step or is rolling back
+abbrev pub IsUnready : Option TxnState → Type 0
+IsUnready None = ⊥
+IsUnready (Some x) = x.progress ≢ Ready
+
+-- it is active, and owes no step of a change
+abbrev pub OwesNone : Option TxnState → Type 0
+OwesNone None = ⊥
+OwesNone (Some x) = (x.progress ≢ OwesRow) × (x.progress ≢ OwesEntry)
+
 abbrev pub changes_of : Option TxnState → ℕ
 changes_of None = 0
 changes_of (Some x) = length x.changes

@@ -6,6 +6,7 @@ mod build;
 mod clean;
 mod create;
 mod find;
+mod laws;
 mod load;
 mod outbox;
 mod owed;
@@ -15,6 +16,7 @@ mod step;
 mod store;
 mod undo;
 
+pub use laws::{each_answer, skipped_events};
 pub use parts::Ticket;
 pub use reply::{BuildReply, CleanReply, Owed, Undone};
 pub use store::Core;

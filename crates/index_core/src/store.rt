@@ -100,6 +100,13 @@ impl<A: Allocator + Copy> Core<A> {
         self.parts.life
     }
 
+    /// The number of the last record made, or of the last one before the core was made.
+    pub fn last(&self) -> u64
+        ensures { result ≡ (value_of self.now).last }
+    {
+        self.parts.last
+    }
+
     /// How many attempts the builder has made since the core was made: each that was placed or
     /// rejected, and no refused one. It never falls, and stays at 2^64 - 1.
     pub fn attempts(&self) -> u64
