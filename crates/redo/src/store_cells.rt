@@ -1,5 +1,5 @@
 //! The cells of a store.
-ghost use Rattle.std.specs.Prelude.{◌≡◌, ◌<◌, ◌≤◌, ◌↔◌, ◌+◌, Err, take, OnOk, OnErr, IfOk, IfErr};
+ghost use Rattle.std.specs.Prelude.{◌≡◌, ◌<◌, ◌≤◌, ◌↔◌, ◌+◌, Err, length, take, OnOk, OnErr, IfOk, IfErr};
 ghost use Rattle.records.specs.declared.number.TheConstants.{LAST_NUMBER};
 ghost use Rattle.model.specs.Following.{AreFollowing, IsFirstUnfit};
 ghost use Rattle.model.specs.Given.{recovered};
@@ -122,8 +122,10 @@ impl<A: Allocator + Copy> StoreCells<A> {
     pub fn redo_all(&mut self, records: &[Record]) -> Result<(), Stopped>
         ensures following { OnOk result (AreFollowing self.old.geometry.pages self.old.last self.old.cells records.now) }
         ensures ok { OnOk result (self.new ≡ after_records self.old records.now) }
+        ensures inside { IfErr result (λ s. s.index < length records.now) }
         ensures unfit { IfErr result (λ s. s.why ≡ Refusal.Unfit → IsFirstUnfit self.old.geometry.pages self.old.last self.old.cells records.now s.index) }
         ensures no_memory { IfErr result (λ s. s.why ≡ Refusal.NoMemory → AreFollowing self.old.geometry.pages self.old.last self.old.cells (take (s.index + 1) records.now)) }
+        ensures index { IfErr result (λ s. s.index < length records.now) }
         ensures before { IfErr result (λ s. self.new ≡ after_records self.old (take s.index records.now)) }
     {
         for (index, record) in records.iter().enumerate() {
