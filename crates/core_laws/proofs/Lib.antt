@@ -1,0 +1,6 @@
+mod Standing
+mod Opening
+mod Holding
+mod Levels
+mod Ordered
+mod Deciding

@@ -1,0 +1,4 @@
+pub mod Calls
+pub mod Openings
+pub mod Holds
+pub mod Decided

@@ -1,0 +1,66 @@
+//! Laws of the core with its index: what holds after any list of calls, of any transactions, the builder and the cleaner.
+//!
+//! They follow from what the methods of `index_core` promise alone, one call after another, and speak of no device.
+#![tactic(auto)]
+
+ghost use Rattle.std.specs.Prelude.{◌≡◌, ◌≢◌, ◌≤◌, ◌+◌, ◌++◌, [], ◌∷◌, ℕ, List, Option, length, take};
+ghost use Rattle.std.specs.FinMap.{len};
+ghost use Rattle.records.specs.GeometryValue.{GeometryValue};
+ghost use Rattle.records.specs.RecordValue.{RecordValue};
+ghost use Rattle.records.specs.declared.error.Error.{Error};
+ghost use Rattle.records.specs.declared.number.TheConstants.{LAST_NUMBER};
+ghost use Rattle.model.specs.Given.{Given, IsBeginning, given_after};
+ghost use Rattle.model.specs.Inside.{IsInside};
+ghost use Rattle.model.specs.declared.life.Life.TheVariants.{Complete};
+ghost use Rattle.core_model.specs.States.{State};
+ghost use Rattle.core_model.specs.Steps.{MachineStep};
+ghost use Rattle.core_model.specs.Histories.{CanOpen, Opened, no_writes};
+ghost use Rattle.core_contracts.specs.Events.{Event, Refused, Reply, Standing};
+ghost use Rattle.core_contracts.specs.Replies.{IsAllowed};
+ghost use Rattle.core_contracts.specs.Served.{items_of};
+ghost use Rattle.core_loader.specs.Loaded.{holding};
+ghost use Rattle.index_core.specs.Moves.{fresh};
+ghost use Rattle.index_core.specs.Outbox.{HandsOn};
+ghost use Rattle.index_core.specs.View.{CoreValue, Serves};
+ghost use Rattle.core_laws.specs.Calls.{BeginsWith, Calls, HasReplied};
+ghost use Rattle.core_laws.specs.Decided.{IsDecided};
+ghost use Rattle.core_laws.specs.Openings.{empty_after, store_with};
+ghost use Rattle.core_laws.specs.Holds.{HoldsHistory, ShowsRows};
+
+/// A law: a core that was loaded with what fits its store begins with that, and one that was just made with nothing, which is
+/// something to begin with.
+pub fn each_opening()
+    ensures loaded { (g : GeometryValue) (given : Given) → IsInside g.pages given → len given.entries ≤ g.entries → given.last ≤ LAST_NUMBER → BeginsWith (store_with g given) (holding g given) }
+    ensures made { (g : GeometryValue) (base : ℕ) → base ≤ LAST_NUMBER → BeginsWith (store_with g (empty_after base)) (fresh g base) }
+    ensures opens { (g : GeometryValue) (base : ℕ) → CanOpen (store_with g (empty_after base)) }
+{}
+
+/// A law: one call more. The core has replied to nothing when it begins; a reply that its method's contract admits is one
+/// that is allowed, and its record, if it made one, waits behind the others; and to hand records on changes nothing else.
+pub fn each_call()
+    ensures begins { (o : Opened) (v : CoreValue) → BeginsWith o v → HasReplied o [] [] v }
+    ensures replies { (o : Opened) → CanOpen o → (pairs : List (Event × Reply)) (handed : List RecordValue) (v : CoreValue) → HasReplied o pairs handed v
+        → (e : Event) (reply : Reply) (new : CoreValue) → Serves v e reply new → HasReplied o (pairs ++ (e, reply) ∷ []) handed new }
+    ensures hands_on { (o : Opened) (pairs : List (Event × Reply)) (handed : List RecordValue) (v : CoreValue) → HasReplied o pairs handed v
+        → (new : CoreValue) (before after : List RecordValue) (on : HandsOn v new before after) → HasReplied o pairs (handed ++ on.handed) new }
+{}
+
+/// A law: after any list of calls every reply was allowed as it was given, and the core holds what the history of
+/// these events and replies tells. With a complete index and no active transaction the visible entries are just the pairs of the
+/// rows. And wherever its records stop, a beginning of the history is recovered of them.
+pub fn any_calls()
+    ensures replied { (o : Opened) → CanOpen o → (v : CoreValue) → BeginsWith o v → (pairs : List (Event × Reply)) (handed : List RecordValue) (new : CoreValue) → Calls v pairs handed new → HasReplied o pairs handed new }
+    ensures holds { (o : Opened) → CanOpen o → (v : CoreValue) → BeginsWith o v → (pairs : List (Event × Reply)) (handed : List RecordValue) (new : CoreValue) → Calls v pairs handed new → HoldsHistory o (items_of no_writes pairs) new }
+    ensures complete { (o : Opened) → CanOpen o → (v : CoreValue) → BeginsWith o v → (pairs : List (Event × Reply)) (handed : List RecordValue) (new : CoreValue) → Calls v pairs handed new
+        → new.life ≡ Complete → new.txns.active ≡ [] → ShowsRows new }
+    ensures numbers { (o : Opened) → CanOpen o → (v : CoreValue) → BeginsWith o v → (pairs : List (Event × Reply)) (handed : List RecordValue) (new : CoreValue) → Calls v pairs handed new
+        → new.last ≡ o.given.last + length (handed ++ new.outbox) }
+    ensures recovers { (o : Opened) → CanOpen o → (v : CoreValue) → BeginsWith o v → (pairs : List (Event × Reply)) (handed : List RecordValue) (new : CoreValue) → Calls v pairs handed new
+        → (n : ℕ) → n ≤ length (handed ++ new.outbox) → IsBeginning o.given (items_of no_writes pairs) (o.given.last + n) (given_after o.given (take n (handed ++ new.outbox))) }
+{}
+
+/// A law: in a state an event that the state decides has one reply, made by one step, unless memory is wanted.
+pub fn one_reply()
+    ensures { (s : State) (k : Standing) (e : Event) → IsDecided e → (reply other : Reply) (step next : Option MachineStep) → IsAllowed s k e reply step → IsAllowed s k e other next
+        → reply ≢ Refused Error.NoMemory → other ≢ Refused Error.NoMemory → (reply ≡ other) × (step ≡ next) }
+{}
