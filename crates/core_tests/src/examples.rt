@@ -1,121 +1,17 @@
 //! Worked examples.
+use crate::answers::{
+    EMPTY, OK, UNDONE, at, begun, byte, checkpointed, cleaned, committed, created, done, finds,
+    found, inserted, inserts, kept, live, marked, new_core, pair, place, placed, rejected, row,
+    scanned, wrapped,
+};
 use crate::play::{Event, Reply, play};
-use index_core::{BuildReply, CleanReply, Core, Ticket, Undone};
+use crate::refusals::{Example, refuse_each};
+use index_core::BuildReply;
 use model::Life;
-use records::{Body, Error, Geometry, Key, Mark, Pair, RecordNumber, Rid, Row, Txn};
-use std::alloc::Global;
+use records::Error;
+use std::alloc::{AllocError, Global};
 use std::process::Abort;
-
-const OK: Reply = Reply::Changed(Ok(()));
-
-const UNDONE: Reply = Reply::Undone(Ok(Undone::Step));
-
-const EMPTY: Reply = Reply::Undone(Ok(Undone::Empty));
-
-fn new_core(rt: &impl Abort, alloc: Global, pages: u32, entries: u32) -> Core<Global> {
-    let geometry = Geometry::new(pages, entries, 4).expect(rt, "a geometry");
-    Core::new(alloc, geometry, 0).expect(rt, "a core")
-}
-
-fn row(rt: &impl Abort, key: &[u8], body: &[u8]) -> Row {
-    Row {
-        key: Key::new(key).expect(rt, "a key"),
-        body: Body::new(body).expect(rt, "a body"),
-    }
-}
-
-fn at(slot: u16) -> Rid {
-    let slot = slot % 63;
-    Rid { page: 0, slot }
-}
-
-fn pair(rt: &impl Abort, key: &[u8], rid: Rid) -> Pair {
-    let key = Key::new(key).expect(rt, "a key");
-    Pair { key, rid }
-}
-
-fn number(rt: &impl Abort, number: u64) -> RecordNumber {
-    RecordNumber::new(number).expect(rt, "a number")
-}
-
-// The replies, by the numbers that they tell.
-
-fn begun(rt: &impl Abort, txn: u64) -> Reply {
-    Reply::Begun(Ok(Txn::new(txn).expect(rt, "a transaction")))
-}
-
-fn inserted(slot: u16) -> Reply {
-    Reply::Inserted(Ok(at(slot)))
-}
-
-fn committed(rt: &impl Abort, record: u64, commit: u64) -> Reply {
-    let (record, commit) = (number(rt, record), Some(commit));
-    Reply::Ticket(Ok(Ticket { record, commit }))
-}
-
-fn ticket(rt: &impl Abort, record: u64) -> Ticket {
-    let record = number(rt, record);
-    Ticket {
-        record,
-        commit: None,
-    }
-}
-
-fn created(rt: &impl Abort, record: u64) -> Reply {
-    Reply::Ticket(Ok(ticket(rt, record)))
-}
-
-fn scanned(page: u32) -> Reply {
-    Reply::Built(Ok(BuildReply::Scanned(page)))
-}
-
-fn placed(pair: &Pair) -> Reply {
-    Reply::Built(Ok(BuildReply::Placed(*pair)))
-}
-
-fn rejected(pair: &Pair) -> Reply {
-    Reply::Built(Ok(BuildReply::Rejected(*pair)))
-}
-
-fn done(rt: &impl Abort, record: u64) -> Reply {
-    Reply::Built(Ok(BuildReply::Done(ticket(rt, record))))
-}
-
-fn live(pair: &Pair) -> Reply {
-    Reply::Entry(Some((*pair, Mark::Live)))
-}
-
-fn marked(pair: &Pair) -> Reply {
-    Reply::Entry(Some((*pair, Mark::Marked)))
-}
-
-fn checkpointed(rt: &impl Abort, pair: &Pair, record: u64) -> Reply {
-    Reply::Built(Ok(BuildReply::Marked(*pair, ticket(rt, record))))
-}
-
-fn cleaned(pair: &Pair) -> Reply {
-    Reply::Cleaned(Ok(CleanReply::Cleaned(*pair)))
-}
-
-fn kept(pair: &Pair) -> Reply {
-    Reply::Cleaned(Ok(CleanReply::Kept(*pair)))
-}
-
-fn wrapped() -> Reply {
-    Reply::Cleaned(Ok(CleanReply::Wrapped))
-}
-
-fn inserts(txn: u64, row: &Row) -> Event {
-    Event::Insert(txn, *row)
-}
-
-fn found(row: &Row) -> Reply {
-    Reply::Row(Some(*row))
-}
-
-fn finds(rt: &impl Abort, key: &[u8]) -> Event {
-    Event::Find(Key::new(key).expect(rt, "a key"))
-}
+use std::test::Fail;
 
 #[test]
 fn an_index_is_built_over_the_rows(rt: HostRuntime) {
@@ -153,14 +49,13 @@ fn an_index_is_built_over_the_rows(rt: HostRuntime) {
 }
 
 #[test]
-fn a_deletion_behind_the_scan_leaves_a_marked_entry(rt: HostRuntime) {
-    let mut core = new_core(&rt, rt.alloc(), 1, 64);
+fn a_deletion_behind_the_scan_leaves_a_marked_entry(rt: HostRuntime) -> Result<(), Fail> {
     let (a, b) = (row(&rt, b"a", b""), row(&rt, b"b", b""));
     let (first, second) = (pair(&rt, b"a", at(0)), pair(&rt, b"b", at(1)));
-    play(
-        &rt,
-        &mut core,
-        &[
+    let example = Example {
+        pages: 1,
+        entries: 64,
+        events: &[
             (Event::Begin, begun(&rt, 1)),
             (inserts(1, &a), inserted(0)),
             (inserts(1, &b), inserted(1)),
@@ -182,17 +77,21 @@ fn a_deletion_behind_the_scan_leaves_a_marked_entry(rt: HostRuntime) {
             (finds(&rt, b"b"), Reply::Found(Ok((0, None, None)))),
             (Event::Life, Reply::Life(Life::Complete)),
         ],
-    );
+    };
+    let refusals = refuse_each(&rt, rt.alloc(), example)?;
+    assert!(rt; 10 < refusals, "{refusals} refusals");
+    Ok(())
 }
 
 #[test]
-fn an_undone_insertion_leaves_a_marked_entry_that_rejects_the_builder(rt: HostRuntime) {
-    let mut core = new_core(&rt, rt.alloc(), 1, 64);
+fn an_undone_insertion_leaves_a_marked_entry_that_rejects_the_builder(
+    rt: HostRuntime,
+) -> Result<(), Fail> {
     let k = pair(&rt, b"k", at(0));
-    play(
-        &rt,
-        &mut core,
-        &[
+    let example = Example {
+        pages: 1,
+        entries: 64,
+        events: &[
             (Event::Create, created(&rt, 1)),
             (Event::Begin, begun(&rt, 1)),
             (Event::Insert(1, row(&rt, b"k", b"")), inserted(0)),
@@ -208,7 +107,10 @@ fn an_undone_insertion_leaves_a_marked_entry_that_rejects_the_builder(rt: HostRu
             (Event::Entry(1), Reply::Entry(None)),
             (Event::Life, Reply::Life(Life::Complete)),
         ],
-    );
+    };
+    let refusals = refuse_each(&rt, rt.alloc(), example)?;
+    assert!(rt; 10 < refusals, "{refusals} refusals");
+    Ok(())
 }
 
 #[test]
@@ -293,13 +195,12 @@ fn reserved_places_are_given_back_at_the_commit(rt: HostRuntime) {
 }
 
 #[test]
-fn an_update_is_taken_back_in_three_steps(rt: HostRuntime) {
-    let mut core = new_core(&rt, rt.alloc(), 1, 64);
+fn an_update_is_taken_back_in_three_steps(rt: HostRuntime) -> Result<(), Fail> {
     let (p, q) = (row(&rt, b"p", b"1"), row(&rt, b"q", b"2"));
-    play(
-        &rt,
-        &mut core,
-        &[
+    let example = Example {
+        pages: 1,
+        entries: 64,
+        events: &[
             (Event::Begin, begun(&rt, 1)),
             (inserts(1, &p), inserted(0)),
             (Event::Commit(1), committed(&rt, 2, 1)),
@@ -322,87 +223,62 @@ fn an_update_is_taken_back_in_three_steps(rt: HostRuntime) {
             (Event::Entry(2), Reply::Entry(None)),
             (Event::Life, Reply::Life(Life::Building { highest: None })),
         ],
-    );
+    };
+    let refusals = refuse_each(&rt, rt.alloc(), example)?;
+    assert!(rt; 10 < refusals, "{refusals} refusals");
+    Ok(())
 }
 
-// The key of one byte.
-fn byte(rt: &impl Abort, byte: u8) -> Row {
-    row(rt, &[byte], b"")
-}
-
-// The place of the row with this number.
-fn place(number: u8) -> Rid {
-    Rid {
-        page: u32::from(number) / 63,
-        slot: u16::from(number) % 63,
-    }
-}
-
-// 64 rows are inserted, the index is created, both pages are taken, and the last row is deleted.
-fn two_pages(rt: &impl Abort, alloc: Global) -> Core<Global> {
-    let mut core = new_core(rt, alloc, 2, 128);
-    play(rt, &mut core, &[(Event::Begin, begun(rt, 1))]);
+// 64 rows are inserted, the index is created, both pages are taken, and the last row is deleted. The cleaner keeps its entry,
+// until it has been attempted and a checkpoint made of it; and it keeps that of a row that is held.
+fn deletion_of_the_last_row(
+    rt: &impl Abort,
+    alloc: Global,
+) -> Result<Vec<(Event, Reply)>, AllocError> {
+    let last = pair(rt, &[63], place(63));
+    let mut events = vec![in alloc; (Event::Begin, begun(rt, 1))]?;
     for n in 0..64 {
-        let insertion = (Event::Insert(1, byte(rt, n)), Reply::Inserted(Ok(place(n))));
-        play(rt, &mut core, &[insertion]);
+        events.push((inserts(1, &byte(rt, n)), Reply::Inserted(Ok(place(n)))))?;
     }
-    play(
-        rt,
-        &mut core,
-        &[
-            (Event::Commit(1), committed(rt, 65, 1)),
-            (Event::Create, created(rt, 66)),
-            (Event::Build, scanned(0)),
-            (Event::Build, scanned(1)),
-            (Event::Begin, begun(rt, 2)),
-            (Event::Delete(2, place(63)), OK),
-            (Event::Step(2), OK),
-            (Event::Commit(2), committed(rt, 69, 2)),
-        ],
-    );
-    core
+    events.extend_from_slice(&[
+        (Event::Commit(1), committed(rt, 65, 1)),
+        (Event::Create, created(rt, 66)),
+        (Event::Build, scanned(0)),
+        (Event::Build, scanned(1)),
+        (Event::Begin, begun(rt, 2)),
+        (Event::Delete(2, place(63)), OK),
+        (Event::Step(2), OK),
+        (Event::Commit(2), committed(rt, 69, 2)),
+        (Event::Clean, kept(&last)),
+        (Event::Clean, wrapped()),
+    ])?;
+    for n in 0..63 {
+        events.push((Event::Build, placed(&pair(rt, &[n], place(n)))))?;
+    }
+    events.push((Event::Build, rejected(&last)))?;
+    events.push((Event::Build, checkpointed(rt, &last, 133)))?;
+    for n in 0..63 {
+        events.push((Event::Clean, kept(&pair(rt, &[n], place(n)))))?;
+    }
+    events.extend_from_slice(&[
+        (Event::Clean, cleaned(&last)),
+        (Event::Begin, begun(rt, 3)),
+        (Event::Delete(3, place(0)), OK),
+        (Event::Clean, wrapped()),
+        (Event::Clean, kept(&pair(rt, &[0], place(0)))),
+    ])?;
+    Ok(events)
 }
 
 #[test]
-fn the_cleaner_waits_for_the_checkpoint_and_for_the_holder(rt: HostRuntime) {
-    let mut core = two_pages(&rt, rt.alloc());
-    let last = pair(&rt, &[63], place(63));
-    play(
-        &rt,
-        &mut core,
-        &[(Event::Clean, kept(&last)), (Event::Clean, wrapped())],
-    );
-    for n in 0..63 {
-        play(
-            &rt,
-            &mut core,
-            &[(Event::Build, placed(&pair(&rt, &[n], place(n))))],
-        );
-    }
-    play(
-        &rt,
-        &mut core,
-        &[
-            (Event::Build, rejected(&last)),
-            (Event::Build, checkpointed(&rt, &last, 133)),
-        ],
-    );
-    for n in 0..63 {
-        play(
-            &rt,
-            &mut core,
-            &[(Event::Clean, kept(&pair(&rt, &[n], place(n))))],
-        );
-    }
-    play(
-        &rt,
-        &mut core,
-        &[
-            (Event::Clean, cleaned(&last)),
-            (Event::Begin, begun(&rt, 3)),
-            (Event::Delete(3, place(0)), OK),
-            (Event::Clean, wrapped()),
-            (Event::Clean, kept(&pair(&rt, &[0], place(0)))),
-        ],
-    );
+fn the_cleaner_waits_for_the_checkpoint_and_for_the_holder(rt: HostRuntime) -> Result<(), Fail> {
+    let events = deletion_of_the_last_row(&rt, rt.alloc())?;
+    let example = Example {
+        pages: 2,
+        entries: 128,
+        events: &events,
+    };
+    let refusals = refuse_each(&rt, rt.alloc(), example)?;
+    assert!(rt; 30 < refusals, "{refusals} refusals");
+    Ok(())
 }

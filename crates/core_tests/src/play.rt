@@ -6,7 +6,7 @@ ghost use Rattle.index_core.specs.Value.{value_of};
 use index_core::{BuildReply, CleanReply, Core, Ticket, Undone};
 use model::Life;
 use records::{Error, Key, Mark, Pair, Rid, Row, Txn};
-use std::alloc::Global;
+use std::alloc::Allocator;
 use std::process::Abort;
 
 /// What is asked of a core; transactions by their numbers.
@@ -49,61 +49,61 @@ pub(crate) enum Reply {
     Skipped,
 }
 
-fn is_ready(core: &Core<Global>, txn: Txn) -> bool
+fn is_ready<A: Allocator + Copy>(core: &Core<A>, txn: Txn) -> bool
     ensures { IsTrue result → IsReadyOrNone (txn_of (value_of core.now) txn) }
 {
     !core.is_active(txn) || core.ready(txn)
 }
 
-fn is_owing(core: &Core<Global>, txn: Txn) -> bool
+fn is_owing<A: Allocator + Copy>(core: &Core<A>, txn: Txn) -> bool
     ensures { IsTrue result → OwesOrNone (txn_of (value_of core.now) txn) }
 {
     !core.is_active(txn) || core.owes(txn).is_some()
 }
 
-fn insert(core: &mut Core<Global>, txn: Txn, row: Row) -> Reply {
+fn insert<A: Allocator + Copy>(core: &mut Core<A>, txn: Txn, row: Row) -> Reply {
     if !is_ready(core, txn) {
         return Reply::Skipped;
     }
     Reply::Inserted(core.start_insert(txn, row.key, row.body))
 }
 
-fn delete(core: &mut Core<Global>, txn: Txn, rid: Rid) -> Reply {
+fn delete<A: Allocator + Copy>(core: &mut Core<A>, txn: Txn, rid: Rid) -> Reply {
     if !is_ready(core, txn) {
         return Reply::Skipped;
     }
     Reply::Changed(core.start_delete(txn, rid))
 }
 
-fn update(core: &mut Core<Global>, txn: Txn, rid: Rid, row: Row) -> Reply {
+fn update<A: Allocator + Copy>(core: &mut Core<A>, txn: Txn, rid: Rid, row: Row) -> Reply {
     if !is_ready(core, txn) {
         return Reply::Skipped;
     }
     Reply::Changed(core.start_update(txn, rid, row.key, row.body))
 }
 
-fn step(core: &mut Core<Global>, txn: Txn) -> Reply {
+fn step<A: Allocator + Copy>(core: &mut Core<A>, txn: Txn) -> Reply {
     if !is_owing(core, txn) {
         return Reply::Skipped;
     }
     Reply::Changed(core.next_step(txn))
 }
 
-fn end(core: &mut Core<Global>, txn: Txn) -> Reply {
+fn end<A: Allocator + Copy>(core: &mut Core<A>, txn: Txn) -> Reply {
     if !core.may_end(txn) {
         return Reply::Skipped;
     }
     Reply::Changed(core.end(txn))
 }
 
-fn commit(core: &mut Core<Global>, txn: Txn) -> Reply {
+fn commit<A: Allocator + Copy>(core: &mut Core<A>, txn: Txn) -> Reply {
     if !is_ready(core, txn) {
         return Reply::Skipped;
     }
     Reply::Ticket(core.commit(txn))
 }
 
-fn find(core: &Core<Global>, key: Key) -> Reply {
+fn find<A: Allocator + Copy>(core: &Core<A>, key: Key) -> Reply {
     Reply::Found(match core.find(key) {
         Ok(rids) => Ok((rids.len(), rids.first().copied(), rids.get(1).copied())),
         Err(error) => Err(error),
@@ -111,7 +111,7 @@ fn find(core: &Core<Global>, key: Key) -> Reply {
 }
 
 // The entry that has so many before it.
-fn entry(core: &Core<Global>, before: u32) -> Option<(Pair, Mark)> {
+fn entry<A: Allocator + Copy>(core: &Core<A>, before: u32) -> Option<(Pair, Mark)> {
     let mut entry = core.above(None);
     for _ in 0..before {
         let (pair, _) = entry?;
@@ -124,7 +124,7 @@ fn txn_of(rt: &impl Abort, number: u64) -> Txn {
     Txn::new(number).expect(rt, "a transaction")
 }
 
-fn of_txn(rt: &impl Abort, core: &mut Core<Global>, event: Event) -> Reply {
+fn of_txn<A: Allocator + Copy>(rt: &impl Abort, core: &mut Core<A>, event: Event) -> Reply {
     match event {
         Event::Insert(txn, row) => insert(core, txn_of(rt, txn), row),
         Event::Delete(txn, rid) => delete(core, txn_of(rt, txn), rid),
@@ -138,7 +138,11 @@ fn of_txn(rt: &impl Abort, core: &mut Core<Global>, event: Event) -> Reply {
 }
 
 /// What the core answers.
-pub(crate) fn serve(rt: &impl Abort, core: &mut Core<Global>, event: Event) -> Reply {
+pub(crate) fn serve<A: Allocator + Copy>(
+    rt: &impl Abort,
+    core: &mut Core<A>,
+    event: Event,
+) -> Reply {
     match event {
         Event::Begin => Reply::Begun(core.begin()),
         Event::Create => Reply::Ticket(core.create_index()),
@@ -153,7 +157,11 @@ pub(crate) fn serve(rt: &impl Abort, core: &mut Core<Global>, event: Event) -> R
 }
 
 /// Each event gets this reply, one after the other.
-pub(crate) fn play(rt: &impl Abort, core: &mut Core<Global>, example: &[(Event, Reply)]) {
+pub(crate) fn play<A: Allocator + Copy>(
+    rt: &impl Abort,
+    core: &mut Core<A>,
+    example: &[(Event, Reply)],
+) {
     for (place, (event, reply)) in example.iter().enumerate() {
         assert_eq!(rt; serve(rt, core, *event), *reply, "event {place}");
     }
