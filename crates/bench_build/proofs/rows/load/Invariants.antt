@@ -1,0 +1,7 @@
+use Rattle.std.proofs.Common.{◌≡◌}
+use Rattle.index_core.specs.Value.{value_of}
+use Rattle.bench_build.proofs.rows.load.Given as goal
+
+-- the core keeps its pages
+abbrev pub invariant-loop-pair : goal.invariant-loop-pair
+invariant-loop-pair l = (value_of l.core).heap.pages ≡ 256
