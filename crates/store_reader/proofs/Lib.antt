@@ -1,3 +1,2 @@
-mod Misplaced
 mod Refusals
 pub mod Readings

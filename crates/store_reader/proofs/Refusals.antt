@@ -1,5 +1,6 @@
 -- Why a reader of a store refuses it.
-use Rattle.std.proofs.Common.{◌≡◌, ◌⊎◌, inl, inr, ℕ, List, Result, Ok, Err, IfErr, ap, subst, ◌∙◌}
+use Rattle.std.proofs.Common.{◌≡◌, ◌⊎◌, ◌<◌, inl, inr, refl, ℕ, List, Result, Ok, Err, IfErr, ap, subst, ◌∙◌}
+use Rattle.std.specs.FinMap.{len}
 use Rattle.sector_device.specs.Disk.{Image}
 use Rattle.records.specs.RecordValue.{RecordValue}
 use Rattle.records.specs.GeometryValue.{GeometryValue}
@@ -7,19 +8,21 @@ use Rattle.records.specs.declared.error.Error.{Error}
 use Rattle.records.specs.declared.error.Error.TheVariants.{Damaged}
 use Rattle.gate_log.specs.Area.{Area, Log, HoldsGroups, Stands, records_of, IsGateOf, IsFirstDamaged, Refuses}
 use Rattle.flip_image.specs.declared.half.Half.{Half}
-use Rattle.flip_image.specs.Layout.{log_first}
+use Rattle.flip_image.specs.Layout.{header_sector, log_first}
 use Rattle.flip_image.specs.Store.{IsStore, IsFresh, IsFirstUsed, IsDeviceFailure}
-use Rattle.store_reader.specs.Contents.{log_area, Gives, IsFirstMisplaced, IsMisplacedAt, IsUnreadable}
+use Rattle.model.specs.Following.{IsFirstUnfit}
+use Rattle.model.specs.Given.{Given, given_after, nothing, opening_cells}
+use Rattle.store_reader.specs.Contents.{log_area, Gives, HoldsLog, IsMisplacedAt, IsUnreadable}
 use Rattle.store_reader.proofs.Readings as readings
 
 -- the refusals of a reader of this image
 abbrev pub Why : Image → ℕ → ℕ → Error → Type 0
 Why image before now e = Refuses before now e ⊎ IsUnreadable image e
 
-pub accepted : {T : Type 0} (r : Result T Error) (image : Image) (g : GeometryValue) (half : Half) (records : List RecordValue) (before now : ℕ) → Gives image g half records
+pub accepted : {T : Type 0} (r : Result T Error) (image : Image) (g : GeometryValue) (given : Given) (before now : ℕ) → Gives image g given
     → IfErr r (Why image before now) → IfErr r (Refuses before now)
-accepted (Ok x) image g half records before now gives why = tt
-accepted (Err e) image g half records before now gives why = readings.accepted_one image g half records before now e gives why
+accepted (Ok x) image g given before now gives why = tt
+accepted (Err e) image g given before now gives why = readings.accepted_one image g given before now e gives why
 
 refused_later : (a b c : ℕ) (e : Error) → b ≡ a → Refuses b c e → Refuses a c e
 refused_later a b c e same refused = subst (λ n. Refuses n c e) same refused
@@ -37,7 +40,7 @@ module _ (image now : Image) (g : GeometryValue) (half : Half) (a b c : ℕ) (e 
         let first = subst (λ (i : Image). IsFirstDamaged (log_area g half) i n) same (subst (λ (x : Area). IsFirstDamaged x now n) is damaged) in
         inr (inr (n, named, record { geometry = g; half = half; store = store; damaged = inr (fresh, inl first) }))
 
-    pub record_misplaced : (log : Log) (groups : List (List RecordValue)) (index : ℕ) → log.area ≡ log_area g half → Stands log now groups → IsFirstMisplaced g.pages (records_of groups) index
+    pub record_misplaced : (log : Log) (groups : List (List RecordValue)) (index : ℕ) → log.area ≡ log_area g half → Stands log now groups → IsFirstUnfit g.pages 0 (opening_cells nothing) (records_of groups) index
         → Refuses b c e ⊎ ((n : ℕ) × (e ≡ Damaged n) × ((held : List (List RecordValue)) → Stands log now held → IsGateOf log.area held index n)) → Why image a c e
     record_misplaced log groups index is stands first (inl refused) = inl (refused_later a b c e quiet refused)
     record_misplaced log groups index is stands first (inr (n, named, at)) =
@@ -48,7 +51,21 @@ module _ (image now : Image) (g : GeometryValue) (half : Half) (a b c : ℕ) (e 
           first = first;
           gate-is = subst (λ (x : Area). IsGateOf x groups index n) is (at groups stands);
         } in
-        inr (inr (n, named, record { geometry = g; half = half; store = store; damaged = inr (fresh, inr misplaced) }))
+        inr (inr (n, named, record { geometry = g; half = half; store = store; damaged = inr (fresh, inr (inl misplaced)) }))
+
+-- the records of a log leave too many entries
+pub overfull : (image : Image) (g : GeometryValue) (half : Half) (records : List RecordValue) (sector a c : ℕ) → HoldsLog image g half records → g.entries < len (given_after nothing records).entries → sector ≡ header_sector g half → Why image a c (Damaged sector)
+overfull image g half records sector a c holds crowded is =
+    inr (inr (
+      sector,
+      refl,
+      record {
+        geometry = g;
+        half = half;
+        store = holds.store;
+        damaged = inr (holds.fresh, inr (inr (record { records = records; holds = holds; crowded = crowded; sector-is = is })));
+      },
+    ))
 
 pub area_is : (first slots : ℕ) (g : GeometryValue) (half : Half) → first ≡ log_first g half → slots ≡ g.slots → record { first = first; slots = slots } ≡ log_area g half
 area_is first slots g half p q = ap (λ (n : ℕ). let area : Area = record { first = n; slots = slots } in area) p ∙ ap (λ (n : ℕ). let area : Area = record { first = log_first g half; slots = n } in area) q

@@ -1,0 +1,5 @@
+use Rattle.std.proofs.Common.{rules}
+use Rattle.store_reader.proofs.reader.misplaced.Goals as goal
+
+pub returns-in-Ok-Some-clause-told : goal.returns-in-Ok-Some-clause-told
+returns-in-Ok-Some-clause-told g c = search rules
