@@ -3,14 +3,11 @@ use Rattle.std.proofs.Common.{◌≡◌, ℕ, ◌+◌, ◌<◌, ◌≤◌, List,
 use Rattle.std.proofs.lemmas.Bool.{cases_lt}
 use Rattle.sector_device.specs.Disk.{Image, Disk, IsCrashImage}
 use Rattle.sector_device.specs.History.{History, Between, Spans}
-use Rattle.gate_log.specs.Area.{Area}
-use Rattle.flip_image.specs.declared.half.Half.TheVariants.{A}
-use Rattle.store_reader.specs.Contents.{log_area}
 use Rattle.first.specs.declared.event.Event.{Event}
 use Rattle.first.specs.declared.event.Reply.{Reply}
 use Rattle.first.specs.declared.engine.Engine.{Engine}
-use Rattle.first.specs.Store.{Past, acknowledged_by, and_then, Survives, IsAt, SurvivesAt, GoesOn}
-use Rattle.first.specs.Reopening.{opening, SurvivesAnyCrash}
+use Rattle.first.specs.Store.{Past, acknowledged_by, Survives, IsAt, SurvivesAt, GoesOn}
+use Rattle.first.specs.Reopening.{SurvivesAnyCrash}
 use Rattle.first.proofs.Runs.{and_then_none, spans_rise}
 use Rattle.first.proofs.Stories.{crash_now}
 
@@ -30,36 +27,28 @@ no_borders : (disk_at : ℕ → Disk) (P : ℕ → Image → Type 0) (j from : �
 no_borders disk_at P j from [] to none spans = spans
 no_borders disk_at P j from (next ∷ borders) to none spans = absurd (omega (arith, none))
 
-module _ {D M : Type 0} (history : D → History) (area : Area) (frame : Image) (past : Past) (old new : Engine D M) (is : IsAt history area frame past old) where
-  crash_within : (events : List Event) (replies : List Reply) → GoesOn history area frame past events replies old new
-      → Between (history new.writer.device).disk_at (history old.writer.device).moment (history new.writer.device).moment (λ image. (j : ℕ) × (j ≤ length events) × SurvivesAt area frame past events replies j image)
-  crash_within [] [] ran t image low high crash = (0, omega arith, subst (λ (p : Past). Survives area frame p (acknowledged_by p) image) (sym (and_then_none past)) (crash_now history area frame past old is image (subst (λ (d : Disk). IsCrashImage d image) same crash)))
+module _ {D M : Type 0} (history : D → History) (past : Past M) (old new : Engine D M) (is : IsAt history past old) where
+  crash_within : (events : List Event) (replies : List (Reply M)) → GoesOn history past events replies old new
+      → Between (history new.writer.device).disk_at (history old.writer.device).moment (history new.writer.device).moment (λ image. (j : ℕ) × (j ≤ length events) × SurvivesAt past events replies j image)
+  crash_within [] [] ran t image low high crash = (0, omega arith, subst (λ (p : Past _). Survives p (acknowledged_by p) image) (sym (and_then_none past)) (crash_now history past old is image (subst (λ (d : Disk). IsCrashImage d image) same crash)))
     where
       ended : (history old.writer.device).moment ≡ (history new.writer.device).moment
-      ended = no_borders (history new.writer.device).disk_at (SurvivesAt area frame past [] []) 0 (history old.writer.device).moment ran.borders (history new.writer.device).moment ran.one_each ran.spans
+      ended = no_borders (history new.writer.device).disk_at (SurvivesAt past [] []) 0 (history old.writer.device).moment ran.borders (history new.writer.device).moment ran.one_each ran.spans
 
       same : (history new.writer.device).disk_at t ≡ (history old.writer.device).disk
       same = ran.kept t (omega (arith, high, ended)) ∙ ap (history old.writer.device).disk_at (omega (arith, low, high, ended)) ∙ (history old.writer.device).now
   crash_within [] (r ∷ rs) ran t image low high crash = absurd (omega (arith, ran.at.answered, is.answered, length-append past.replies (r ∷ rs), length-append past.events []))
   crash_within (e ∷ es) rs ran t image low high crash =
-      let it = found (history new.writer.device).disk_at (SurvivesAt area frame past (e ∷ es) rs) 0 (history old.writer.device).moment ran.borders (history new.writer.device).moment t image ran.spans (omega (arith, ran.one_each)) low high crash in
+      let it = found (history new.writer.device).disk_at (SurvivesAt past (e ∷ es) rs) 0 (history old.writer.device).moment ran.borders (history new.writer.device).moment t image ran.spans (omega (arith, ran.one_each)) low high crash in
       (it.0, omega (arith, it.1, ran.one_each), it.2)
 
-pub survives_any_crash : {D M : Type 0} (history : D → History) (events : List Event) (replies : List Reply) (old new : Engine D M)
-    → ((area : Area) (frame : Image) (past : Past) → IsAt history area frame past old → GoesOn history area frame past events replies old new) → SurvivesAnyCrash history events replies old new
-survives_any_crash history events replies old new ran geometry frame earlier answered formatted is = record {
-  later = spans_rise (history new.writer.device).disk_at (SurvivesAt area frame past events replies) 0 (history old.writer.device).moment goes.borders (history new.writer.device).moment goes.spans;
+pub survives_any_crash : {D M : Type 0} (history : D → History) (events : List Event) (replies : List (Reply M)) (old new : Engine D M)
+    → ((past : Past M) → IsAt history past old → GoesOn history past events replies old new) → SurvivesAnyCrash history events replies old new
+survives_any_crash history events replies old new ran past is = record {
+  later = spans_rise (history new.writer.device).disk_at (SurvivesAt past events replies) 0 (history old.writer.device).moment goes.borders (history new.writer.device).moment goes.spans;
   kept = goes.kept;
-  each = λ t image low high crash.
-      let it = crash_within history area frame past old new is events replies goes t image low high crash in
-      (it.0, it.1, record { formatted = formatted; survives = it.2 });
+  each = crash_within history past old new is events replies goes;
 }
   where
-    past : Past
-    past = and_then (opening geometry.pages) earlier answered
-
-    area : Area
-    area = log_area geometry A
-
-    goes : GoesOn history area frame past events replies old new
-    goes = ran area frame past is
+    goes : GoesOn history past events replies old new
+    goes = ran past is

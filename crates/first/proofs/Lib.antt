@@ -1,11 +1,14 @@
 mod Writing
 mod Told
-mod Lives
-mod Asked
 mod Stories
+mod Answered
 mod Served
 mod Flushing
 mod Runs
 mod Crashes
-mod Loading
+mod Serving
 mod Reopened
+mod Climbing
+mod ToEnd
+mod BuiltOn
+mod Ended

@@ -1,42 +1,34 @@
 -- What a restart finds, and where the engine that it makes begins.
-use Rattle.std.proofs.Common.{inl, inr, ◌≡◌, ◌⊎◌, ℕ, ◌+◌, false, nat_lt, List, [], ◌∷◌, length, take, drop, refl, sym, ◌∙◌, ap, subst, arith}
-use Rattle.std.proofs.lemmas.List.Elements.{All-cons, All-nil}
-use Rattle.std.proofs.lemmas.Bool.{lt-ltb}
+use Rattle.std.proofs.Common.{inl, inr, Option, None, Some, ◌≡◌, ◌⊎◌, ⊎_elim, false, ℕ, ◌<◌, nat_lt, List, [], ◌∷◌, length, drop, take, refl, sym, ◌∙◌, ap, subst, arith}
+use Rattle.std.proofs.lemmas.Bool.{cases_lt, lt-ltb}
 use Rattle.std.specs.FinMap as map
-use Rattle.records.specs.RecordValue.{RecordValue}
 use Rattle.records.specs.GeometryValue.{GeometryValue}
+use Rattle.records.specs.Orders.{pair_cmp, rid_cmp}
+use Rattle.records.specs.declared.pair.Mark.{Mark}
+use Rattle.records.specs.RecordValue.{RecordValue}
 use Rattle.records.specs.declared.error.Error.{Error}
-use Rattle.records.specs.declared.record.Part.TheVariants.{Slot, OldEntry, NewEntry}
-use Rattle.records.specs.declared.record.TxnAction.TheVariants.{Forward, Undo, Commit, End}
-use Rattle.records.specs.declared.record.IndexAction.TheVariants.{Create, BuildPlace, BuildCheckpoint, BuildDone, Clean}
-use Rattle.records.specs.declared.record.Action.{Action}
-use Rattle.records.specs.declared.record.Action.TheVariants.{OfTxn, OfIndex}
-use Rattle.model.specs.declared.life.Life.TheVariants.{Absent}
-use Rattle.model.specs.Table.{Table}
-use Rattle.model.specs.Cells.{Cells, cells_after, set_by}
-use Rattle.model.specs.Following.{CanFollowBy, AreFollowing}
+use Rattle.records.specs.declared.error.Error.TheVariants.{IndexFull, NoMemory}
+use Rattle.model.specs.Given.{Given, given_after, nothing}
+use Rattle.model.proofs.GivenLaws.{given_again}
+use Rattle.core_model.specs.Histories.{CanOpen, opened}
+use Rattle.core_contracts.specs.Events.{standing_at}
+use Rattle.core_contracts.proofs.Laws.{served_nothing}
+use Rattle.index_core.specs.View.{CoreValue, IsState}
+use Rattle.core_loader.specs.Loaded.{holding}
 use Rattle.sector_device.specs.Disk.{Image, Disk, sector, IsCrashImage, IsSynced, SameOutside, after_sync}
 use Rattle.sector_device.specs.History.{History, Elapses, LeavesOnly, OnlyReads}
 use Rattle.sector_device.proofs.Moments.{one_call, joined}
 use Rattle.sector_device.proofs.Sectors.{content_is_image, crash_synced}
 use Rattle.sector_device.proofs.Within.{reads_leave}
-use Rattle.gate_log.specs.Area.{Area, Log, InArea, IsInside, HoldsGroups, Stands, Refuses, records_of}
-use Rattle.flip_image.specs.declared.half.Half.TheVariants.{A}
-use Rattle.flip_image.proofs.Stores.{formatted_apart}
-use Rattle.store_reader.specs.Contents.{IsOfRows, AreOfRows, nothing, rows_of, log_area, Gives, IsFound, IsUnreadable}
-use Rattle.store_reader.proofs.Readings.{one_list}
-use Rattle.nsf_core.specs.Value.{CoreValue, fresh, changes_of}
-use Rattle.model.specs.Committed.{writes_of}
-use Rattle.nsf_core.specs.Follows.{IsRedoOf}
-use Rattle.nsf_core.proofs.Steps.{fresh_is_redo}
-use Rattle.first.specs.declared.event.Event.{Event}
-use Rattle.first.specs.declared.event.Reply.{Reply}
+use Rattle.gate_log.specs.Area.{Area, Log, InArea, IsInside, HoldsGroups, Stands, Refuses}
+use Rattle.flip_image.specs.declared.half.Half.{Half}
+use Rattle.store_reader.specs.Contents.{log_area, HoldsLog, IsFound, IsUnreadable}
+use Rattle.store_reader.proofs.Readings.{one_geometry, one_given}
 use Rattle.first.specs.declared.engine.Engine.{Engine}
 use Rattle.first.specs.Parts.{core_of, device_of, is_read_only}
 use Rattle.first.specs.Writer.{LeftBy, IsWriter}
-use Rattle.first.specs.Store.{Past, and_then, IsAt, CanRun}
-use Rattle.first.specs.Reopening.{holding, opening, is_some_record, OnlySyncs, IsOpened, Recovers, IsLeftByRun}
-use Rattle.first.proofs.Lives.{none_at_first}
+use Rattle.first.specs.Store.{Past, over, IsAt, CanRun, Survives}
+use Rattle.first.specs.Reopening.{opening, IsCoreOf, OnlySyncs, IsOpened, Recovers}
 
 -- ---- a sync, and reads
 
@@ -57,63 +49,36 @@ module _ (old mid : History) (time : Elapses old mid) where
       let synced : IsSynced mid.disk = λ k. ap (λ (d : Disk). d.unsynced k) done in
       subst (IsCrashImage old.disk) (sym (crash_synced mid.disk c synced crash ∙ ap (λ (d : Disk). d.content) done)) (content_is_image old.disk old.whole)))
 
--- ---- a run's records are of rows
-
-of_rows_now : (pages : ℕ) (cells : Cells) (action : Action) → CanFollowBy pages cells action → cells.life ≡ Absent → (set_by cells action).life ≡ Absent → IsOfRows action
-of_rows_now pages cells (OfTxn txn (Forward Slot c)) can none still = refl
-of_rows_now pages cells (OfTxn txn (Forward OldEntry c)) can none still = absurd (can.1 none)
-of_rows_now pages cells (OfTxn txn (Forward NewEntry c)) can none still = absurd (can.1 none)
-of_rows_now pages cells (OfTxn txn (Undo Slot c last)) can none still = refl
-of_rows_now pages cells (OfTxn txn (Undo OldEntry c last)) can none still = absurd (can.1 none)
-of_rows_now pages cells (OfTxn txn (Undo NewEntry c last)) can none still = absurd (can.1 none)
-of_rows_now pages cells (OfTxn txn Commit) can none still = tt
-of_rows_now pages cells (OfTxn txn End) can none still = tt
-of_rows_now pages cells (OfIndex Create) can none still = absurd cc
-of_rows_now pages cells (OfIndex (BuildPlace pair)) can none still = absurd (cc (none, can.1.1))
-of_rows_now pages cells (OfIndex (BuildCheckpoint pair)) can none still = absurd cc
-of_rows_now pages cells (OfIndex BuildDone) can none still = absurd cc
-of_rows_now pages cells (OfIndex (Clean pair)) can none still = absurd (can.1 none)
-
-of_rows : (pages last : ℕ) (cells : Cells) (records : List RecordValue) → AreFollowing pages last cells records → (cells_after cells records).life ≡ Absent → AreOfRows records
-of_rows pages last cells [] all none = All-nil _
-of_rows pages last cells (r ∷ records) all none =
-    let later : (set_by cells r.action).life ≡ Absent = none_at_first (set_by cells r.action) records none in
-    All-cons (λ (x : RecordValue). IsOfRows x.action) r records (of_rows_now pages cells r.action all.0.allowed (none_at_first cells (r ∷ records) none) later)
-    (of_rows pages (last + 1) (set_by cells r.action) records all.1 none)
-
--- ---- what a run leaves gives its records
-
-pub left_gives : (g : GeometryValue) (frame : Image) (events : List Event) (replies : List Reply) (floor : ℕ) (image : Image) (left : IsLeftByRun g frame events replies floor image) → Gives image g A left.survives.records
-left_gives g frame events replies floor image left =
-    let s = left.survives in
-    let formatted = formatted_apart g frame image s.holds.outside left.formatted in
-    record {
-      store = formatted.store;
-      fresh = formatted.fresh;
-      groups = s.holds.groups;
-      held = s.holds.held;
-      all = sym s.holds.records_are;
-      of_rows = of_rows g.pages 0 nothing s.records s.following s.unindexed;
-      following = s.following;
-    }
-
 -- ---- where an engine begins
 
-pub some_is : (records : List RecordValue) (last : ℕ) → last ≡ length records → nat_lt 0 last ≡ is_some_record records
-some_is [] last is = ap (nat_lt 0) is
-some_is (r ∷ records) last is = lt-ltb 0 last (omega (arith, is))
+-- a store that holds nothing may be opened
+pub opens_nothing : (g : GeometryValue) → CanOpen (over g nothing)
+opens_nothing g = record {
+  fits = record {
+    rows = λ r row found. absurd (none_there (map.get-empty rid_cmp r) found);
+    entries = λ p there. absurd (there (map.get-empty pair_cmp p));
+    highest = λ p life. absurd cc;
+    room = omega (arith, map.len-empty pair_cmp Mark);
+  };
+  sound = λ p found. absurd (none_there (map.get-empty pair_cmp p) found);
+  complete = λ r row found covered. absurd (none_there (map.get-empty rid_cmp r) found);
+  unmarked = λ r row found. absurd (none_there (map.get-empty rid_cmp r) found);
+  empty = λ life p. map.get-empty pair_cmp p;
+}
+  where
+    none_there : {X : Type 0} {o : Option X} {x : X} → o ≡ None → o ≡ Some x → ⊥
+    none_there none some = absurd cc
 
-no_rows : rows_of [] ≡ map.empty
-no_rows = (fresh_is_redo 0 0).tells.prefixes 0 (omega arith)
+-- a log without a record: records of nothing are none
+no_records : (records : List RecordValue) → (given_after nothing records).last ≡ 0 → records ≡ []
+no_records [] none = refl
+no_records (r ∷ records) none = absurd (omega (arith, none))
 
-pub none_held : (pages last : ℕ) → last ≡ 0 → holding pages last (rows_of []) ≡ fresh pages 0
-none_held pages last none = ap (holding pages last) no_rows ∙ ap (fresh pages) none
-
-module _ {D M : Type 0} (history : D → History) (image : Image) (area : Area) (pages : ℕ) (groups : List (List RecordValue)) (none : records_of groups ≡ []) (engine : Engine D M) (core : core_of engine ≡ fresh pages 0)
-    (area_is : engine.writer.log.area ≡ area) (inside : IsInside area image) (stands : Stands engine.writer.log image groups) (content : (history (device_of engine)).disk.content ≡ image)
+module _ {D M : Type 0} (history : D → History) (image : Image) (g : GeometryValue) (half : Half) (holds : HoldsLog image g half []) (engine : Engine D M)
+    (area_is : engine.writer.log.area ≡ log_area g half) (inside : IsInside (log_area g half) image) (stands : Stands engine.writer.log image holds.groups) (content : (history (device_of engine)).disk.content ≡ image)
     (synced : IsSynced (history (device_of engine)).disk) where
-  disk : Disk
-  disk = (history engine.writer.device).disk
+  abbrev area : Area
+  area = log_area g half
 
   same : (a : Area) → SameOutside (InArea a) image (history engine.writer.device).disk.content
   same a = record { sectors = ap length content; same = λ k out. ap (λ (i : Image). sector i k) content }
@@ -126,9 +91,9 @@ module _ {D M : Type 0} (history : D → History) (image : Image) (area : Area) 
     reached = omega (arith, reached);
     waits = waits ∙ sym (ap (λ n. drop n []) reached);
     holds = λ _. record {
-      groups = groups;
-      stands = subst (λ (i : Image). Stands engine.writer.log i groups) (sym content) stands;
-      records_are = none ∙ sym (ap (λ n. take n []) reached);
+      groups = holds.groups;
+      stands = subst (λ (i : Image). Stands engine.writer.log i holds.groups) (sym content) stands;
+      records_are = sym holds.all ∙ sym (ap (λ n. take n []) reached);
       outside = same engine.writer.log.area;
       synced = synced;
     };
@@ -140,22 +105,29 @@ module _ {D M : Type 0} (history : D → History) (image : Image) (area : Area) 
           within = omega arith;
           holds = record {
             outside = same area;
-            groups = groups;
-            held = subst (λ (i : Image). HoldsGroups area i groups) (sym content) (subst (λ (a : Area). HoldsGroups a image groups) area_is stands.held);
-            records_are = none;
+            groups = holds.groups;
+            held = subst (λ (i : Image). HoldsGroups area i holds.groups) (sym content) (subst (λ (a : Area). HoldsGroups a image holds.groups) area_is stands.held);
+            records_are = sym holds.all;
           };
         });
   }
 
-  pub begun_at : engine.writer.base ≡ 0 → engine.writer.synced ≡ 0 → engine.writer.waiting.items ≡ [] → engine.writer.failed ≡ false → engine.read_only ≡ false → IsAt history area image (opening pages) engine
-  begun_at base reached waits sound serves = record {
+  pub begun_at : (core_of engine).outbox ≡ [] → IsState (core_of engine) (opened (over g nothing)) (standing_at 0) → engine.writer.base ≡ 0 → engine.writer.synced ≡ 0 → engine.writer.waiting.items ≡ [] → engine.writer.failed ≡ false → engine.read_only ≡ false → IsAt history (opening g) engine
+  begun_at outbox shown base reached waits sound serves = record {
     answered = refl;
-    handed = [];
+    opens = opens_nothing g;
     made = [];
-    outbox = sym (ap (λ (s : CoreValue). s.outbox) core);
-    core = subst (IsRedoOf map.empty 0 [] []) (sym core) (fresh_is_redo pages 0);
-    pages = ap (λ (s : CoreValue). s.heap.pages) core;
-    asked = λ txn _. refl ∙ sym (ap (λ (s : CoreValue). writes_of (changes_of s txn)) core);
+    handed = [];
+    outbox = sym outbox;
+    state = opened (over g nothing);
+    standing = standing_at 0;
+    served = served_nothing (over g nothing) (omega arith);
+    shown = shown;
+    half = half;
+    frame = image;
+    store = holds.store;
+    fresh = holds.fresh;
+    began = refl;
     writer = begun_writer base reached waits sound;
     base = base;
     safe = omega (arith, reached);
@@ -171,59 +143,80 @@ told_since image now before at later e same count told = subst (λ (i : Image). 
 pub refused_since : (before at later : ℕ) (e : Error) → at ≡ before → Refuses at later e → Refuses before later e
 refused_since before at later e count told = subst (λ n. Refuses n later e) count told
 
+-- ---- what is loaded
+
+-- there is room for each entry of what was found, so that a core over it is refused for want of memory alone
+pub load_refuses : (image : Image) (g : GeometryValue) (log : Log) (given : Given) → IsFound image g log given → (e : Error) → (e ≡ IndexFull → g.entries < map.len given.entries) → (e ≡ IndexFull) ⊎ (e ≡ NoMemory) → (before now : ℕ) → Refuses before now e
+load_refuses image g log given found e crowded why before now = ⊎_elim (λ full. absurd (omega (arith, crowded full, found.gives.room))) (λ none. inl none) why
+
+pub loaded_core : (image now : Image) (g : GeometryValue) (log : Log) (given : Given) (core : CoreValue) → now ≡ image → IsFound now g log given → core ≡ holding g given → IsState core (opened (over g given)) (standing_at given.last) → IsCoreOf image log core
+loaded_core image now g log given core same found holds shown = record { geometry = g; given = given; found = subst (λ (i : Image). IsFound i g log given) same found; holds = holds; shown = shown }
+
 -- ---- the engine
 
-can_run_over : {D M : Type 0} (history : D → History) (engine : Engine D M) (records : List RecordValue) → is_read_only engine ≡ is_some_record records
-    → (records ≡ [] → (area : Area) × (frame : Image) × (past : Past) × IsAt history area frame past engine) → CanRun history engine
-can_run_over history engine [] mode begins = inr (begins refl)
-can_run_over history engine (r ∷ records) mode begins = inl mode
+can_run_by : {D M : Type 0} (history : D → History) (engine : Engine D M) (g : GeometryValue) (last : ℕ) → is_read_only engine ≡ nat_lt 0 last → (core_of engine).last ≡ last → (last ≡ 0 → IsAt history (opening g) engine) → CanRun history engine
+can_run_by history engine g last mode made begins = elim (cases_lt 0 last) [
+  | inl some ↦ inl (record { mode = mode ∙ lt-ltb 0 last some; some = omega (arith, some, made) })
+  | inr none ↦ inr (opening g, begins (omega (arith, none)))
+]
 
 pub can_run_opened : {D M : Type 0} (history : D → History) (before : D) (engine : Engine D M) → IsOpened history before engine → CanRun history engine
-can_run_opened history before engine is = can_run_over history engine is.records is.mode (λ none. (log_area is.geometry is.half, (history before).disk.content, opening is.geometry.pages, is.begins none))
+can_run_opened history before engine is = can_run_by history engine is.geometry is.given.last is.mode (ap (λ (v : CoreValue). v.last) is.core) is.begins
 
-module _ {D M : Type 0} (history : D → History) (before : D) (engine : Engine D M) (g : GeometryValue) (log : Log) (rows : Table) (last : ℕ) (is : IsFound (history before).disk.content g log rows last)
-    (core : core_of engine ≡ holding g.pages last rows) where
-  held : core_of engine ≡ holding g.pages (length is.records) (rows_of is.records)
-  held = core ∙ ap (λ n. holding g.pages n rows) is.last-is ∙ ap (holding g.pages (length is.records)) is.rows-are
-
-  pub opened_recovers : (geometry : GeometryValue) (frame : Image) (events : List Event) (replies : List Reply) (floor : ℕ) → IsLeftByRun geometry frame events replies floor (history before).disk.content
-      → Recovers (and_then (opening geometry.pages) events replies) floor engine
-  opened_recovers geometry frame events replies floor left =
-      let image : Image = (history before).disk.content in
-      let same : is.records ≡ left.survives.records = one_list image g geometry is.half A is.records left.survives.records is.gives (left_gives geometry frame events replies floor image left) in
-      record {
-        last = left.survives.last;
-        floor_is = left.survives.floor_is;
-        rows = ap (λ (s : CoreValue). s.heap.rows) held ∙ ap rows_of same ∙ left.survives.recovers;
-        no_txn = ap (λ (s : CoreValue). s.txns.active) held;
-        next = omega (arith, ap (λ (s : CoreValue). s.last) held, ap (λ (l : List RecordValue). length l) same, left.survives.numbered);
-      }
+module _ {D M : Type 0} (history : D → History) (before : D) (engine : Engine D M) (log : Log) (is : IsCoreOf (history before).disk.content log (core_of engine)) where
+  pub opened_recovers : (past : Past M) (floor : ℕ) → Survives past floor (history before).disk.content → Recovers past floor engine
+  opened_recovers past floor left = record {
+    given = left.given;
+    beginning = left.beginning;
+    core =
+        is.holds
+        ∙ ap (λ (x : GeometryValue). holding x is.given) (one_geometry (history before).disk.content is.geometry past.geometry is.given left.given is.found.gives left.gives)
+        ∙ ap (holding past.geometry) (one_given (history before).disk.content is.geometry past.geometry is.given left.given is.found.gives left.gives);
+    opens = left.opens;
+  }
 
   module _ (inside : IsInside log.area (history before).disk.content) (device : OnlySyncs history before (device_of engine)) (synced : IsSynced (history (device_of engine)).disk)
-      (log_is : engine.writer.log ≡ log) (base : engine.writer.base ≡ last) (waits : engine.writer.waiting.items ≡ []) (reached : engine.writer.synced ≡ 0) (sound : engine.writer.failed ≡ false)
-      (mode : engine.read_only ≡ nat_lt 0 last) where
-    image_is : Image
-    image_is = (history before).disk.content
+      (log_is : engine.writer.log ≡ log) (base : engine.writer.base ≡ (core_of engine).last) (waits : engine.writer.waiting.items ≡ []) (reached : engine.writer.synced ≡ 0) (sound : engine.writer.failed ≡ false)
+      (mode : engine.read_only ≡ nat_lt 0 (core_of engine).last) where
+    abbrev image : Image
+    image = (history before).disk.content
 
-    begins : is.records ≡ [] → IsAt history (log_area g is.half) (history before).disk.content (opening g.pages) engine
-    begins none =
-        let area : Area = log_area g is.half in
-        let zero_last : last ≡ 0 = omega (arith, is.last-is, ap length none) in
-        let core_is : core_of engine ≡ fresh g.pages 0 = core ∙ ap (holding g.pages last) (is.rows-are ∙ ap rows_of none) ∙ none_held g.pages last zero_last in
-        begun_at history (history before).disk.content area g.pages is.gives.groups (sym is.gives.all ∙ none) engine core_is (ap (λ (l : Log). l.area) log_is ∙ is.area)
-        (subst (λ (a : Area). IsInside a (history before).disk.content) is.area inside)
-        (subst (λ (l : Log). Stands l (history before).disk.content is.gives.groups) (sym log_is) is.stands)
-        device.content synced (base ∙ zero_last) reached waits sound (mode ∙ some_is is.records last is.last-is ∙ ap is_some_record none)
+    last_is : (core_of engine).last ≡ is.given.last
+    last_is = ap (λ (v : CoreValue). v.last) is.holds
+
+    module _ (none : is.given.last ≡ 0) where
+      no_record : is.found.gives.records ≡ []
+      no_record = no_records is.found.gives.records (sym (ap (λ (x : Given). x.last) is.found.gives.recovered) ∙ none)
+
+      given_is : is.given ≡ nothing
+      given_is = is.found.gives.recovered ∙ ap (given_after nothing) no_record ∙ given_again nothing
+
+      holds_none : HoldsLog image is.geometry is.found.gives.half []
+      holds_none =
+          let held = is.found.gives.holds in
+          record { store = held.store; fresh = held.fresh; groups = held.groups; held = held.held; all = sym no_record ∙ held.all; following = tt }
+
+      begins : IsAt history (opening is.geometry) engine
+      unfolding holds_none
+      begins = begun_at history image is.geometry is.found.gives.half holds_none engine (ap (λ (l : Log). l.area) log_is ∙ is.found.area)
+          (subst (λ (a : Area). IsInside a image) is.found.area inside)
+          (subst (λ (l : Log). Stands l image holds_none.groups) (sym log_is) stands_none)
+          device.content synced
+          (ap (λ (v : CoreValue). v.outbox) is.holds)
+          (subst (λ (x : Given). IsState (core_of engine) (opened (over is.geometry x)) (standing_at x.last)) given_is is.shown)
+          (base ∙ last_is ∙ none) reached waits sound (mode ∙ ap (nat_lt 0) (last_is ∙ none))
+        where
+          stands_none : Stands log image holds_none.groups
+          stands_none = is.found.stands
 
     pub opened_engine : IsOpened history before engine
     opened_engine = record {
-      geometry = g;
-      half = is.half;
-      records = is.records;
-      gives = is.gives;
-      core = held;
-      horizon = omega (arith, base, reached, is.last-is);
-      mode = mode ∙ some_is is.records last is.last-is;
+      geometry = is.geometry;
+      given = is.given;
+      gives = is.found.gives;
+      core = is.holds;
+      horizon = omega (arith, base, reached, last_is);
+      mode = mode ∙ ap (nat_lt 0) last_is;
       sound = sound;
       device = device;
       synced = synced;

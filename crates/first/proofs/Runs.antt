@@ -5,7 +5,6 @@ use Rattle.std.proofs.lemmas.List.{take-append-le, take_all, take_at}
 use Rattle.sector_device.specs.Disk.{Image, Disk}
 use Rattle.sector_device.specs.History.{History, LeavesOnly, Spans}
 use Rattle.sector_device.proofs.Moments.{spans_kept, spans_push}
-use Rattle.gate_log.specs.Area.{Area}
 use Rattle.first.specs.declared.event.Event.{Event}
 use Rattle.first.specs.declared.event.Reply.{Reply}
 use Rattle.first.specs.declared.engine.Engine.{Engine}
@@ -25,62 +24,62 @@ spans_map disk_at P Q j from (next ∷ borders) to f spans = (
   spans_map disk_at P Q (j + 1) next borders to (λ i low high. f i (omega (arith, low)) (omega (arith, high))) spans.2,
 )
 
-pub and_then_none : (past : Past) → and_then past [] [] ≡ past
-and_then_none past = λ i. record { pages = past.pages; table = past.table; last = past.last; events = append-nil past.events i; replies = append-nil past.replies i }
+pub and_then_none : {M : Type 0} (past : Past M) → and_then past [] [] ≡ past
+and_then_none past = λ i. record { geometry = past.geometry; given = past.given; events = append-nil past.events i; replies = append-nil past.replies i }
 
-and_then_both : (past : Past) (es more : List Event) (rs others : List Reply) → and_then (and_then past es rs) more others ≡ and_then past (es ++ more) (rs ++ others)
-and_then_both past es more rs others = λ i. record { pages = past.pages; table = past.table; last = past.last; events = append_assoc past.events es more i; replies = append_assoc past.replies rs others i }
+pub and_then_both : {M : Type 0} (past : Past M) (es more : List Event) (rs others : List (Reply M)) → and_then (and_then past es rs) more others ≡ and_then past (es ++ more) (rs ++ others)
+and_then_both past es more rs others = λ i. record { geometry = past.geometry; given = past.given; events = append_assoc past.events es more i; replies = append_assoc past.replies rs others i }
 
 -- what has been answered earlier stays so
-survives_earlier : (area : Area) (frame : Image) (past : Past) (es : List Event) (rs : List Reply) (event : Event) (reply : Reply) (j : ℕ) (c : Image) → length rs ≡ length es → j < length es → SurvivesAt area frame past es rs j c → SurvivesAt area frame past (es ++ event ∷ []) (rs ++ reply ∷ []) j c
-survives_earlier area frame past es rs event reply j c even below was =
-    subst (λ (xs : List Event). Survives area frame (and_then past xs (take (j + 1) (rs ++ reply ∷ []))) (acknowledged_by (and_then past (take j (es ++ event ∷ [])) (take j (rs ++ reply ∷ [])))) c) (sym (take-append-le (j + 1) es (event ∷ []) (omega (arith, below))))
-    (subst (λ (xs : List Reply). Survives area frame (and_then past (take (j + 1) es) xs) (acknowledged_by (and_then past (take j (es ++ event ∷ [])) (take j (rs ++ reply ∷ [])))) c) (sym (take-append-le (j + 1) rs (reply ∷ []) (omega (arith, below, even))))
-    (subst (λ (xs : List Reply). Survives area frame (and_then past (take (j + 1) es) (take (j + 1) rs)) (acknowledged_by (and_then past (take j (es ++ event ∷ [])) xs)) c) (sym (take-append-le j rs (reply ∷ []) (omega (arith, below, even)))) was))
+survives_earlier : {M : Type 0} (past : Past M) (es : List Event) (rs : List (Reply M)) (event : Event) (reply : Reply M) (j : ℕ) (c : Image) → length rs ≡ length es → j < length es → SurvivesAt past es rs j c → SurvivesAt past (es ++ event ∷ []) (rs ++ reply ∷ []) j c
+survives_earlier past es rs event reply j c even below was =
+    subst (λ (xs : List Event). Survives (and_then past xs (take (j + 1) (rs ++ reply ∷ []))) (acknowledged_by (and_then past (take j (es ++ event ∷ [])) (take j (rs ++ reply ∷ [])))) c) (sym (take-append-le (j + 1) es (event ∷ []) (omega (arith, below))))
+    (subst (λ (xs : List (Reply _)). Survives (and_then past (take (j + 1) es) xs) (acknowledged_by (and_then past (take j (es ++ event ∷ [])) (take j (rs ++ reply ∷ [])))) c) (sym (take-append-le (j + 1) rs (reply ∷ []) (omega (arith, below, even))))
+    (subst (λ (xs : List (Reply _)). Survives (and_then past (take (j + 1) es) (take (j + 1) rs)) (acknowledged_by (and_then past (take j (es ++ event ∷ [])) xs)) c) (sym (take-append-le j rs (reply ∷ []) (omega (arith, below, even)))) was))
 
 -- and what is answered now
-survives_last : (area : Area) (frame : Image) (past : Past) (es : List Event) (rs : List Reply) (event : Event) (reply : Reply) (j : ℕ) (c : Image) → length rs ≡ length es → j ≡ length es → Survives area frame (and_then (and_then past es rs) (event ∷ []) (reply ∷ [])) (acknowledged_by (and_then past es rs)) c → SurvivesAt area frame past (es ++ event ∷ []) (rs ++ reply ∷ []) j c
-survives_last area frame past es rs event reply j c even last was =
-    subst (λ (xs : List Event). Survives area frame (and_then past xs (take (j + 1) (rs ++ reply ∷ []))) (acknowledged_by (and_then past (take j (es ++ event ∷ [])) (take j (rs ++ reply ∷ [])))) c) (sym (take_all (j + 1) (es ++ event ∷ []) (omega (arith, last, length-append es (event ∷ [])))))
-    (subst (λ (xs : List Reply). Survives area frame (and_then past (es ++ event ∷ []) xs) (acknowledged_by (and_then past (take j (es ++ event ∷ [])) (take j (rs ++ reply ∷ [])))) c) (sym (take_all (j + 1) (rs ++ reply ∷ []) (omega (arith, last, even, length-append rs (reply ∷ [])))))
-    (subst (λ (xs : List Reply). Survives area frame (and_then past (es ++ event ∷ []) (rs ++ reply ∷ [])) (acknowledged_by (and_then past (take j (es ++ event ∷ [])) xs)) c) (sym (take_at rs (reply ∷ []) j (omega (arith, last, even))))
-    (subst (λ (p : Past). Survives area frame p (acknowledged_by (and_then past es rs)) c) (and_then_both past es (event ∷ []) rs (reply ∷ [])) was)))
+survives_last : {M : Type 0} (past : Past M) (es : List Event) (rs : List (Reply M)) (event : Event) (reply : Reply M) (j : ℕ) (c : Image) → length rs ≡ length es → j ≡ length es → Survives (and_then (and_then past es rs) (event ∷ []) (reply ∷ [])) (acknowledged_by (and_then past es rs)) c → SurvivesAt past (es ++ event ∷ []) (rs ++ reply ∷ []) j c
+survives_last past es rs event reply j c even last was =
+    subst (λ (xs : List Event). Survives (and_then past xs (take (j + 1) (rs ++ reply ∷ []))) (acknowledged_by (and_then past (take j (es ++ event ∷ [])) (take j (rs ++ reply ∷ [])))) c) (sym (take_all (j + 1) (es ++ event ∷ []) (omega (arith, last, length-append es (event ∷ [])))))
+    (subst (λ (xs : List (Reply _)). Survives (and_then past (es ++ event ∷ []) xs) (acknowledged_by (and_then past (take j (es ++ event ∷ [])) (take j (rs ++ reply ∷ [])))) c) (sym (take_all (j + 1) (rs ++ reply ∷ []) (omega (arith, last, even, length-append rs (reply ∷ [])))))
+    (subst (λ (xs : List (Reply _)). Survives (and_then past (es ++ event ∷ []) (rs ++ reply ∷ [])) (acknowledged_by (and_then past (take j (es ++ event ∷ [])) xs)) c) (sym (take_at rs (reply ∷ []) j (omega (arith, last, even))))
+    (subst (λ (p : Past _). Survives p (acknowledged_by (and_then past es rs)) c) (and_then_both past es (event ∷ []) rs (reply ∷ [])) was)))
 
-module _ {D M : Type 0} (history : D → History) (area : Area) (frame : Image) (past : Past) where
-  pub goes_nowhere : (old : Engine D M) → IsAt history area frame past old → GoesOn history area frame past [] [] old old
+module _ {D M : Type 0} (history : D → History) (past : Past M) where
+  pub goes_nowhere : (old : Engine D M) → IsAt history past old → GoesOn history past [] [] old old
   goes_nowhere old is = record {
-    at = subst (λ (p : Past). IsAt history area frame p old) (sym (and_then_none past)) is;
+    at = subst (λ (p : Past _). IsAt history p old) (sym (and_then_none past)) is;
     kept = λ t le. refl;
     borders = [];
     one_each = refl;
     spans = refl;
   }
 
-  pub goes_further : (es : List Event) (rs : List Reply) (old mid new : Engine D M) (event : Event) (reply : Reply) → length rs ≡ length es → GoesOn history area frame past es rs old mid → Serves history event reply mid new → GoesOn history area frame past (es ++ event ∷ []) (rs ++ reply ∷ []) old new
+  pub goes_further : (es : List Event) (rs : List (Reply M)) (old mid new : Engine D M) (event : Event) (reply : Reply M) → length rs ≡ length es → GoesOn history past es rs old mid → Serves history event reply mid new → GoesOn history past (es ++ event ∷ []) (rs ++ reply ∷ []) old new
   goes_further es rs old mid new event reply even ran serves = record {
-    at = subst (λ (p : Past). IsAt history area frame p new) (and_then_both past es (event ∷ []) rs (reply ∷ [])) served.0;
-    kept = λ t le. served.1.kept t (omega (arith, le, spans_rise (history mid.writer.device).disk_at (SurvivesAt area frame past es rs) 0 (history old.writer.device).moment ran.borders (history mid.writer.device).moment ran.spans)) ∙ ran.kept t le;
+    at = subst (λ (p : Past _). IsAt history p new) (and_then_both past es (event ∷ []) rs (reply ∷ [])) served.0;
+    kept = λ t le. served.1.kept t (omega (arith, le, spans_rise (history mid.writer.device).disk_at (SurvivesAt past es rs) 0 (history old.writer.device).moment ran.borders (history mid.writer.device).moment ran.spans)) ∙ ran.kept t le;
     borders = ran.borders ++ (history new.writer.device).moment ∷ [];
     one_each = omega (arith, ran.one_each, length-append ran.borders ((history new.writer.device).moment ∷ []), length-append es (event ∷ []));
     spans = spans_push (history new.writer.device).disk_at after 0 (history old.writer.device).moment ran.borders (history mid.writer.device).moment (history new.writer.device).moment
         (spans_kept (history mid.writer.device).disk_at (history new.writer.device).disk_at after 0 (history old.writer.device).moment ran.borders (history mid.writer.device).moment served.1.kept
-        (spans_map (history mid.writer.device).disk_at (SurvivesAt area frame past es rs) after 0 (history old.writer.device).moment ran.borders (history mid.writer.device).moment
-        (λ i low high c was. survives_earlier area frame past es rs event reply i c even (omega (arith, high, ran.one_each)) was) ran.spans))
+        (spans_map (history mid.writer.device).disk_at (SurvivesAt past es rs) after 0 (history old.writer.device).moment ran.borders (history mid.writer.device).moment
+        (λ i low high c was. survives_earlier past es rs event reply i c even (omega (arith, high, ran.one_each)) was) ran.spans))
         served.1.later
-        (λ t c low high crash. survives_last area frame past es rs event reply (0 + length ran.borders) c even (omega (arith, ran.one_each)) (served.1.each t c low high crash));
+        (λ t c low high crash. survives_last past es rs event reply (0 + length ran.borders) c even (omega (arith, ran.one_each)) (served.1.each t c low high crash));
   }
     where
       after : ℕ → Image → Type 0
-      after = SurvivesAt area frame past (es ++ event ∷ []) (rs ++ reply ∷ [])
+      after = SurvivesAt past (es ++ event ∷ []) (rs ++ reply ∷ [])
 
-      served : IsAt history area frame (and_then (and_then past es rs) (event ∷ []) (reply ∷ [])) new × LeavesOnly (history mid.writer.device) (history new.writer.device) (Survives area frame (and_then (and_then past es rs) (event ∷ []) (reply ∷ [])) (acknowledged_by (and_then past es rs)))
-      served = serves area frame (and_then past es rs) ran.at
+      served : IsAt history (and_then (and_then past es rs) (event ∷ []) (reply ∷ [])) new × LeavesOnly (history mid.writer.device) (history new.writer.device) (Survives (and_then (and_then past es rs) (event ∷ []) (reply ∷ [])) (acknowledged_by (and_then past es rs)))
+      served = serves (and_then past es rs) ran.at
 
 -- a request that was served leaves an engine that can be run
-pub can_run_after : {D M : Type 0} (history : D → History) (x : Event) (r : Reply) (old new : Engine D M) → is_read_only old ≡ false → CanRun history old → Serves history x r old new → CanRun history new
+pub can_run_after : {D M : Type 0} (history : D → History) (x : Event) (r : Reply M) (old new : Engine D M) → is_read_only old ≡ false → CanRun history old → Serves history x r old new → CanRun history new
 can_run_after history x r old new serving can serves = ⊎_elim
-    (λ only. absurd (false≢true (sym serving ∙ only)))
-    (λ at. inr (at.0, at.1, and_then at.2 (x ∷ []) (r ∷ []), (serves at.0 at.1 at.2 at.3).0))
+    (λ only. absurd (false≢true (sym serving ∙ only.mode)))
+    (λ at. inr (and_then at.0 (x ∷ []) (r ∷ []), (serves at.0 at.1).0))
     can
 
 pub is_serving : (only : Bool) (x : Event) → (only && not (is_read x)) ≡ false → is_read x ≡ false → only ≡ false
@@ -90,18 +89,18 @@ is_serving only x serves changes = and_true only ∙ sym (ap (λ b. only && not 
     and_true true = refl
     and_true false = refl
 
-pub lawful_last : {D M : Type 0} (failures : D → ℕ) (es : List Event) (rs : List Reply) (event : Event) (reply : Reply) (old mid new : Engine D M) → AreLawful failures es rs old mid → IsLawful failures event reply mid new → AreLawful failures (es ++ event ∷ []) (rs ++ reply ∷ []) old new
+pub lawful_last : {D M : Type 0} (failures : D → ℕ) (es : List Event) (rs : List (Reply M)) (event : Event) (reply : Reply M) (old mid new : Engine D M) → AreLawful failures es rs old mid → IsLawful failures event reply mid new → AreLawful failures (es ++ event ∷ []) (rs ++ reply ∷ []) old new
 lawful_last failures [] [] event reply old mid new so_far lawful = (new, subst (λ e. IsLawful failures event reply e new) so_far lawful, refl)
 lawful_last failures [] (r ∷ rs) event reply old mid new so_far lawful = absurd so_far
 lawful_last failures (e ∷ es) [] event reply old mid new so_far lawful = absurd so_far
 lawful_last failures (e ∷ es) (r ∷ rs) event reply old mid new so_far lawful = (so_far.0, so_far.1, lawful_last failures es rs event reply so_far.0 mid new so_far.2 lawful)
 
-pub served_last : {D M : Type 0} (history : D → History) (failures : D → ℕ) (area : Area) (frame : Image) (past : Past) (es : List Event) (rs : List Reply) (event : Event) (reply : Reply) (old mid new : Engine D M) → IsAt history area frame past old
-    → AreServed history failures area frame past es rs old mid → IsLawful failures event reply mid new → Serves history event reply mid new → AreServed history failures area frame past (es ++ event ∷ []) (rs ++ reply ∷ []) old new
-served_last history failures area frame past [] [] event reply old mid new at so_far lawful serves =
-    let first = subst (λ e. Serves history event reply e new) so_far serves area frame past at in
+pub served_last : {D M : Type 0} (history : D → History) (failures : D → ℕ) (past : Past M) (es : List Event) (rs : List (Reply M)) (event : Event) (reply : Reply M) (old mid new : Engine D M) → IsAt history past old
+    → AreServed history failures past es rs old mid → IsLawful failures event reply mid new → Serves history event reply mid new → AreServed history failures past (es ++ event ∷ []) (rs ++ reply ∷ []) old new
+served_last history failures past [] [] event reply old mid new at so_far lawful serves =
+    let first = subst (λ e. Serves history event reply e new) so_far serves past at in
     (new, subst (λ e. IsLawful failures event reply e new) so_far lawful, first.0, first.1, refl)
-served_last history failures area frame past [] (r ∷ rs) event reply old mid new at so_far lawful serves = absurd so_far
-served_last history failures area frame past (e ∷ es) [] event reply old mid new at so_far lawful serves = absurd so_far
-served_last history failures area frame past (e ∷ es) (r ∷ rs) event reply old mid new at so_far lawful serves =
-    (so_far.0, so_far.1, so_far.2, so_far.3, served_last history failures area frame (and_then past (e ∷ []) (r ∷ [])) es rs event reply so_far.0 mid new so_far.2 so_far.4 lawful serves)
+served_last history failures past [] (r ∷ rs) event reply old mid new at so_far lawful serves = absurd so_far
+served_last history failures past (e ∷ es) [] event reply old mid new at so_far lawful serves = absurd so_far
+served_last history failures past (e ∷ es) (r ∷ rs) event reply old mid new at so_far lawful serves =
+    (so_far.0, so_far.1, so_far.2, so_far.3, served_last history failures (and_then past (e ∷ []) (r ∷ [])) es rs event reply so_far.0 mid new so_far.2 so_far.4 lawful serves)

@@ -1,43 +1,63 @@
--- What was committed, read off requests and replies alone.
-use Rattle.std.specs.Prelude.{ℕ, max, List, [], ◌∷◌, ◌++◌, filter, map, not, Some, None, ◌==◌}
-use Rattle.model.specs.declared.write.Write.{Write}
-use Rattle.model.specs.History.{Item, Committed}
+-- What was asked and answered, in the words of the core.
+use Rattle.std.specs.Prelude.{List, None, Option, Some, [], max, ℕ, ◌++◌, ◌∷◌}
+use Rattle.core_contracts.specs.Events as core
+use Rattle.index_core.specs.Builds.{built}
+use Rattle.index_core.specs.Cleaning.{cleaner}
+use Rattle.index_core.specs.Replies.{reply_of_ticket}
 use Rattle.first.specs.declared.event.Event.{Event}
 use Rattle.first.specs.declared.event.Event.TheVariants as event
 use Rattle.first.specs.declared.event.Reply.{Reply}
 use Rattle.first.specs.declared.event.Reply.TheVariants as reply
 
--- the commits so far, and each write that was accepted of a transaction that neither committed nor ended, with its transaction, in order
-pub record Story : Type 0 where
-  pub items : List Item
-  pub writes : List (ℕ × Write)
+-- what is asked of the core; a flush asks nothing of it
+abbrev pub asked : Event → Option core.Event
+asked event.Begin = Some core.Begin
+asked (event.Insert txn key body) = Some (core.Insert txn (record { key = key; body = body }))
+asked (event.Delete txn rid) = Some (core.Delete txn rid)
+asked (event.Update txn rid key body) = Some (core.Update txn rid (record { key = key; body = body }))
+asked (event.Step txn) = Some (core.Step txn)
+asked (event.Undo txn) = Some (core.Undo txn)
+asked (event.End txn) = Some (core.End txn)
+asked (event.Commit txn) = Some (core.Commit txn)
+asked event.Create = Some core.Create
+asked event.Build = Some core.Build
+asked event.Clean = Some core.Clean
+asked event.Flush = None
+asked (event.Get rid) = Some (core.Get rid)
+asked (event.Find key) = Some (core.Find key)
+asked event.Life = Some core.Life
 
--- what this transaction wrote, in order
-abbrev pub written_by : ℕ → List (ℕ × Write) → List Write
-written_by txn writes = map (λ (w : ℕ × Write). w.1) (filter (λ (w : ℕ × Write). w.0 == txn) writes)
+-- what the core answered; the answers to a flush are none of its
+abbrev pub answered : {M : Type 0} → Reply M → Option core.Reply
+answered (reply.Txn n) = Some (core.Txn n)
+answered (reply.Rid rid) = Some (core.Rid rid)
+answered reply.Stepped = Some core.Stepped
+answered reply.Undone = Some core.Undone
+answered reply.Empty = Some core.Empty
+answered reply.Ended = Some core.Ended
+answered (reply.Ticket ticket) = Some (reply_of_ticket ticket)
+answered (reply.Built b) = Some (built b)
+answered (reply.Cleaned c) = Some (cleaner c)
+answered (reply.Horizon n) = None
+answered reply.LogFull = None
+answered (reply.Row row) = Some (core.RowIs row)
+answered (reply.Found rids) = Some (core.Found rids.items)
+answered (reply.Life life) = Some (core.LifeIs life)
+answered reply.Skipped = Some core.Skipped
+answered (reply.Refused e) = Some (core.Refused e)
 
--- A request and its reply are added. A refusal adds nothing; nor does an undo, since a transaction that is rolling back never commits.
-abbrev pub told : Story → Event → Reply → Story
-told s (event.Insert txn key body) (reply.Rid rid) = record s { writes = s.writes ++ (txn, record { rid = rid; row = Some (record { key = key; body = body }) }) ∷ [] }
-told s (event.Delete txn rid) reply.Stepped = record s { writes = s.writes ++ (txn, record { rid = rid; row = None }) ∷ [] }
-told s (event.Update txn rid key body) reply.Stepped = record s { writes = s.writes ++ (txn, record { rid = rid; row = Some (record { key = key; body = body }) }) ∷ [] }
-told s (event.End txn) reply.Ended = record s { writes = filter (λ (w : ℕ × Write). not (w.0 == txn)) s.writes }
-told s (event.Commit txn) (reply.Ticket ticket) = record {
-  items = s.items ++ record { number = ticket.record; deed = Committed (written_by txn s.writes) } ∷ [];
-  writes = filter (λ (w : ℕ × Write). not (w.0 == txn)) s.writes;
-}
-told s event reply = s
+abbrev pub both : Option core.Event → Option core.Reply → List (core.Event × core.Reply)
+both None answer = []
+both (Some e) None = []
+both (Some e) (Some r) = (e, r) ∷ []
 
-abbrev pub told_all : Story → List Event → List Reply → Story
-told_all s (event ∷ events) (reply ∷ replies) = told_all (told s event reply) events replies
-told_all s events replies = s
-
--- the story of a run
-abbrev pub story : List Event → List Reply → Story
-story events replies = told_all (record { items = []; writes = [] }) events replies
+-- each event of the core with its reply
+abbrev pub pairs_of : {M : Type 0} → List Event → List (Reply M) → List (core.Event × core.Reply)
+pairs_of (e ∷ events) (r ∷ replies) = both (asked e) (answered r) ++ pairs_of events replies
+pairs_of events replies = []
 
 -- the greatest record number that a reply has told to be safe, or n
-abbrev pub acknowledged : ℕ → List Reply → ℕ
+abbrev pub acknowledged : {M : Type 0} → ℕ → List (Reply M) → ℕ
 acknowledged n [] = n
 acknowledged n (reply.Horizon m ∷ replies) = acknowledged (max n m) replies
 acknowledged n (_ ∷ replies) = acknowledged n replies

@@ -4,3 +4,4 @@ pub mod History
 pub mod Store
 pub mod Lawful
 pub mod Reopening
+pub mod Building

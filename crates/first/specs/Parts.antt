@@ -2,11 +2,12 @@
 use Rattle.std.specs.Prelude.{◌+◌, ℕ, Bool, List, ◌++◌}
 use Rattle.records.specs.RecordValue.{RecordValue}
 use Rattle.gate_log.specs.Area.{Log}
-use Rattle.nsf_core.specs.Value.{CoreValue, state_of}
+use Rattle.index_core.specs.Value.{value_of}
+use Rattle.index_core.specs.View.{CoreValue}
 use Rattle.first.specs.declared.engine.Engine.{Engine}
 
 abbrev pub core_of : {D M : Type 0} → Engine D M → CoreValue
-core_of engine = state_of engine.core
+core_of engine = value_of engine.core
 
 abbrev pub device_of : {D M : Type 0} → Engine D M → D
 device_of engine = engine.writer.device

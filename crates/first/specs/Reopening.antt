@@ -1,33 +1,29 @@
 -- What a restart makes of what a device holds.
-use Rattle.std.specs.Prelude.{◌≡◌, ◌⊎◌, ℕ, ◌+◌, ◌≤◌, Bool, true, false, List, [], ◌∷◌, ◌++◌, length, take}
-use Rattle.std.specs.FinMap as map
-use Rattle.records.specs.RecordValue.{RecordValue}
+use Rattle.std.specs.Prelude.{◌≡◌, ◌⊎◌, ℕ, ◌≤◌, nat_lt, false, List, [], length}
 use Rattle.records.specs.GeometryValue.{GeometryValue}
 use Rattle.records.specs.declared.error.Error.{Error}
-use Rattle.model.specs.Table.{Table}
-use Rattle.model.specs.History.{table_after, up_to}
+use Rattle.model.specs.Given.{Given, IsBeginning, nothing}
 use Rattle.sector_device.specs.Disk.{Image, IsSynced, IsCrashImage}
 use Rattle.sector_device.specs.History.{History, LeavesOnly}
-use Rattle.gate_log.specs.Area.{Refuses}
-use Rattle.flip_image.specs.declared.half.Half.{Half}
-use Rattle.flip_image.specs.declared.half.Half.TheVariants.{A}
-use Rattle.flip_image.specs.Store.{IsFormatted}
-use Rattle.store_reader.specs.Contents.{rows_of, log_area, Gives, IsUnreadable}
-use Rattle.nsf_core.specs.Value.{CoreValue, fresh}
+use Rattle.gate_log.specs.Area.{Log, Refuses}
+use Rattle.store_reader.specs.Contents.{Gives, IsFound, IsUnreadable}
+use Rattle.core_loader.specs.Loaded.{holding}
+use Rattle.core_model.specs.Histories.{CanOpen, opened}
+use Rattle.core_contracts.specs.Events.{standing_at}
+use Rattle.index_core.specs.View.{CoreValue, IsState}
 use Rattle.first.specs.declared.event.Event.{Event}
 use Rattle.first.specs.declared.event.Reply.{Reply}
 use Rattle.first.specs.declared.engine.Engine.{Engine}
-use Rattle.first.specs.History.{acknowledged}
 use Rattle.first.specs.Parts.{core_of, device_of, horizon_of, has_failed, is_read_only}
-use Rattle.first.specs.Store.{Past, items_of, and_then, Survives, IsAt}
+use Rattle.first.specs.Store.{Past, SurvivesAt, acknowledged_by, and_then, items_of, over, Survives, IsAt}
 
--- a core over these rows, with no transaction, of which the last record has this number
-abbrev pub holding : ℕ → ℕ → Table → CoreValue
-holding pages last rows = record (fresh pages last) { heap = record { pages = pages; rows = rows } }
-
-abbrev pub is_some_record : List RecordValue → Bool
-is_some_record [] = false
-is_some_record (r ∷ records) = true
+-- the core of what the image gives, whose log this is
+pub record IsCoreOf (image : Image) (log : Log) (core : CoreValue) : Type 0 where
+  pub geometry : GeometryValue
+  pub given : Given
+  pub found : IsFound image geometry log given
+  pub holds : core ≡ holding geometry given
+  pub shown : IsState core (opened (over geometry given)) (standing_at given.last)
 
 -- Nothing was done to the device but to sync it: it holds what it held, and a crash at any moment leaves what a crash
 -- before could.
@@ -35,63 +31,53 @@ pub record OnlySyncs {D : Type 0} (history : D → History) (before after : D) :
   pub content : (history after).disk.content ≡ (history before).disk.content
   pub images : LeavesOnly (history before) (history after) (IsCrashImage (history before).disk)
 
--- a run that has not begun, over a store with no row and no record
-abbrev pub opening : ℕ → Past
-opening pages = record { pages = pages; table = map.empty; last = 0; events = []; replies = [] }
+-- a run that has not begun, over a store that holds nothing
+abbrev pub opening : {M : Type 0} → GeometryValue → Past M
+opening geometry = record { geometry = geometry; given = nothing; events = []; replies = [] }
 
--- The engine holds what its device gave: the rows of the records in the log, with every unfinished transaction taken
--- back, and no transaction. It serves every request where there was no record, and else only reads.
+-- The engine holds what its device gave, and no transaction. It serves every request where there was no record, and else
+-- only reads.
 pub record IsOpened {D M : Type 0} (history : D → History) (before : D) (engine : Engine D M) : Type 0 where
   pub geometry : GeometryValue
-  pub half : Half
-  pub records : List RecordValue
-  pub gives : Gives (history before).disk.content geometry half records
-  pub core : core_of engine ≡ holding geometry.pages (length records) (rows_of records)
-  pub horizon : horizon_of engine ≡ length records
-  pub mode : is_read_only engine ≡ is_some_record records
+  pub given : Given
+  pub gives : Gives (history before).disk.content geometry given
+  pub core : core_of engine ≡ holding geometry given
+  pub horizon : horizon_of engine ≡ given.last
+  pub mode : is_read_only engine ≡ nat_lt 0 given.last
   pub sound : has_failed engine ≡ false
   pub device : OnlySyncs history before (device_of engine)
   pub synced : IsSynced (history (device_of engine)).disk
-  pub begins : records ≡ [] → IsAt history (log_area geometry half) (history before).disk.content (opening geometry.pages) engine
+  pub begins : given.last ≡ 0 → IsAt history (opening geometry) engine
 
 -- Why nothing was opened: there was no memory, the device failed in the call, or it gives nothing.
 pub record IsNotOpened {D : Type 0} (history : D → History) (failures : D → ℕ) (before after : D) (e : Error) : Type 0 where
   pub device : OnlySyncs history before after
   pub why : Refuses (failures before) (failures after) e ⊎ IsUnreadable (history before).disk.content e
 
--- The rows are the table of a prefix of the run's history, which has every item up to the floor, and no transaction is
--- active.
-pub record Recovers {D M : Type 0} (past : Past) (floor : ℕ) (engine : Engine D M) : Type 0 where
-  pub last : ℕ
-  pub floor_is : floor ≤ last
-  pub rows : (core_of engine).heap.rows ≡ table_after past.table (up_to last (items_of past))
-  pub no_txn : (core_of engine).txns.active ≡ []
-  pub next : (core_of engine).last ≡ last
+-- The engine holds a beginning of the run's history, which has every item up to the floor, and no transaction; and what it
+-- holds is something that a core may begin with: as far as the index is built, it shows the pair of each row, and no other.
+pub record Recovers {D M : Type 0} (past : Past M) (floor : ℕ) (engine : Engine D M) : Type 0 where
+  pub given : Given
+  pub beginning : IsBeginning past.given (items_of past) floor given
+  pub core : core_of engine ≡ holding past.geometry given
+  pub opens : CanOpen (over past.geometry given)
 
--- A run over a store that was formatted, and a crash that left it so.
-pub record IsLeftByRun (geometry : GeometryValue) (frame : Image) (events : List Event) (replies : List Reply) (floor : ℕ) (image : Image) : Type 0 where
-  pub formatted : IsFormatted geometry frame
-  pub survives : Survives (log_area geometry A) frame (and_then (opening geometry.pages) events replies) floor image
-
--- Whatever run left the device so, the engine has the rows of a prefix of it, with all up to the floor.
+-- Whatever run left the device so, the engine holds a beginning of its history, with all up to the floor.
 abbrev pub RecoversAnyRun : {D M : Type 0} → (D → History) → D → Engine D M → Type 0
-RecoversAnyRun history before engine =
-    (geometry : GeometryValue) (frame : Image) (events : List Event) (replies : List Reply) (floor : ℕ)
-    → IsLeftByRun geometry frame events replies floor (history before).disk.content
-    → Recovers (and_then (opening geometry.pages) events replies) floor engine
+RecoversAnyRun {D} {M} history before engine = (past : Past M) (floor : ℕ) → Survives past floor (history before).disk.content → Recovers past floor engine
 
 -- What a run left is refused only for want of memory, or where the device failed in the call.
-abbrev pub RefusesNoRun : {D : Type 0} → (D → History) → (D → ℕ) → D → D → Error → Type 0
-RefusesNoRun history failures before after e =
-    (geometry : GeometryValue) (frame : Image) (events : List Event) (replies : List Reply) (floor : ℕ)
-    → IsLeftByRun geometry frame events replies floor (history before).disk.content
-    → Refuses (failures before) (failures after) e
+abbrev pub RefusesNoRun : (M : Type 0) → {D : Type 0} → (D → History) → (D → ℕ) → D → D → Error → Type 0
+RefusesNoRun M history failures before after e = (past : Past M) (floor : ℕ) → Survives past floor (history before).disk.content → Refuses (failures before) (failures after) e
 
--- These requests were answered so by an engine over a store that was formatted, whatever was answered since. A crash at any
--- moment of the call leaves what the run left up to one of the requests, with all that was acknowledged before that one.
-abbrev pub SurvivesAnyCrash : {D M : Type 0} → (D → History) → List Event → List Reply → Engine D M → Engine D M → Type 0
-SurvivesAnyCrash history events replies old new =
-    (geometry : GeometryValue) (frame : Image) (earlier : List Event) (answered : List Reply) → IsFormatted geometry frame
-    → IsAt history (log_area geometry A) frame (and_then (opening geometry.pages) earlier answered) old
-    → LeavesOnly (history (device_of old)) (history (device_of new))
-    (λ image. (j : ℕ) × (j ≤ length events) × IsLeftByRun geometry frame (earlier ++ take (j + 1) events) (answered ++ take (j + 1) replies) (acknowledged 0 (answered ++ take j replies)) image)
+-- These requests were answered so, whatever was answered before. A crash at any moment of the call leaves what the run left
+-- up to one of the requests, with all that was acknowledged before that one.
+abbrev pub SurvivesAnyCrash : {D M : Type 0} → (D → History) → List Event → List (Reply M) → Engine D M → Engine D M → Type 0
+SurvivesAnyCrash {D} {M} history events replies old new = (past : Past M) → IsAt history past old
+    → LeavesOnly (history (device_of old)) (history (device_of new)) (λ image. (j : ℕ) × (j ≤ length events) × SurvivesAt past events replies j image)
+
+-- These requests were answered so, whatever was answered before. A crash once the call has ended leaves a
+-- beginning of the whole run, with all that a reply has told to be safe, those of this call too.
+abbrev pub KeepsWholeRun : {D M : Type 0} → (D → History) → List Event → List (Reply M) → Engine D M → Engine D M → Type 0
+KeepsWholeRun {D} {M} history events replies old new = (past : Past M) → IsAt history past old → (image : Image) → IsCrashImage (history (device_of new)).disk image
+    → Survives (and_then past events replies) (acknowledged_by (and_then past events replies)) image

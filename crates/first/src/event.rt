@@ -2,9 +2,10 @@
 ghost use Rattle.std.specs.Prelude.{◌≡◌};
 ghost use Rattle.first.specs.Lawful.{is_read};
 
+use index_core::{BuildReply, CleanReply, Ticket};
 use model::Life;
-use nsf_core::Ticket;
 use records::{Body, Error, Key, Rid, Row, Txn};
+use std::alloc::Allocator;
 
 /// A request.
 #[derive(Clone, Copy, Debug, PartialEq, Eq)]
@@ -29,11 +30,13 @@ pub enum Event {
         key: Key,
         body: Body,
     },
-    /// Makes the next step that a transaction owes of a change. Without an index a change is one step, and none is owed.
+    /// Makes the next step that a transaction owes of its newest change. Without an index a change is one step, and none
+    /// is owed.
     Step {
         txn: Txn,
     },
-    /// Takes a transaction's last change back. From the first such request on the transaction is rolling back.
+    /// Makes a step of taking a transaction's newest change back. From the first such request on the transaction is
+    /// rolling back.
     Undo {
         txn: Txn,
     },
@@ -45,11 +48,21 @@ pub enum Event {
     Commit {
         txn: Txn,
     },
+    /// Creates the index, which is then to be built.
+    Create,
+    /// Makes a step of the builder.
+    Build,
+    /// Makes a step of the cleaner.
+    Clean,
     /// Hands the records made to the writer, which writes one group of them.
     Flush,
     /// Asks for the row at a place.
     Get {
         rid: Rid,
+    },
+    /// Asks for the rows with a key, by the complete index.
+    Find {
+        key: Key,
     },
     /// Asks how far the index is.
     Life,
@@ -61,7 +74,7 @@ impl Event {
         ensures { result ≡ is_read self.now }
     {
         match self {
-            Event::Get { .. } | Event::Life => true,
+            Event::Get { .. } | Event::Find { .. } | Event::Life => true,
             Event::Begin
             | Event::Insert { .. }
             | Event::Delete { .. }
@@ -70,37 +83,46 @@ impl Event {
             | Event::Undo { .. }
             | Event::End { .. }
             | Event::Commit { .. }
+            | Event::Create
+            | Event::Build
+            | Event::Clean
             | Event::Flush => false,
         }
     }
 }
 
 /// The answer to a request.
-#[derive(Clone, Copy, Debug, PartialEq, Eq)]
-pub enum Reply {
+#[derive(Debug, Drop, PartialEq, Eq)]
+pub enum Reply<A: Allocator> {
     /// The number of the new transaction.
     Txn(Txn),
-    /// Where the row was put.
+    /// Where the row is put.
     Rid(Rid),
-    /// A deletion or an update was made.
+    /// A step of a change was made.
     Stepped,
-    /// A change was taken back.
+    /// A step of taking a change back was made.
     Undone,
     /// No change was left to take back.
     Empty,
     /// The transaction is over, and nothing of it was committed.
     Ended,
-    /// The record of the commit.
+    /// The record of the commit, or of the creation.
     Ticket(Ticket),
+    /// What the builder did.
+    Built(BuildReply),
+    /// What the cleaner did.
+    Cleaned(CleanReply),
     /// All records up to this number are in the log, and synced.
     Horizon(u64),
     /// Every slot of the log is open, and a record waits.
     LogFull,
     /// The row there, if any.
     Row(Option<Row>),
+    /// The places of the rows with the key, ascending.
+    Found(Vec<Rid, A>),
     /// How far the index is.
     Life(Life),
-    /// The store doesn't serve such a request now. Nothing was done.
+    /// The store doesn't serve such a request now, or what it asks for isn't met. Nothing was done.
     Skipped,
     /// Nothing was done.
     Refused(Error),

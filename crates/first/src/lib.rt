@@ -1,7 +1,8 @@
-//! A store without an index, on one log that is never emptied: it is opened, serves requests in order, and survives a
-//! crash at any moment.
+//! A store on one log that is never emptied: it is opened, serves requests in order, and survives a crash at any moment.
 #![tactic(auto)]
 
+mod asking;
+mod build;
 mod engine;
 mod event;
 mod reopen;

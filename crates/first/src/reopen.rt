@@ -1,25 +1,23 @@
 //! A store is opened, after `format` or after a crash.
-ghost use Rattle.std.specs.Prelude.{◌≡◌, ◌⊎◌, ◌≤◌, List, OnOk, IfOk, IfErr};
+ghost use Rattle.std.specs.Prelude.{◌≡◌, ◌⊎◌, List, OnOk, IfOk, IfErr};
 ghost use Rattle.sector_device.specs.Disk.{IsSynced};
-ghost use Rattle.records.specs.RecordValue.{RecordValue};
 ghost use Rattle.records.specs.GeometryValue.{GeometryValue};
-ghost use Rattle.records.specs.declared.number.TheConstants.{LAST_NUMBER};
-ghost use Rattle.model.specs.Following.{IsWithin};
+ghost use Rattle.model.specs.Given.{Given};
 ghost use Rattle.gate_log.specs.Area.{IsInside, Refuses};
-ghost use Rattle.flip_image.specs.declared.half.Half.{Half};
-ghost use Rattle.store_reader.specs.Contents.{Gives, IsFound, IsUnreadable};
-ghost use Rattle.nsf_core.specs.Value.{state_of};
+ghost use Rattle.store_reader.specs.Contents.{Gives, IsUnreadable};
+ghost use Rattle.index_core.specs.Value.{value_of};
 ghost use Rattle.first.specs.Store.{CanRun};
-ghost use Rattle.first.specs.Reopening.{holding, OnlySyncs, IsOpened, IsNotOpened, RecoversAnyRun, RefusesNoRun};
+ghost use Rattle.first.specs.Reopening.{IsCoreOf, OnlySyncs, IsOpened, IsNotOpened, RecoversAnyRun, RefusesNoRun};
 
 use crate::Engine;
 use crate::writer::Writer;
-use model::RowMap;
-use nsf_core::Core;
-use records::{Error, Geometry};
+use core_loader::load;
+use gate_log::LogArea;
+use index_core::Core;
+use records::Error;
 use sector_device::Device;
 use std::alloc::Allocator;
-use store_reader::{Found, read_store};
+use store_reader::read_store;
 
 /// Opens the store on the device: syncs it, reads it, and takes back what the transactions did that neither committed nor
 /// ended. Nothing is written. The device is given back with a refusal.
@@ -34,59 +32,40 @@ pub fn restart<D: Device, A: Allocator + Copy>(
     ensures opened { IfOk result (λ engine. IsOpened D.history device engine) }
     ensures can_run { IfOk result (λ engine. CanRun D.history engine) }
     ensures refused { IfErr result (λ r. IsNotOpened D.history D.failures device r.1 r.0) }
-    ensures recovers { IfOk result (RecoversAnyRun D.history device) }
-    ensures readable { IfErr result (λ r. RefusesNoRun D.history D.failures device r.1 r.0) }
+    ensures recovers { IfOk result (λ engine. RecoversAnyRun D.history device engine) }
+    ensures readable { IfErr result (λ r. RefusesNoRun A D.history D.failures device r.1 r.0) }
 {
     match open_core(alloc, &mut device) {
-        Ok((core, found)) => Ok(Engine {
-            core,
-            writer: Writer::new(alloc, device, found.log, found.last),
-            alloc,
-            read_only: 0 < found.last,
-        }),
+        Ok((core, log)) => {
+            let base = core.last();
+            Ok(Engine {
+                core,
+                writer: Writer::new(alloc, device, log, base),
+                alloc,
+                read_only: 0 < base,
+            })
+        }
         Err(error) => Err((error, device)),
     }
 }
 
-// Syncs the device, reads the store, and loads its rows into a core.
+// Syncs the device, reads the store, and loads what it gives into a core.
 fn open_core<D: Device, A: Allocator + Copy>(
     alloc: A,
     device: &mut D,
-) -> Result<(Core<A>, Found<A>), Error>
-    ensures found { IfOk result (λ r. IsFound (D.history device.old).disk.content r.1.geometry r.1.log r.1.rows r.1.last) }
-    ensures area { IfOk result (λ r. IsInside r.1.log.area (D.history device.old).disk.content) }
-    ensures core { IfOk result (λ r. state_of r.0 ≡ holding r.1.geometry.pages r.1.last r.1.rows) }
+) -> Result<(Core<A>, LogArea), Error>
+    ensures found { IfOk result (λ r. IsCoreOf (D.history device.old).disk.content r.1 (value_of r.0)) }
+    ensures area { IfOk result (λ r. IsInside r.1.area (D.history device.old).disk.content) }
     ensures synced { OnOk result (IsSynced (D.history device.new).disk) }
     ensures only { OnlySyncs D.history device.old device.new }
     ensures refused { IfErr result (λ e. Refuses (D.failures device.old) (D.failures device.new) e ⊎ IsUnreadable (D.history device.old).disk.content e) }
-    ensures accepted { (geometry : GeometryValue) (half : Half) (records : List RecordValue) → Gives (D.history device.old).disk.content geometry half records
+    ensures accepted { (geometry : GeometryValue) (given : Given) → Gives (D.history device.old).disk.content geometry given
         → IfErr result (Refuses (D.failures device.old) (D.failures device.new)) }
 {
     let Ok(()) = device.sync() else {
         return Err(Error::DeviceFailed);
     };
     let found = read_store(alloc, device)?;
-    let core = loaded(alloc, found.geometry, &found.rows, found.last)?;
-    Ok((core, found))
-}
-
-// A core over these rows, of which the last record has the number `last`.
-fn loaded<A: Allocator + Copy>(
-    alloc: A,
-    geometry: Geometry,
-    rows: &RowMap<A>,
-    last: u64,
-) -> Result<Core<A>, Error>
-    requires number { last ≤ LAST_NUMBER }
-    requires within { IsWithin geometry.pages rows.now }
-    ensures made { IfOk result (λ core. state_of core ≡ holding geometry.pages last rows.now) }
-    ensures no_memory { IfErr result (λ e. e ≡ Error.NoMemory) }
-{
-    let mut entries = rows.entries(alloc)?;
-    let mut core = Core::new(alloc, geometry, last)?;
-    while let Some(entry) = entries.pop() {
-        let (rid, row) = entry;
-        core.load_row(rid, Some(row));
-    }
-    Ok(core)
+    let core = load(alloc, found.restored)?;
+    Ok((core, found.log))
 }

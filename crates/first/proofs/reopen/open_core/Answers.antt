@@ -3,7 +3,9 @@ use Rattle.std.proofs.lemmas.Result.{err_from_is_err_and}
 use Rattle.sector_device.specs.Disk.{Image, Disk}
 use Rattle.gate_log.specs.Area.{IsInside, Refuses}
 use Rattle.store_reader.specs.Contents.{Gives, IsUnreadable}
-use Rattle.first.proofs.Reopened.{then_reads, told_since, refused_since}
+use Rattle.redo.specs.Restored.{given_in}
+use Rattle.index_core.specs.Value.{value_of}
+use Rattle.first.proofs.Reopened.{loaded_core, then_reads, told_since, refused_since}
 use Rattle.first.proofs.reopen.open_core.Goals as goal
 
 pub returns-in_err-found-clause-refused : goal.returns-in_err-found-clause-refused
@@ -16,13 +18,13 @@ returns-in_err-found-clause-refused g c =
     (subst (λ e. Refuses (f c.sync.new.self) (f c.read_store.new.device) e ⊎ IsUnreadable (h c.sync.new.self).disk.content e) (sym p.2) c.in_err-found.ensures.refused))
 
 pub returns-in_err-found-clause-accepted : goal.returns-in_err-found-clause-accepted
-returns-in_err-found-clause-accepted g c geometry half records gives =
+returns-in_err-found-clause-accepted g c geometry given gives =
     let h = g.D.Device.history in
     let f = g.D.Device.failures in
     let p = err_from_is_err_and c.from_residual.result c.from_residual.ensures.1 in
     let content : (h c.sync.new.self).disk.content ≡ (h c.args.device.now).disk.content = ap (λ (d : Disk). d.content) c.in-Ok.ensures.ok in
     rw p.1 (refused_since (f c.args.device.now) (f c.sync.new.self) (f c.read_store.new.device) _ c.in-Ok.ensures.counts.none
-    (subst (λ e. Refuses (f c.sync.new.self) (f c.read_store.new.device) e) (sym p.2) (c.in_err-found.ensures.accepted geometry half records (subst (λ (i : Image). Gives i geometry half records) (sym content) gives))))
+    (subst (λ e. Refuses (f c.sync.new.self) (f c.read_store.new.device) e) (sym p.2) (c.in_err-found.ensures.accepted geometry given (subst (λ (i : Image). Gives i geometry given) (sym content) gives))))
 
 pub returns-in_err-core-clause-only : goal.returns-in_err-core-clause-only
 returns-in_err-core-clause-only g c =
@@ -42,3 +44,9 @@ returns-clause-only g c =
 
 pub returns-clause-area : goal.returns-clause-area
 returns-clause-area g c = subst (λ (d : Disk). IsInside c.in_ok-found.found.log.area d.content) c.in-Ok.ensures.ok c.in_ok-found.ensures.area
+
+pub returns-clause-found : goal.returns-clause-found
+returns-clause-found g c =
+    let h = g.D.Device.history in
+    let found = c.in_ok-found.found in
+    loaded_core (h c.args.device.now).disk.content (h c.sync.new.self).disk.content found.restored.geometry found.log (given_in found.restored) (value_of c.in_ok-core.core) (ap (λ (d : Disk). d.content) c.in-Ok.ensures.ok) c.in_ok-found.ensures.found c.in_ok-core.ensures.made c.in_ok-core.ensures.opened

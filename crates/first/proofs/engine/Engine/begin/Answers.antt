@@ -1,12 +1,18 @@
 use Rattle.std.proofs.Common.{refl}
-use Rattle.first.specs.declared.event.Event.TheVariants as event
-use Rattle.first.proofs.Served.{served_refused, served_begin}
+use Rattle.core_contracts.specs.Events as core
+use Rattle.first.specs.declared.engine.Engine.{Engine}
+use Rattle.first.specs.declared.event.Reply.TheVariants as reply
+use Rattle.first.proofs.Answered.{answered_err, answered_ok}
 use Rattle.first.proofs.engine.Engine.begin.Goals as goal
 
-pub returns-in-Ok-clause-serves : goal.returns-in-Ok-clause-serves
-returns-in-Ok-clause-serves g c =
+pub returns-in-Ok : goal.returns-in-Ok
+returns-in-Ok g c =
     let old = c.args.self.now in
-    served_begin g.D.Device.history old (record old { core = c.begin.new.self }) refl c.in-Ok.txn c.in-Ok.ensures.ok.1
+    let new : Engine g.row.D.Denot g.row.A.Denot = record old { core = c.begin.new.self } in
+    answered_ok core.Begin core.Txn _ old new c.begin.ensures refl c.in-Ok.txn (reply.Txn c.in-Ok.txn) c.in-Ok.is refl
 
-pub returns-in-Err-clause-serves : goal.returns-in-Err-clause-serves
-returns-in-Err-clause-serves g c = served_refused g.D.Device.history c.args.self.now (record c.args.self.now { core = c.begin.new.self }) refl event.Begin c.in-Err.error c.in-Err.ensures.err.1
+pub returns-in-Err : goal.returns-in-Err
+returns-in-Err g c =
+    let old = c.args.self.now in
+    let new : Engine g.row.D.Denot g.row.A.Denot = record old { core = c.begin.new.self } in
+    answered_err core.Begin core.Txn _ old new c.begin.ensures refl c.in-Err.error c.in-Err.is

@@ -1,17 +1,27 @@
-use Rattle.std.proofs.Common.{◌≡◌, false, refl, subst}
-use Rattle.first.specs.declared.event.Event.TheVariants as event
+use Rattle.std.proofs.Common.{refl}
+use Rattle.core_contracts.specs.Events as core
+use Rattle.index_core.specs.Moves.{txn_of}
+use Rattle.index_core.proofs.Offered.{skips_end}
+use Rattle.first.specs.declared.engine.Engine.{Engine}
 use Rattle.first.specs.declared.event.Reply.TheVariants as reply
-use Rattle.nsf_core.specs.Refusals.{is_active}
-use Rattle.first.proofs.Served.{served_quiet, served_refused, served_end}
+use Rattle.first.specs.Parts.{core_of}
+use Rattle.first.proofs.Answered.{answered_err, answered_ok, answered_still, has_change}
 use Rattle.first.proofs.engine.Engine.end.Goals as goal
 
-pub returns-then-not-may_end-clause-serves : goal.returns-then-not-may_end-clause-serves
-returns-then-not-may_end-clause-serves g c = served_quiet g.D.Device.history c.args.self.now c.args.self.now refl (event.End c.args.txn) reply.Skipped refl (λ s. refl) (λ n. refl)
-
-pub returns-in-Ok-clause-serves : goal.returns-in-Ok-clause-serves
-returns-in-Ok-clause-serves g c =
+pub returns-then-not-may_end : goal.returns-then-not-may_end
+returns-then-not-may_end g c =
     let old = c.args.self.now in
-    served_end g.D.Device.history old (record old { core = c.end.new.self }) refl c.args.txn (c.may_end.ensures.0 c.if-not-may_end.false) (subst (λ s. is_active s c.args.txn ≡ false) c.in-Ok.ensures.ok.1 c.in-Ok.ensures.over) c.in-Ok.ensures.ok.1
+    let has = has_change (txn_of (core_of old) c.args.txn) c.may_end.result c.may_end.ensures c.if-not-may_end.true in
+    answered_still (core.End c.args.txn) old reply.Skipped core.Skipped refl (skips_end (core_of old) c.args.txn has.0 has.1 has.2)
 
-pub returns-in-Err-clause-serves : goal.returns-in-Err-clause-serves
-returns-in-Err-clause-serves g c = served_refused g.D.Device.history c.args.self.now (record c.args.self.now { core = c.end.new.self }) refl (event.End c.args.txn) c.in-Err.error c.in-Err.ensures.err.1
+pub returns-in-Ok : goal.returns-in-Ok
+returns-in-Ok g c =
+    let old = c.args.self.now in
+    let new : Engine g.row.D.Denot g.row.A.Denot = record old { core = c.end.new.self } in
+    answered_ok (core.End c.args.txn) (λ _. core.Ended) _ old new c.end.ensures refl _ reply.Ended c.in-Ok.is refl
+
+pub returns-in-Err : goal.returns-in-Err
+returns-in-Err g c =
+    let old = c.args.self.now in
+    let new : Engine g.row.D.Denot g.row.A.Denot = record old { core = c.end.new.self } in
+    answered_err (core.End c.args.txn) (λ _. core.Ended) _ old new c.end.ensures refl c.in-Err.error c.in-Err.is

@@ -4,5 +4,4 @@ use Rattle.first.proofs.Stories.{crash_now}
 use Rattle.first.proofs.engine.Engine.into_device.Goals as goal
 
 pub returns-clause-survives : goal.returns-clause-survives
-returns-clause-survives g c area frame past image is crash =
-    crash_now g.D.Device.history area frame past c.args.self is image (subst (λ d. IsCrashImage (g.D.Device.history d).disk image) c.into_device.ensures crash)
+returns-clause-survives g c past image is crash = crash_now g.D.Device.history past c.args.self is image (subst (λ d. IsCrashImage (g.D.Device.history d).disk image) c.into_device.ensures crash)

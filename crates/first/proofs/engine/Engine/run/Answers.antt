@@ -3,21 +3,20 @@ use Rattle.std.proofs.lemmas.List.{take_more, take_all}
 use Rattle.first.specs.declared.event.Event.{Event}
 use Rattle.first.specs.declared.event.Reply.{Reply}
 use Rattle.first.specs.Lawful.{IsLawful, AreLawful}
-use Rattle.sector_device.specs.Disk.{Image}
-use Rattle.gate_log.specs.Area.{Area}
-use Rattle.first.specs.Store.{Past, IsAt, Serves, GoesOn, AreServed}
+use Rattle.first.specs.Store.{Past, IsAt, Serves, GoesOn, AreServed, and_then}
 use Rattle.first.proofs.Runs.{goes_nowhere, goes_further, lawful_last, served_last}
 use Rattle.first.proofs.Crashes.{survives_any_crash}
+use Rattle.first.proofs.Stories.{crash_now}
 use Rattle.first.proofs.engine.Engine.run.Goals as goal
 
 pub loop-event-init : goal.loop-event-init
 loop-event-init g c = record {
   even = ap length c.in_ok-replies.ensures.items;
   room = omega (arith, c.in_ok-replies.ensures.exact);
-  lawful = subst (λ (rs : List Reply). AreLawful g.D.Device.failures [] rs c.args.self.now c.args.self.now) (sym c.in_ok-replies.ensures.items) refl;
+  lawful = subst (λ (rs : List (Reply _)). AreLawful g.D.Device.failures [] rs c.args.self.now c.args.self.now) (sym c.in_ok-replies.ensures.items) refl;
   can_run = c.requires;
-  served = λ area frame past is. subst (λ (rs : List Reply). AreServed g.D.Device.history g.D.Device.failures area frame past [] rs c.args.self.now c.args.self.now) (sym c.in_ok-replies.ensures.items) refl;
-  ran = λ area frame past is. subst (λ (rs : List Reply). GoesOn g.D.Device.history area frame past [] rs c.args.self.now c.args.self.now) (sym c.in_ok-replies.ensures.items) (goes_nowhere g.D.Device.history area frame past c.args.self.now is);
+  served = λ past is. subst (λ (rs : List (Reply _)). AreServed g.D.Device.history g.D.Device.failures past [] rs c.args.self.now c.args.self.now) (sym c.in_ok-replies.ensures.items) refl;
+  ran = λ past is. subst (λ (rs : List (Reply _)). GoesOn g.D.Device.history past [] rs c.args.self.now c.args.self.now) (sym c.in_ok-replies.ensures.items) (goes_nowhere g.D.Device.history past c.args.self.now is);
 }
 
 pub loop-event-preserved : goal.loop-event-preserved
@@ -33,26 +32,27 @@ loop-event-preserved g c =
       room = omega (arith, inv.room, c.push.ensures.capacity);
       lawful =
           subst (λ (es : List Event). AreLawful g.D.Device.failures es c.push.new.self.items c.args.self.now c.serve-reply.new.self) (sym (take_more events i c.event-item.result c.loop-event-test.true))
-          (subst (λ (rs : List Reply). AreLawful g.D.Device.failures (take i events ++ get_or events i c.event-item.result ∷ []) rs c.args.self.now c.serve-reply.new.self) (sym c.in-Ok.ensures.items)
+          (subst (λ (rs : List (Reply _)). AreLawful g.D.Device.failures (take i events ++ get_or events i c.event-item.result ∷ []) rs c.args.self.now c.serve-reply.new.self) (sym c.in-Ok.ensures.items)
           (lawful_last g.D.Device.failures (take i events) c.loop-event.replies.items (get_or events i c.event-item.result) c.serve-reply.result c.args.self.now c.loop-event.self c.serve-reply.new.self inv.lawful (subst (λ e. IsLawful g.D.Device.failures e c.serve-reply.result c.loop-event.self c.serve-reply.new.self) item c.serve-reply.ensures.lawful)));
       can_run = c.serve-reply.ensures.can_run;
-      served = λ area frame past is.
-          subst (λ (es : List Event). AreServed history g.D.Device.failures area frame past es c.push.new.self.items c.args.self.now c.serve-reply.new.self) (sym (take_more events i c.event-item.result c.loop-event-test.true))
-          (subst (λ (rs : List Reply). AreServed history g.D.Device.failures area frame past (take i events ++ get_or events i c.event-item.result ∷ []) rs c.args.self.now c.serve-reply.new.self) (sym c.in-Ok.ensures.items)
-          (served_last history g.D.Device.failures area frame past (take i events) c.loop-event.replies.items (get_or events i c.event-item.result) c.serve-reply.result c.args.self.now c.loop-event.self c.serve-reply.new.self is (inv.served area frame past is) (subst (λ e. IsLawful g.D.Device.failures e c.serve-reply.result c.loop-event.self c.serve-reply.new.self) item c.serve-reply.ensures.lawful) (subst (λ e. Serves history e c.serve-reply.result c.loop-event.self c.serve-reply.new.self) item c.serve-reply.ensures.serves)));
-      ran = λ area frame past is.
-          subst (λ (es : List Event). GoesOn history area frame past es c.push.new.self.items c.args.self.now c.serve-reply.new.self) (sym (take_more events i c.event-item.result c.loop-event-test.true))
-          (subst (λ (rs : List Reply). GoesOn history area frame past (take i events ++ get_or events i c.event-item.result ∷ []) rs c.args.self.now c.serve-reply.new.self) (sym c.in-Ok.ensures.items)
-          (goes_further history area frame past (take i events) c.loop-event.replies.items c.args.self.now c.loop-event.self c.serve-reply.new.self (get_or events i c.event-item.result) c.serve-reply.result even (inv.ran area frame past is) (subst (λ e. Serves history e c.serve-reply.result c.loop-event.self c.serve-reply.new.self) item c.serve-reply.ensures.serves)));
+      served = λ past is.
+          subst (λ (es : List Event). AreServed history g.D.Device.failures past es c.push.new.self.items c.args.self.now c.serve-reply.new.self) (sym (take_more events i c.event-item.result c.loop-event-test.true))
+          (subst (λ (rs : List (Reply _)). AreServed history g.D.Device.failures past (take i events ++ get_or events i c.event-item.result ∷ []) rs c.args.self.now c.serve-reply.new.self) (sym c.in-Ok.ensures.items)
+          (served_last history g.D.Device.failures past (take i events) c.loop-event.replies.items (get_or events i c.event-item.result) c.serve-reply.result c.args.self.now c.loop-event.self c.serve-reply.new.self is (inv.served past is) (subst (λ e. IsLawful g.D.Device.failures e c.serve-reply.result c.loop-event.self c.serve-reply.new.self) item c.serve-reply.ensures.lawful) (subst (λ e. Serves history e c.serve-reply.result c.loop-event.self c.serve-reply.new.self) item c.serve-reply.ensures.serves)));
+      ran = λ past is.
+          subst (λ (es : List Event). GoesOn history past es c.push.new.self.items c.args.self.now c.serve-reply.new.self) (sym (take_more events i c.event-item.result c.loop-event-test.true))
+          (subst (λ (rs : List (Reply _)). GoesOn history past (take i events ++ get_or events i c.event-item.result ∷ []) rs c.args.self.now c.serve-reply.new.self) (sym c.in-Ok.ensures.items)
+          (goes_further history past (take i events) c.loop-event.replies.items c.args.self.now c.loop-event.self c.serve-reply.new.self (get_or events i c.event-item.result) c.serve-reply.result even (inv.ran past is) (subst (λ e. Serves history e c.serve-reply.result c.loop-event.self c.serve-reply.new.self) item c.serve-reply.ensures.serves)));
     }
 
 pub returns : goal.returns
 returns g c =
-    let ran : (area : Area) (frame : Image) (past : Past) → IsAt g.D.Device.history area frame past c.args.self.now → GoesOn g.D.Device.history area frame past c.args.events.now c.loop-event.replies.items c.args.self.now c.loop-event.self =
-    λ area frame past is. subst (λ (es : List Event). GoesOn g.D.Device.history area frame past es c.loop-event.replies.items c.args.self.now c.loop-event.self) (take_all c.loop-event.event-index c.args.events.now c.loop-event-test.false) (c.loop-event.invariant.ran area frame past is) in
+    let ran : (past : Past _) → IsAt g.D.Device.history past c.args.self.now → GoesOn g.D.Device.history past c.args.events.now c.loop-event.replies.items c.args.self.now c.loop-event.self =
+    λ past is. subst (λ (es : List Event). GoesOn g.D.Device.history past es c.loop-event.replies.items c.args.self.now c.loop-event.self) (take_all c.loop-event.event-index c.args.events.now c.loop-event-test.false) (c.loop-event.invariant.ran past is) in
     record {
       any_crash = survives_any_crash g.D.Device.history c.args.events.now c.loop-event.replies.items c.args.self.now c.loop-event.self ran;
-      served = λ area frame past is. subst (λ (es : List Event). AreServed g.D.Device.history g.D.Device.failures area frame past es c.loop-event.replies.items c.args.self.now c.loop-event.self) (take_all c.loop-event.event-index c.args.events.now c.loop-event-test.false) (c.loop-event.invariant.served area frame past is);
+      at_end = λ past is image crash. crash_now g.D.Device.history (and_then past c.args.events.now c.loop-event.replies.items) c.loop-event.self (ran past is).at image crash;
+      served = λ past is. subst (λ (es : List Event). AreServed g.D.Device.history g.D.Device.failures past es c.loop-event.replies.items c.args.self.now c.loop-event.self) (take_all c.loop-event.event-index c.args.events.now c.loop-event-test.false) (c.loop-event.invariant.served past is);
       ran = ran;
       lawful = subst (λ (es : List Event). AreLawful g.D.Device.failures es c.loop-event.replies.items c.args.self.now c.loop-event.self) (take_all c.loop-event.event-index c.args.events.now c.loop-event-test.false) c.loop-event.invariant.lawful;
       refused = tt;

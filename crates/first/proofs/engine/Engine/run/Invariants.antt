@@ -1,7 +1,5 @@
 use Rattle.std.proofs.Common.{◌≡◌, ◌≤◌, length, take, vec_capacity}
 use Rattle.first.specs.Lawful.{AreLawful}
-use Rattle.sector_device.specs.Disk.{Image}
-use Rattle.gate_log.specs.Area.{Area}
 use Rattle.first.specs.Store.{Past, IsAt, CanRun, GoesOn, AreServed}
 use Rattle.first.proofs.engine.Engine.run.Given as goal
 
@@ -13,6 +11,6 @@ invariant-loop-event g l =
       room : length l.events ≤ vec_capacity l.replies;
       lawful : AreLawful g.D.Device.failures (take l.event-index l.events) l.replies.items l.fn.self l.self;
       can_run : CanRun history l.self;
-      served : (area : Area) (frame : Image) (past : Past) → IsAt history area frame past l.fn.self → AreServed history g.D.Device.failures area frame past (take l.event-index l.events) l.replies.items l.fn.self l.self;
-      ran : (area : Area) (frame : Image) (past : Past) → IsAt history area frame past l.fn.self → GoesOn history area frame past (take l.event-index l.events) l.replies.items l.fn.self l.self;
+      served : (past : Past _) → IsAt history past l.fn.self → AreServed history g.D.Device.failures past (take l.event-index l.events) l.replies.items l.fn.self l.self;
+      ran : (past : Past _) → IsAt history past l.fn.self → GoesOn history past (take l.event-index l.events) l.replies.items l.fn.self l.self;
     }

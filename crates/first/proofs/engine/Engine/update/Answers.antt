@@ -1,16 +1,25 @@
 use Rattle.std.proofs.Common.{refl}
-use Rattle.first.specs.declared.event.Event.TheVariants as event
+use Rattle.core_contracts.specs.Events as core
+use Rattle.first.specs.declared.engine.Engine.{Engine}
 use Rattle.first.specs.declared.event.Reply.TheVariants as reply
-use Rattle.first.proofs.Served.{served_quiet, served_refused, served_update}
+use Rattle.index_core.proofs.Offered.{skips_update}
+use Rattle.first.specs.Parts.{core_of}
+use Rattle.first.proofs.Answered.{answered_err, answered_ok, answered_still}
 use Rattle.first.proofs.engine.Engine.update.Goals as goal
 
-pub returns-then-is_rolling_back-clause-serves : goal.returns-then-is_rolling_back-clause-serves
-returns-then-is_rolling_back-clause-serves g c = served_quiet g.D.Device.history c.args.self.now c.args.self.now refl (event.Update c.args.txn c.args.rid c.args.key c.args.body) reply.Skipped refl (λ s. refl) (λ n. refl)
-
-pub returns-in-Ok-clause-serves : goal.returns-in-Ok-clause-serves
-returns-in-Ok-clause-serves g c =
+pub returns-then-is_unready : goal.returns-then-is_unready
+returns-then-is_unready g c =
     let old = c.args.self.now in
-    served_update g.D.Device.history old (record old { core = c.start_update.new.self }) refl c.args.txn c.args.rid c.args.key c.args.body c.in-Ok.ensures.ok.0 c.in-Ok.ensures.sound c.in-Ok.ensures.ok.1 c.in-Ok.ensures.ok.2
+    answered_still (core.Update c.args.txn c.args.rid (record { key = c.args.key; body = c.args.body })) old reply.Skipped core.Skipped refl (skips_update (core_of old) c.args.txn c.args.rid (record { key = c.args.key; body = c.args.body }) (c.is_unready.ensures.yes c.if-is_unready.true))
 
-pub returns-in-Err-clause-serves : goal.returns-in-Err-clause-serves
-returns-in-Err-clause-serves g c = served_refused g.D.Device.history c.args.self.now (record c.args.self.now { core = c.start_update.new.self }) refl (event.Update c.args.txn c.args.rid c.args.key c.args.body) c.in-Err.error c.in-Err.ensures.err.1
+pub returns-in-Ok : goal.returns-in-Ok
+returns-in-Ok g c =
+    let old = c.args.self.now in
+    let new : Engine g.row.D.Denot g.row.A.Denot = record old { core = c.start_update.new.self } in
+    answered_ok (core.Update c.args.txn c.args.rid (record { key = c.args.key; body = c.args.body })) (λ _. core.Stepped) _ old new c.start_update.ensures refl _ reply.Stepped c.in-Ok.is refl
+
+pub returns-in-Err : goal.returns-in-Err
+returns-in-Err g c =
+    let old = c.args.self.now in
+    let new : Engine g.row.D.Denot g.row.A.Denot = record old { core = c.start_update.new.self } in
+    answered_err (core.Update c.args.txn c.args.rid (record { key = c.args.key; body = c.args.body })) (λ _. core.Stepped) _ old new c.start_update.ensures refl c.in-Err.error c.in-Err.is

@@ -1,0 +1,133 @@
+-- A request is served by the core, skipped, or a flush.
+use Rattle.std.proofs.Common.{Bool, None, Option, Some, ap, arith, false, inl, inr, not, refl, subst, sym, true, ℕ, ⊎_elim, [], ◌∷◌, ◌&&◌, ◌∙◌, ◌≡◌, ◌≤◌, ◌⊎◌}
+use Rattle.std.proofs.lemmas.Bool.{false≢true}
+use Rattle.std.proofs.Math.Bridge.{le_prop}
+use Rattle.std.proofs.Math.Logic.{∥∥₁_elim}
+use Rattle.core_contracts.specs.Events as core
+use Rattle.core_contracts.specs.Events.{Standing, after_build, after_clean, standing_after}
+use Rattle.index_core.specs.View as view
+use Rattle.index_core.specs.View.{CoreValue, IsSafe}
+use Rattle.sector_device.specs.History.{History}
+use Rattle.first.specs.declared.engine.Engine.{Engine}
+use Rattle.first.specs.declared.event.Event.{Event}
+use Rattle.first.specs.declared.event.Event.TheVariants as event
+use Rattle.first.specs.declared.event.Reply.{Reply}
+use Rattle.first.specs.declared.event.Reply.TheVariants as reply
+use Rattle.first.specs.History.{acknowledged, answered, asked}
+use Rattle.first.specs.Lawful.{IsAnswer, IsAnswerTo, IsFlushAnswer, IsInCore, IsInCoreBy, IsLawful, ServesInCore, is_read}
+use Rattle.first.specs.Parts.{core_of, is_read_only}
+use Rattle.first.specs.Store.{CanRun, IsSomewhere, Serves}
+use Rattle.first.proofs.Runs.{can_run_after, is_serving}
+use Rattle.first.proofs.Served.{served}
+
+-- what the core answers tells nothing of what is safe
+quiet : {M : Type 0} (r : Reply M) (x : core.Reply) → answered r ≡ Some x → (n : ℕ) → acknowledged n (r ∷ []) ≡ n
+quiet (reply.Txn t) x is n = refl
+quiet (reply.Rid r) x is n = refl
+quiet reply.Stepped x is n = refl
+quiet reply.Undone x is n = refl
+quiet reply.Empty x is n = refl
+quiet reply.Ended x is n = refl
+quiet (reply.Ticket t) x is n = refl
+quiet (reply.Built b) x is n = refl
+quiet (reply.Cleaned c) x is n = refl
+quiet (reply.Horizon m) x is n = absurd cc
+quiet reply.LogFull x is n = refl
+quiet (reply.Row row) x is n = refl
+quiet (reply.Found rids) x is n = refl
+quiet (reply.Life life) x is n = refl
+quiet reply.Skipped x is n = refl
+quiet (reply.Refused e) x is n = refl
+
+made_by_build : (k : Standing) (b : core.BuildReply) → k.made ≤ (after_build k b).made
+made_by_build k (core.Scanned page) = omega arith
+made_by_build k (core.Placed p) = omega arith
+made_by_build k (core.Rejected p) = omega arith
+made_by_build k (core.BuildReply.Marked p n) = omega arith
+made_by_build k (core.Done n) = omega arith
+made_by_build k core.Idle = omega arith
+
+made_by_clean : (k : Standing) (c : core.CleanReply) → k.made ≤ (after_clean k c).made
+made_by_clean k (core.Cleaned p) = omega arith
+made_by_clean k (core.Kept p) = omega arith
+made_by_clean k core.Wrapped = omega arith
+
+made_grows : (k : Standing) (r : core.Reply) → k.made ≤ (standing_after k r).made
+made_grows k (core.Txn t) = omega arith
+made_grows k (core.Rid r) = omega arith
+made_grows k core.Stepped = omega arith
+made_grows k core.Undone = omega arith
+made_grows k core.Empty = omega arith
+made_grows k core.Ended = omega arith
+made_grows k (core.Committed n c) = omega arith
+made_grows k (core.Created n) = omega arith
+made_grows k (core.Built b) = made_by_build k b
+made_grows k (core.Cleaner c) = made_by_clean k c
+made_grows k (core.RowIs row) = omega arith
+made_grows k (core.Found rids) = omega arith
+made_grows k (core.LifeIs life) = omega arith
+made_grows k core.Skipped = omega arith
+made_grows k (core.Refused e) = omega arith
+
+-- the number of the last record made never falls
+pub last_grows : (v v' : CoreValue) (e : core.Event) (r : core.Reply) → view.Serves v e r v' → IsSafe v → v.last ≤ v'.last
+last_grows v v' e r serves safe = omega (arith, made_grows safe.standing r, safe.is.shown.made, (serves safe.state safe.standing safe.is).shown.made)
+
+module _ {D M : Type 0} (history : D → History) (failures : D → ℕ) (x : Event) (r : Reply M) (old new : Engine D M) where
+  by_core : (o : Option core.Event) → asked x ≡ o → IsInCoreBy o r old new → (e : core.Event) × (asked x ≡ Some e) × ServesInCore e r old new
+  by_core None is in_core = absurd in_core
+  by_core (Some e) is in_core = (e, is, in_core)
+
+  module _ (in_core : IsInCore x r old new) where
+    pub served_by_core : Serves history x r old new
+    served_by_core = let by = by_core (asked x) refl in_core in served history x by.0 r old new by.1 by.2 (quiet r by.2.reply by.2.reply_is)
+
+    pub answered_by_core : IsAnswer failures x r old new
+    answered_by_core = let by = by_core (asked x) refl in_core in subst (λ o. IsAnswerTo failures o r old new) (sym by.1) by.2
+
+    same_mode : is_read_only new ≡ is_read_only old
+    same_mode = let by = by_core (asked x) refl in_core in ap (λ (e : Engine D M). e.read_only) by.2.rest
+
+    no_fewer : (core_of old).last ≤ (core_of new).last
+    no_fewer = let by = by_core (asked x) refl in_core in ∥∥₁_elim old.core.safe le_prop (last_grows (core_of old) (core_of new) by.0 by.2.reply by.2.serves)
+
+    pub can_run_by_core : CanRun history old → CanRun history new
+    can_run_by_core can = ⊎_elim
+        (λ only. inl (record { mode = same_mode ∙ only.mode; some = omega (arith, only.some, no_fewer) }))
+        (λ at. inr (let past = at.0 in (_, (served_by_core past at.1).0)))
+        can
+
+-- an engine that isn't to skip a request serves all, or the request reads
+pub serves_or_reads : (only : Bool) (x : Event) → (only && not (is_read x)) ≡ false → (only ≡ false) ⊎ (is_read x ≡ true)
+serves_or_reads false x is = inl refl
+serves_or_reads true x is = inr (by (is_read x) is)
+  where
+    by : (b : Bool) → not b ≡ false → b ≡ true
+    by true e = refl
+    by false e = absurd cc
+
+-- one that skips it only reads, and the request doesn't
+pub skips_only : (only : Bool) (x : Event) → (only && not (is_read x)) ≡ true → (only ≡ true) × (is_read x ≡ false)
+skips_only false x is = absurd cc
+skips_only true x is = (refl, by (is_read x) is)
+  where
+    by : (b : Bool) → not b ≡ true → b ≡ false
+    by true e = absurd cc
+    by false e = refl
+
+-- a request that the core answers nothing to is a flush
+module _ {D M : Type 0} (history : D → History) (failures : D → ℕ) (x : Event) (r : Reply M) (old mid new : Engine D M) (is : x ≡ event.Flush) (same : mid ≡ old) (serving : (is_read_only old && not (is_read x)) ≡ false) where
+  not_only : is_read_only old ≡ false
+  not_only = is_serving (is_read_only old) x serving (ap is_read is)
+
+  pub flush_somewhere : CanRun history old → IsSomewhere history mid
+  flush_somewhere can = subst (IsSomewhere history) (sym same) (⊎_elim (λ only. absurd (false≢true (sym not_only ∙ only.mode))) (λ at. at) can)
+
+  pub flush_serves : Serves history event.Flush r mid new → Serves history x r old new
+  flush_serves serves = subst (λ e. Serves history e r old new) (sym is) (subst (λ e. Serves history event.Flush r e new) same serves)
+
+  pub flush_lawful : IsFlushAnswer failures r mid new → IsLawful failures x r old new
+  flush_lawful answer = inr (inl not_only, subst (λ e. IsAnswer failures e r old new) (sym is) (subst (λ e. IsFlushAnswer failures r e new) same answer))
+
+  pub flush_can_run : CanRun history old → Serves history event.Flush r mid new → CanRun history new
+  flush_can_run can serves = can_run_after history x r old new not_only can (flush_serves serves)

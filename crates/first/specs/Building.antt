@@ -1,0 +1,99 @@
+-- A build that goes on to its end.
+use Rattle.std.specs.List.{All}
+use Rattle.std.specs.Prelude.{Err, List, None, Ok, Result, Some, [], ◌++◌, ◌↔◌, ◌∷◌, ◌≡◌, ◌≢◌, ◌⊎◌}
+use Rattle.std.specs.FinMap.{get}
+use Rattle.records.specs.RecordValue.{RecordValue}
+use Rattle.records.specs.declared.error.Error.{Error}
+use Rattle.records.specs.declared.pair.Mark.TheVariants.{Live}
+use Rattle.records.specs.declared.pair.Pair.{Pair}
+use Rattle.model.specs.Table.{IsPairOf}
+use Rattle.model.specs.declared.life.Life.TheVariants.{Complete}
+use Rattle.core_model.specs.Histories.{CanOpen, Opened}
+use Rattle.core_model.specs.States.{State}
+use Rattle.core_contracts.specs.Events as core
+use Rattle.core_contracts.specs.Events.{Standing}
+use Rattle.core_contracts.specs.Served.{HasServed}
+use Rattle.sector_device.specs.History.{History}
+use Rattle.index_core.specs.View.{CoreValue, IsState}
+use Rattle.index_core.specs.declared.parts.Ticket.{Ticket}
+use Rattle.index_core.specs.declared.reply.BuildReply.TheVariants as build
+use Rattle.first.specs.declared.engine.Engine.{Engine}
+use Rattle.first.specs.declared.event.Event.{Event}
+use Rattle.first.specs.declared.event.Event.TheVariants as event
+use Rattle.first.specs.declared.event.Reply.{Reply}
+use Rattle.first.specs.declared.event.Reply.TheVariants as reply
+use Rattle.first.specs.Lawful.{ServesInCore}
+use Rattle.first.specs.Parts.{core_of}
+use Rattle.first.specs.Store.{Past, IsAt, and_then}
+
+-- ---- the steps
+
+-- one request to build for each of these replies
+abbrev pub builds : {M : Type 0} → List (Reply M) → List Event
+builds [] = []
+builds (r ∷ replies) = event.Build ∷ builds replies
+
+-- each of these replies in turn is one that the core could give to a request to build
+abbrev pub AreBuilt : {D M : Type 0} → List (Reply M) → Engine D M → Engine D M → Type 0
+AreBuilt [] old new = new ≡ old
+AreBuilt {D} {M} (r ∷ replies) old new = (mid : Engine D M) × ServesInCore core.Build r old mid × AreBuilt replies mid new
+
+-- a step that is not the last one: it took a page, attempted a pair, or made a checkpoint
+abbrev pub IsUnderway : {M : Type 0} → Reply M → Type 0
+IsUnderway (reply.Built (build.Scanned page)) = Unit {0}
+IsUnderway (reply.Built (build.Placed pair)) = Unit {0}
+IsUnderway (reply.Built (build.Rejected pair)) = Unit {0}
+IsUnderway (reply.Built (build.Marked pair ticket)) = Unit {0}
+IsUnderway _ = ⊥
+
+-- this reply comes last, and each before it is of a step that is not the last one
+pub record EndsWith {M : Type 0} (last : Reply M) (replies : List (Reply M)) : Type 0 where
+  pub before : List (Reply M)
+  pub all : replies ≡ before ++ last ∷ []
+  pub underway : All IsUnderway before
+
+-- where the index was complete already: no step, and the number of the last record made
+pub record WasComplete {M : Type 0} (ticket : Ticket) (replies : List (Reply M)) (old : CoreValue) : Type 0 where
+  pub complete : old.life ≡ Complete
+  pub none : replies ≡ []
+  pub number : ticket.record ≡ old.last
+  pub no_commit : ticket.commit ≡ None
+
+-- how it ends: at once where the index was complete, and else with the end of the build, or with the refusal that is answered
+abbrev pub IsEnd : {M : Type 0} → Result Ticket Error → List (Reply M) → CoreValue → Type 0
+IsEnd (Ok ticket) replies old = WasComplete ticket replies old ⊎ ((old.life ≢ Complete) × EndsWith (reply.Built (build.Done ticket)) replies)
+IsEnd (Err e) replies old = (old.life ≢ Complete) × EndsWith (reply.Refused e) replies
+
+-- The engine went on by steps of the builder alone, to the end that is answered; and where some run had left it, it is
+-- where that run with these requests leaves it.
+pub record IsBuiltToEnd {D M : Type 0} (history : D → History) (result : Result Ticket Error) (old new : Engine D M) : Type 0 where
+  pub replies : List (Reply M)
+  pub each : AreBuilt replies old new
+  pub ends : IsEnd result replies (core_of old)
+  pub at : (past : Past M) → IsAt history past old → IsAt history (and_then past (builds replies) replies) new
+
+-- ---- what is built
+
+-- the core is where some events, with these replies, have led it from what it was opened with
+pub record HasCome (v : CoreValue) : Type 0 where
+  pub opening : Opened
+  pub opens : CanOpen opening
+  pub made : List RecordValue
+  pub pairs : List (core.Event × core.Reply)
+  pub state : State
+  pub standing : Standing
+  pub served : HasServed opening made pairs state standing
+  pub shown : IsState v state standing
+
+-- the visible entries are just the pairs of the rows
+abbrev pub IsWhole : CoreValue → Type 0
+IsWhole v = (pair : Pair) → (get v.index.entries pair ≡ Some Live) ↔ IsPairOf v.heap.rows pair
+
+-- With no transaction active, the rows are as they were, the index is complete, and the visible entries are just their pairs.
+pub record EndsWhole (old new : CoreValue) : Type 0 where
+  pub rows : new.heap.rows ≡ old.heap.rows
+  pub complete : new.life ≡ Complete
+  pub whole : IsWhole new
+
+abbrev pub BuildsWhole : CoreValue → CoreValue → Type 0
+BuildsWhole old new = HasCome old → old.txns.active ≡ [] → EndsWhole old new

@@ -1,6 +1,0 @@
-use Rattle.std.proofs.Common.{arith}
-use Rattle.std.proofs.lemmas.Grind.{common_steps}
-use Rattle.nsf_core.proofs.store.Core.may_end.Goals as goal
-
-pub returns-in-Some : goal.returns-in-Some
-returns-in-Some g c = grind (arith, common_steps)

@@ -1,4 +1,0 @@
-pub mod Changes
-pub mod Value
-pub mod Refusals
-pub mod Follows
