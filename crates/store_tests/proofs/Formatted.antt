@@ -1,47 +1,24 @@
--- A run over a store that was just formatted.
-use Rattle.std.proofs.Common.{◌≡◌, ◌⊎◌, ⊎_elim, inl, inr, ℕ, ◌+◌, ◌≤◌, List, [], ◌∷◌, refl, subst, arith}
-use Rattle.std.proofs.lemmas.List.Elements.{All-nil}
-use Rattle.records.specs.RecordValue.{RecordValue}
+-- A store that was just formatted, as it is opened.
+use Rattle.std.proofs.Common.{◌≡◌, ◌⊎◌, ⊎_elim, inl, inr, ℕ, ap, subst}
 use Rattle.records.specs.GeometryValue.{GeometryValue}
 use Rattle.records.specs.declared.error.Error.{Error}
 use Rattle.records.specs.declared.error.Error.TheVariants.{DeviceTooSmall, DeviceFailed, NoMemory}
-use Rattle.sector_device.specs.Disk.{Image}
+use Rattle.model.specs.Given.{Given, nothing}
 use Rattle.sector_device.specs.History.{History}
 use Rattle.gate_log.specs.Area.{Refuses}
-use Rattle.flip_image.specs.declared.half.Half.{Half}
-use Rattle.flip_image.specs.declared.half.Half.TheVariants.{A}
-use Rattle.flip_image.specs.Store.{IsFormatted, AreGatesClosed}
-use Rattle.store_reader.specs.Contents.{IsOfRows, log_area, Gives, IsUnreadable}
-use Rattle.store_reader.proofs.Readings.{one_geometry, one_half, one_list, readable}
+use Rattle.store_reader.specs.Contents.{Gives, IsUnreadable}
+use Rattle.store_reader.proofs.Readings.{one_geometry, one_given}
 use Rattle.first.specs.declared.engine.Engine.{Engine}
 use Rattle.first.specs.Store.{IsAt}
 use Rattle.first.specs.Reopening.{opening, IsOpened, IsNotOpened}
 
-module _ (g : GeometryValue) (image : Image) (formatted : IsFormatted g image) (closed : AreGatesClosed g A image) where
-  gives_none : Gives image g A []
-  gives_none = record {
-    store = formatted.store;
-    fresh = formatted.fresh;
-    groups = [];
-    held = record { room = omega arith; opened = λ slot low. absurd (omega (arith, low)); closed = λ slot low high. closed slot high };
-    all = refl;
-    of_rows = All-nil (λ (r : RecordValue). IsOfRows r.action);
-    following = tt;
-  }
-
-  pub never_unreadable : (e : Error) → ¬ IsUnreadable image e
-  never_unreadable e = readable image g A [] e gives_none
-
-  begun_of : {D M : Type 0} (history : D → History) (engine : Engine D M) (geometry : GeometryValue) (half : Half) (records : List RecordValue) → Gives image geometry half records
-      → (records ≡ [] → IsAt history (log_area geometry half) image (opening geometry.pages) engine) → IsAt history (log_area g A) image (opening g.pages) engine
-  begun_of history engine geometry half records gives begins =
-      subst (λ (x : GeometryValue). IsAt history (log_area x A) image (opening x.pages) engine) (one_geometry image geometry g half A records [] gives gives_none)
-      (subst (λ (h : Half). IsAt history (log_area geometry h) image (opening geometry.pages) engine) (one_half image geometry g half A records [] gives gives_none)
-      (begins (one_list image geometry g half A records [] gives gives_none)))
-
-module _ {D : Type 0} (history : D → History) (before : D) (g : GeometryValue) (formatted : IsFormatted g (history before).disk.content) (closed : AreGatesClosed g A (history before).disk.content) where
-  pub begun_formatted : {M : Type 0} (engine : Engine D M) → IsOpened history before engine → IsAt history (log_area g A) (history before).disk.content (opening g.pages) engine
-  begun_formatted engine is = begun_of g (history before).disk.content formatted closed history engine is.geometry is.half is.records is.gives is.begins
+module _ {D M : Type 0} (history : D → History) (before : D) (g : GeometryValue) (gives : Gives (history before).disk.content g nothing) where
+  pub begun_formatted : (engine : Engine D M) → IsOpened history before engine → IsAt history (opening g) engine
+  begun_formatted engine is =
+      let image = (history before).disk.content in
+      let given_is : is.given ≡ nothing = one_given image is.geometry g is.given nothing is.gives gives in
+      subst (λ (x : GeometryValue). IsAt history (opening x) engine) (one_geometry image is.geometry g is.given nothing is.gives gives)
+      (is.begins (ap (λ (x : Given). x.last) given_is))
 
 abbrev pub MayRefuse : Error → Type 0
 MayRefuse e = (e ≡ DeviceTooSmall) ⊎ (e ≡ DeviceFailed) ⊎ (e ≡ NoMemory)

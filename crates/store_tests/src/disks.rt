@@ -10,8 +10,14 @@ use std::test::Fail;
 /// page in 516 to 523 and its gates in 528, 536, 544 and 552. Half B's gates are in 1086, 1094, 1102 and 1110.
 pub(crate) const SECTORS: u64 = 1118;
 
+/// How many sectors a store takes that has twelve slots, and is else the least.
+const LONG_SECTORS: u64 = 1246;
+
 /// The first place for a row.
 pub(crate) const FIRST: Rid = Rid { page: 0, slot: 0 };
+
+/// The place after it.
+pub(crate) const NEXT: Rid = Rid { page: 0, slot: 1 };
 
 /// The least store.
 pub(crate) fn geometry() -> Result<Geometry, Error> {
@@ -27,6 +33,13 @@ pub(crate) fn blank(alloc: Global) -> Result<MemDisk<Global>, Fail> {
 pub(crate) fn formatted(alloc: Global) -> Result<MemDisk<Global>, Fail> {
     let mut disk = blank(alloc)?;
     Halves::format(&mut disk, geometry()?)?;
+    Ok(disk)
+}
+
+/// A disk that was just formatted, and synced, with a log of twelve slots.
+pub(crate) fn formatted_for_long(alloc: Global) -> Result<MemDisk<Global>, Fail> {
+    let mut disk = MemDisk::new(alloc, LONG_SECTORS, 128)?;
+    Halves::format(&mut disk, Geometry::new(1, 64, 12)?)?;
     Ok(disk)
 }
 

@@ -2,11 +2,15 @@
 #![tactic(auto)]
 
 #[cfg(test)]
+mod crash_tests;
+#[cfg(test)]
 mod disks;
 #[cfg(test)]
 mod engine_tests;
 #[cfg(test)]
 mod memory_tests;
+#[cfg(test)]
+mod phases;
 #[cfg(test)]
 mod reader_tests;
 #[cfg(test)]

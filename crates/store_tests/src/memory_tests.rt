@@ -1,11 +1,13 @@
 // Memory is refused to a store, to each allocation in turn.
-use crate::disks::FIRST;
-use crate::requests::{deletion, insertion, row_is, ticket, update};
-use crate::store::{CHUNK, Memory, Script, memory_of, play_script};
-use crate::values::{row, txn};
-use first::{Event, Reply};
+ghost use Rattle.first.specs.Store.{CanRun};
+
+use crate::disks::{FIRST, formatted_for_long};
+use crate::phases::{Phase, held_by, worked_run};
+use crate::requests::Answer;
+use crate::store::{CHUNK, Memory, memory_of, open, serve};
+use first::{Engine, Event};
 use model::Life;
-use records::Error;
+use sector_device::{Device, Fate};
 use std::alloc::{AllocError, Global};
 use std::process::Abort;
 use std::test::Fail;
@@ -13,8 +15,8 @@ use std::test::Fail;
 // No allocation takes less.
 const LEAST: usize = 8;
 
-// How often a script is played at most.
-const PLAYS: usize = 2_000;
+// How often the run is played at most.
+const PLAYS: usize = 20_000;
 
 fn fill(memory: &Memory, bytes: usize) -> Result<(), AllocError> {
     let _block: Vec<u8, &Memory> = Vec::with_capacity(memory, bytes)?;
@@ -32,23 +34,70 @@ fn limited(alloc: Global, left: usize) -> Result<Memory, AllocError> {
     Ok(memory)
 }
 
-// Plays the script with this many bytes. How many were taken as memory was refused, if it was.
+// Serves the phases, with a flush at the end of each, and compares the answers.
+fn serve_all<D: Device>(
+    rt: &impl Abort,
+    memory: &Memory,
+    engine: &mut Engine<D, &Memory>,
+    phases: &[Phase],
+    refused: &mut Option<usize>,
+)
+    requires { CanRun D.history engine.old }
+    ensures { CanRun D.history engine.new }
+{
+    for phase in phases {
+        let flushed = [(Event::Flush, Answer::Horizon(phase.given.last))];
+        serve(rt, memory, engine, &phase.asked, refused);
+        serve(rt, memory, engine, &flushed, refused);
+    }
+}
+
+// Serves the phases over a store just formatted, and what it reads to the store that is left by a crash. What was left of the memory as it was refused, if it was.
+fn play(
+    rt: &impl Abort,
+    alloc: Global,
+    memory: &Memory,
+    phases: &[Phase],
+) -> Result<Option<usize>, Fail> {
+    let mut refused = None;
+    let Ok(mut engine) = open(memory, formatted_for_long(alloc)?, &mut refused) else {
+        return Err("a store")?;
+    };
+    serve_all(rt, memory, &mut engine, phases, &mut refused);
+    let mut disk = engine.into_device();
+    disk.crash(&[Fate::Junk]);
+    let Ok(mut engine) = open(memory, disk, &mut refused) else {
+        return Err("a store after the crash")?;
+    };
+    let given = phases.last().map(|phase| phase.given);
+    assert_eq!(rt; Some(held_by(engine.core())), given);
+    let after = [
+        (Event::Get { rid: FIRST }, Answer::Row(None)),
+        (Event::Life, Answer::Life(Life::Complete)),
+        (Event::Begin, Answer::Skipped),
+        (Event::Flush, Answer::Skipped),
+    ];
+    serve(rt, memory, &mut engine, &after, &mut refused);
+    Ok(refused)
+}
+
+// Plays the run with this many bytes. How many were taken as memory was refused, if it was.
 fn refused_at(
     rt: &impl Abort,
     alloc: Global,
     left: usize,
-    script: Script,
+    phases: &[Phase],
 ) -> Result<Option<usize>, Fail> {
     let memory = limited(alloc, left)?;
-    let refused = play_script(rt, alloc, &memory, script)?;
+    let refused = play(rt, alloc, &memory, phases)?;
     Ok(refused.map(|more| left.saturating_sub(more)))
 }
 
 // Refuses each allocation in turn: between two numbers of bytes at which different ones are refused, every number is
 // tried at which another one may be. How many were refused.
-fn refuse_each(rt: &impl Abort, alloc: Global, script: Script) -> Result<usize, Fail> {
-    let none = refused_at(rt, alloc, 0, script)?;
-    let all = refused_at(rt, alloc, CHUNK, script)?;
+fn refuse_each(rt: &impl Abort, alloc: Global, phases: &[Phase]) -> Result<usize, Fail> {
+    let none = refused_at(rt, alloc, 0, phases)?;
+    let all = refused_at(rt, alloc, CHUNK, phases)?;
     assert!(rt; none == Some(0) && all.is_none());
     let mut between = vec![in alloc; (0, none, CHUNK, all)]?;
     let mut refusals: usize = 1;
@@ -65,62 +114,17 @@ fn refuse_each(rt: &impl Abort, alloc: Global, script: Script) -> Result<usize, 
             continue;
         }
         let mid = low.midpoint(high);
-        let at_mid = refused_at(rt, alloc, mid, script)?;
+        let at_mid = refused_at(rt, alloc, mid, phases)?;
         between.push((low, at_low, mid, at_mid))?;
         between.push((mid, at_mid, high, at_high))?;
     }
     Err("too many plays")?
 }
 
-// A row is inserted, committed and flushed, and is there after a crash. Then only readers are served.
 #[test]
-fn a_commit_with_each_allocation_refused(rt: HostRuntime) -> Result<(), Fail> {
-    let (txn, ant) = (txn(1)?, row(b"ant", b"x")?);
-    let script = Script {
-        before: &[
-            (Event::Begin, Reply::Txn(txn)),
-            (insertion(txn, ant), Reply::Rid(FIRST)),
-            (Event::Commit { txn }, ticket(2)?),
-            (Event::Flush, Reply::Horizon(2)),
-        ],
-        after: &[
-            row_is(Some(ant)),
-            (Event::Life, Reply::Life(Life::Absent)),
-            (Event::Begin, Reply::Skipped),
-            (Event::Flush, Reply::Skipped),
-        ],
-        last: 2,
-    };
-    let refusals = refuse_each(&rt, rt.alloc(), script)?;
-    assert!(rt; 20 < refusals, "{refusals} refusals");
-    Ok(())
-}
-
-// A row is updated, and the update taken back, while another transaction wants the row.
-#[test]
-fn a_rollback_with_each_allocation_refused(rt: HostRuntime) -> Result<(), Fail> {
-    let (one, two, three) = (txn(1)?, txn(2)?, txn(3)?);
-    let (old, new) = (row(b"p", b"1")?, row(b"q", b"2")?);
-    let script = Script {
-        before: &[
-            (Event::Begin, Reply::Txn(one)),
-            (insertion(one, old), Reply::Rid(FIRST)),
-            (Event::Commit { txn: one }, ticket(2)?),
-            (Event::Begin, Reply::Txn(two)),
-            (update(two, new), Reply::Stepped),
-            (Event::Begin, Reply::Txn(three)),
-            (deletion(three), Reply::Refused(Error::RowBusy)),
-            (Event::Step { txn: two }, Reply::Skipped),
-            (Event::Undo { txn: two }, Reply::Undone),
-            (Event::Undo { txn: two }, Reply::Empty),
-            (Event::End { txn: two }, Reply::Ended),
-            (Event::Flush, Reply::Horizon(5)),
-            row_is(Some(old)),
-        ],
-        after: &[row_is(Some(old))],
-        last: 5,
-    };
-    let refusals = refuse_each(&rt, rt.alloc(), script)?;
-    assert!(rt; 30 < refusals, "{refusals} refusals");
+fn each_allocation_is_refused(rt: HostRuntime) -> Result<(), Fail> {
+    let phases = worked_run(rt.alloc())?;
+    let refusals = refuse_each(&rt, rt.alloc(), &phases)?;
+    assert!(rt; 60 < refusals, "{refusals} refusals");
     Ok(())
 }

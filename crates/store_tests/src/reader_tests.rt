@@ -1,9 +1,10 @@
 // What a reader finds in a store, and what it refuses.
-use crate::disks::{FIRST, SECTORS, formatted, geometry, set};
-use crate::values::{record_number, row, txn};
+use crate::disks::{FIRST, NEXT, SECTORS, formatted, geometry, set};
+use crate::values::{pair, record_number, row, txn};
 use gate_log::{Appended, LogArea, fits};
+use model::Life;
 use records::{
-    Action, Change, Error, Geometry, IndexAction, Part, Record, Rid, Row, Rows, TxnAction,
+    Action, Change, Error, Geometry, IndexAction, Mark, Part, Record, Rid, Row, Rows, TxnAction,
 };
 use sector_device::{Device, Fate, FaultDisk, Which};
 use std::alloc::Global;
@@ -11,16 +12,18 @@ use std::process::Abort;
 use std::test::Fail;
 use store_reader::read_store;
 
-const NEXT: Rid = Rid { page: 0, slot: 1 };
-
-// The index is created, as record `number`.
-fn creation(number: u64) -> Result<Record, Fail> {
+// What the index does, as record `number`.
+fn of_index(number: u64, action: IndexAction) -> Result<Record, Fail> {
     Ok(Record {
         number: record_number(number)?,
-        action: Action::OfIndex {
-            action: IndexAction::Create,
-        },
+        action: Action::OfIndex { action },
     })
+}
+
+// The builder places the pair of a key of this byte, as record `number`.
+fn placed(number: u64, byte: u8) -> Result<Record, Fail> {
+    let pair = pair(&[byte], FIRST)?;
+    of_index(number, IndexAction::BuildPlace { pair })
 }
 
 // Transaction `by` inserts a row as its first change, as record `number`.
@@ -33,6 +36,26 @@ fn insertion(number: u64, by: u64, rid: Rid, key: &[u8]) -> Result<Record, Fail>
         },
     };
     let part = Part::Slot;
+    let txn = txn(by)?;
+    Ok(Record {
+        number: record_number(number)?,
+        action: Action::OfTxn {
+            txn,
+            action: TxnAction::Forward { part, change },
+        },
+    })
+}
+
+// Transaction `by` puts the entry of a row that is its first change, as record `number`.
+fn insertion_of_entry(number: u64, by: u64, rid: Rid, key: &[u8]) -> Result<Record, Fail> {
+    let change = Change {
+        position: 0,
+        rid,
+        rows: Rows::Inserted {
+            new: row(key, b"x")?,
+        },
+    };
+    let part = Part::NewEntry;
     let txn = txn(by)?;
     Ok(Record {
         number: record_number(number)?,
@@ -78,52 +101,47 @@ fn append_commit<D: Device>(rt: &impl Abort, alloc: Global, disk: &mut D) -> Res
 }
 
 // What a reader finds.
-#[derive(Drop)]
+#[derive(Clone, Copy, Debug, PartialEq, Eq)]
 struct Contents {
     geometry: Geometry,
     open_slots: u64,
     first: Option<Row>,
     next: Option<Row>,
+    // The entry of the key "ant" and the first place, and how many entries there are.
+    ant: Option<Mark>,
+    entries: usize,
+    life: Life,
     last: u64,
 }
 
-fn find<D: Device>(alloc: Global, disk: &mut D) -> Result<Contents, Error> {
-    let found = read_store(alloc, disk)?;
+// What a reader finds in the least store, just formatted.
+fn nothing() -> Result<Contents, Error> {
     Ok(Contents {
-        geometry: found.geometry,
-        open_slots: found.log.open_slots(),
-        first: found.rows.get(FIRST),
-        next: found.rows.get(NEXT),
-        last: found.last,
+        geometry: geometry()?,
+        open_slots: 0,
+        first: None,
+        next: None,
+        ant: None,
+        entries: 0,
+        life: Life::Absent,
+        last: 0,
     })
 }
 
-// A reader finds the least store with so many open slots, a row in the first place or none, none in the next, and this
-// last number.
-fn check_found<D: Device>(
-    rt: &impl Abort,
-    alloc: Global,
-    disk: &mut D,
-    open_slots: u64,
-    first: Option<Row>,
-    last: u64,
-) -> Result<(), Fail> {
-    let found = find(alloc, disk)?;
-    assert!(rt; found.geometry == geometry()? && found.open_slots == open_slots);
-    assert!(rt; found.first == first && found.next == None && found.last == last);
-    Ok(())
-}
-
-// A reader refuses the store.
-fn check_refused<D: Device>(
-    rt: &impl Abort,
-    alloc: Global,
-    disk: &mut D,
-    name: &str,
-    wanted: Error,
-) {
-    let refused = find(alloc, disk).err();
-    assert!(rt; refused == Some(wanted), "{name}");
+fn find<D: Device>(alloc: Global, disk: &mut D) -> Result<Contents, Error> {
+    let ant = pair(b"ant", FIRST)?;
+    let found = read_store(alloc, disk)?;
+    let restored = &found.restored;
+    Ok(Contents {
+        geometry: restored.geometry,
+        open_slots: found.log.open_slots(),
+        first: restored.rows.get(FIRST),
+        next: restored.rows.get(NEXT),
+        ant: restored.entries.get(ant),
+        entries: restored.entries.len(),
+        life: restored.life,
+        last: restored.last,
+    })
 }
 
 #[test]
@@ -131,27 +149,47 @@ fn a_store_just_formatted(rt: HostRuntime) -> Result<(), Fail> {
     let mut disk = formatted(rt.alloc())?;
     // The body of a slot whose gate is closed counts for nothing.
     set(&rt, &mut disk, 529, 0, 0xFF)?;
-    check_found(&rt, rt.alloc(), &mut disk, 0, None, 0)
+    let nothing = nothing()?;
+    assert_eq!(rt; find(rt.alloc(), &mut disk)?, nothing);
+    Ok(())
 }
 
-// Transaction 1 committed its row, and transaction 2 did not.
+// Transaction 1 committed its row, the builder placed its entry, and transaction 2 came to no end: its row is taken
+// out, and its entry is marked.
 #[test]
-fn a_row_redone_and_a_row_taken_back(rt: HostRuntime) -> Result<(), Fail> {
+fn what_is_redone_and_what_is_taken_back(rt: HostRuntime) -> Result<(), Fail> {
     let mut disk = formatted(rt.alloc())?;
     append_commit(&rt, rt.alloc(), &mut disk)?;
-    let second = [insertion(3, 2, NEXT, b"bee")?];
+    let pair = pair(b"ant", FIRST)?;
+    let second = [
+        of_index(3, IndexAction::Create)?,
+        of_index(4, IndexAction::BuildPlace { pair })?,
+        insertion(5, 2, NEXT, b"bee")?,
+        insertion_of_entry(6, 2, NEXT, b"bee")?,
+    ];
     append(&rt, rt.alloc(), &mut disk, &second)?;
     disk.crash(&[Fate::Junk]);
-    check_found(&rt, rt.alloc(), &mut disk, 2, Some(row(b"ant", b"x")?), 3)?;
+    let nothing = nothing()?;
+    let wanted = Contents {
+        open_slots: 2,
+        first: Some(row(b"ant", b"x")?),
+        ant: Some(Mark::Live),
+        entries: 2,
+        life: Life::Building { highest: None },
+        last: 6,
+        ..nothing
+    };
+    assert_eq!(rt; find(rt.alloc(), &mut disk)?, wanted);
     // Half B, once it is current, has no group.
     set(&rt, &mut disk, 1, 0, 0xA5)?;
-    check_found(&rt, rt.alloc(), &mut disk, 0, None, 0)
+    assert_eq!(rt; find(rt.alloc(), &mut disk)?, nothing);
+    Ok(())
 }
 
 // A sector, a byte of it, and its new value.
 type Edit = (u64, usize, u8);
 
-// A store just formatted, with some bytes changed.
+// A reader refuses a store just formatted, with some bytes changed.
 fn check_damaged(
     rt: &impl Abort,
     alloc: Global,
@@ -163,40 +201,35 @@ fn check_damaged(
     for (n, at, byte) in edits {
         set(rt, &mut disk, *n, *at, *byte)?;
     }
-    check_refused(rt, alloc, &mut disk, name, wanted);
+    assert_eq!(rt; find(alloc, &mut disk).err(), Some(wanted), "{name}");
     Ok(())
 }
 
 #[test]
 fn damaged_stores(rt: HostRuntime) -> Result<(), Fail> {
-    let cases: [(&str, &[Edit], Error); 6] = [
-        ("another title", &[(0, 0, 0)], Error::NotFormatted),
-        ("version 2", &[(0, 11, 2)], Error::Damaged { sector: 0 }),
-        (
-            "a used page",
-            &[(516, 64, 2)],
-            Error::Damaged { sector: 516 },
-        ),
-        (
-            "an open gate after a closed one",
-            &[(536, 0, 0xA5)],
-            Error::Damaged { sector: 536 },
-        ),
+    let cases: [(&str, &[Edit], u64); 8] = [
+        ("version 2", &[(0, 11, 2)], 0),
+        ("a used header", &[(2, 0, 1)], 2),
+        ("used heads", &[(3, 511, 1)], 3),
+        ("a used page", &[(516, 64, 2)], 516),
+        ("the last byte of a page", &[(523, 511, 2)], 516),
+        ("an open gate after a closed one", &[(536, 0, 0xA5)], 536),
         (
             "a used page and an open gate",
             &[(536, 0, 0xA5), (516, 0, 1)],
-            Error::Damaged { sector: 516 },
+            516,
         ),
         (
             "an open gate of half B",
             &[(1, 0, 0xA5), (1086, 0, 0xA5)],
-            Error::Damaged { sector: 1086 },
+            1086,
         ),
     ];
-    for (name, edits, wanted) in cases {
-        check_damaged(&rt, rt.alloc(), name, edits, wanted)?;
+    for (name, edits, sector) in cases {
+        check_damaged(&rt, rt.alloc(), name, edits, Error::Damaged { sector })?;
     }
-    Ok(())
+    let title: &[Edit] = &[(0, 0, 0)];
+    check_damaged(&rt, rt.alloc(), "another title", title, Error::NotFormatted)
 }
 
 // Behind a first group, whose last record is number 2, a group with a record that can't be there.
@@ -204,7 +237,8 @@ fn check_misplaced(rt: &impl Abort, alloc: Global, name: &str, last: Record) -> 
     let mut disk = formatted(alloc)?;
     append_commit(rt, alloc, &mut disk)?;
     append(rt, alloc, &mut disk, &[last])?;
-    check_refused(rt, alloc, &mut disk, name, Error::Damaged { sector: 536 });
+    let wanted = Error::Damaged { sector: 536 };
+    assert_eq!(rt; find(alloc, &mut disk).err(), Some(wanted), "{name}");
     Ok(())
 }
 
@@ -215,7 +249,12 @@ fn misplaced_records(rt: HostRuntime) -> Result<(), Fail> {
         ("a number left out", commit(4, 2)?),
         ("a number again", commit(2, 2)?),
         ("a place behind the pages", insertion(3, 2, behind, b"bee")?),
-        ("an index", creation(3)?),
+        (
+            "an entry with no index",
+            insertion_of_entry(3, 2, NEXT, b"bee")?,
+        ),
+        ("a pair with no index", placed(3, 7)?),
+        ("an end with no index", of_index(3, IndexAction::BuildDone)?),
     ];
     for (name, last) in cases {
         check_misplaced(&rt, rt.alloc(), name, last)?;
@@ -234,9 +273,8 @@ fn check_failed(
     let mut disk = formatted(alloc)?;
     append(rt, alloc, &mut disk, &[commit(2, 1)?])?;
     let mut disk = FaultDisk::new(disk, Which::All, k);
-    check_refused(rt, alloc, &mut disk, "a read that failed", wanted);
-    let found = disk.made();
-    assert!(rt; found == made, "call {k}");
+    let refused = find(alloc, &mut disk).err();
+    assert!(rt; refused == Some(wanted) && disk.made() == made, "call {k}");
     Ok(())
 }
 

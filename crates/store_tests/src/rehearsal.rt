@@ -9,12 +9,13 @@ use flip_image::Halves;
 use records::{Error, Geometry};
 use sector_device::{Fate, MemDisk};
 use std::alloc::Global;
+use store_reader::{format_gives_nothing, one_answer};
 
 /// What the requests were answered, and the store that the crash left.
-pub(crate) type Rehearsed = (Vec<Reply>, Engine<MemDisk<Global>, Global>);
+pub(crate) type Rehearsed = (Vec<Reply<Global>>, Engine<MemDisk<Global>, Global>);
 
 /// Formats the disk, serves the requests over it, crashes it with these fates of its unsynced sectors, and opens what is
-/// left. Its rows are those that were committed by a prefix of the requests, one that has everything acknowledged.
+/// left. It holds a beginning of the history that the requests and their answers tell, with everything acknowledged.
 ///
 /// `DeviceTooSmall` where the disk has fewer sectors than the geometry needs, else `DeviceFailed` or `NoMemory`.
 pub(crate) fn rehearse(
@@ -24,12 +25,14 @@ pub(crate) fn rehearse(
     events: &[Event],
     fates: &[Fate],
 ) -> Result<Rehearsed, Error>
-    ensures recovers { IfOk result (λ r. Recovers (and_then (opening geometry.pages) events.now r.0.items) (acknowledged 0 r.0.items) r.1) }
+    ensures recovers { IfOk result (λ r. Recovers (and_then (opening geometry) events.now r.0.items) (acknowledged 0 r.0.items) r.1) }
     // The same of the last moment of the run, as of any other.
     ensures prefix { IfOk result (λ r. (j : ℕ) × (j ≤ length events.now)
-        × Recovers (and_then (opening geometry.pages) (take (j + 1) events.now) (take (j + 1) r.0.items)) (acknowledged 0 (take j r.0.items)) r.1) }
+        × Recovers (and_then (opening geometry) (take (j + 1) events.now) (take (j + 1) r.0.items)) (acknowledged 0 (take j r.0.items)) r.1) }
     ensures refused { IfErr result (λ e. (e ≡ Error.DeviceTooSmall) ⊎ (e ≡ Error.DeviceFailed) ⊎ (e ≡ Error.NoMemory)) }
 {
+    format_gives_nothing();
+    one_answer();
     Halves::format(&mut disk, geometry)?;
     let mut engine = match restart(alloc, disk) {
         Ok(engine) => engine,

@@ -1,17 +1,74 @@
-// Requests and answers for the tests, of one row in the first place.
-use crate::disks::FIRST;
+// Requests and answers for the tests.
 use crate::values::record_number;
 use first::{Event, Reply};
-use nsf_core::Ticket;
-use records::{Row, Txn};
+use index_core::{BuildReply, CleanReply, Ticket};
+use model::Life;
+use records::{Error, Rid, Row, Txn};
+use std::alloc::Allocator;
 use std::test::Fail;
 
-/// A request, and its answer.
-pub(crate) type Asked = (Event, Reply);
+/// An answer. Of the places that were found, how many there are, and the first of them.
+#[derive(Clone, Copy, Debug, PartialEq)]
+pub(crate) enum Answer {
+    Txn(Txn),
+    Rid(Rid),
+    Stepped,
+    Undone,
+    Empty,
+    Ended,
+    Ticket(Ticket),
+    Built(BuildReply),
+    Cleaned(CleanReply),
+    Horizon(u64),
+    LogFull,
+    Row(Option<Row>),
+    Found(usize, Option<Rid>),
+    Life(Life),
+    Skipped,
+    Refused(Error),
+}
 
-pub(crate) fn ticket(number: u64) -> Result<Reply, Fail> {
+/// What is answered by this reply.
+pub(crate) fn answer_of<A: Allocator>(reply: &Reply<A>) -> Answer {
+    match reply {
+        Reply::Txn(txn) => Answer::Txn(*txn),
+        Reply::Rid(rid) => Answer::Rid(*rid),
+        Reply::Stepped => Answer::Stepped,
+        Reply::Undone => Answer::Undone,
+        Reply::Empty => Answer::Empty,
+        Reply::Ended => Answer::Ended,
+        Reply::Ticket(ticket) => Answer::Ticket(*ticket),
+        Reply::Built(built) => Answer::Built(*built),
+        Reply::Cleaned(cleaned) => Answer::Cleaned(*cleaned),
+        Reply::Horizon(number) => Answer::Horizon(*number),
+        Reply::LogFull => Answer::LogFull,
+        Reply::Row(row) => Answer::Row(*row),
+        Reply::Found(rids) => Answer::Found(rids.len(), rids.first().copied()),
+        Reply::Life(life) => Answer::Life(*life),
+        Reply::Skipped => Answer::Skipped,
+        Reply::Refused(error) => Answer::Refused(*error),
+    }
+}
+
+/// A request, and its answer.
+pub(crate) type Asked = (Event, Answer);
+
+/// What is told of the record of a creation, or of the end of a build.
+pub(crate) fn ticket(number: u64) -> Result<Ticket, Fail> {
     let record = record_number(number)?;
-    Ok(Reply::Ticket(Ticket { record }))
+    Ok(Ticket {
+        record,
+        commit: None,
+    })
+}
+
+/// What is told of the record of a commit, so many of which there are with it.
+pub(crate) fn commit_ticket(number: u64, commits: u64) -> Result<Ticket, Fail> {
+    let record = record_number(number)?;
+    Ok(Ticket {
+        record,
+        commit: Some(commits),
+    })
 }
 
 pub(crate) fn insertion(txn: Txn, row: Row) -> Event {
@@ -22,19 +79,11 @@ pub(crate) fn insertion(txn: Txn, row: Row) -> Event {
     }
 }
 
-pub(crate) fn update(txn: Txn, row: Row) -> Event {
+pub(crate) fn update(txn: Txn, rid: Rid, row: Row) -> Event {
     Event::Update {
         txn,
-        rid: FIRST,
+        rid,
         key: row.key,
         body: row.body,
     }
-}
-
-pub(crate) fn deletion(txn: Txn) -> Event {
-    Event::Delete { txn, rid: FIRST }
-}
-
-pub(crate) fn row_is(row: Option<Row>) -> Asked {
-    (Event::Get { rid: FIRST }, Reply::Row(row))
 }

@@ -1,11 +1,18 @@
 // Values for the tests.
-use records::{Body, Error, Key, RecordNumber, Row, Txn};
+use records::{Body, Error, Key, Pair, RecordNumber, Rid, Row, Txn};
 use std::test::Fail;
 
 pub(crate) fn row(key: &[u8], body: &[u8]) -> Result<Row, Error> {
     Ok(Row {
         key: Key::new(key)?,
         body: Body::new(body)?,
+    })
+}
+
+pub(crate) fn pair(key: &[u8], rid: Rid) -> Result<Pair, Error> {
+    Ok(Pair {
+        key: Key::new(key)?,
+        rid,
     })
 }
 

@@ -1,0 +1,108 @@
+// A store is stopped at each call of its device in turn, and crashes.
+ghost use Rattle.first.specs.Store.{CanRun};
+
+use crate::disks::formatted_for_long;
+use crate::phases::{Contents, NOTHING, Phase, held_by, worked_run};
+use crate::requests::Answer;
+use crate::store::{Memory, memory_of, reply_to, start};
+use first::{Engine, Event};
+use sector_device::{Device, Fate, FaultDisk, Which};
+use std::alloc::Global;
+use std::process::Abort;
+use std::test::Fail;
+
+// More than the calls that a run makes.
+const CALLS: u64 = 1_000;
+
+// Serves a phase, with a flush at its end, and answers how it was answered.
+fn serve_phase<D: Device>(engine: &mut Engine<D, &Memory>, phase: &Phase) -> Answer
+    requires { CanRun D.history engine.old }
+    ensures { CanRun D.history engine.new }
+{
+    for (event, _) in &phase.asked {
+        reply_to(engine, event);
+    }
+    reply_to(engine, &Event::Flush)
+}
+
+// Serves the phases. The greatest number that a flush has told to be safe.
+fn serve_all<D: Device>(engine: &mut Engine<D, &Memory>, phases: &[Phase]) -> u64
+    requires { CanRun D.history engine.old }
+    ensures { CanRun D.history engine.new }
+{
+    let mut safe: u64 = 0;
+    for phase in phases {
+        if let Answer::Horizon(number) = serve_phase(engine, phase) {
+            safe = safe.max(number);
+        }
+    }
+    safe
+}
+
+// What a run that was stopped had told to be safe, what a crash left of it, and whether the device has failed.
+#[derive(Clone, Copy)]
+struct Stopped {
+    safe: u64,
+    left: Contents,
+    failed: bool,
+}
+
+// The device fails at this call, and what was not synced then comes to this fate.
+fn stop_at(alloc: Global, phases: &[Phase], call: u64, fates: &[Fate]) -> Result<Stopped, Fail> {
+    let memory = memory_of(alloc)?;
+    let disk = FaultDisk::new(formatted_for_long(alloc)?, Which::WritesAndSyncs, call);
+    let (safe, disk) = match start(&memory, disk) {
+        Ok(mut engine) => (serve_all(&mut engine, phases), engine.into_device()),
+        Err((_, disk)) => (0, disk),
+    };
+    let failed = call <= disk.made();
+    let mut disk = disk.into_inner();
+    disk.crash(fates);
+    let Ok(engine) = start(&memory, disk) else {
+        return Err("a store")?;
+    };
+    let left = held_by(engine.core());
+    Ok(Stopped { safe, left, failed })
+}
+
+// Stops a run at each call in turn. What is left is what one of the phases says, with all that was told to be safe, and
+// never less than a stop before left.
+fn stop_at_each(
+    rt: &impl Abort,
+    alloc: Global,
+    phases: &[Phase],
+    fates: &[Fate],
+) -> Result<Contents, Fail> {
+    let mut before = NOTHING;
+    for call in 1..CALLS {
+        let Stopped { safe, left, failed } = stop_at(alloc, phases, call, fates)?;
+        let is_known = left == NOTHING || phases.iter().any(|phase| phase.given == left);
+        assert!(rt; is_known, "call {call}, {fates:?}: {left:?}");
+        assert!(rt;
+            safe <= left.last && before.last <= left.last,
+            "call {call}, {fates:?}"
+        );
+        before = left;
+        if !failed {
+            return Ok(before);
+        }
+    }
+    Err("fewer calls")?
+}
+
+#[test]
+fn each_stop_leaves_a_phase(rt: HostRuntime) -> Result<(), Fail> {
+    let phases = worked_run(rt.alloc())?;
+    let fates: [&[Fate]; 5] = [
+        &[Fate::Old],
+        &[Fate::New],
+        &[Fate::Zero],
+        &[Fate::Gate],
+        &[Fate::Junk],
+    ];
+    for fates in fates {
+        let left = stop_at_each(&rt, rt.alloc(), &phases, fates)?;
+        assert_eq!(rt; Some(left), phases.last().map(|phase| phase.given));
+    }
+    Ok(())
+}
