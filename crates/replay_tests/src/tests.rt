@@ -41,6 +41,33 @@ const ROLLBACK: [&str; 18] = [
     "get 0.0",
 ];
 
+const INDEX: [&str; 24] = [
+    "begin",
+    "insert 1 =k =",
+    "commit 1",
+    "commit 1",
+    "create",
+    "create",
+    "build",
+    "build",
+    "build",
+    "build",
+    "find =k",
+    "find =k",
+    "begin",
+    "begin",
+    "update 2 0.0 =m =",
+    "update 2 0.0 =m =",
+    "step 2",
+    "step 2",
+    "step 2",
+    "commit 2",
+    "commit 2",
+    "clean",
+    "clean",
+    "clean",
+];
+
 // The lines that the program prints for the commands but for one, and its status.
 fn lines_without(
     alloc: Global,
@@ -100,4 +127,9 @@ fn a_refused_command_changes_nothing(rt: HostRuntime) {
 #[test]
 fn a_refused_step_of_a_rollback_changes_nothing(rt: HostRuntime) {
     let _ = compare(&rt, &ROLLBACK);
+}
+
+#[test]
+fn a_refused_step_of_an_index_changes_nothing(rt: HostRuntime) {
+    let _ = compare(&rt, &INDEX);
 }

@@ -1,11 +1,12 @@
 //! The lines that the program prints.
-use crate::text::{LifeText, Place, Refusal, RowText};
+use crate::step::Step;
+use crate::text::{EntryText, LifeText, Place, Places, Refusal, RowText};
 use model::Life;
-use records::{Error, Rid, Row, Txn};
+use records::{Error, Mark, Pair, Rid, Row, Txn};
 use std::fmt;
 
 /// A line of the output.
-#[derive(Clone, Copy, Debug, PartialEq, Eq)]
+#[derive(Debug, Drop, PartialEq, Eq)]
 pub enum Answer {
     /// The number of the new transaction: `txn <n>`.
     Txn(Txn),
@@ -17,18 +18,24 @@ pub enum Answer {
     Undone,
     /// No change was left to take back: `empty`.
     Empty,
-    /// The record of a commit: `ticket <n>`.
+    /// The record of a commit or of a creation: `ticket <n>`.
     Ticket(u64),
+    /// What a step of the builder or of the cleaner did.
+    Made(Step),
     /// Every record up to this one is synced: `horizon <n>`.
     Horizon(u64),
     /// The row that was asked for: `row <key> <body>`.
     Row(Row),
     /// No row is there: `none`.
     NoRow,
+    /// The places of the rows that were asked for, parted by spaces, or `-`.
+    Found(Vec<Rid>),
     /// How far the index is: `life <life>`.
     Life(Life),
     /// A row of a dump, and its place: `row <rid> <key> <body>`.
     RowAt { rid: Rid, row: Row },
+    /// An entry of a dump: `live <pair>` or `marked <pair>`.
+    Entry { pair: Pair, mark: Mark },
     /// The store was opened again, with the index so far: `restart <life>`.
     Restart(Life),
     /// The script was cut short: `stopped`.
@@ -39,6 +46,22 @@ pub enum Answer {
     Refused(Error),
 }
 
+impl Answer {
+    ghost use Rattle.std.specs.Prelude.{◌≡◌};
+    ghost use Rattle.replay_values.specs.Steps.{is_last_step};
+
+    /// Whether it ends the steps of a command: the index is complete, or the step was refused.
+    pub fn is_last_step(&self) -> bool
+        ensures { result ≡ is_last_step self.now }
+    {
+        match self {
+            Answer::Made(step) => step.ends_steps(),
+            Answer::Refused(_) => true,
+            _ => false,
+        }
+    }
+}
+
 impl fmt::Display for Answer {
     ghost use Rattle.std.specs.Prelude.{Some};
     ghost use Rattle.replay_values.specs.Texts.{answer_text};
@@ -46,44 +69,25 @@ impl fmt::Display for Answer {
     ghost output = { λ a. Some (answer_text a) };
 
     fn fmt<W: fmt::Write>(&self, f: &mut fmt::Formatter<W>) -> fmt::Result {
-        match *self {
-            Answer::Txn(txn) => {
-                let number = txn.number();
-                write!(f, "txn {number}")
-            }
-            Answer::Rid(rid) => {
-                let place = Place(rid);
-                write!(f, "rid {place}")
-            }
+        match self {
+            Answer::Txn(txn) => write!(f, "txn {}", txn.number()),
+            Answer::Rid(rid) => write!(f, "rid {}", Place(*rid)),
             Answer::Done => f.write_str("ok"),
             Answer::Undone => f.write_str("undone"),
             Answer::Empty => f.write_str("empty"),
             Answer::Ticket(number) => write!(f, "ticket {number}"),
+            Answer::Made(step) => write!(f, "{step}"),
             Answer::Horizon(number) => write!(f, "horizon {number}"),
-            Answer::Row(row) => {
-                let row = RowText(row);
-                write!(f, "row {row}")
-            }
+            Answer::Row(row) => write!(f, "row {}", RowText(*row)),
             Answer::NoRow => f.write_str("none"),
-            Answer::Life(life) => {
-                let life = LifeText(life);
-                write!(f, "life {life}")
-            }
-            Answer::RowAt { rid, row } => {
-                let place = Place(rid);
-                let row = RowText(row);
-                write!(f, "row {place} {row}")
-            }
-            Answer::Restart(life) => {
-                let life = LifeText(life);
-                write!(f, "restart {life}")
-            }
+            Answer::Found(rids) => write!(f, "{}", Places(rids.as_slice())),
+            Answer::Life(life) => write!(f, "life {}", LifeText(*life)),
+            Answer::RowAt { rid, row } => write!(f, "row {} {}", Place(*rid), RowText(*row)),
+            Answer::Entry { pair, mark } => write!(f, "{}", EntryText(*pair, *mark)),
+            Answer::Restart(life) => write!(f, "restart {}", LifeText(*life)),
             Answer::Stopped => f.write_str("stopped"),
             Answer::Skipped => f.write_str("skipped"),
-            Answer::Refused(error) => {
-                let refusal = Refusal(error);
-                write!(f, "refused {refusal}")
-            }
+            Answer::Refused(error) => write!(f, "refused {}", Refusal(*error)),
         }
     }
 }

@@ -3,7 +3,9 @@
 
 mod answer;
 mod given;
+mod step;
 mod text;
 
 pub use answer::Answer;
 pub use given::{Arguments, FATES, Options, each_fate_has_a_name, fate_named};
+pub use step::Step;

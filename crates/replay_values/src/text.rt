@@ -2,10 +2,10 @@
 ghost use Rattle.std.specs.Prelude.{◌≤◌, Some, length};
 ghost use Rattle.std.specs.Fmt.{DisplaysOnOk};
 ghost use Rattle.script.specs.Grammar.{rid_text};
-ghost use Rattle.replay_values.specs.Texts.{bytes_text, row_text, pair_text, life_text, refusal_text};
+ghost use Rattle.replay_values.specs.Texts.{bytes_text, further_text, places_text, row_text, pair_text, entry_text, life_text, refusal_text};
 
 use model::Life;
-use records::{BODY_MAX, Error, Pair, Rid, Row};
+use records::{BODY_MAX, Error, Mark, Pair, Rid, Row};
 use std::fmt;
 
 // The most digits that bytes are spelled with.
@@ -22,6 +22,36 @@ impl fmt::Display for Place {
         let page = self.0.page;
         let slot = self.0.slot;
         write!(f, "{page}.{slot}")
+    }
+}
+
+// Writes each place, with a space before it.
+fn write_further<W: fmt::Write>(f: &mut fmt::Formatter<W>, rids: &[Rid]) -> fmt::Result
+    ensures { DisplaysOnOk W.write_str_gives f.old result (Some (further_text rids.now)) f.new }
+{
+    for rid in rids {
+        let place = Place(*rid);
+        write!(f, " {place}")?;
+    }
+    Ok(())
+}
+
+/// Places of rows, parted by spaces, or `-` where there is none.
+#[derive(Clone, Copy)]
+pub struct Places<'a>(pub &'a [Rid]);
+
+impl fmt::Display for Places<'_> {
+    ghost output = { λ p. Some (places_text p.0.now) };
+
+    fn fmt<W: fmt::Write>(&self, f: &mut fmt::Formatter<W>) -> fmt::Result {
+        match self.0 {
+            [] => f.write_str("-"),
+            [first, rest @ ..] => {
+                let place = Place(*first);
+                write!(f, "{place}")?;
+                write_further(f, rest)
+            }
+        }
     }
 }
 
@@ -63,6 +93,22 @@ impl fmt::Display for PairText {
         write_bytes(f, self.0.key.as_slice())?;
         let place = Place(self.0.rid);
         write!(f, " {place}")
+    }
+}
+
+/// An entry: `live` or `marked`, and its pair.
+#[derive(Clone, Copy)]
+pub struct EntryText(pub Pair, pub Mark);
+
+impl fmt::Display for EntryText {
+    ghost output = { λ e. Some (entry_text e.0 e.1) };
+
+    fn fmt<W: fmt::Write>(&self, f: &mut fmt::Formatter<W>) -> fmt::Result {
+        let pair = PairText(self.0);
+        match self.1 {
+            Mark::Live => write!(f, "live {pair}"),
+            Mark::Marked => write!(f, "marked {pair}"),
+        }
     }
 }
 

@@ -1,19 +1,20 @@
 -- The commands that are read are those that the words spell.
 use Rattle.std.specs.Prelude.{codes}
-use Rattle.std.proofs.Common.{◌≡◌, ℕ, ◌^◌, ◌<◌, ◌≤◌, true, false, cond, ltb, eqb, List, [], ◌∷◌, ◌++◌, Some, None, refl, sym, ap, subst, ◌∙◌, arith, inl, inr}
+use Rattle.std.proofs.Common.{◌≡◌, ℕ, ◌^◌, ◌<◌, ◌≤◌, ◌&&◌, true, false, cond, ltb, leb, eqb, List, [], ◌∷◌, ◌++◌, Option, Some, None, refl, sym, ap, subst, ◌∙◌, arith, inl, inr}
 use Rattle.std.specs.Fmt.{decimal}
 use Rattle.std.specs.List.{join_with_byte}
 use Rattle.std.specs.Option.{option_map}
 use Rattle.std.proofs.lemmas.List.Splits.{join_with_byte-slice_split, slice_split_at, slice_split_none}
-use Rattle.std.proofs.lemmas.Bool.{ltb-true, lt-ltb, both_ways}
+use Rattle.std.proofs.lemmas.Bool.{ltb-true, lt-ltb, leb-true, le-leb, and_parts, and_from, both_ways}
 use Rattle.records.specs.Values.{Place}
 use Rattle.records.specs.declared.rid.TheConstants.{SLOTS_PER_PAGE}
+use Rattle.script.specs.declared.word.TheConstants.{STEPS_MAX}
 use Rattle.script.specs.declared.fate.Fate.{Fate}
 use Rattle.script.specs.declared.fate.Fate.TheVariants.{Old, New, Zero, Gate, Junk}
 use Rattle.script.specs.declared.command.Command.{Command}
-use Rattle.script.specs.declared.command.Command.TheVariants.{Begin, Insert, Delete, Update, Step, Undo, End, Commit, Flush, Crash, Get, Dump}
-use Rattle.script.specs.Grammar.{rid_text, parted_by, words, is_left_out, IsTxn, IsRid, fate_name, Spell, IsLineOf, IsGood}
-use Rattle.script.specs.Reading.{◌>>=◌, only, first_two, first_three, first_four, number_at, txn_at, place_at, rid_at, text_at, fate_at, alone_at, insert_at, delete_at, update_at, only_txn_at, crash_at, get_at, command_at}
+use Rattle.script.specs.declared.command.Command.TheVariants.{Begin, Insert, Delete, Update, Step, Undo, End, Commit, Create, Build, Clean, Flush, Crash, Get, Find, Dump}
+use Rattle.script.specs.Grammar.{rid_text, parted_by, words, is_left_out, IsTxn, IsCount, IsRid, fate_name, SpellSteps, Spell, IsLineOf, IsGood}
+use Rattle.script.specs.Reading.{◌>>=◌, only, first_two, first_three, first_four, number_at, txn_at, count_at, place_at, rid_at, text_at, fate_at, alone_at, insert_at, delete_at, update_at, only_txn_at, steps_at, crash_at, get_at, find_at, store_command_at, command_at}
 use Rattle.script.proofs.Steps.{bind_some, mapped, passed, passed_not, some_is, by_name}
 use Rattle.script.proofs.Numbers.{number_takes, number_again, no_such_byte}
 use Rattle.script.proofs.Texts.{text_takes, text_again}
@@ -39,6 +40,22 @@ unfolding txn_at
 txn_again txn h =
     let some : eqb txn 0 ≡ false = grind (arith, h.0) in
     rw (number_again txn h.1, some) refl
+
+count_takes : (word : List ℕ) (count : ℕ) → count_at word ≡ Some count → (word ≡ decimal count) × IsCount count
+unfolding count_at
+count_takes word count e =
+    let n = bind_some (number_at word) (λ n. cond (leb 1 n && leb n STEPS_MAX) (Some n) None) count e in
+    let some = passed (leb 1 n.0 && leb n.0 STEPS_MAX) (Some n.0) count n.2 in
+    let both = and_parts (leb 1 n.0) (leb n.0 STEPS_MAX) some.0 in
+    let read = number_takes word n.0 n.1 in
+    subst (λ (c : ℕ). (word ≡ decimal c) × IsCount c) (some_is n.0 count some.1) (read.0, (leb-true _ _ both.0, leb-true _ _ both.1))
+
+count_again : (count : ℕ) → IsCount count → count_at (decimal count) ≡ Some count
+unfolding count_at
+count_again count h =
+    let low : leb 1 count ≡ true = le-leb _ _ h.0 in
+    let high : leb count STEPS_MAX ≡ true = le-leb _ _ h.1 in
+    rw (number_again count (omega (arith, h.1)), low, high) refl
 
 place_takes : (parts : List (List ℕ)) (rid : Place) → place_at parts ≡ Some rid → (parts ≡ decimal rid.page ∷ decimal rid.slot ∷ []) × (rid.page < 2 ^ 32) × (rid.slot < SLOTS_PER_PAGE)
 place_takes [] rid e = absurd cc
@@ -176,6 +193,24 @@ of_txn_takes verb name args command c is spelled e =
     let number = only_txn_takes args txn.0 txn.1 in
     subst (Spell (verb ∷ args)) txn.2 (spelled (verb ∷ args) txn.0 (spelled_so verb name args (decimal txn.0 ∷ []) is number.0) number.1)
 
+-- a command that asks for steps: its name, and how many
+steps_take : (verb name : List ℕ) (args : List (List ℕ)) (command : ℕ → Command) (c : Command) → verb ≡ name → ((words : List (List ℕ)) (count : ℕ) → SpellSteps name words count → Spell words (command count)) → option_map command (steps_at args) ≡ Some c → Spell (verb ∷ args) c
+unfolding steps_at
+steps_take verb name [] command c is spelled e =
+    let count = mapped command (steps_at []) c e in
+    subst (Spell (verb ∷ [])) count.2 (spelled (verb ∷ []) count.0 (inl (ap one_word is, sym (some_is 1 count.0 count.1))))
+steps_take verb name (first ∷ rest) command c is spelled e =
+    let count = mapped command (steps_at (first ∷ rest)) c e in
+    let word = bind_some (only (first ∷ rest)) count_at count.0 count.1 in
+    let number = count_takes word.0 count.0 word.2 in
+    subst (Spell (verb ∷ first ∷ rest)) count.2
+    (spelled (verb ∷ first ∷ rest) count.0 (inr (spelled_so verb name (first ∷ rest) (decimal count.0 ∷ []) is (only_takes (first ∷ rest) word.0 word.1 ∙ ap one_word number.0), number.1)))
+
+steps_again : (name : List ℕ) (words : List (List ℕ)) (count : ℕ) → SpellSteps name words count → (args : List (List ℕ)) × (words ≡ name ∷ args) × (steps_at args ≡ Some count)
+unfolding steps_at
+steps_again name words count (inl h) = ([], h.0, ap (λ (n : ℕ). Some n) (sym h.1))
+steps_again name words count (inr h) = (decimal count ∷ [], h.0, count_again count h.1)
+
 crash_takes : (verb : List ℕ) (args : List (List ℕ)) (c : Command) → verb ≡ codes "crash" → crash_at args ≡ Some c → Spell (verb ∷ args) c
 unfolding crash_at
 crash_takes verb args c is e =
@@ -194,6 +229,27 @@ get_takes verb args c is e =
     subst (Spell (verb ∷ args)) (some_is (Get rid.0) c rid.2)
     (spelled_so verb (codes "get") args (rid_text rid.0 ∷ []) is (only_takes args word.0 word.1 ∙ ap one_word place.0), place.1)
 
+find_takes : (verb : List ℕ) (args : List (List ℕ)) (c : Command) → verb ≡ codes "find" → find_at args ≡ Some c → Spell (verb ∷ args) c
+unfolding find_at
+find_takes verb args c is e =
+    let word = bind_some (only args) (λ word. text_at word >>= λ key. Some (Find key)) c e in
+    let key = bind_some (text_at word.0) (λ key. Some (Find key)) c word.2 in
+    subst (Spell (verb ∷ args)) (some_is (Find key.0) c key.2)
+    (word.0, spelled_so verb (codes "find") args (word.0 ∷ []) is (only_takes args word.0 word.1), text_takes word.0 key.0 key.1)
+
+store_command_takes : (verb : List ℕ) (args : List (List ℕ)) (c : Command) → store_command_at verb args ≡ Some c → Spell (verb ∷ args) c
+unfolding store_command_at
+store_command_takes verb args c e =
+    by_name verb (codes "create") (λ is h. alone_takes verb args Create c (ap one_word is) h)
+    (by_name verb (codes "build") (λ is h. steps_take verb (codes "build") args Build c is (λ words count p. p) h)
+    (by_name verb (codes "clean") (λ is h. steps_take verb (codes "clean") args Clean c is (λ words count p. p) h)
+    (by_name verb (codes "flush") (λ is h. alone_takes verb args Flush c (ap one_word is) h)
+    (by_name verb (codes "crash") (crash_takes verb args c)
+    (by_name verb (codes "get") (get_takes verb args c)
+    (by_name verb (codes "find") (find_takes verb args c)
+    (by_name verb (codes "dump") (λ is h. alone_takes verb args Dump c (ap one_word is) h) (λ h. absurd cc))))))))
+    e
+
 pub command_takes : (words : List (List ℕ)) (c : Command) → command_at words ≡ Some c → Spell words c
 unfolding command_at
 command_takes [] c e = absurd cc
@@ -206,14 +262,11 @@ command_takes (verb ∷ args) c e =
     (by_name verb (codes "undo") (λ is h. of_txn_takes verb (codes "undo") args Undo c is (λ words txn p q. (p, q)) h)
     (by_name verb (codes "end") (λ is h. of_txn_takes verb (codes "end") args End c is (λ words txn p q. (p, q)) h)
     (by_name verb (codes "commit") (λ is h. of_txn_takes verb (codes "commit") args Commit c is (λ words txn p q. (p, q)) h)
-    (by_name verb (codes "flush") (λ is h. alone_takes verb args Flush c (ap one_word is) h)
-    (by_name verb (codes "crash") (crash_takes verb args c)
-    (by_name verb (codes "get") (get_takes verb args c)
-    (by_name verb (codes "dump") (λ is h. alone_takes verb args Dump c (ap one_word is) h) (λ h. absurd cc))))))))))))
+    (store_command_takes verb args c))))))))
     e
 
 pub command_again : (words : List (List ℕ)) (c : Command) → Spell words c → command_at words ≡ Some c
-unfolding command_at insert_at delete_at update_at only_txn_at crash_at get_at
+unfolding command_at store_command_at insert_at delete_at update_at only_txn_at crash_at get_at find_at
 command_again words Begin h = ap command_at h
 command_again words (Insert txn key body) h = ap command_at h.2 ∙ rw (txn_again txn h.3, text_again h.0 key h.4, text_again h.1 body h.5) refl
 command_again words (Delete txn rid) h = ap command_at h.0 ∙ rw (txn_again txn h.1, rid_again rid h.2) refl
@@ -222,9 +275,13 @@ command_again words (Step txn) h = ap command_at h.0 ∙ rw (txn_again txn h.1) 
 command_again words (Undo txn) h = ap command_at h.0 ∙ rw (txn_again txn h.1) refl
 command_again words (End txn) h = ap command_at h.0 ∙ rw (txn_again txn h.1) refl
 command_again words (Commit txn) h = ap command_at h.0 ∙ rw (txn_again txn h.1) refl
+command_again words Create h = ap command_at h
+command_again words (Build count) h = let s = steps_again (codes "build") words count h in ap command_at s.1 ∙ ap (λ (o : Option ℕ). option_map Build o) s.2
+command_again words (Clean count) h = let s = steps_again (codes "clean") words count h in ap command_at s.1 ∙ ap (λ (o : Option ℕ). option_map Clean o) s.2
 command_again words Flush h = ap command_at h
 command_again words (Crash fate) h = ap command_at h ∙ rw (fate_again fate) refl
 command_again words (Get rid) h = ap command_at h.0 ∙ rw (rid_again rid h.1) refl
+command_again words (Find key) h = ap command_at h.1 ∙ rw (text_again h.0 key h.2) refl
 command_again words Dump h = ap command_at h
 
 -- no words spell two commands

@@ -12,7 +12,7 @@ use Rattle.records.specs.Values.{Place}
 use Rattle.script.specs.declared.fate.Fate.{Fate}
 use Rattle.script.specs.declared.fate.Fate.TheVariants.{Old, New, Zero, Gate, Junk}
 use Rattle.script.specs.declared.command.Command.{Command}
-use Rattle.script.specs.declared.command.Command.TheVariants.{Begin, Insert, Delete, Update, Step, Undo, End, Commit, Flush, Crash, Get, Dump}
+use Rattle.script.specs.declared.command.Command.TheVariants.{Begin, Insert, Delete, Update, Step, Undo, End, Commit, Create, Build, Clean, Flush, Crash, Get, Find, Dump}
 use Rattle.script.specs.Grammar.{words, IsRid, rid_text, fate_name, IsLineOf, CanBeGiven}
 use Rattle.script.proofs.Numbers.{no_such_byte}
 
@@ -93,8 +93,16 @@ line_of (End txn) h =
     (join_with_byte 32 (codes "end" ∷ decimal txn ∷ []), (spaced (codes "end") (decimal txn ∷ []) (by_test (codes "end") refl, (number_has_no_space txn h.1, tt)), h))
 line_of (Commit txn) h =
     (join_with_byte 32 (codes "commit" ∷ decimal txn ∷ []), (spaced (codes "commit") (decimal txn ∷ []) (by_test (codes "commit") refl, (number_has_no_space txn h.1, tt)), h))
+line_of Create h = (codes "create", refl)
+line_of (Build count) h =
+    (join_with_byte 32 (codes "build" ∷ decimal count ∷ []), inr (spaced (codes "build") (decimal count ∷ []) (by_test (codes "build") refl, (number_has_no_space count (omega (arith, h.1)), tt)), h))
+line_of (Clean count) h =
+    (join_with_byte 32 (codes "clean" ∷ decimal count ∷ []), inr (spaced (codes "clean") (decimal count ∷ []) (by_test (codes "clean") refl, (number_has_no_space count (omega (arith, h.1)), tt)), h))
 line_of Flush h = (codes "flush", refl)
 line_of (Crash fate) h = (join_with_byte 32 (codes "crash" ∷ fate_name fate ∷ []), spaced (codes "crash") (fate_name fate ∷ []) (by_test (codes "crash") refl, (fate_has_no_space fate, tt)))
 line_of (Get rid) h =
     (join_with_byte 32 (codes "get" ∷ rid_text rid ∷ []), (spaced (codes "get") (rid_text rid ∷ []) (by_test (codes "get") refl, (rid_has_no_space rid h, tt)), h))
+line_of (Find key) h =
+    let k = 58 ∷ encode_lower key in
+    (join_with_byte 32 (codes "find" ∷ k ∷ []), (k, spaced (codes "find") (k ∷ []) (by_test (codes "find") refl, (text_has_no_space key h, tt)), inr (refl, h)))
 line_of Dump h = (codes "dump", refl)

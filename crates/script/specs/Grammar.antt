@@ -8,10 +8,11 @@ use Rattle.hex.specs.Hex.{encode_lower, IsBytes}
 use Rattle.records.specs.Values.{Place}
 use Rattle.records.specs.declared.rid.TheConstants.{SLOTS_PER_PAGE}
 use Rattle.script.specs.declared.lines.TheConstants.{LINES_MAX}
+use Rattle.script.specs.declared.word.TheConstants.{STEPS_MAX}
 use Rattle.script.specs.declared.fate.Fate.{Fate}
 use Rattle.script.specs.declared.fate.Fate.TheVariants.{Old, New, Zero, Gate, Junk}
 use Rattle.script.specs.declared.command.Command.{Command}
-use Rattle.script.specs.declared.command.Command.TheVariants.{Begin, Insert, Delete, Update, Step, Undo, End, Commit, Flush, Crash, Get, Dump}
+use Rattle.script.specs.declared.command.Command.TheVariants.{Begin, Insert, Delete, Update, Step, Undo, End, Commit, Create, Build, Clean, Flush, Crash, Get, Find, Dump}
 
 -- the parts of a text between its separators: with none, the text itself
 abbrev pub parted_by : ℕ → List ℕ → List (List ℕ)
@@ -34,6 +35,10 @@ is_left_out (first ∷ rest) = first == 35
 abbrev pub IsTxn : ℕ → Type 0
 IsTxn txn = (1 ≤ txn) × (txn < 2 ^ 32)
 
+-- how many steps a command may ask for
+abbrev pub IsCount : ℕ → Type 0
+IsCount count = (1 ≤ count) × (count ≤ STEPS_MAX)
+
 -- the places that a row may have
 abbrev pub IsRid : Place → Type 0
 IsRid rid = (rid.page < 2 ^ 32) × (rid.slot < SLOTS_PER_PAGE)
@@ -53,6 +58,10 @@ fate_name Zero = codes "zero"
 fate_name Gate = codes "a5"
 fate_name Junk = codes "junk"
 
+-- a name and how many steps are asked for; a name alone asks for one
+abbrev pub SpellSteps : List ℕ → List (List ℕ) → ℕ → Type 0
+SpellSteps name words count = ((words ≡ name ∷ []) × (count ≡ 1)) ⊎ ((words ≡ name ∷ decimal count ∷ []) × IsCount count)
+
 -- the words of a line spell a command
 abbrev pub Spell : List (List ℕ) → Command → Type 0
 Spell words Begin = words ≡ codes "begin" ∷ []
@@ -63,9 +72,13 @@ Spell words (Step txn) = (words ≡ codes "step" ∷ decimal txn ∷ []) × IsTx
 Spell words (Undo txn) = (words ≡ codes "undo" ∷ decimal txn ∷ []) × IsTxn txn
 Spell words (End txn) = (words ≡ codes "end" ∷ decimal txn ∷ []) × IsTxn txn
 Spell words (Commit txn) = (words ≡ codes "commit" ∷ decimal txn ∷ []) × IsTxn txn
+Spell words Create = words ≡ codes "create" ∷ []
+Spell words (Build count) = SpellSteps (codes "build") words count
+Spell words (Clean count) = SpellSteps (codes "clean") words count
 Spell words Flush = words ≡ codes "flush" ∷ []
 Spell words (Crash fate) = words ≡ codes "crash" ∷ fate_name fate ∷ []
 Spell words (Get rid) = (words ≡ codes "get" ∷ rid_text rid ∷ []) × IsRid rid
+Spell words (Find key) = (k : List ℕ) × (words ≡ codes "find" ∷ k ∷ []) × IsByteText k key
 Spell words Dump = words ≡ codes "dump" ∷ []
 
 -- a line is this command: its words, parted by single spaces, spell it
@@ -102,7 +115,11 @@ CanBeGiven (Step txn) = IsTxn txn
 CanBeGiven (Undo txn) = IsTxn txn
 CanBeGiven (End txn) = IsTxn txn
 CanBeGiven (Commit txn) = IsTxn txn
+CanBeGiven Create = Unit {0}
+CanBeGiven (Build count) = IsCount count
+CanBeGiven (Clean count) = IsCount count
 CanBeGiven Flush = Unit {0}
 CanBeGiven (Crash _) = Unit {0}
 CanBeGiven (Get rid) = IsRid rid
+CanBeGiven (Find key) = IsBytes key
 CanBeGiven Dump = Unit {0}

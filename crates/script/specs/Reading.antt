@@ -10,10 +10,11 @@ use Rattle.std.specs.Str.Parse.{digits_value}
 use Rattle.hex.specs.Hex.{decode_of}
 use Rattle.records.specs.Values.{Place}
 use Rattle.records.specs.declared.rid.TheConstants.{SLOTS_PER_PAGE}
+use Rattle.script.specs.declared.word.TheConstants.{STEPS_MAX}
 use Rattle.script.specs.declared.fate.Fate.{Fate}
 use Rattle.script.specs.declared.fate.Fate.TheVariants.{Old, New, Zero, Gate, Junk}
 use Rattle.script.specs.declared.command.Command.{Command}
-use Rattle.script.specs.declared.command.Command.TheVariants.{Begin, Insert, Delete, Update, Step, Undo, End, Commit, Flush, Crash, Get, Dump}
+use Rattle.script.specs.declared.command.Command.TheVariants.{Begin, Insert, Delete, Update, Step, Undo, End, Commit, Create, Build, Clean, Flush, Crash, Get, Find, Dump}
 use Rattle.script.specs.Grammar.{parted_by, is_left_out, IsLineOf}
 
 infixl 10 ◌>>=◌
@@ -63,6 +64,11 @@ unfoldable pub txn_at : List ℕ → Option ℕ
 txn_at word = do
   n ← number_at word
   if n == 0 then None else Some n
+
+unfoldable pub count_at : List ℕ → Option ℕ
+count_at word = do
+  n ← number_at word
+  if nat_le 1 n && nat_le n STEPS_MAX then Some n else None
 
 abbrev pub place_at : List (List ℕ) → Option Place
 place_at [] = None
@@ -127,6 +133,13 @@ only_txn_at args = do
   word ← only args
   txn_at word
 
+-- one step where no count is given
+unfoldable pub steps_at : List (List ℕ) → Option ℕ
+steps_at [] = Some 1
+steps_at (first ∷ rest) = do
+  word ← only (first ∷ rest)
+  count_at word
+
 unfoldable pub crash_at : List (List ℕ) → Option Command
 crash_at args = do
   word ← only args
@@ -139,6 +152,25 @@ get_at args = do
   rid ← rid_at word
   Some (Get rid)
 
+unfoldable pub find_at : List (List ℕ) → Option Command
+find_at args = do
+  word ← only args
+  key ← text_at word
+  Some (Find key)
+
+-- the commands that name no transaction, but for `begin`
+unfoldable pub store_command_at : List ℕ → List (List ℕ) → Option Command
+store_command_at verb args =
+    if bytes_eq verb (codes "create") then alone_at Create args
+    else if bytes_eq verb (codes "build") then option_map Build (steps_at args)
+    else if bytes_eq verb (codes "clean") then option_map Clean (steps_at args)
+    else if bytes_eq verb (codes "flush") then alone_at Flush args
+    else if bytes_eq verb (codes "crash") then crash_at args
+    else if bytes_eq verb (codes "get") then get_at args
+    else if bytes_eq verb (codes "find") then find_at args
+    else if bytes_eq verb (codes "dump") then alone_at Dump args
+    else None
+
 unfoldable pub command_at : List (List ℕ) → Option Command
 command_at [] = None
 command_at (verb ∷ args) =
@@ -150,11 +182,7 @@ command_at (verb ∷ args) =
     else if bytes_eq verb (codes "undo") then option_map Undo (only_txn_at args)
     else if bytes_eq verb (codes "end") then option_map End (only_txn_at args)
     else if bytes_eq verb (codes "commit") then option_map Commit (only_txn_at args)
-    else if bytes_eq verb (codes "flush") then alone_at Flush args
-    else if bytes_eq verb (codes "crash") then crash_at args
-    else if bytes_eq verb (codes "get") then get_at args
-    else if bytes_eq verb (codes "dump") then alone_at Dump args
-    else None
+    else store_command_at verb args
 
 -- the commands with the one of a line that is not left out
 abbrev pub Adds : List ℕ → List Command → List Command → Type 0

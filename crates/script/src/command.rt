@@ -43,6 +43,16 @@ pub enum Command {
     Commit {
         txn: Txn,
     },
+    /// Creates the index, which is then to be built: `create`.
+    Create,
+    /// Makes as many steps of the builder: `build <count>`, or one step: `build`.
+    Build {
+        count: u32,
+    },
+    /// Makes as many steps of the cleaner: `clean <count>`, or one step: `clean`.
+    Clean {
+        count: u32,
+    },
     /// Writes the log until every record made is synced: `flush`.
     Flush,
     /// Crashes the device and restarts: `crash <fate>`.
@@ -52,6 +62,10 @@ pub enum Command {
     /// Asks for the row at a place: `get <rid>`.
     Get {
         rid: Rid,
+    },
+    /// Asks for the places of the rows with a key: `find <key>`.
+    Find {
+        key: ByteText,
     },
     /// Asks for all rows, entries and the life of the index: `dump`.
     Dump,

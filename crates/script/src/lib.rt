@@ -15,3 +15,4 @@ pub use command::Command;
 pub use fate::Fate;
 pub use laws::{each_has_a_line, no_command_left_out, one_command};
 pub use lines::{LINES_MAX, read};
+pub use word::STEPS_MAX;

@@ -2,12 +2,12 @@
 ghost use Rattle.std.specs.Prelude.{◌≡◌, IfOk};
 ghost use Rattle.std.specs.Option.{option_map};
 ghost use Rattle.script.specs.Grammar.{words, is_left_out};
-ghost use Rattle.script.specs.Reading.{parts_left, alone_at, insert_at, delete_at, update_at, only_txn_at, crash_at, get_at, command_at};
+ghost use Rattle.script.specs.Reading.{parts_left, alone_at, insert_at, delete_at, update_at, only_txn_at, steps_at, crash_at, get_at, find_at, store_command_at, command_at};
 
 use crate::command::Command;
 use crate::fate::Fate;
 use crate::parts::{cut_at, four_parts, only_part, three_parts, two_parts};
-use crate::word::{rid_of, text_of, txn_of};
+use crate::word::{count_of, rid_of, text_of, txn_of};
 use records::Txn;
 use std::alloc::{AllocError, Global};
 
@@ -93,6 +93,21 @@ fn only_txn(rest: Option<&[u8]>) -> Option<Txn>
     txn_of(only_part(b' ', rest)?)
 }
 
+// How many steps are asked for: one where nothing is left.
+#[tactic(auto, unfolding(crate::specs::Reading::steps_at))]
+fn steps_of(rest: Option<&[u8]>) -> Option<u32>
+    ensures { result ≡ steps_at (parts_left 32 (option_map (λ r. r.now) rest.entry)) }
+{
+    let Some(rest) = rest else {
+        return Some(1);
+    };
+    let (word, more) = cut_at(b' ', rest);
+    match more {
+        None => count_of(word),
+        Some(_) => None,
+    }
+}
+
 #[tactic(auto, unfolding(crate::specs::Reading::crash_at))]
 fn crash_of(rest: Option<&[u8]>) -> Option<Command>
     ensures { result ≡ crash_at (parts_left 32 (option_map (λ r. r.now) rest.entry)) }
@@ -107,6 +122,47 @@ fn get_of(rest: Option<&[u8]>) -> Option<Command>
 {
     let rid = rid_of(only_part(b' ', rest)?)?;
     Some(Command::Get { rid })
+}
+
+#[tactic(auto, unfolding(crate::specs::Reading::find_at))]
+fn find_of(alloc: Global, rest: Option<&[u8]>) -> Result<Option<Command>, AllocError>
+    ensures { IfOk result (λ r. r ≡ find_at (parts_left 32 (option_map (λ r. r.now) rest.entry))) }
+{
+    let Some(word) = only_part(b' ', rest) else {
+        return Ok(None);
+    };
+    let key = text_of(alloc, word)?;
+    Ok(key.map(|key| Command::Find { key }))
+}
+
+// The command of this name that names no transaction, where it is one.
+#[tactic(auto, unfolding(crate::specs::Reading::store_command_at))]
+fn store_command_of(
+    alloc: Global,
+    verb: &[u8],
+    rest: Option<&[u8]>,
+) -> Result<Option<Command>, AllocError>
+    ensures { IfOk result (λ r. r ≡ store_command_at verb.now (parts_left 32 (option_map (λ r. r.now) rest.entry))) }
+{
+    if verb == b"create".as_slice() {
+        Ok(alone(rest, Command::Create))
+    } else if verb == b"build".as_slice() {
+        Ok(steps_of(rest).map(|count| Command::Build { count }))
+    } else if verb == b"clean".as_slice() {
+        Ok(steps_of(rest).map(|count| Command::Clean { count }))
+    } else if verb == b"flush".as_slice() {
+        Ok(alone(rest, Command::Flush))
+    } else if verb == b"crash".as_slice() {
+        Ok(crash_of(rest))
+    } else if verb == b"get".as_slice() {
+        Ok(get_of(rest))
+    } else if verb == b"find".as_slice() {
+        find_of(alloc, rest)
+    } else if verb == b"dump".as_slice() {
+        Ok(alone(rest, Command::Dump))
+    } else {
+        Ok(None)
+    }
 }
 
 /// The command that a line spells, where it spells one.
@@ -131,15 +187,7 @@ pub fn command_of(alloc: Global, line: &[u8]) -> Result<Option<Command>, AllocEr
         Ok(only_txn(rest).map(|txn| Command::End { txn }))
     } else if verb == b"commit".as_slice() {
         Ok(only_txn(rest).map(|txn| Command::Commit { txn }))
-    } else if verb == b"flush".as_slice() {
-        Ok(alone(rest, Command::Flush))
-    } else if verb == b"crash".as_slice() {
-        Ok(crash_of(rest))
-    } else if verb == b"get".as_slice() {
-        Ok(get_of(rest))
-    } else if verb == b"dump".as_slice() {
-        Ok(alone(rest, Command::Dump))
     } else {
-        Ok(None)
+        store_command_of(alloc, verb, rest)
     }
 }

@@ -2,13 +2,16 @@
 ghost use Rattle.std.specs.Prelude.{◌≡◌, IfOk};
 ghost use Rattle.std.specs.List.{list_all, list_any};
 ghost use Rattle.std.specs.Char.{is_ascii_graphic, is_ascii_uppercase};
-ghost use Rattle.script.specs.Reading.{begins_as_number, number_at, txn_at, rid_at, text_at, hex_at};
+ghost use Rattle.script.specs.Reading.{begins_as_number, number_at, txn_at, count_at, rid_at, text_at, hex_at};
 
 use crate::byte_text::ByteText;
 use crate::parts::{cut_at, only_part};
 use hex::FromHexError;
 use records::{Rid, SLOTS_PER_PAGE, Txn};
 use std::alloc::{AllocError, Global};
+
+/// How many steps a command asks for at most.
+pub const STEPS_MAX: u32 = 100_000;
 
 fn has_no_leading_zero(word: &[u8]) -> bool
     ensures { result ≡ begins_as_number word.now }
@@ -40,6 +43,19 @@ pub fn txn_of(word: &[u8]) -> Option<Txn>
 {
     let number = number_of(word)?;
     Txn::new(u64::from(number))
+}
+
+/// How many steps this word asks for.
+#[tactic(auto, unfolding(crate::specs::Reading::count_at))]
+pub fn count_of(word: &[u8]) -> Option<u32>
+    ensures { result ≡ count_at word.now }
+{
+    let count = number_of(word)?;
+    if 1 <= count && count <= STEPS_MAX {
+        Some(count)
+    } else {
+        None
+    }
 }
 
 /// The place that this word names: a page, a point and a slot.

@@ -1,2 +1,3 @@
 mod Flushed
-mod Left
+mod Entries
+mod Made

@@ -1,14 +1,14 @@
 -- What a dump prints.
 use Rattle.std.specs.Prelude.{ℕ, zero, suc, List, [], ◌++◌}
 use Rattle.std.specs.FinMap as map
+use Rattle.std.specs.List.{flat_map}
 use Rattle.std.specs.Option.{option_map_or}
 use Rattle.records.specs.Values.{Place}
 use Rattle.records.specs.declared.rid.TheConstants.{SLOTS_PER_PAGE}
-use Rattle.model.specs.Table.{Table}
-use Rattle.model.specs.declared.life.Life.TheVariants.{Absent}
-use Rattle.session.specs.Session.{rows_of}
+use Rattle.model.specs.Table.{Table, Index}
+use Rattle.session.specs.Session.{rows_of, entries_of, life_of}
 use Rattle.replay_values.specs.Texts.{line_of}
-use Rattle.replay_values.specs.declared.answer.Answer.TheVariants.{RowAt, Life}
+use Rattle.replay_values.specs.declared.answer.Answer.TheVariants.{RowAt, Entry, Life}
 use Rattle.session.specs.declared.session.Session.{Session}
 
 -- the line of the row at a place, if one is there
@@ -25,6 +25,10 @@ unfoldable pub page_lines : Table → (pages : ℕ) → List ℕ
 page_lines rows zero = []
 page_lines rows (suc page) = page_lines rows page ++ slot_lines rows page SLOTS_PER_PAGE
 
--- the rows, in the order of their places, and how far the index is
+-- the lines of the entries, in the order of their pairs
+abbrev pub entry_lines : Index → List ℕ
+entry_lines index = flat_map (λ entry. line_of (Entry entry.0 entry.1)) (map.entries index)
+
+-- the rows, in the order of their places, then the entries of the index, and how far it is
 abbrev pub dump_text : Session → List ℕ
-dump_text session = page_lines (rows_of session) session.geometry.pages ++ line_of (Life Absent)
+dump_text session = page_lines (rows_of session) session.geometry.pages ++ entry_lines (entries_of session) ++ line_of (Life (life_of session))

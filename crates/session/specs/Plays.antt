@@ -10,13 +10,12 @@ use Rattle.sector_device.specs.declared.call.Fate.{Fate}
 use Rattle.sector_device.specs.declared.fault.FaultDisk.{FaultDisk}
 use Rattle.sector_device.specs.declared.fault.Which.TheVariants.{WritesAndSyncs}
 use Rattle.sector_device.specs.declared.memory.MemDisk.{MemDisk}
-use Rattle.model.specs.declared.life.Life.TheVariants.{Absent}
 use Rattle.flip_image.specs.declared.half.Half.TheVariants.{A}
 use Rattle.flip_image.specs.Store.{IsFormatted, AreGatesClosed}
 use Rattle.script.specs.Grammar.{lines, IsScript, IsFirstFault}
 use Rattle.script.specs.declared.command.Command.{Command}
 use Rattle.session.specs.Disk.{disk_history, LosesPower}
-use Rattle.session.specs.Session.{has_crashed, disk_of, OpensOn, IsRefusedOn}
+use Rattle.session.specs.Session.{has_crashed, disk_of, life_of, OpensOn, IsRefusedOn}
 use Rattle.session.specs.Dump.{dump_text}
 use Rattle.session.specs.Runs.{Prints, RunsCommands}
 use Rattle.arguments.specs.CommandLine.{Ask, AskForHelp, HaveFault}
@@ -86,7 +85,7 @@ module _ {W : Type 0} (contents : W → Option (List ℕ)) where
   -- The store was opened again on this disk, and that was printed, and then what it holds. Or it was refused.
   abbrev pub ShowsLeft : GeometryValue → FaultDisk (MemDisk Global) → ℕ → W → W → Type 0
   ShowsLeft geometry disk status before after =
-      ((session : Session) × (between : W) × OpensOn disk geometry 0 session × Prints contents (answer.Restart Absent) before between
+      ((session : Session) × (between : W) × OpensOn disk geometry 0 session × Prints contents (answer.Restart (life_of session)) before between
       × Appends (contents between) (contents after) (dump_text session) × (status ≡ 0))
       ⊎ ((e : Error) × (given_back : FaultDisk (MemDisk Global)) × IsRefusedOn disk given_back e × IsRefused e status before after)
 

@@ -9,6 +9,7 @@ use Rattle.script.specs.declared.fate.Fate.TheVariants as named
 use Rattle.script.specs.declared.fate.Fate as script
 use Rattle.script.specs.declared.command.Command.{Command}
 use Rattle.script.specs.declared.command.Command.TheVariants as command
+use Rattle.first.specs.Lawful.{is_read}
 use Rattle.first.specs.declared.event.Event.TheVariants as event
 use Rattle.session.specs.declared.request.Request.{Request}
 use Rattle.session.specs.declared.request.Request.TheVariants as request
@@ -20,6 +21,10 @@ fate_of named.New = fate.New
 fate_of named.Zero = fate.Zero
 fate_of named.Gate = fate.Gate
 fate_of named.Junk = fate.Junk
+
+-- a request with a key, where the key has no more bytes than it may
+abbrev pub with_key : List ℕ → Request → Result Request Error
+with_key key asked = if nat_le (length key) KEY_MAX then Ok asked else Err KeyTooLong
 
 -- a request with a row, where key and body have no more bytes than they may; the key is looked at first
 abbrev pub with_row : List ℕ → List ℕ → Request → Result Request Error
@@ -37,14 +42,20 @@ request_of (command.Step txn) = Ok (request.Event (event.Step txn))
 request_of (command.Undo txn) = Ok (request.Event (event.Undo txn))
 request_of (command.End txn) = Ok (request.Event (event.End txn))
 request_of (command.Commit txn) = Ok (request.Event (event.Commit txn))
+request_of command.Create = Ok (request.Event event.Create)
+request_of (command.Build count) = Ok (request.Build count)
+request_of (command.Clean count) = Ok (request.Clean count)
 request_of command.Flush = Ok request.Flush
 request_of (command.Crash fate) = Ok (request.Crash (fate_of fate))
 request_of (command.Get rid) = Ok (request.Event (event.Get rid))
+request_of (command.Find key) = with_key key (request.Event (event.Find key))
 request_of command.Dump = Ok request.Dump
 
 -- the requests that change nothing
 abbrev pub only_reads : Request → Bool
-only_reads (request.Event (event.Get _)) = true
-only_reads (request.Event event.Life) = true
+only_reads (request.Event event) = is_read event
+only_reads (request.Build _) = false
+only_reads (request.Clean _) = false
+only_reads request.Flush = false
+only_reads (request.Crash _) = false
 only_reads request.Dump = true
-only_reads _ = false

@@ -1,16 +1,18 @@
 -- What the commands of a script do, and what is printed for them.
-use Rattle.std.specs.Prelude.{◌≡◌, ◌&&◌, not, ℕ, Option, List, [], ◌∷◌, Result, Ok, Err, MatchBool, MatchResult}
+use Rattle.std.specs.Prelude.{◌≡◌, ◌⊎◌, ◌<◌, ◌&&◌, not, ℕ, true, false, Option, List, [], ◌∷◌, length, Result, Ok, Err, MatchBool, MatchResult}
 use Rattle.std.specs.Io.KnownBytes.{Appends}
 use Rattle.std.specs.declared.alloc.Global.{Global}
 use Rattle.sector_device.specs.declared.call.Fate.{Fate}
 use Rattle.sector_device.specs.declared.fault.FaultDisk.{FaultDisk}
 use Rattle.sector_device.specs.declared.memory.MemDisk.{MemDisk}
-use Rattle.model.specs.declared.life.Life.TheVariants.{Absent}
+use Rattle.first.specs.declared.event.Event.{Event}
+use Rattle.first.specs.declared.event.Event.TheVariants as event
 use Rattle.first.specs.declared.event.Reply.{Reply}
 use Rattle.script.specs.declared.command.Command.{Command}
 use Rattle.session.specs.Disk.{LosesPower}
-use Rattle.session.specs.Session.{has_crashed, disk_of, last_made, outcome_of, LeavesItsRun, Serves, Flushes, calls_to_stop, Reopens}
+use Rattle.session.specs.Session.{has_crashed, disk_of, last_made, life_of, outcome_of, LeavesItsRun, Serves, Flushes, calls_to_stop, Reopens}
 use Rattle.session.specs.Requests.{request_of, only_reads}
+use Rattle.replay_values.specs.Steps.{is_last_step}
 use Rattle.replay_values.specs.Texts.{line_of}
 use Rattle.session.specs.Dump.{dump_text}
 use Rattle.replay_values.specs.declared.answer.Answer.{Answer}
@@ -21,6 +23,11 @@ use Rattle.session.specs.declared.session.Session.{Session}
 use Rattle.session.specs.declared.session.Stopped.{Stopped}
 use Rattle.session.specs.declared.session.End.{End}
 use Rattle.session.specs.declared.session.End.TheVariants as end
+
+-- no step of the same command follows: the answer is the last one, or the step was stopped
+abbrev pub IsLast : Result Answer Stopped → Type 0
+IsLast (Ok answer) = is_last_step answer ≡ true
+IsLast (Err stopped) = Unit {0}
 
 module _ {W : Type 0} (contents : W → Option (List ℕ)) where
   -- the line of this answer was printed
@@ -35,7 +42,7 @@ module _ {W : Type 0} (contents : W → Option (List ℕ)) where
 
   -- where the store was opened again, that was printed
   abbrev pub PrintsRestart : Result Session End → W → W → Type 0
-  PrintsRestart (Ok session) before after = Prints (answer.Restart Absent) before after
+  PrintsRestart (Ok session) before after = Prints (answer.Restart (life_of session)) before after
   PrintsRestart (Err e) before after = after ≡ before
 
   -- The power was lost, with this fate for every unsynced sector, which leaves the session's run, and the store was opened
@@ -46,12 +53,29 @@ module _ {W : Type 0} (contents : W → Option (List ℕ)) where
       × Reopens disk old.geometry (calls_to_stop old) next)
       × PrintsRestart next before after
 
+  -- The steps had these answers, each of which was printed, and none of which was the last one.
+  abbrev pub PrintsSteps : Event → List Answer → Session → Session → W → W → Type 0
+  PrintsSteps event [] old new before after = (new ≡ old) × (after ≡ before)
+  PrintsSteps event (answer ∷ answers) old new before after =
+      (mid : Session) × (reply : Reply Global) × (between : W) × Serves event reply old mid × (outcome_of mid reply ≡ Ok answer)
+      × (is_last_step answer ≡ false) × Prints answer before between × PrintsSteps event answers mid new between after
+
+  -- As many steps of this kind as were asked for were made. Or fewer: one more had the last answer, or was stopped.
+  abbrev pub MakesSteps : Event → ℕ → Session → Result Session End → W → W → Type 0
+  MakesSteps event count old next before after =
+      (answers : List Answer) × (mid : Session) × (between : W) × PrintsSteps event answers old mid before between
+      × (((length answers ≡ count) × (next ≡ Ok mid) × (after ≡ between))
+      ⊎ ((length answers < count) × (new : Session) × (reply : Reply Global) × Serves event reply mid new
+      × IsLast (outcome_of new reply) × GoesOn (outcome_of new reply) new next between after))
+
   -- The request was served, and what came of it was printed.
   abbrev pub Runs : Request → Session → Result Session End → W → W → Type 0
-  Runs (request.Event event) old next before after =
-      (new : Session) × (reply : Reply) × Serves event reply old new × GoesOn (outcome_of new reply) new next before after
+  Runs (request.Event e) old next before after =
+      (new : Session) × (reply : Reply Global) × Serves e reply old new × GoesOn (outcome_of new reply) new next before after
+  Runs (request.Build count) old next before after = MakesSteps event.Build count old next before after
+  Runs (request.Clean count) old next before after = MakesSteps event.Clean count old next before after
   Runs request.Flush old next before after =
-      (new : Session) × (reply : Reply) × Flushes (last_made old) reply old new × GoesOn (outcome_of new reply) new next before after
+      (new : Session) × (reply : Reply Global) × Flushes (last_made old) reply old new × GoesOn (outcome_of new reply) new next before after
   Runs (request.Crash fate) old next before after = Restarts fate old next before after
   Runs request.Dump old next before after = (next ≡ Ok old) × Appends (contents before) (contents after) (dump_text old)
 

@@ -5,20 +5,16 @@ use Rattle.std.specs.declared.alloc.Global.{Global}
 use Rattle.records.specs.GeometryValue.{GeometryValue}
 use Rattle.records.specs.declared.error.Error.{Error}
 use Rattle.records.specs.declared.error.Error.TheVariants.{DeviceFailed}
-use Rattle.sector_device.specs.Disk.{Image, IsCrashImage}
 use Rattle.sector_device.specs.FaultDisk.{made_of}
 use Rattle.sector_device.specs.declared.fault.FaultDisk.{FaultDisk}
 use Rattle.sector_device.specs.declared.memory.MemDisk.{MemDisk}
-use Rattle.model.specs.Table.{Table}
-use Rattle.flip_image.specs.declared.half.Half.TheVariants.{A}
-use Rattle.flip_image.specs.Store.{IsFormatted}
-use Rattle.store_reader.specs.Contents.{log_area}
+use Rattle.model.specs.Table.{Table, Index}
+use Rattle.model.specs.declared.life.Life.{Life}
 use Rattle.first.specs.Lawful.{IsLawful}
 use Rattle.first.specs.Parts.{core_of, device_of}
 use Rattle.first.specs.Parts as engine
-use Rattle.first.specs.History.{acknowledged}
-use Rattle.first.specs.Reopening.{IsOpened, IsNotOpened, RecoversAnyRun, RefusesNoRun, IsLeftByRun, opening}
-use Rattle.first.specs.Store.{CanRun, IsAt, and_then}
+use Rattle.first.specs.Reopening.{IsOpened, IsNotOpened, RecoversAnyRun, RefusesNoRun}
+use Rattle.first.specs.Store.{CanRun, KeepsRun}
 use Rattle.first.specs.Store as store
 use Rattle.first.specs.declared.engine.Engine.{Engine}
 use Rattle.first.specs.declared.event.Event.{Event}
@@ -48,8 +44,8 @@ has_crashed session = session.crashed
 abbrev pub disk_of : Session → FaultDisk (MemDisk Global)
 disk_of session = device_of session.engine
 
--- The session is that of a store that was opened on this disk. Whatever run of an engine left the disk so, its rows are those
--- of a prefix of that run, with all that it had to keep.
+-- The session is that of a store that was opened on this disk. Whatever run of an engine left the disk so, it holds a beginning
+-- of that run, with all that the run had to keep.
 pub record OpensOn (disk : FaultDisk (MemDisk Global)) (geometry : GeometryValue) (fails_at : ℕ) (session : Session) : Type 0 where
   pub opened : IsOpened disk_history disk session.engine
   pub recovers : RecoversAnyRun disk_history disk session.engine
@@ -61,16 +57,11 @@ pub record OpensOn (disk : FaultDisk (MemDisk Global)) (geometry : GeometryValue
 -- where the disk failed in the call.
 pub record IsRefusedOn (disk after : FaultDisk (MemDisk Global)) (e : Error) : Type 0 where
   pub not_opened : IsNotOpened disk_history disk_failures disk after e
-  pub readable : RefusesNoRun disk_history disk_failures disk after e
+  pub readable : RefusesNoRun Global disk_history disk_failures disk after e
 
--- Whatever run since the format left the engine where it is: a crash of its disk leaves that run, with all that a reply has
--- told to be safe.
+-- Whatever run left the engine where it is: a crash of its disk leaves that run, with all that a reply has told to be safe.
 abbrev pub LeavesItsRun : Session → Type 0
-LeavesItsRun session =
-    (geometry : GeometryValue) (frame : Image) (events : List Event) (replies : List Reply) (image : Image) → IsFormatted geometry frame
-    → IsAt disk_history (log_area geometry A) frame (and_then (opening geometry.pages) events replies) session.engine
-    → IsCrashImage (disk_history (disk_of session)).disk image
-    → IsLeftByRun geometry frame events replies (acknowledged 0 replies) image
+LeavesItsRun session = KeepsRun disk_history session.engine (disk_of session)
 
 -- how many writes and syncs more are made with the one that is cut short, or 0
 abbrev pub calls_to_stop : Session → ℕ
@@ -94,6 +85,14 @@ Reopens disk geometry fails_at (Err (end.Refused e)) =
 abbrev pub rows_of : Session → Table
 rows_of session = (core_of session.engine).heap.rows
 
+-- the entries of its index
+abbrev pub entries_of : Session → Index
+entries_of session = (core_of session.engine).index.entries
+
+-- how far its index is
+abbrev pub life_of : Session → Life
+life_of session = (core_of session.engine).life
+
 -- every record up to this number is synced
 abbrev pub horizon_of : Session → ℕ
 horizon_of session = session.horizon
@@ -105,40 +104,40 @@ last_made session = (core_of session.engine).last
 -- The engine served the event with this lawful reply. At whatever run it was, it now is at that run with the event and the
 -- reply behind it, and a crash of the disk at any moment of it leaves what a prefix of the run committed, with all that an
 -- earlier reply has told to be safe.
-abbrev pub IsReply : Event → Reply → Engine (FaultDisk (MemDisk Global)) Global → Engine (FaultDisk (MemDisk Global)) Global → Type 0
+abbrev pub IsReply : Event → Reply Global → Engine (FaultDisk (MemDisk Global)) Global → Engine (FaultDisk (MemDisk Global)) Global → Type 0
 IsReply event reply old new = IsLawful disk_failures event reply old new × store.Serves disk_history event reply old new
 
 -- whether the reply tells that the write or sync that was to be cut short was made
-abbrev pub is_stop : Session → Reply → Bool
+abbrev pub is_stop : Session → Reply Global → Bool
 is_stop session (Refused error) = tells_stop session.fails_at error
 is_stop session _ = false
 
 -- what is answered for the reply
-abbrev pub outcome_of : Session → Reply → Result Answer Stopped
+abbrev pub outcome_of : Session → Reply Global → Result Answer Stopped
 outcome_of session reply = if is_stop session reply then Err (record {}) else Ok (answer_of (horizon_of session) reply)
 
 -- The event had this reply, and nothing but the engine has changed.
-pub record Serves (event : Event) (reply : Reply) (old new : Session) : Type 0 where
+pub record Serves (event : Event) (reply : Reply Global) (old new : Session) : Type 0 where
   pub replied : IsReply event reply old.engine new.engine
   pub rest : new ≡ record old { engine = new.engine }
 
 -- how far the records are synced after a flush with this reply
-abbrev pub horizon_after : ℕ → Reply → ℕ
+abbrev pub horizon_after : ℕ → Reply Global → ℕ
 horizon_after horizon (Horizon number) = number
 horizon_after horizon _ = horizon
 
 -- whether the reply tells of more synced records than there were, and not yet of all up to the last
-abbrev pub asks_again : ℕ → ℕ → Reply → Bool
+abbrev pub asks_again : ℕ → ℕ → Reply Global → Bool
 asks_again last horizon (Horizon number) = nat_lt horizon number && nat_lt number last
 asks_again last horizon _ = false
 
 -- One flush had this reply.
-pub record IsFlushed (reply : Reply) (old new : Session) : Type 0 where
+pub record IsFlushed (reply : Reply Global) (old new : Session) : Type 0 where
   pub replied : IsReply Flush reply old.engine new.engine
   pub rest : new ≡ record old { engine = new.engine; horizon = horizon_after (horizon_of old) reply }
 
 -- One flush after another had these replies.
-abbrev pub AreFlushed : List Reply → Session → Session → Type 0
+abbrev pub AreFlushed : List (Reply Global) → Session → Session → Type 0
 AreFlushed [] old new = new ≡ old
 AreFlushed (reply ∷ replies) old new = (mid : Session) × IsFlushed reply old mid × AreFlushed replies mid new
 
@@ -151,7 +150,7 @@ pub record FlushesOn (last : ℕ) (old new : Session) : Type 0 where
 
 -- The session flushed until all records up to the last were synced, or it went no further: a final flush, with this reply,
 -- told of all of them, or of no more than were synced before it, or of no horizon.
-pub record Flushes (last : ℕ) (final : Reply) (old new : Session) : Type 0 where
+pub record Flushes (last : ℕ) (final : Reply Global) (old new : Session) : Type 0 where
   pub mid : Session
   pub before : FlushesOn last old mid
   pub final_flush : IsFlushed final mid new

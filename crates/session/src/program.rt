@@ -2,12 +2,13 @@
 ghost use Rattle.std.specs.Prelude.{◌≡◌, ◌⊎◌, map, IfOk, IfErr, OnOk};
 ghost use Rattle.script.specs.Grammar.{lines, IsScript};
 ghost use Rattle.session.specs.Session.{IsOpen};
-ghost use Rattle.session.specs.Runs.{Prints, GoesOn, Restarts, Runs, RunsRequest, RunsCommand, RunsCommands};
+ghost use Rattle.session.specs.Runs.{Prints, GoesOn, Restarts, MakesSteps, Runs, RunsRequest, RunsCommand, RunsCommands};
 ghost use Rattle.session.specs.Plays.{geometry_of, sectors_asked, Starts, IsNoStart, IsCutAt, StartsFor, IsFault, IsRefused, IsStopped, Ends, Plays, IsWhole, PlaysInput, RunsWords};
 
 use crate::request::Request;
 use crate::session::{Disk, End, Session, Stopped};
 use arguments::NoArguments;
+use first::Event;
 use flip_image::Halves;
 use records::{Error, Geometry};
 use replay_values::{Answer, Arguments};
@@ -22,8 +23,8 @@ use store_reader::{format_gives_nothing, one_answer};
 /// How many writes and syncs the disk has room to record.
 const CALLS: usize = 16_384;
 
-fn print<W: Write>(output: &mut W, answer: Answer) -> io::Result<()>
-    ensures { OnOk result (Prints W.contents answer output.old output.new) }
+fn print<W: Write>(output: &mut W, answer: &Answer) -> io::Result<()>
+    ensures { OnOk result (Prints W.contents answer.now output.old output.new) }
 {
     writeln!(output, "{answer}")
 }
@@ -40,7 +41,7 @@ fn go_on<W: Write>(
 {
     match answer {
         Ok(answer) => {
-            print(output, answer)?;
+            print(output, &answer)?;
             Ok(Ok(session))
         }
         Err(Stopped) => Ok(Err(End::Stopped(session.into_disk()))),
@@ -54,11 +55,36 @@ fn crash<W: Write>(session: Session, fate: Fate, output: &mut W) -> io::Result<R
 {
     match session.crash(fate) {
         Ok(session) => {
-            print(output, Answer::Restart(session.life()))?;
+            print(output, &Answer::Restart(session.life()))?;
             Ok(Ok(session))
         }
         Err(end) => Ok(Err(end)),
     }
+}
+
+// Makes up to so many steps of the builder or the cleaner, and prints each answer.
+fn make_steps<W: Write>(
+    mut session: Session,
+    event: &Event,
+    count: u32,
+    output: &mut W,
+) -> io::Result<Result<Session, End>>
+    requires { IsOpen session }
+    ensures steps { IfOk result (λ next. MakesSteps W.contents event.now count session next output.old output.new) }
+    ensures open { IfOk result (λ next. IfOk next IsOpen) }
+{
+    for _ in 0..count {
+        match session.serve(*event) {
+            Ok(answer) => {
+                print(output, &answer)?;
+                if answer.is_last_step() {
+                    return Ok(Ok(session));
+                }
+            }
+            Err(Stopped) => return Ok(Err(End::Stopped(session.into_disk()))),
+        }
+    }
+    Ok(Ok(session))
 }
 
 // Serves a request, and prints the answer.
@@ -76,6 +102,8 @@ fn serve<W: Write>(
             let answer = session.serve(event);
             go_on(session, answer, output)
         }
+        Request::Build(count) => make_steps(session, &Event::Build, count, output),
+        Request::Clean(count) => make_steps(session, &Event::Clean, count, output),
         Request::Flush => {
             let answer = session.flush();
             go_on(session, answer, output)
@@ -203,10 +231,10 @@ fn after_stop<W: Write>(
 ) -> io::Result<u8>
     ensures { IfOk result (λ status. IsStopped W.contents geometry fate disk status output.old output.new) }
 {
-    print(output, Answer::Stopped)?;
+    print(output, &Answer::Stopped)?;
     match Session::reopen(alloc, disk, geometry, fate) {
         Ok(session) => {
-            print(output, Answer::Restart(session.life()))?;
+            print(output, &Answer::Restart(session.life()))?;
             session.dump(output)?;
             Ok(0)
         }
@@ -217,7 +245,7 @@ fn after_stop<W: Write>(
 fn refused<W: Write>(output: &mut W, error: Error) -> io::Result<u8>
     ensures { IfOk result (λ status. IsRefused W.contents error status output.old output.new) }
 {
-    print(output, Answer::Refused(error))?;
+    print(output, &Answer::Refused(error))?;
     Ok(1)
 }
 

@@ -1,9 +1,9 @@
 //! What a command asks of the store.
 ghost use Rattle.std.specs.Prelude.{◌≡◌};
-ghost use Rattle.session.specs.Requests.{fate_of};
+ghost use Rattle.session.specs.Requests.{fate_of, with_key, with_row};
 
 use first::Event;
-use records::{Body, Error, Key};
+use records::{Body, Error, Key, Rid, Txn};
 use script::{ByteText, Command};
 use sector_device::Fate;
 
@@ -12,11 +12,15 @@ use sector_device::Fate;
 pub enum Request {
     /// One event of the engine.
     Event(Event),
+    /// So many steps of the builder, or fewer where one is the last.
+    Build(u32),
+    /// So many steps of the cleaner, or fewer where one is refused.
+    Clean(u32),
     /// As many flushes as it takes until every record made is synced.
     Flush,
     /// A crash of the device with this fate for every unsynced sector, and a restart.
     Crash(Fate),
-    /// Every row, and how far the index is.
+    /// Every row, every entry, and how far the index is.
     Dump,
 }
 
@@ -29,15 +33,7 @@ impl Request {
     {
         match command {
             Command::Begin => Ok(Request::Event(Event::Begin)),
-            Command::Insert { txn, key, body } => {
-                let key = Key::new(key.as_slice())?;
-                let body = Body::new(body.as_slice())?;
-                Ok(Request::Event(Event::Insert {
-                    txn: *txn,
-                    key,
-                    body,
-                }))
-            }
+            Command::Insert { txn, key, body } => insertion(*txn, key, body),
             Command::Delete { txn, rid } => Ok(Request::Event(Event::Delete {
                 txn: *txn,
                 rid: *rid,
@@ -47,23 +43,18 @@ impl Request {
                 rid,
                 key,
                 body,
-            } => {
-                let key = Key::new(key.as_slice())?;
-                let body = Body::new(body.as_slice())?;
-                Ok(Request::Event(Event::Update {
-                    txn: *txn,
-                    rid: *rid,
-                    key,
-                    body,
-                }))
-            }
+            } => update(*txn, *rid, key, body),
             Command::Step { txn } => Ok(Request::Event(Event::Step { txn: *txn })),
             Command::Undo { txn } => Ok(Request::Event(Event::Undo { txn: *txn })),
             Command::End { txn } => Ok(Request::Event(Event::End { txn: *txn })),
             Command::Commit { txn } => Ok(Request::Event(Event::Commit { txn: *txn })),
+            Command::Create => Ok(Request::Event(Event::Create)),
+            Command::Build { count } => Ok(Request::Build(*count)),
+            Command::Clean { count } => Ok(Request::Clean(*count)),
             Command::Flush => Ok(Request::Flush),
             Command::Crash { fate } => Ok(Request::Crash(device_fate(*fate))),
             Command::Get { rid } => Ok(Request::Event(Event::Get { rid: *rid })),
+            Command::Find { key } => search(key),
             Command::Dump => Ok(Request::Dump),
         }
     }
@@ -73,10 +64,42 @@ impl Request {
         ensures { result ≡ only_reads self.now }
     {
         match self {
-            Request::Event(Event::Get { .. } | Event::Life) | Request::Dump => true,
-            Request::Event(_) | Request::Flush | Request::Crash(_) => false,
+            Request::Event(event) => event.is_read(),
+            Request::Dump => true,
+            Request::Build(_) | Request::Clean(_) | Request::Flush | Request::Crash(_) => false,
         }
     }
+}
+
+// An insertion of a row with this key and body.
+fn insertion(txn: Txn, key: &ByteText, body: &ByteText) -> Result<Request, Error>
+    ensures { result ≡ with_row key.now body.now (Request.Event (Event.Insert txn key.now body.now)) }
+{
+    let key = Key::new(key.as_slice())?;
+    let body = Body::new(body.as_slice())?;
+    Ok(Request::Event(Event::Insert { txn, key, body }))
+}
+
+// An update to a row with this key and body.
+fn update(txn: Txn, rid: Rid, key: &ByteText, body: &ByteText) -> Result<Request, Error>
+    ensures { result ≡ with_row key.now body.now (Request.Event (Event.Update txn rid key.now body.now)) }
+{
+    let key = Key::new(key.as_slice())?;
+    let body = Body::new(body.as_slice())?;
+    Ok(Request::Event(Event::Update {
+        txn,
+        rid,
+        key,
+        body,
+    }))
+}
+
+// A search for the rows with this key.
+fn search(key: &ByteText) -> Result<Request, Error>
+    ensures { result ≡ with_key key.now (Request.Event (Event.Find key.now)) }
+{
+    let key = Key::new(key.as_slice())?;
+    Ok(Request::Event(Event::Find { key }))
 }
 
 // The device's fate of this name.

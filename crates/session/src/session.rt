@@ -3,16 +3,17 @@ ghost use Rattle.std.specs.Prelude.{◌≡◌, false, IfOk, OnOk, MatchResult};
 ghost use Rattle.std.specs.Io.KnownBytes.{Appends};
 ghost use Rattle.std.specs.declared.alloc.Global.{Global};
 ghost use Rattle.sector_device.specs.declared.fault.FaultDisk.{FaultDisk};
+ghost use Rattle.btree_node.specs.Above.{IsLeastAbove};
 ghost use Rattle.sector_device.specs.declared.memory.MemDisk.{MemDisk};
-ghost use Rattle.model.specs.declared.life.Life.{Life};
 ghost use Rattle.session.specs.Disk.{LosesPower};
 ghost use Rattle.session.specs.Session.{asks_again, tells_stop};
-ghost use Rattle.session.specs.Dump.{row_line, slot_lines, dump_text};
+ghost use Rattle.replay_values.specs.Texts.{line_of};
+ghost use Rattle.session.specs.Dump.{row_line, slot_lines, entry_lines, dump_text};
 
 use crate::reply::answer_of;
 use first::{Engine, Event, Reply, restart};
 use model::Life;
-use records::{Error, Geometry, Rid, SLOTS_PER_PAGE};
+use records::{Error, Geometry, Mark, Pair, Rid, SLOTS_PER_PAGE};
 use replay_values::Answer;
 use sector_device::{Fate, FaultDisk, MemDisk, Which};
 use std::alloc::Global;
@@ -71,18 +72,26 @@ fn tells_stop(fails_at: u64, error: Error) -> bool
 
 // Whether a flush with this reply is followed by another: more records were synced than the horizon
 // had told, and not yet all up to the last.
-fn asks_again(last: u64, horizon: u64, reply: &Reply) -> bool
+fn asks_again(last: u64, horizon: u64, reply: &Reply<Global>) -> bool
     ensures { result ≡ asks_again last horizon reply.now }
 {
-    match *reply {
-        Reply::Horizon(number) => horizon < number && number < last,
+    match reply {
+        Reply::Horizon(number) => horizon < *number && *number < last,
         _ => false,
     }
 }
 
+// Prints an entry.
+fn dump_entry<W: Write>(pair: Pair, mark: Mark, output: &mut W) -> io::Result<()>
+    ensures { OnOk result (Appends (W.contents output.old) (W.contents output.new) (line_of (Answer.Entry pair mark))) }
+{
+    let answer = Answer::Entry { pair, mark };
+    writeln!(output, "{answer}")
+}
+
 impl Session {
     ghost use Rattle.first.specs.declared.event.Reply.{Reply};
-    ghost use Rattle.session.specs.Session.{IsOpen, OpensOn, IsRefusedOn, LeavesItsRun, has_crashed, disk_of, last_made, is_stop, outcome_of, Serves, IsFlushed, Flushes, calls_to_stop, Reopens, rows_of};
+    ghost use Rattle.session.specs.Session.{IsOpen, OpensOn, IsRefusedOn, LeavesItsRun, has_crashed, disk_of, last_made, is_stop, outcome_of, Serves, IsFlushed, Flushes, calls_to_stop, Reopens, rows_of, entries_of, life_of};
 
     /// Opens the store on the disk, whose write or sync of this number is cut short, or none at 0.
     /// Where the restart is refused, the disk comes back.
@@ -136,7 +145,7 @@ impl Session {
 
     /// How far the index is.
     pub fn life(&self) -> Life
-        ensures { result ≡ Life.Absent }
+        ensures { result ≡ life_of self.now }
     {
         self.engine.core().life()
     }
@@ -151,17 +160,17 @@ impl Session {
     }
 
     // Whether this reply tells that the write or sync that was to be cut short was made.
-    fn is_stop(&self, reply: &Reply) -> bool
+    fn is_stop(&self, reply: &Reply<Global>) -> bool
         ensures { result ≡ is_stop self.now reply.now }
     {
-        match *reply {
-            Reply::Refused(error) => tells_stop(self.fails_at, error),
+        match reply {
+            Reply::Refused(error) => tells_stop(self.fails_at, *error),
             _ => false,
         }
     }
 
     // One event's reply.
-    fn reply_to(&mut self, event: Event) -> Reply
+    fn reply_to(&mut self, event: Event) -> Reply<Global>
         requires { IsOpen self.old }
         ensures serves { Serves event result self.old self.new }
         ensures open { IsOpen self.new }
@@ -170,7 +179,7 @@ impl Session {
     }
 
     // What is answered for the reply.
-    fn outcome_of(&self, reply: Reply) -> Result<Answer, Stopped>
+    fn outcome_of(&self, reply: Reply<Global>) -> Result<Answer, Stopped>
         ensures { result ≡ outcome_of self.now reply }
     {
         if self.is_stop(&reply) {
@@ -182,7 +191,7 @@ impl Session {
     /// Serves one event.
     pub fn serve(&mut self, event: Event) -> Result<Answer, Stopped>
         requires { IsOpen self.old }
-        ensures answer { (reply : Reply) × Serves event reply self.old self.new × (result ≡ outcome_of self.new reply) }
+        ensures answer { (reply : Reply Global) × Serves event reply self.old self.new × (result ≡ outcome_of self.new reply) }
         ensures open { IsOpen self.new }
     {
         let reply = self.reply_to(event);
@@ -190,7 +199,7 @@ impl Session {
     }
 
     // Flushes once.
-    fn flush_once(&mut self) -> Reply
+    fn flush_once(&mut self) -> Reply<Global>
         requires { IsOpen self.old }
         ensures flushed { IsFlushed result self.old self.new }
         ensures open { IsOpen self.new }
@@ -205,7 +214,7 @@ impl Session {
     /// Flushes until every record made is synced, or a flush is refused, or the log is full.
     pub fn flush(&mut self) -> Result<Answer, Stopped>
         requires { IsOpen self.old }
-        ensures answer { (reply : Reply) × Flushes (last_made self.old) reply self.old self.new × (result ≡ outcome_of self.new reply) }
+        ensures answer { (reply : Reply Global) × Flushes (last_made self.old) reply self.old self.new × (result ≡ outcome_of self.new reply) }
         ensures open { IsOpen self.new }
     {
         let last = self.engine.core().last();
@@ -269,13 +278,34 @@ impl Session {
         Ok(())
     }
 
-    /// Prints each row, in the order of their places, and how far the index is.
+    // The entry of the least pair above this one, or the least of all.
+    fn entry_above(&self, last: Option<Pair>) -> Option<(Pair, Mark)>
+        ensures { IsLeastAbove (entries_of self.now) last result }
+    {
+        self.engine.core().above(last.as_ref())
+    }
+
+    // Prints the entries of the index, in the order of their pairs.
+    fn dump_entries<W: Write>(&self, output: &mut W) -> io::Result<()>
+        ensures { OnOk result (Appends (W.contents output.old) (W.contents output.new) (entry_lines (entries_of self.now))) }
+    {
+        let mut last = None;
+        while let Some(entry) = self.entry_above(last) {
+            dump_entry(entry.0, entry.1, output)?;
+            last = Some(entry.0);
+        }
+        Ok(())
+    }
+
+    /// Prints each row, in the order of their places, then each entry of the index, in the order of their pairs, and how
+    /// far the index is.
     pub fn dump<W: Write>(&self, output: &mut W) -> io::Result<()>
         ensures { OnOk result (Appends (W.contents output.old) (W.contents output.new) (dump_text self.now)) }
     {
         for page in 0..self.geometry.pages {
             self.dump_page(page, output)?;
         }
+        self.dump_entries(output)?;
         let answer = Answer::Life(self.life());
         writeln!(output, "{answer}")
     }

@@ -92,6 +92,12 @@ fn commands_without_bytes(rt: HostRuntime) -> Result<(), Fail> {
     let txn = txn(4_294_967_295)?;
     let commands = [
         (b"begin".as_slice(), Command::Begin),
+        (b"create", Command::Create),
+        (b"build", Command::Build { count: 1 }),
+        (b"build 1", Command::Build { count: 1 }),
+        (b"build 100000", Command::Build { count: 100_000 }),
+        (b"clean", Command::Clean { count: 1 }),
+        (b"clean 64", Command::Clean { count: 64 }),
         (b"flush", Command::Flush),
         (b"dump", Command::Dump),
         (b"step 4294967295", Command::Step { txn }),
@@ -104,6 +110,26 @@ fn commands_without_bytes(rt: HostRuntime) -> Result<(), Fail> {
     ];
     for (line, command) in &commands {
         check_line(&rt, rt.alloc(), line, command)?;
+    }
+    Ok(())
+}
+
+#[test]
+fn searches(rt: HostRuntime) -> Result<(), Fail> {
+    let lines = [
+        (b"find =ant".as_slice(), b"ant".as_slice()),
+        (b"find :616e74", b"ant"),
+        (b"find =", b""),
+        (b"find :", b""),
+        (b"find ==:", b"=:"),
+        (
+            b"find =0123456789012345678901234",
+            b"0123456789012345678901234",
+        ),
+    ];
+    for (line, key) in lines {
+        let key = text(rt.alloc(), key)?;
+        check_line(&rt, rt.alloc(), line, &Command::Find { key })?;
     }
     Ok(())
 }
@@ -145,7 +171,29 @@ fn lines_of_no_command(rt: HostRuntime) {
         b"beginning",
         b"\xff",
         b"\xef\xbb\xbfbegin",
-        b"find =a",
+        b"create 1",
+        b"create ",
+        b"build 0",
+        b"build 01",
+        b"build 100001",
+        b"build 4294967297",
+        b"build 1 1",
+        b"build ",
+        b"build +1",
+        b"build =1",
+        b"builds",
+        b"clean 0",
+        b"clean 100001",
+        b"clean -1",
+        b"clean 1 1",
+        b"clean ",
+        b"find",
+        b"find ",
+        b"find a",
+        b"find 0.0",
+        b"find :6",
+        b"find =a =b",
+        b"find =a ",
         b"step",
         b"step 0",
         b"step 1 1",

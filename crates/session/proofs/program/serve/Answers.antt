@@ -1,4 +1,5 @@
 use Rattle.std.proofs.Common.{◌≡◌, ℕ, List, Option, Result, Ok, Err, IfOk, sym, subst}
+use Rattle.std.specs.declared.alloc.Global.{Global}
 use Rattle.first.specs.declared.event.Event.{Event}
 use Rattle.first.specs.declared.event.Reply.{Reply}
 use Rattle.session.specs.Session.{Serves, Flushes, last_made, outcome_of}
@@ -14,7 +15,7 @@ use Rattle.session.proofs.program.serve.Goals as goal
 module _ {W F : Type 0} (contents : W → Option (List ℕ)) (old new : Session) (before after : W) (answer : Result Answer Stopped) where
   -- what comes of an event, where its answer was printed
   event_runs : (event : Event) (result : Result (Result Session End) F)
-      → ((reply : Reply) × Serves event reply old new × (answer ≡ outcome_of new reply))
+      → ((reply : Reply Global) × Serves event reply old new × (answer ≡ outcome_of new reply))
       → IfOk result (λ (next : Result Session End). GoesOn contents answer new next before after)
       → IfOk result (λ (next : Result Session End). Runs contents (request.Event event) old next before after)
   event_runs event (Ok next) answered goes =
@@ -23,7 +24,7 @@ module _ {W F : Type 0} (contents : W → Option (List ℕ)) (old new : Session)
 
   -- what comes of the flushes, where their answer was printed
   flush_runs : (result : Result (Result Session End) F)
-      → ((reply : Reply) × Flushes (last_made old) reply old new × (answer ≡ outcome_of new reply))
+      → ((reply : Reply Global) × Flushes (last_made old) reply old new × (answer ≡ outcome_of new reply))
       → IfOk result (λ (next : Result Session End). GoesOn contents answer new next before after)
       → IfOk result (λ (next : Result Session End). Runs contents request.Flush old next before after)
   flush_runs (Ok next) answered goes =

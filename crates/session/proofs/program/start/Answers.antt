@@ -3,6 +3,7 @@ use Rattle.std.proofs.lemmas.List.{length-replicate}
 use Rattle.std.specs.declared.alloc.Global.{Global}
 use Rattle.sector_device.specs.MemDisk.{history_of}
 use Rattle.sector_device.specs.declared.memory.MemDisk.{MemDisk}
+use Rattle.model.specs.Given.{nothing}
 use Rattle.flip_image.specs.declared.half.Half.TheVariants.{A}
 use Rattle.flip_image.specs.Store.{IsFormatted, AreGatesClosed}
 use Rattle.session.specs.Disk.{disk_history}
@@ -34,5 +35,5 @@ returns-clause-refused c =
     let gives = c.format_gives_nothing.ensures g image formatted closed in
     inr (⊎_elim
     (⊎_elim (λ none. inr none) (λ failed. inl failed.0))
-    (λ unreadable. absurd (c.one_answer.ensures.readable image g _ _ c.in-Err.error gives unreadable))
+    (λ unreadable. absurd (c.one_answer.ensures.readable image g nothing c.in-Err.error gives unreadable))
     c.in-Err.ensures.opened.not_opened.why)

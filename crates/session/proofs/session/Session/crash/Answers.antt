@@ -3,11 +3,9 @@ use Rattle.std.specs.declared.alloc.Global.{Global}
 use Rattle.sector_device.specs.declared.call.Fate.{Fate}
 use Rattle.sector_device.specs.declared.fault.FaultDisk.{FaultDisk}
 use Rattle.sector_device.specs.declared.memory.MemDisk.{MemDisk}
-use Rattle.session.specs.Disk.{LosesPower}
+use Rattle.first.specs.Store.{KeepsRun}
+use Rattle.session.specs.Disk.{disk_history, LosesPower}
 use Rattle.session.specs.Session.{tells_stop, calls_to_stop}
-use Rattle.flip_image.specs.declared.half.Half.TheVariants.{A}
-use Rattle.store_reader.specs.Contents.{log_area}
-use Rattle.session.proofs.Left.{leaves_its_run}
 use Rattle.session.proofs.session.Session.crash.Goals as goal
 
 -- the same loss of power, with the number and the disk by other names
@@ -45,10 +43,10 @@ returns-else-tells_stop-clause-crashed c =
     )
 
 pub returns-in-Ok-clause-survives : goal.returns-in-Ok-clause-survives
-returns-in-Ok-clause-survives c = leaves_its_run c.args.self c.into_device-disk.result c.into_device-disk.ensures.device (λ geometry. c.into_device-disk.ensures.survives (log_area geometry A))
+returns-in-Ok-clause-survives c = subst (λ (d : FaultDisk (MemDisk Global)). KeepsRun disk_history c.args.self.engine d) c.into_device-disk.ensures.device c.into_device-disk.ensures.survives
 
 pub returns-then-tells_stop-clause-survives : goal.returns-then-tells_stop-clause-survives
-returns-then-tells_stop-clause-survives c = leaves_its_run c.args.self c.into_device-disk.result c.into_device-disk.ensures.device (λ geometry. c.into_device-disk.ensures.survives (log_area geometry A))
+returns-then-tells_stop-clause-survives c = subst (λ (d : FaultDisk (MemDisk Global)). KeepsRun disk_history c.args.self.engine d) c.into_device-disk.ensures.device c.into_device-disk.ensures.survives
 
 pub returns-else-tells_stop-clause-survives : goal.returns-else-tells_stop-clause-survives
-returns-else-tells_stop-clause-survives c = leaves_its_run c.args.self c.into_device-disk.result c.into_device-disk.ensures.device (λ geometry. c.into_device-disk.ensures.survives (log_area geometry A))
+returns-else-tells_stop-clause-survives c = subst (λ (d : FaultDisk (MemDisk Global)). KeepsRun disk_history c.args.self.engine d) c.into_device-disk.ensures.device c.into_device-disk.ensures.survives

@@ -1,7 +1,8 @@
-use Rattle.std.proofs.Common.{◌≡◌, ℕ, true, false, subst, ap, ◌∙◌}
-use Rattle.nsf_core.specs.Value.{CoreValue}
-use Rattle.session.specs.Session.{last_made, asks_again, Flushes}
-use Rattle.session.proofs.Flushed.{none_flushed, one_more, is_final}
+use Rattle.std.proofs.Common.{◌≡◌, ℕ, true, false, subst, ap, ◌∙◌, arith, rules}
+use Rattle.index_core.specs.View.{CoreValue}
+use Rattle.session.specs.Session.{horizon_after, last_made, asks_again, Flushes}
+use Rattle.session.specs.declared.session.Session.{Session}
+use Rattle.session.proofs.Flushed.{none_flushed, one_more, is_final, rises}
 use Rattle.session.proofs.session.Session.flush.Goals as goal
 
 -- this reply is the final one
@@ -17,7 +18,7 @@ returns-then-not-asks_again-clause-answer c =
       final_flush = c.flush_once-reply.ensures.flushed;
       ends = is_final _ mid.horizon reply settled;
     } in
-    let last_is : c.last-last.result ≡ last_made c.args.self.now = c.last-last.ensures.value ∙ ap (λ (s : CoreValue). s.last) c.core.ensures in
+    let last_is : c.last-last.result ≡ last_made c.args.self.now = c.last-last.ensures ∙ ap (λ (s : CoreValue). s.last) c.core.ensures in
     (reply, subst (λ (last : ℕ). Flushes last reply c.args.self.now new) last_is whole, c.outcome_of.ensures)
 
 -- this reply comes before those that follow
@@ -30,3 +31,12 @@ loop-self-preserved c =
       goes_on = λ mid on.
           c.loop-self.invariant.goes_on mid (one_more _ c.loop-self.self c.flush_once-reply.new.self mid reply again c.flush_once-reply.ensures.flushed on);
     }
+
+-- the horizon rises, up to the last record
+pub loop-self-smaller : goal.loop-self-smaller
+loop-self-smaller c =
+    let reply = c.flush_once-reply.result in
+    let again : asks_again c.last-last.result c.loop-self.self.horizon reply ≡ true = cc in
+    let at : c.flush_once-reply.new.self.horizon ≡ horizon_after c.loop-self.self.horizon reply = ap (λ (s : Session). s.horizon) c.flush_once-reply.ensures.flushed.rest in
+    let up = rises c.last-last.result c.loop-self.self.horizon reply again in
+    first_of (omega (arith, at, up.0, up.1), grind (arith, at, up.0, up.1), search (rules, at, up.0, up.1))

@@ -1,7 +1,10 @@
-use Rattle.flip_image.specs.declared.half.Half.TheVariants.{A}
-use Rattle.store_reader.specs.Contents.{log_area}
-use Rattle.session.proofs.Left.{leaves_its_run}
+use Rattle.std.proofs.Common.{subst}
+use Rattle.std.specs.declared.alloc.Global.{Global}
+use Rattle.sector_device.specs.declared.fault.FaultDisk.{FaultDisk}
+use Rattle.sector_device.specs.declared.memory.MemDisk.{MemDisk}
+use Rattle.first.specs.Store.{KeepsRun}
+use Rattle.session.specs.Disk.{disk_history}
 use Rattle.session.proofs.session.Session.into_disk.Goals as goal
 
 pub returns-clause-survives : goal.returns-clause-survives
-returns-clause-survives c = leaves_its_run c.args.self c.into_device.result c.into_device.ensures.device (λ geometry. c.into_device.ensures.survives (log_area geometry A))
+returns-clause-survives c = subst (λ (d : FaultDisk (MemDisk Global)). KeepsRun disk_history c.args.self.engine d) c.into_device.ensures.device c.into_device.ensures.survives
