@@ -1,10 +1,10 @@
-//! How to embed a store: one is formatted, served, cut off from its power, and opened again.
+//! How to embed a store: one is formatted, served while its index is built, cut off from its power, and opened again.
 #![tactic(auto)]
 
 use anyhow::{Result, anyhow};
 use first::{Event, restart};
 use flip_image::Halves;
-use records::{Body, Geometry, Key, Rid, Txn};
+use records::{Body, Geometry, Key, Txn};
 use sector_device::{Fate, MemDisk};
 
 fn main(rt: HostRuntime) -> Result<()> {
@@ -21,6 +21,11 @@ fn main(rt: HostRuntime) -> Result<()> {
         Event::Begin,
         Event::Insert { txn, key, body },
         Event::Commit { txn },
+        Event::Create,
+        Event::Build,
+        Event::Build,
+        Event::Build,
+        Event::Find { key },
         Event::Flush,
     ])?;
     for reply in &replies {
@@ -32,7 +37,9 @@ fn main(rt: HostRuntime) -> Result<()> {
     let Ok(engine) = restart(rt.alloc(), disk) else {
         return Err(anyhow!("no store"));
     };
-    let row = engine.core().get(Rid { page: 0, slot: 0 });
-    println!(rt; "{row:?}")?;
+    for rid in &engine.core().find(key)? {
+        let row = engine.core().get(*rid);
+        println!(rt; "{row:?}")?;
+    }
     Ok(())
 }
