@@ -144,21 +144,15 @@ fn find<D: Device>(alloc: Global, disk: &mut D) -> Result<Contents, Error> {
     })
 }
 
-#[test]
-fn a_store_just_formatted(rt: HostRuntime) -> Result<(), Fail> {
-    let mut disk = formatted(rt.alloc())?;
-    // The body of a slot whose gate is closed counts for nothing.
-    set(&rt, &mut disk, 529, 0, 0xFF)?;
-    let nothing = nothing()?;
-    assert_eq!(rt; find(rt.alloc(), &mut disk)?, nothing);
-    Ok(())
-}
-
-// Transaction 1 committed its row, the builder placed its entry, and transaction 2 came to no end: its row is taken
-// out, and its entry is marked.
+// A store just formatted holds nothing. Then transaction 1 commits its row, the builder places its entry, and transaction 2
+// comes to no end: its row is taken out, and its entry is marked.
 #[test]
 fn what_is_redone_and_what_is_taken_back(rt: HostRuntime) -> Result<(), Fail> {
     let mut disk = formatted(rt.alloc())?;
+    let nothing = nothing()?;
+    // The body of a slot whose gate is closed counts for nothing.
+    set(&rt, &mut disk, 529, 0, 0xFF)?;
+    assert_eq!(rt; find(rt.alloc(), &mut disk)?, nothing);
     append_commit(&rt, rt.alloc(), &mut disk)?;
     let pair = pair(b"ant", FIRST)?;
     let second = [
@@ -169,7 +163,6 @@ fn what_is_redone_and_what_is_taken_back(rt: HostRuntime) -> Result<(), Fail> {
     ];
     append(&rt, rt.alloc(), &mut disk, &second)?;
     disk.crash(&[Fate::Junk]);
-    let nothing = nothing()?;
     let wanted = Contents {
         open_slots: 2,
         first: Some(row(b"ant", b"x")?),
