@@ -25,7 +25,7 @@ use Rattle.records.specs.declared.number.TheConstants.{LAST_NUMBER}
 use Rattle.records.specs.declared.txn.TheConstants.{TXNS_MAX}
 use Rattle.std.proofs.lemmas.Bool.{cases_lt}
 use Rattle.core_contracts.specs.Replies.{IsAllowed, IsBuildDue, IsDue, IsFirst, IsOfNone, IsProper, accepted, after_any, build_step, change_of, clean_step, last_refusals, refusals_of, no_memory, refusals, refused, refused_last, skipped, unknown}
-use Rattle.core_contracts.specs.Served.{HasCounts, HasServed, HasStanding, asked_over, records_by, IsEnabledAny, IsMove, Serves, asked_after, items_at, items_of, nothing, number_after, served}
+use Rattle.core_contracts.specs.Served.{HasCounts, HasServed, HasStanding, asked_over, records_by, IsEnabledAny, IsMove, ServesAll, asked_after, items_at, items_of, nothing, number_after, served}
 use Rattle.core_model.proofs.Laws.{fit_step, interleaved, items_deeds, deeds, made_holds, made_more, made_nothing, made_recovers, nat_decided, not_none, txn_apart, update_apart, update_here}
 use Rattle.core_model.specs.Changes.{Changes, Unchanged, new_pair, old_pair, ◌▹◌}
 use Rattle.core_model.specs.Histories.{CanOpen, IsFaithful, Opened, deeds_of, no_writes, opened, writes_after}
@@ -516,8 +516,8 @@ asked_last writes [] e reply = refl
 asked_last writes (p ∷ pairs) e reply = asked_last (asked_after writes p.1 p.0) pairs e reply
 
 -- one allowed reply more
-serves_last : (s : State) (k : Standing) (pairs : List (Event × Reply)) (s' : State) (k' : Standing) (e : Event) (reply : Reply) (step : Option MachineStep) → Serves s k pairs s' k' → IsAllowed s' k' e reply step
-    → Serves s k (pairs ++ (e, reply) ∷ []) (after_any s' step) (standing_after k' reply)
+serves_last : (s : State) (k : Standing) (pairs : List (Event × Reply)) (s' : State) (k' : Standing) (e : Event) (reply : Reply) (step : Option MachineStep) → ServesAll s k pairs s' k' → IsAllowed s' k' e reply step
+    → ServesAll s k (pairs ++ (e, reply) ∷ []) (after_any s' step) (standing_after k' reply)
 serves_last s k pairs s' k' e reply step nothing allowed = served e reply step [] allowed nothing
 serves_last s k pairs s' k' e reply step (served first_event first_reply first_step rest first_allowed r) allowed =
     served first_event first_reply first_step (rest ++ (e, reply) ∷ []) first_allowed (serves_last (after_any s first_step) (standing_after k first_reply) rest s' k' e reply step r allowed)
@@ -583,7 +583,7 @@ module _ (o : Opened) (can : CanOpen o) (made : List RecordValue) (pairs : List 
   served_allowed e reply step (no_memory a b c r x d f w) = without_step e _ (no_memory a b c r x d f w) refl refl refl
   served_allowed e reply step (accepted a b c r x d f) = served_due e r x a b c d f
 
-served_on : (o : Opened) (can : CanOpen o) (before : List (Event × Reply)) (s : State) (k : Standing) (pairs : List (Event × Reply)) (s' : State) (k' : Standing) → Serves s k pairs s' k' → (made : List RecordValue) → HasServed o made before s k
+served_on : (o : Opened) (can : CanOpen o) (before : List (Event × Reply)) (s : State) (k : Standing) (pairs : List (Event × Reply)) (s' : State) (k' : Standing) → ServesAll s k pairs s' k' → (made : List RecordValue) → HasServed o made before s k
     → (all : List RecordValue) × HasServed o all (before ++ pairs) s' k'
 served_on o can before s k pairs s' k' nothing made h = (made, subst (λ ps. HasServed o made ps s k) (sym (append-nil before)) h)
 served_on o can before s k pairs s'' k'' (served e reply step rest allowed r) made h =
@@ -607,7 +607,7 @@ served_nothing o le = record { served = nothing; log = made_nothing o; number = 
     no_more : (n : ℕ) → n ≡ n + 0
     no_more n = omega arith
 
-pub all_served : (o : Opened) → CanOpen o → o.given.last ≤ LAST_NUMBER → (pairs : List (Event × Reply)) (s : State) (k : Standing) → Serves (opened o) (standing_at o.given.last) pairs s k → (made : List RecordValue) × HasServed o made pairs s k
+pub all_served : (o : Opened) → CanOpen o → o.given.last ≤ LAST_NUMBER → (pairs : List (Event × Reply)) (s : State) (k : Standing) → ServesAll (opened o) (standing_at o.given.last) pairs s k → (made : List RecordValue) × HasServed o made pairs s k
 all_served o can le pairs s k r = served_on o can [] (opened o) (standing_at o.given.last) pairs s k r [] (served_nothing o le)
 
 -- the numbers of records and of transactions
@@ -721,10 +721,10 @@ ticketed s k e reply step writes (no_memory a b c r x d f w) = no_ticket _ _ (om
 ticketed s k e reply step writes (accepted a b c r x d f) = due_ticket s k writes e r x d
 
 -- the numbers are above that of the first record, and at most that of the last
-all_rising : (s : State) (k : Standing) (pairs : List (Event × Reply)) (s' : State) (k' : Standing) → Serves s k pairs s' k' → (writes : ℕ → List Write) → AreRising k.made (items_of writes pairs)
+all_rising : (s : State) (k : Standing) (pairs : List (Event × Reply)) (s' : State) (k' : Standing) → ServesAll s k pairs s' k' → (writes : ℕ → List Write) → AreRising k.made (items_of writes pairs)
 all_rising s k pairs s' k' nothing writes = tt
 all_rising s k pairs s'' k'' (served e reply step rest allowed r) writes =
     (ticketed s k e reply step writes allowed).before (items_of (asked_after writes reply e) rest) (all_rising (after_any s step) (standing_after k reply) rest s'' k'' r (asked_after writes reply e))
 
-pub served_rising : (o : Opened) (last : ℕ) (pairs : List (Event × Reply)) (s : State) (k : Standing) → Serves (opened o) (standing_at last) pairs s k → AreRising last (items_of no_writes pairs)
+pub served_rising : (o : Opened) (last : ℕ) (pairs : List (Event × Reply)) (s : State) (k : Standing) → ServesAll (opened o) (standing_at last) pairs s k → AreRising last (items_of no_writes pairs)
 served_rising o last pairs s k r = all_rising (opened o) (standing_at last) pairs s k r no_writes

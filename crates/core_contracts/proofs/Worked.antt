@@ -13,7 +13,7 @@ use Rattle.records.specs.declared.number.TheConstants.{LAST_NUMBER}
 use Rattle.model.specs.declared.life.Life.TheVariants.{Absent, Building}
 use Rattle.core_contracts.specs.Events.{Built, Done, Empty, Ended, Event, Rejected, Reply, Scanned, Standing, Txn, Undone, standing_at}
 use Rattle.core_contracts.specs.Replies.{IsAllowed, IsFirst, IsFree, IsNextPair, accepted}
-use Rattle.core_contracts.specs.Served.{Serves, nothing, served}
+use Rattle.core_contracts.specs.Served.{ServesAll, nothing, served}
 use Rattle.core_contracts.specs.Worked.{script, standing}
 use Rattle.core_model.proofs.Example.{a10, a9, first_reserved, is_marked, s1, s2, s3, s4, s5, s6, s7, s8, s9}
 use Rattle.core_model.proofs.Laws.{not_none}
@@ -135,32 +135,32 @@ allowed_9 : IsAllowed (s9) k9 Event.Build (Built (Done 6)) (Some Finish)
 unfolding update
 allowed_9 = accepted (λ h. h) tt (inr (λ e. building≢absent e, refl)) (Built (Done 6)) (Some Finish) (Done 6, (((None, refl), omega arith), a10, refl), refl, refl) (nothing_refused 5 (omega arith))
 
-from_9 : Serves s9 k9 ((Event.Build, Built (Done 6)) ∷ []) last standing
+from_9 : ServesAll s9 k9 ((Event.Build, Built (Done 6)) ∷ []) last standing
 from_9 = served {s = s9} {new = last} {k = k9} {next = standing} Event.Build (Built (Done 6)) (Some Finish) [] allowed_9 nothing
 
-from_8 : Serves s8 k8 ((Event.Build, Built (Rejected pair)) ∷ (Event.Build, Built (Done 6)) ∷ []) last standing
+from_8 : ServesAll s8 k8 ((Event.Build, Built (Rejected pair)) ∷ (Event.Build, Built (Done 6)) ∷ []) last standing
 from_8 = served {s = s8} {new = last} {k = k8} {next = standing} Event.Build (Built (Rejected pair)) (Some (Attempt pair)) ((Event.Build, Built (Done 6)) ∷ []) allowed_8 from_9
 
-from_7 : Serves s7 k7 ((Event.End 1, Ended) ∷ (Event.Build, Built (Rejected pair)) ∷ (Event.Build, Built (Done 6)) ∷ []) last standing
+from_7 : ServesAll s7 k7 ((Event.End 1, Ended) ∷ (Event.Build, Built (Rejected pair)) ∷ (Event.Build, Built (Done 6)) ∷ []) last standing
 from_7 = served {s = s7} {new = last} {k = k7} {next = standing} (Event.End 1) Ended (Some (MachineStep.End 1)) ((Event.Build, Built (Rejected pair)) ∷ (Event.Build, Built (Done 6)) ∷ []) allowed_7 from_8
 
-from_6 : Serves s6 k6 ((Event.Undo 1, Empty) ∷ (Event.End 1, Ended) ∷ (Event.Build, Built (Rejected pair)) ∷ (Event.Build, Built (Done 6)) ∷ []) last standing
+from_6 : ServesAll s6 k6 ((Event.Undo 1, Empty) ∷ (Event.End 1, Ended) ∷ (Event.Build, Built (Rejected pair)) ∷ (Event.Build, Built (Done 6)) ∷ []) last standing
 from_6 = served {s = s6} {new = last} {k = k6} {next = standing} (Event.Undo 1) Empty (Some (MachineStep.Undo 1)) ((Event.End 1, Ended) ∷ (Event.Build, Built (Rejected pair)) ∷ (Event.Build, Built (Done 6)) ∷ []) allowed_6 from_7
 
-from_5 : Serves s5 k5 ((Event.Undo 1, Undone) ∷ (Event.Undo 1, Empty) ∷ (Event.End 1, Ended) ∷ (Event.Build, Built (Rejected pair)) ∷ (Event.Build, Built (Done 6)) ∷ []) last standing
+from_5 : ServesAll s5 k5 ((Event.Undo 1, Undone) ∷ (Event.Undo 1, Empty) ∷ (Event.End 1, Ended) ∷ (Event.Build, Built (Rejected pair)) ∷ (Event.Build, Built (Done 6)) ∷ []) last standing
 from_5 = served {s = s5} {new = last} {k = k5} {next = standing} (Event.Undo 1) Undone (Some (MachineStep.Undo 1)) ((Event.Undo 1, Empty) ∷ (Event.End 1, Ended) ∷ (Event.Build, Built (Rejected pair)) ∷ (Event.Build, Built (Done 6)) ∷ []) allowed_5 from_6
 
-from_4 : Serves s4 k4 ((Event.Undo 1, Undone) ∷ (Event.Undo 1, Undone) ∷ (Event.Undo 1, Empty) ∷ (Event.End 1, Ended) ∷ (Event.Build, Built (Rejected pair)) ∷ (Event.Build, Built (Done 6)) ∷ []) last standing
+from_4 : ServesAll s4 k4 ((Event.Undo 1, Undone) ∷ (Event.Undo 1, Undone) ∷ (Event.Undo 1, Empty) ∷ (Event.End 1, Ended) ∷ (Event.Build, Built (Rejected pair)) ∷ (Event.Build, Built (Done 6)) ∷ []) last standing
 from_4 = served {s = s4} {new = last} {k = k4} {next = standing} (Event.Undo 1) Undone (Some (MachineStep.Undo 1)) ((Event.Undo 1, Undone) ∷ (Event.Undo 1, Empty) ∷ (Event.End 1, Ended) ∷ (Event.Build, Built (Rejected pair)) ∷ (Event.Build, Built (Done 6)) ∷ []) allowed_4 from_5
 
-from_3 : Serves s3 k3 ((Event.Build, Built (Scanned 0)) ∷ (Event.Undo 1, Undone) ∷ (Event.Undo 1, Undone) ∷ (Event.Undo 1, Empty) ∷ (Event.End 1, Ended) ∷ (Event.Build, Built (Rejected pair)) ∷ (Event.Build, Built (Done 6)) ∷ []) last standing
+from_3 : ServesAll s3 k3 ((Event.Build, Built (Scanned 0)) ∷ (Event.Undo 1, Undone) ∷ (Event.Undo 1, Undone) ∷ (Event.Undo 1, Empty) ∷ (Event.End 1, Ended) ∷ (Event.Build, Built (Rejected pair)) ∷ (Event.Build, Built (Done 6)) ∷ []) last standing
 from_3 = served {s = s3} {new = last} {k = k3} {next = standing} Event.Build (Built (Scanned 0)) (Some (Take 0)) ((Event.Undo 1, Undone) ∷ (Event.Undo 1, Undone) ∷ (Event.Undo 1, Empty) ∷ (Event.End 1, Ended) ∷ (Event.Build, Built (Rejected pair)) ∷ (Event.Build, Built (Done 6)) ∷ []) allowed_3 from_4
 
-from_2 : Serves s2 k2 ((Event.Insert 1 row, Reply.Rid place) ∷ (Event.Build, Built (Scanned 0)) ∷ (Event.Undo 1, Undone) ∷ (Event.Undo 1, Undone) ∷ (Event.Undo 1, Empty) ∷ (Event.End 1, Ended) ∷ (Event.Build, Built (Rejected pair)) ∷ (Event.Build, Built (Done 6)) ∷ []) last standing
+from_2 : ServesAll s2 k2 ((Event.Insert 1 row, Reply.Rid place) ∷ (Event.Build, Built (Scanned 0)) ∷ (Event.Undo 1, Undone) ∷ (Event.Undo 1, Undone) ∷ (Event.Undo 1, Empty) ∷ (Event.End 1, Ended) ∷ (Event.Build, Built (Rejected pair)) ∷ (Event.Build, Built (Done 6)) ∷ []) last standing
 from_2 = served {s = s2} {new = last} {k = k2} {next = standing} (Event.Insert 1 row) (Reply.Rid place) (Some (Start 1 insertion)) ((Event.Build, Built (Scanned 0)) ∷ (Event.Undo 1, Undone) ∷ (Event.Undo 1, Undone) ∷ (Event.Undo 1, Empty) ∷ (Event.End 1, Ended) ∷ (Event.Build, Built (Rejected pair)) ∷ (Event.Build, Built (Done 6)) ∷ []) allowed_2 from_3
 
-from_1 : Serves s1 k1 ((Event.Begin, Txn 1) ∷ (Event.Insert 1 row, Reply.Rid place) ∷ (Event.Build, Built (Scanned 0)) ∷ (Event.Undo 1, Undone) ∷ (Event.Undo 1, Undone) ∷ (Event.Undo 1, Empty) ∷ (Event.End 1, Ended) ∷ (Event.Build, Built (Rejected pair)) ∷ (Event.Build, Built (Done 6)) ∷ []) last standing
+from_1 : ServesAll s1 k1 ((Event.Begin, Txn 1) ∷ (Event.Insert 1 row, Reply.Rid place) ∷ (Event.Build, Built (Scanned 0)) ∷ (Event.Undo 1, Undone) ∷ (Event.Undo 1, Undone) ∷ (Event.Undo 1, Empty) ∷ (Event.End 1, Ended) ∷ (Event.Build, Built (Rejected pair)) ∷ (Event.Build, Built (Done 6)) ∷ []) last standing
 from_1 = served {s = s1} {new = last} {k = k1} {next = standing} Event.Begin (Txn 1) (Some (MachineStep.Begin 1)) ((Event.Insert 1 row, Reply.Rid place) ∷ (Event.Build, Built (Scanned 0)) ∷ (Event.Undo 1, Undone) ∷ (Event.Undo 1, Undone) ∷ (Event.Undo 1, Empty) ∷ (Event.End 1, Ended) ∷ (Event.Build, Built (Rejected pair)) ∷ (Event.Build, Built (Done 6)) ∷ []) allowed_1 from_2
 
-pub served_script : Serves (opened opening) (standing_at 0) script last standing
+pub served_script : ServesAll (opened opening) (standing_at 0) script last standing
 served_script = served {s = opened opening} {new = last} {k = k0} {next = standing} Event.Create (Reply.Created 1) (Some MachineStep.Create) ((Event.Begin, Txn 1) ∷ (Event.Insert 1 row, Reply.Rid place) ∷ (Event.Build, Built (Scanned 0)) ∷ (Event.Undo 1, Undone) ∷ (Event.Undo 1, Undone) ∷ (Event.Undo 1, Empty) ∷ (Event.End 1, Ended) ∷ (Event.Build, Built (Rejected pair)) ∷ (Event.Build, Built (Done 6)) ∷ []) allowed_0 from_1

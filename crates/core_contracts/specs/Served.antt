@@ -19,9 +19,9 @@ use Rattle.core_model.specs.States.{Active, State}
 use Rattle.core_model.specs.Steps.{IsBuilding, IsEnabled, MachineStep, update}
 
 -- one event after another, each with an allowed reply
-pub data Serves : State → Standing → List (Event × Reply) → State → Standing → Type 0 where
-  nothing : {s : State} {k : Standing} → Serves s k [] s k
-  served : {s new : State} {k next : Standing} (e : Event) (reply : Reply) (step : Option MachineStep) (rest : List (Event × Reply)) → IsAllowed s k e reply step → Serves (after_any s step) (standing_after k reply) rest new next → Serves s k ((e, reply) ∷ rest) new next
+pub data ServesAll : State → Standing → List (Event × Reply) → State → Standing → Type 0 where
+  nothing : {s : State} {k : Standing} → ServesAll s k [] s k
+  served : {s new : State} {k next : Standing} (e : Event) (reply : Reply) (step : Option MachineStep) (rest : List (Event × Reply)) → IsAllowed s k e reply step → ServesAll (after_any s step) (standing_after k reply) rest new next → ServesAll s k ((e, reply) ∷ rest) new next
 
 -- a transaction is asked for one write more
 abbrev pub one_write : (ℕ → List Write) → ℕ → Place → Option Row → ℕ → List Write
@@ -139,7 +139,7 @@ asked_over writes (p ∷ rest) = asked_over (asked_after writes p.1 p.0) rest
 -- The core has replied to these events so since it was opened, each reply one that was allowed then; and it made these
 -- records, of which the history is theirs.
 pub record HasServed (o : Opened) (made : List RecordValue) (pairs : List (Event × Reply)) (s : State) (k : Standing) : Type 0 where
-  pub served : Serves (opened o) (standing_at o.given.last) pairs s k
+  pub served : ServesAll (opened o) (standing_at o.given.last) pairs s k
   pub log : HasMade o made (items_of no_writes pairs) (asked_over no_writes pairs) s
   pub number : k.made ≡ o.given.last + length made
   pub standing : HasStanding s k

@@ -11,7 +11,7 @@ ghost use Rattle.model.specs.Given.{IsBeginning, given_after};
 ghost use Rattle.core_contracts.specs.Events.{Event, Reply, Standing, standing_after, standing_at};
 ghost use Rattle.core_contracts.specs.Worked.{script, standing};
 ghost use Rattle.core_model.specs.Example.{opening, last, pair};
-ghost use Rattle.core_contracts.specs.Served.{HasServed, HasStanding, IsMove, Serves, items_of, records_by};
+ghost use Rattle.core_contracts.specs.Served.{HasServed, HasStanding, IsMove, ServesAll, items_of, records_by};
 ghost use Rattle.core_contracts.specs.Replies.{IsAllowed, after_any};
 ghost use Rattle.core_model.specs.Steps.{MachineStep, after};
 ghost use Rattle.core_model.specs.Invariants.{IsWellFormed};
@@ -39,12 +39,12 @@ pub fn each_service()
 
 /// So it is of a list of events, each with an allowed reply; and the numbers of the items rise.
 pub fn all_replies()
-    ensures log { (o : Opened) → CanOpen o → o.given.last ≤ LAST_NUMBER → (pairs : List (Event × Reply)) (s : State) (k : Standing) → Serves (opened o) (standing_at o.given.last) pairs s k → (made : List RecordValue) × HasServed o made pairs s k }
-    ensures rising { (o : Opened) (last : ℕ) (pairs : List (Event × Reply)) (s : State) (k : Standing) → Serves (opened o) (standing_at last) pairs s k → AreRising last (items_of no_writes pairs) }
+    ensures log { (o : Opened) → CanOpen o → o.given.last ≤ LAST_NUMBER → (pairs : List (Event × Reply)) (s : State) (k : Standing) → ServesAll (opened o) (standing_at o.given.last) pairs s k → (made : List RecordValue) × HasServed o made pairs s k }
+    ensures rising { (o : Opened) (last : ℕ) (pairs : List (Event × Reply)) (s : State) (k : Standing) → ServesAll (opened o) (standing_at last) pairs s k → AreRising last (items_of no_writes pairs) }
 {}
 
 /// An insertion is undone while the index is built, after the builder took its page: each reply is
 /// allowed, and the builder's insertion of the pair is rejected.
 pub fn undone_insertion_is_rejected()
-    ensures { Serves (opened opening) (standing_at 0) script last standing }
+    ensures { ServesAll (opened opening) (standing_at 0) script last standing }
 {}

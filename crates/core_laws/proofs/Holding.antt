@@ -28,10 +28,10 @@ use Rattle.core_model.specs.Steps.{all_reserved}
 use Rattle.core_contracts.proofs.Laws.{served_faithful, served_recovers}
 use Rattle.core_contracts.specs.Events.{Event, Reply, Standing}
 use Rattle.core_contracts.specs.Served.{items_of}
-use Rattle.index_core.specs.View.{AreOne, CoreValue, IsAt, Shows}
-use Rattle.index_core.specs.Moves.{txn_of}
+use Rattle.index_core.specs.View.{AreOne, CoreValue, IsProgressOf, Shows}
+use Rattle.index_core.specs.Moves.{txn_shown}
 use Rattle.core_laws.specs.Calls.{HasReplied}
-use Rattle.core_laws.specs.Holds.{HoldsHistory, IsBeingChanged, IsHalfway, ShowsRows, cells_of, lists_of}
+use Rattle.core_laws.specs.Holds.{HoldsHistory, IsBeingChanged, IsHalfway, ShowsRows, cells_shown, lists_of}
 
 -- ---- the cells
 same_number : (n m : ℕ) → n ≡ m → eqb n m ≡ true
@@ -57,11 +57,11 @@ is_list None a one = subst (IsListOf None) (sym one) tt
 is_list (Some x) a one = subst (IsListOf (Some x.changes)) (sym one.1) (sym one.2.changes)
 
 module _ (v : CoreValue) (s : State) (k : Standing) (h : Shows v s k) where
-  pub cells : HasCells s (cells_of v)
+  pub cells : HasCells s (cells_shown v)
   cells = record {
     rows = sym h.rows;
     entries = sym h.entries;
-    pending = λ t. subst (λ o. IsListOf o (s.txns t)) (sym (list_at v.txns.active t)) (is_list (txn_of v t) (s.txns t) (h.txns t));
+    pending = λ t. subst (λ o. IsListOf o (s.txns t)) (sym (list_at v.txns.active t)) (is_list (txn_shown v t) (s.txns t) (h.txns t));
     life = sym h.life;
   }
 
@@ -72,7 +72,7 @@ last_of (x ∷ xs) c =
     let more : length (x ∷ xs ++ c ∷ []) - 1 ≡ suc (length (xs ++ c ∷ []) - 1) = omega (arith, length-append xs (c ∷ [])) in
     ap (slice_get (x ∷ xs ++ c ∷ [])) more ∙ last_of xs c
 
-halfway : (p : Progress) (phase : Phase) → IsAt p phase → phase ≢ Made → IsHalfway p
+halfway : (p : Progress) (phase : Phase) → IsProgressOf p phase → phase ≢ Made → IsHalfway p
 halfway Ready phase at busy = absurd (busy at)
 halfway OwesRow phase at busy = tt
 halfway OwesEntry phase at busy = tt
@@ -84,7 +84,7 @@ same_active : (a b : Active) → (◌≡◌ {A = Option Active} (Some a) (Some b
 same_active a b e = cc
 
 module _ (v : CoreValue) (r : Place) (t : ℕ) where
-  by_changes : (x : TxnState) (phase : Phase) (cs : Changes) → txn_of v t ≡ Some x → as_list cs ≡ x.changes → IsAt x.progress phase → IsBusyWith cs phase r → IsBeingChanged v r
+  by_changes : (x : TxnState) (phase : Phase) (cs : Changes) → txn_shown v t ≡ Some x → as_list cs ≡ x.changes → IsProgressOf x.progress phase → IsBusyWith cs phase r → IsBeingChanged v r
   by_changes x phase Unchanged here same at busy = absurd busy
   by_changes x phase (older ▹ c) here same at busy = record {
     number = t;
@@ -96,7 +96,7 @@ module _ (v : CoreValue) (r : Place) (t : ℕ) where
     halfway = halfway x.progress phase at busy.1;
   }
 
-  by_txn : (o : Option TxnState) (a : Active) → txn_of v t ≡ o → AreOne o (Some a) → IsBusyWith a.changes a.phase r → IsBeingChanged v r
+  by_txn : (o : Option TxnState) (a : Active) → txn_shown v t ≡ o → AreOne o (Some a) → IsBusyWith a.changes a.phase r → IsBeingChanged v r
   by_txn None a here one busy = absurd (some_is_none one)
     where
       some_is_none : (◌≡◌ {A = Option Active} (Some a) None) → ⊥
@@ -108,7 +108,7 @@ module _ (v : CoreValue) (r : Place) (t : ℕ) where
 
 module _ (v : CoreValue) (s : State) (k : Standing) (h : Shows v s k) where
   being_changed : (r : Place) → IsUnfinished s r → IsBeingChanged v r
-  being_changed r u = by_txn v r u.transaction (txn_of v u.transaction) u.txn refl (subst (AreOne (txn_of v u.transaction)) u.active (h.txns u.transaction)) u.busy
+  being_changed r u = by_txn v r u.transaction (txn_shown v u.transaction) u.txn refl (subst (AreOne (txn_shown v u.transaction)) u.active (h.txns u.transaction)) u.busy
 
   covered : (p : Pair) → IsCovered v.life v.scan.last p → IsCovered s.life s.bound p
   covered p is = subst (λ l. IsCovered l s.bound p) (sym h.life) (subst (λ b. IsCovered v.life b p) (sym h.bound) is)
@@ -121,7 +121,7 @@ module _ (v : CoreValue) (s : State) (k : Standing) (h : Shows v s k) where
 
   pub holding : (o : Opened) (items : List Item) → IsFaithful s (table_after o.given.table items) → s.life ≡ life_after o.given.life items → HoldsHistory o items v
   holding o items f life = record {
-    table = f.back (cells_of v) (cells v s k h);
+    table = f.back (cells_shown v) (cells v s k h);
     life = sym h.life ∙ life;
     sound = λ p live. subst (λ rows. IsPairOf rows p) h.rows (f.sound p (ap (λ m. get m p) h.entries ∙ live));
     complete = λ r row there still is.

@@ -6,7 +6,7 @@ use Rattle.records.specs.Orders.{pair_cmp, rid_cmp}
 use Rattle.records.specs.declared.number.TheConstants.{LAST_NUMBER}
 use Rattle.records.specs.declared.pair.Mark.{Mark}
 use Rattle.model.specs.Given.{Given}
-use Rattle.model.specs.Inside.{IsInside}
+use Rattle.model.specs.Inside.{IsGivenInside}
 use Rattle.core_model.proofs.Laws.{not_none}
 use Rattle.core_model.specs.Histories.{CanOpen, FitsStore}
 use Rattle.core_loader.proofs.Laws.{stands_for}
@@ -15,11 +15,11 @@ use Rattle.index_core.specs.Moves.{fresh}
 use Rattle.core_laws.specs.Calls.{BeginsWith}
 use Rattle.core_laws.specs.Openings.{empty_after, store_with}
 
-pub loaded : (g : GeometryValue) (given : Given) → IsInside g.pages given → len given.entries ≤ g.entries → given.last ≤ LAST_NUMBER → BeginsWith (store_with g given) (holding g given)
+pub loaded : (g : GeometryValue) (given : Given) → IsGivenInside g.pages given → len given.entries ≤ g.entries → given.last ≤ LAST_NUMBER → BeginsWith (store_with g given) (holding g given)
 loaded g given inside room last = record { stands = stands_for g given inside room last; none_waits = refl }
 
 module _ (g : GeometryValue) (base : ℕ) where
-  inside : IsInside g.pages (empty_after base)
+  inside : IsGivenInside g.pages (empty_after base)
   inside = record {
     rows = λ r row e. absurd (not_none e (get-empty rid_cmp r));
     entries = λ p e. absurd (e (get-empty pair_cmp p));

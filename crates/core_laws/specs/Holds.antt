@@ -18,7 +18,7 @@ use Rattle.txn_table.specs.declared.progress.Progress.TheVariants.{OwesEntry, Ow
 use Rattle.core_model.specs.Changes.{pair_of}
 use Rattle.core_model.specs.Histories.{IsCovered, Opened}
 use Rattle.index_core.specs.View.{CoreValue}
-use Rattle.index_core.specs.Moves.{txn_of}
+use Rattle.index_core.specs.Moves.{txn_shown}
 
 -- the changes of each active transaction, under its number
 abbrev pub lists_of : List (ℕ × TxnState) → Pending
@@ -26,12 +26,12 @@ lists_of [] = map.empty
 lists_of (txn ∷ txns) = with_list (lists_of txns) txn.0 (Some txn.1.changes)
 
 -- its rows, its entries, the changes of its active transactions, and the index's life
-abbrev pub cells_of : CoreValue → Cells
-cells_of v = record { rows = v.heap.rows; entries = v.index.entries; pending = lists_of v.txns.active; life = v.life }
+abbrev pub cells_shown : CoreValue → Cells
+cells_shown v = record { rows = v.heap.rows; entries = v.index.entries; pending = lists_of v.txns.active; life = v.life }
 
 -- the rows with the changes of every active transaction taken back, the last change first
 abbrev pub committed_rows : CoreValue → Table
-committed_rows v = recovered_rows (cells_of v)
+committed_rows v = recovered_rows (cells_shown v)
 
 -- some steps of a change, or of its undo, are made, and others are owed
 abbrev pub IsHalfway : Progress → Type 0
@@ -46,7 +46,7 @@ IsHalfway UndoesEntry = Unit {0}
 pub record IsBeingChanged (v : CoreValue) (r : Place) : Type 0 where
   pub number : ℕ
   pub txn : TxnState
-  pub active : txn_of v number ≡ Some txn
+  pub active : txn_shown v number ≡ Some txn
   pub change : ChangeValue
   pub newest : last_change txn ≡ Some change
   pub of_row : change.rid ≡ r

@@ -10,7 +10,7 @@ ghost use Rattle.records.specs.RecordValue.{RecordValue};
 ghost use Rattle.records.specs.declared.error.Error.{Error};
 ghost use Rattle.records.specs.declared.number.TheConstants.{LAST_NUMBER};
 ghost use Rattle.model.specs.Given.{Given, IsBeginning, given_after};
-ghost use Rattle.model.specs.Inside.{IsInside};
+ghost use Rattle.model.specs.Inside.{IsGivenInside};
 ghost use Rattle.model.specs.declared.life.Life.TheVariants.{Complete};
 ghost use Rattle.core_model.specs.States.{State};
 ghost use Rattle.core_model.specs.Steps.{MachineStep};
@@ -30,7 +30,7 @@ ghost use Rattle.core_laws.specs.Holds.{HoldsHistory, ShowsRows};
 /// A law: a core that was loaded with what fits its store begins with that, and one that was just made with nothing, which is
 /// something to begin with.
 pub fn each_opening()
-    ensures loaded { (g : GeometryValue) (given : Given) → IsInside g.pages given → len given.entries ≤ g.entries → given.last ≤ LAST_NUMBER → BeginsWith (store_with g given) (holding g given) }
+    ensures loaded { (g : GeometryValue) (given : Given) → IsGivenInside g.pages given → len given.entries ≤ g.entries → given.last ≤ LAST_NUMBER → BeginsWith (store_with g given) (holding g given) }
     ensures made { (g : GeometryValue) (base : ℕ) → base ≤ LAST_NUMBER → BeginsWith (store_with g (empty_after base)) (fresh g base) }
     ensures opens { (g : GeometryValue) (base : ℕ) → CanOpen (store_with g (empty_after base)) }
 {}

@@ -14,7 +14,7 @@ use Rattle.records.specs.declared.pair.Pair.{Pair}
 use Rattle.records.specs.declared.row.Row.{Row}
 use Rattle.model.specs.Following.{IsWithin}
 use Rattle.model.specs.Given.{Given}
-use Rattle.model.specs.Inside.{AreEntriesWithin, IsInside}
+use Rattle.model.specs.Inside.{AreEntriesWithin, IsGivenInside}
 use Rattle.model.specs.Table.{Index, Table}
 use Rattle.sorted_scan.specs.Scans.{HasRun, begun, begun_run}
 use Rattle.core_model.proofs.Laws.{none_reserved, opened_fit}
@@ -129,7 +129,7 @@ begun_runs start pages = by_test (nat_lt 0 pages) refl
         no_page : (n : ℕ) → n < pages → ⊥
         no_page n less = let some : nat_lt 0 pages ≡ true = lt-ltb 0 pages (omega (arith, less)) in absurd cc
 
-module _ (g : GeometryValue) (given : Given) (inside : IsInside g.pages given) (room : len given.entries ≤ g.entries) (last : given.last ≤ LAST_NUMBER) where
+module _ (g : GeometryValue) (given : Given) (inside : IsGivenInside g.pages given) (room : len given.entries ≤ g.entries) (last : given.last ≤ LAST_NUMBER) where
   abbrev store : Opened
   store = record { given = given; pages = g.pages; places = g.entries }
 

@@ -16,7 +16,7 @@ use Rattle.records.specs.declared.txn.TheConstants.{TXNS_MAX}
 use Rattle.model.proofs.CellsLaws.{cells_after_one_more}
 use Rattle.model.proofs.FollowingLaws.{following_push}
 use Rattle.model.specs.Cells.{Cells, cells_after, list_of}
-use Rattle.model.specs.Following.{AreFollowing, CanFollow, CanFollowBy, HasRoom, IsLastOf, IsNextOn}
+use Rattle.model.specs.Following.{AreFollowing, CanFollow, CanFollowBy, IsAdmitted, IsLastOf, IsNextOn}
 use Rattle.model.specs.Given.{IsBeginning, given_after, opening_cells}
 use Rattle.model.specs.History.{Item}
 use Rattle.model.specs.declared.life.Life.{Life}
@@ -101,7 +101,7 @@ module _ (s : State) (i : IsWellFormed s) (cells : Cells) (k : HasCells s cells)
   active_by u h (Some x) e none = true≢false (sym (ap is_some e) ∙ sym (i.pledged u) ∙ ap is_some none)
 
   module _ (few : len s.pledges ≤ TXNS_MAX) (t : ℕ) (x : Active) (active : s.txns t ≡ Some x) where
-    room_by : (list : Option (List ChangeValue)) → get cells.pending t ≡ list → HasRoom cells.pending t
+    room_by : (list : Option (List ChangeValue)) → get cells.pending t ≡ list → IsAdmitted cells.pending t
     room_by (Some list) e = inl (λ none. not_none e none)
     room_by None none =
         let mine : get s.pledges t ≢ None = λ absent. true≢false (sym (ap is_some active) ∙ sym (i.pledged t) ∙ ap is_some absent) in
@@ -112,7 +112,7 @@ module _ (s : State) (i : IsWellFormed s) (cells : Cells) (k : HasCells s cells)
         let less : len (remove s.pledges t) + 1 ≡ len s.pledges = shorter s.pledges t mine in
         inr (omega (arith, fits, less, few))
 
-    room : HasRoom cells.pending t
+    room : IsAdmitted cells.pending t
     room = room_by (get cells.pending t) refl
 
     next_on : (c : ChangeValue) → c.position ≡ length (as_list x.changes) → IsNextOn (list_of cells.pending t) c

@@ -13,7 +13,7 @@ use Rattle.core_model.proofs.Builds.{and_right, or_true, pair_by_test}
 use Rattle.core_model.proofs.Cells.{pair_decided}
 use Rattle.core_model.proofs.Latest.{Gone, gone_is, not_none}
 use Rattle.core_model.specs.Changes.{Changes, Unchanged, new_pair, old_pair, ◌▹◌}
-use Rattle.core_model.specs.Invariants.{IsHolderOf, IsInside, IsWellFormed}
+use Rattle.core_model.specs.Invariants.{IsHolderOf, IsStateInside, IsWellFormed}
 use Rattle.core_model.specs.States.{Active, Made, NewMarked, OldMarked, OldSet, Phase, RowSet, State}
 use Rattle.core_model.specs.Steps.{Attempt, Begin, Checkpoint, Clean, Commit, Create, End, Finish, IsEnabled, Keep, Next, Start, MachineStep, Take, Undo, Wrap, after, carried_on, is_indexed, is_pair_of, moved_by, started, txn_at, undone, undone_first, undone_row, with_entry}
 
@@ -42,13 +42,13 @@ new_inside pages indexed c l p e = let g : Gone indexed c.rid (new_row c.rows) p
 pub change_inside : (s : State) → IsWellFormed s → (t : ℕ) (x : Active) → s.txns t ≡ Some x → (c : ChangeValue) (older : Changes) → x.changes ≡ older ▹ c → c.rid.page < s.pages
 change_inside s i t x active c older e = let names : IsHolderOf s.holder t (older ▹ c) = subst (λ cs. IsHolderOf s.holder t cs) e (i.txns t x active).names in i.held c.rid t names.0
 
-module _ (s : State) (i : IsWellFormed s) (h : IsInside s) (t : ℕ) (x : Active) where
-  started_inside : (c : ChangeValue) → c.rid.page < s.pages → (o : Option Pair) → old_pair (is_indexed s.life) c ≡ o → IsInside (started s t x c o)
+module _ (s : State) (i : IsWellFormed s) (h : IsStateInside s) (t : ℕ) (x : Active) where
+  started_inside : (c : ChangeValue) → c.rid.page < s.pages → (o : Option Pair) → old_pair (is_indexed s.life) c ≡ o → IsStateInside (started s t x c o)
   started_inside c l (Some p) e = record { entries = set_inside s.pages s.entries p (Some Marked) (λ n. old_inside s.pages (is_indexed s.life) c l p e) h.entries; bound = h.bound; highest = h.highest; given = h.given }
   started_inside c l None e = record { entries = h.entries; bound = h.bound; highest = h.highest; given = h.given }
 
   module _ (active : s.txns t ≡ Some x) where
-    carried_inside : (cs : Changes) → x.changes ≡ cs → (phase : Phase) → IsInside (carried_on s t x cs phase)
+    carried_inside : (cs : Changes) → x.changes ≡ cs → (phase : Phase) → IsStateInside (carried_on s t x cs phase)
     carried_inside Unchanged e phase = h
     carried_inside (older ▹ c) e OldMarked = record { entries = h.entries; bound = h.bound; highest = h.highest; given = h.given }
     carried_inside (older ▹ c) e RowSet = record {
@@ -61,10 +61,10 @@ module _ (s : State) (i : IsWellFormed s) (h : IsInside s) (t : ℕ) (x : Active
     carried_inside (older ▹ c) e (NewMarked b) = h
     carried_inside (older ▹ c) e OldSet = h
 
-    row_inside : (c : ChangeValue) (older : Changes) → IsInside (undone_row s t x c older)
+    row_inside : (c : ChangeValue) (older : Changes) → IsStateInside (undone_row s t x c older)
     row_inside c older = record { entries = h.entries; bound = h.bound; highest = h.highest; given = h.given }
 
-    first_inside : (c : ChangeValue) (older : Changes) → x.changes ≡ older ▹ c → (b : Bool) (o : Option Pair) → new_pair (is_indexed s.life) c ≡ o → IsInside (undone_first s t x c older b o)
+    first_inside : (c : ChangeValue) (older : Changes) → x.changes ≡ older ▹ c → (b : Bool) (o : Option Pair) → new_pair (is_indexed s.life) c ≡ o → IsStateInside (undone_first s t x c older b o)
     first_inside c older e b (Some p) k = record {
       entries = set_inside s.pages s.entries p (Some Marked) (λ n. new_inside s.pages (is_indexed s.life) c (change_inside s i t x active c older e) p k) h.entries;
       bound = h.bound;
@@ -73,7 +73,7 @@ module _ (s : State) (i : IsWellFormed s) (h : IsInside s) (t : ℕ) (x : Active
     }
     first_inside c older e b None k = row_inside c older
 
-    undone_inside : (cs : Changes) → x.changes ≡ cs → (phase : Phase) → IsInside (undone s t x cs phase)
+    undone_inside : (cs : Changes) → x.changes ≡ cs → (phase : Phase) → IsStateInside (undone s t x cs phase)
     undone_inside Unchanged e phase = record { entries = h.entries; bound = h.bound; highest = h.highest; given = h.given }
     undone_inside (older ▹ c) e OldMarked = first_inside c older e _ (new_pair (is_indexed s.life) c) refl
     undone_inside (older ▹ c) e RowSet = first_inside c older e _ (new_pair (is_indexed s.life) c) refl
@@ -86,7 +86,7 @@ module _ (s : State) (i : IsWellFormed s) (h : IsInside s) (t : ℕ) (x : Active
       given = h.given;
     }
 
-taken_inside : (s : State) → IsWellFormed s → IsInside s → (n : ℕ) → (p : Pair) → (s.given p || (nat_eq p.rid.page n && is_pair_of (get s.rows p.rid) p)) ≡ true → p.rid.page < s.pages
+taken_inside : (s : State) → IsWellFormed s → IsStateInside s → (n : ℕ) → (p : Pair) → (s.given p || (nat_eq p.rid.page n && is_pair_of (get s.rows p.rid) p)) ≡ true → p.rid.page < s.pages
 taken_inside s i h n p e = elim (or_true (s.given p) _ e) [
   | inl before ↦ h.given p before
   | inr now ↦ let is : IsPairOf s.rows p = pair_by_test s.rows p (get s.rows p.rid) refl (and_right _ _ now) in i.rows p.rid is.row is.is_there
@@ -101,7 +101,7 @@ highest_is e = cc
 not_complete : {o : Option Pair} → Complete ≡ Building o → ⊥
 not_complete e = absurd (cc)
 
-moved_inside : (s : State) (e : MachineStep) → IsWellFormed s → IsInside s → IsEnabled s e → IsInside (moved_by s e)
+moved_inside : (s : State) (e : MachineStep) → IsWellFormed s → IsStateInside s → IsEnabled s e → IsStateInside (moved_by s e)
 moved_inside s (Begin t) i h a = record { entries = h.entries; bound = h.bound; highest = h.highest; given = h.given }
 moved_inside s (Start t c) i h a = started_inside s i h t (txn_at s t) c a.inside _ refl
 moved_inside s (Next t) i h a = carried_inside s i h t (txn_at s t) a.0 (txn_at s t).changes refl (txn_at s t).phase
@@ -127,5 +127,5 @@ moved_inside s (Clean p) i h a = record { entries = set_inside s.pages s.entries
 moved_inside s (Keep p) i h a = record { entries = h.entries; bound = h.bound; highest = h.highest; given = h.given }
 moved_inside s Wrap i h a = record { entries = h.entries; bound = h.bound; highest = h.highest; given = h.given }
 
-pub inside_step : (s : State) (e : MachineStep) → IsWellFormed s → IsInside s → IsEnabled s e → IsInside (after s e)
-inside_step s e i h a = let m : IsInside (moved_by s e) = moved_inside s e i h a in record { entries = m.entries; bound = m.bound; highest = m.highest; given = m.given }
+pub inside_step : (s : State) (e : MachineStep) → IsWellFormed s → IsStateInside s → IsEnabled s e → IsStateInside (after s e)
+inside_step s e i h a = let m : IsStateInside (moved_by s e) = moved_inside s e i h a in record { entries = m.entries; bound = m.bound; highest = m.highest; given = m.given }

@@ -21,12 +21,12 @@ use Rattle.core_model.proofs.Sums.{left_apart, reserved_left}
 use Rattle.core_model.proofs.Txns.{end_keeps, taken_off_whole, undo_whole}
 use Rattle.core_model.specs.Changes.{Changes, Unchanged, latest, new_pair, old_pair, pair_of, ◌▹◌}
 use Rattle.core_model.specs.Histories.{CanOpen, IsCovered, highest_of}
-use Rattle.core_model.specs.Invariants.{HasPlaces, IsBusyWith, IsCoherent, IsHeld, IsHolderOf, IsInside, IsUnfinished, applied_of, IsVisibleOrAhead, lacking, lacks}
+use Rattle.core_model.specs.Invariants.{HasPlaces, IsBusyWith, IsCoherent, IsHeld, IsHolderOf, IsStateInside, IsUnfinished, applied_of, IsVisibleOrAhead, lacking, lacks}
 use Rattle.core_model.proofs.Undone.{IsListing, entries_undone, restarted, rows_back, rows_undone}
 use Rattle.core_model.specs.States.{Active, Phase, State}
 use Rattle.core_model.specs.Steps.{above, all_reserved, freed, is_applied, is_indexed, reserved, update, with_entry, without_newest}
 
-module _ (s : State) (i : IsCoherent s) (n : IsInside s) (quiet : (t : ℕ) (x : Active) → s.txns t ≡ Some x → x.changes ≡ Unchanged) where
+module _ (s : State) (i : IsCoherent s) (n : IsStateInside s) (quiet : (t : ℕ) (x : Active) → s.txns t ≡ Some x → x.changes ≡ Unchanged) where
   not_busy : (cs : Changes) (phase : Phase) (r : Place) → cs ≡ Unchanged → IsBusyWith cs phase r → ⊥
   not_busy Unchanged phase r e h = h
   not_busy (older ▹ c) phase r e h = absurd (cc)
@@ -149,7 +149,7 @@ undone_inside pages indexed holder t held (older ▹ c) names entries h =
     (with_inside pages (with_entry entries (new_pair indexed c) Marked) (old_pair indexed c) Live (old_inside pages indexed c l)
     (with_inside pages entries (new_pair indexed c) Marked (new_inside pages indexed c l) h))
 
-rolled_inside : (s : State) (t : ℕ) (x : Active) (cs : Changes) → IsCoherent s → IsInside s → s.txns t ≡ Some x → x.changes ≡ cs → IsInside (record (rolled s t cs) { pledges = remove s.pledges t })
+rolled_inside : (s : State) (t : ℕ) (x : Active) (cs : Changes) → IsCoherent s → IsStateInside s → s.txns t ≡ Some x → x.changes ≡ cs → IsStateInside (record (rolled s t cs) { pledges = remove s.pledges t })
 rolled_inside s t x cs i h active e = record {
   entries = undone_inside s.pages (is_indexed s.life) s.holder t (λ r k. (i.held r t k).inside) cs (subst (λ l. IsHolderOf s.holder t l) e (i.txns t x active).names) s.entries h.entries;
   bound = h.bound;
@@ -161,7 +161,7 @@ pub record CanRestart (s : State) (ls : List (ℕ × Changes)) (last : ℕ) : Ty
   pub table : (r : Place) → get (rows_back ls s.rows) r ≡ get s.committed r
   pub opens : CanOpen (restarted s ls last)
 
-pub can_restart : (ls : List (ℕ × Changes)) (last : ℕ) (s : State) → IsCoherent s → IsInside s → HasPlaces s → IsListing s.txns ls → CanRestart s ls last
+pub can_restart : (ls : List (ℕ × Changes)) (last : ℕ) (s : State) → IsCoherent s → IsStateInside s → HasPlaces s → IsListing s.txns ls → CanRestart s ls last
 can_restart [] last s i n p quiet = record { table = only_committed s i n quiet; opens = opens s i n quiet last (let fits : len s.entries + all_reserved s.pledges ≤ s.places = p.fits in omega (arith, fits)) }
 can_restart (l ∷ ls) last s i n p listing =
     let s' : State = record (rolled s l.0 l.1) { pledges = remove s.pledges l.0 } in

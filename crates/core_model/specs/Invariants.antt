@@ -131,7 +131,7 @@ IsNumbered (older ▹ c) = (c.position ≡ length (as_list older)) × IsNumbered
 -- ---- the store's pages
 
 -- entries, the builder's places and the pairs that pages gave are of the store's pages
-pub record IsInside (s : State) : Type 0 where
+pub record IsStateInside (s : State) : Type 0 where
   pub entries : (p : Pair) → get s.entries p ≢ None → p.rid.page < s.pages
   pub bound : (p : Pair) → s.bound ≡ Some p → p.rid.page < s.pages
   pub highest : (p : Pair) → s.life ≡ Building (Some p) → p.rid.page < s.pages
@@ -161,7 +161,7 @@ pub record IsWellFormed (s : State) : Type 0 where
   pub held : (r : Place) (t : ℕ) → s.holder r ≡ Some t → r.page < s.pages
   pub txns : (t : ℕ) (x : Active) → s.txns t ≡ Some x → IsFit s.holder (is_indexed s.life) t x
   pub places : HasPlaces s
-  pub inside : IsInside s
+  pub inside : IsStateInside s
   pub pledged : IsPledged s
 
 -- ---- all of it

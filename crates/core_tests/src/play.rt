@@ -1,6 +1,6 @@
 //! Plays events on a core.
 ghost use Rattle.std.specs.Prelude.{IsTrue};
-ghost use Rattle.index_core.specs.Moves.{HasNoChange, IsReadyOrNone, OwesOrNone, txn_of};
+ghost use Rattle.index_core.specs.Moves.{HasNoChange, IsReadyOrNone, OwesOrNone, txn_shown};
 ghost use Rattle.index_core.specs.Value.{value_of};
 
 use index_core::{BuildReply, CleanReply, Core, Ticket, Undone};
@@ -50,13 +50,13 @@ pub(crate) enum Reply {
 }
 
 fn is_ready<A: Allocator + Copy>(core: &Core<A>, txn: Txn) -> bool
-    ensures { IsTrue result → IsReadyOrNone (txn_of (value_of core.now) txn) }
+    ensures { IsTrue result → IsReadyOrNone (txn_shown (value_of core.now) txn) }
 {
     !core.is_active(txn) || core.ready(txn)
 }
 
 fn is_owing<A: Allocator + Copy>(core: &Core<A>, txn: Txn) -> bool
-    ensures { IsTrue result → OwesOrNone (txn_of (value_of core.now) txn) }
+    ensures { IsTrue result → OwesOrNone (txn_shown (value_of core.now) txn) }
 {
     !core.is_active(txn) || core.owes(txn).is_some()
 }
@@ -120,19 +120,19 @@ fn entry<A: Allocator + Copy>(core: &Core<A>, before: u32) -> Option<(Pair, Mark
     entry
 }
 
-fn txn_of(rt: &impl Abort, number: u64) -> Txn {
+fn txn_shown(rt: &impl Abort, number: u64) -> Txn {
     Txn::new(number).expect(rt, "a transaction")
 }
 
 fn of_txn<A: Allocator + Copy>(rt: &impl Abort, core: &mut Core<A>, event: Event) -> Reply {
     match event {
-        Event::Insert(txn, row) => insert(core, txn_of(rt, txn), row),
-        Event::Delete(txn, rid) => delete(core, txn_of(rt, txn), rid),
-        Event::Update(txn, rid, row) => update(core, txn_of(rt, txn), rid, row),
-        Event::Step(txn) => step(core, txn_of(rt, txn)),
-        Event::Undo(txn) => Reply::Undone(core.undo_step(txn_of(rt, txn))),
-        Event::End(txn) => end(core, txn_of(rt, txn)),
-        Event::Commit(txn) => commit(core, txn_of(rt, txn)),
+        Event::Insert(txn, row) => insert(core, txn_shown(rt, txn), row),
+        Event::Delete(txn, rid) => delete(core, txn_shown(rt, txn), rid),
+        Event::Update(txn, rid, row) => update(core, txn_shown(rt, txn), rid, row),
+        Event::Step(txn) => step(core, txn_shown(rt, txn)),
+        Event::Undo(txn) => Reply::Undone(core.undo_step(txn_shown(rt, txn))),
+        Event::End(txn) => end(core, txn_shown(rt, txn)),
+        Event::Commit(txn) => commit(core, txn_shown(rt, txn)),
         _ => Reply::Skipped,
     }
 }

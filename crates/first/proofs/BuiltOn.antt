@@ -15,7 +15,7 @@ use Rattle.core_contracts.specs.Events.{Standing, standing_after}
 use Rattle.core_contracts.specs.Replies.{IsAllowed, accepted, after_any, build_step, no_memory, refused, refused_last, skipped, unknown}
 use Rattle.core_contracts.specs.Served.{records_by}
 use Rattle.core_contracts.proofs.Laws.{served_allowed}
-use Rattle.index_core.specs.Moves.{txn_of}
+use Rattle.index_core.specs.Moves.{txn_shown}
 use Rattle.index_core.specs.View as view
 use Rattle.index_core.specs.View.{Answers, AreOne, CoreValue, IsSafe, IsState}
 use Rattle.index_core.proofs.Offered.{stands}
@@ -23,7 +23,7 @@ use Rattle.sector_device.specs.History.{History}
 use Rattle.first.specs.declared.engine.Engine.{Engine}
 use Rattle.first.specs.declared.event.Event.TheVariants as event
 use Rattle.first.specs.declared.event.Reply.{Reply}
-use Rattle.first.specs.Building.{AreBuilt, HasCome, IsWhole, builds}
+use Rattle.first.specs.Building.{AreBuilt, HasCome, IsIndexWhole, builds}
 use Rattle.first.specs.Lawful.{ServesInCore}
 use Rattle.first.specs.Parts.{core_of, is_read_only}
 use Rattle.first.specs.Store.{Past, IsAt, and_then}
@@ -128,10 +128,10 @@ module _ {D M : Type 0} where
 -- ---- what is built
 
 -- a complete index over which no transaction is active
-pub whole_core : (v : CoreValue) → HasCome v → v.life ≡ Complete → v.txns.active ≡ [] → IsWhole v
+pub whole_core : (v : CoreValue) → HasCome v → v.life ≡ Complete → v.txns.active ≡ [] → IsIndexWhole v
 whole_core v come complete none =
     let shown = come.shown.shown in
     subst (λ (rows : Table). (p : Pair) → (get v.index.entries p ≡ Some Live) ↔ IsPairOf rows p) shown.rows
     (subst (λ (entries : Index). (p : Pair) → (get entries p ≡ Some Live) ↔ IsPairOf come.state.rows p) shown.entries
     (whole come.state (made_holds come.opening come.opens come.made _ _ come.state come.served.log) (shown.life ∙ complete)
-    (λ t. subst (λ active. AreOne (txn_of (record v { txns = record v.txns { active = active } }) t) (come.state.txns t)) none (shown.txns t))))
+    (λ t. subst (λ active. AreOne (txn_shown (record v { txns = record v.txns { active = active } }) t) (come.state.txns t)) none (shown.txns t))))

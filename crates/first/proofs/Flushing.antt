@@ -20,9 +20,9 @@ use Rattle.first.specs.declared.event.Event.TheVariants.{Flush}
 use Rattle.first.specs.declared.event.Reply.{Reply}
 use Rattle.first.specs.declared.engine.Engine.{Engine}
 use Rattle.first.specs.declared.writer.Writer.{Writer}
-use Rattle.first.specs.History.{acknowledged, pairs_of}
+use Rattle.first.specs.History.{acknowledged, core_calls}
 use Rattle.first.specs.Writer.{HoldsRecords, LeftBy, StandsFor, FillsGroup, IsWriter}
-use Rattle.first.specs.Store.{Past, acknowledged_by, and_then, over, Survives, IsAt, Serves}
+use Rattle.first.specs.Store.{Past, acknowledged_by, and_then, over, Survives, IsAt, ServesOn}
 use Rattle.first.specs.Parts.{unwritten}
 use Rattle.first.specs.Lawful.{Writes, handed_over}
 use Rattle.first.proofs.Stories.{survives, at_next}
@@ -125,7 +125,7 @@ module _ {D M : Type 0} (history : D → History) (old : Engine D M) (new_core :
       (grows : mid.synced ≤ new.writer.synced) (base : new.writer.base ≡ mid.base)
       (safe : (n : ℕ) → n ≤ new.writer.base + new.writer.synced → acknowledged n (reply ∷ []) ≤ new.writer.base + new.writer.synced)
       (mode : new.read_only ≡ old.read_only) where
-    pub served_flush : Serves history Flush reply old new
+    pub served_flush : ServesOn history Flush reply old new
     served_flush past is = (at, leaves)
       where
         later : Past M
@@ -146,8 +146,8 @@ module _ {D M : Type 0} (history : D → History) (old : Engine D M) (new_core :
         split : is.made ≡ handed_now past is ++ (value_of new.core).outbox
         split = split_now past is ∙ ap (λ (v : CoreValue). handed_now past is ++ v.outbox) (sym core_is)
 
-        has : HasServed (over past.geometry past.given) is.made (pairs_of past.events past.replies ++ []) is.state is.standing
-        has = subst (λ (l : List (core.Event × core.Reply)). HasServed (over past.geometry past.given) is.made l is.state is.standing) (sym (append-nil (pairs_of past.events past.replies))) is.served
+        has : HasServed (over past.geometry past.given) is.made (core_calls past.events past.replies ++ []) is.state is.standing
+        has = subst (λ (l : List (core.Event × core.Reply)). HasServed (over past.geometry past.given) is.made l is.state is.standing) (sym (append-nil (core_calls past.events past.replies))) is.served
 
         shown : IsState (value_of new.core) is.state is.standing
         shown = subst (λ (v : CoreValue). IsState v is.state is.standing) (sym whole) (same_state (value_of old.core) new_core.outbox is.state is.standing is.shown)

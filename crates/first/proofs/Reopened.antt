@@ -20,7 +20,7 @@ use Rattle.sector_device.specs.History.{History, Elapses, LeavesOnly, OnlyReads}
 use Rattle.sector_device.proofs.Moments.{one_call, joined}
 use Rattle.sector_device.proofs.Sectors.{content_is_image, crash_synced}
 use Rattle.sector_device.proofs.Within.{reads_leave}
-use Rattle.gate_log.specs.Area.{Area, Log, InArea, IsInside, HoldsGroups, Stands, Refuses}
+use Rattle.gate_log.specs.Area.{Area, Log, InArea, IsAreaInside, HoldsGroups, Stands, Refuses}
 use Rattle.flip_image.specs.declared.half.Half.{Half}
 use Rattle.store_reader.specs.Contents.{log_area, HoldsLog, IsFound, IsUnreadable}
 use Rattle.store_reader.proofs.Readings.{one_geometry, one_given}
@@ -75,7 +75,7 @@ no_records [] none = refl
 no_records (r ∷ records) none = absurd (omega (arith, none))
 
 module _ {D M : Type 0} (history : D → History) (image : Image) (g : GeometryValue) (half : Half) (holds : HoldsLog image g half []) (engine : Engine D M)
-    (area_is : engine.writer.log.area ≡ log_area g half) (inside : IsInside (log_area g half) image) (stands : Stands engine.writer.log image holds.groups) (content : (history (device_of engine)).disk.content ≡ image)
+    (area_is : engine.writer.log.area ≡ log_area g half) (inside : IsAreaInside (log_area g half) image) (stands : Stands engine.writer.log image holds.groups) (content : (history (device_of engine)).disk.content ≡ image)
     (synced : IsSynced (history (device_of engine)).disk) where
   abbrev area : Area
   area = log_area g half
@@ -86,7 +86,7 @@ module _ {D M : Type 0} (history : D → History) (image : Image) (g : GeometryV
   begun_writer : engine.writer.base ≡ 0 → engine.writer.synced ≡ 0 → engine.writer.waiting.items ≡ [] → engine.writer.failed ≡ false → IsWriter history area image [] engine.writer
   begun_writer base reached waits sound = record {
     area_is = area_is;
-    inside = subst (IsInside area) (sym content) inside;
+    inside = subst (IsAreaInside area) (sym content) inside;
     small = omega arith;
     reached = omega (arith, reached);
     waits = waits ∙ sym (ap (λ n. drop n []) reached);
@@ -175,7 +175,7 @@ module _ {D M : Type 0} (history : D → History) (before : D) (engine : Engine 
     opens = left.opens;
   }
 
-  module _ (inside : IsInside log.area (history before).disk.content) (device : OnlySyncs history before (device_of engine)) (synced : IsSynced (history (device_of engine)).disk)
+  module _ (inside : IsAreaInside log.area (history before).disk.content) (device : OnlySyncs history before (device_of engine)) (synced : IsSynced (history (device_of engine)).disk)
       (log_is : engine.writer.log ≡ log) (base : engine.writer.base ≡ (core_of engine).last) (waits : engine.writer.waiting.items ≡ []) (reached : engine.writer.synced ≡ 0) (sound : engine.writer.failed ≡ false)
       (mode : engine.read_only ≡ nat_lt 0 (core_of engine).last) where
     abbrev image : Image
@@ -199,7 +199,7 @@ module _ {D M : Type 0} (history : D → History) (before : D) (engine : Engine 
       begins : IsAt history (opening is.geometry) engine
       unfolding holds_none
       begins = begun_at history image is.geometry is.found.gives.half holds_none engine (ap (λ (l : Log). l.area) log_is ∙ is.found.area)
-          (subst (λ (a : Area). IsInside a image) is.found.area inside)
+          (subst (λ (a : Area). IsAreaInside a image) is.found.area inside)
           (subst (λ (l : Log). Stands l image holds_none.groups) (sym log_is) stands_none)
           device.content synced
           (ap (λ (v : CoreValue). v.outbox) is.holds)

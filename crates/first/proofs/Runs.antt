@@ -10,7 +10,7 @@ use Rattle.first.specs.declared.event.Reply.{Reply}
 use Rattle.first.specs.declared.engine.Engine.{Engine}
 use Rattle.first.specs.Lawful.{is_read, IsLawful, AreLawful}
 use Rattle.first.specs.Parts.{is_read_only}
-use Rattle.first.specs.Store.{CanRun, Past, acknowledged_by, and_then, Survives, IsAt, Serves, SurvivesAt, GoesOn, AreServed}
+use Rattle.first.specs.Store.{CanRun, Past, acknowledged_by, and_then, Survives, IsAt, ServesOn, SurvivesAt, GoesOn, AreServed}
 
 pub spans_rise : (disk_at : ℕ → Disk) (P : ℕ → Image → Type 0) (j from : ℕ) (borders : List ℕ) (to : ℕ) → Spans disk_at P j from borders to → from ≤ to
 spans_rise disk_at P j from [] to is = omega (arith, is)
@@ -55,7 +55,7 @@ module _ {D M : Type 0} (history : D → History) (past : Past M) where
     spans = refl;
   }
 
-  pub goes_further : (es : List Event) (rs : List (Reply M)) (old mid new : Engine D M) (event : Event) (reply : Reply M) → length rs ≡ length es → GoesOn history past es rs old mid → Serves history event reply mid new → GoesOn history past (es ++ event ∷ []) (rs ++ reply ∷ []) old new
+  pub goes_further : (es : List Event) (rs : List (Reply M)) (old mid new : Engine D M) (event : Event) (reply : Reply M) → length rs ≡ length es → GoesOn history past es rs old mid → ServesOn history event reply mid new → GoesOn history past (es ++ event ∷ []) (rs ++ reply ∷ []) old new
   goes_further es rs old mid new event reply even ran serves = record {
     at = subst (λ (p : Past _). IsAt history p new) (and_then_both past es (event ∷ []) rs (reply ∷ [])) served.0;
     kept = λ t le. served.1.kept t (omega (arith, le, spans_rise (history mid.writer.device).disk_at (SurvivesAt past es rs) 0 (history old.writer.device).moment ran.borders (history mid.writer.device).moment ran.spans)) ∙ ran.kept t le;
@@ -76,7 +76,7 @@ module _ {D M : Type 0} (history : D → History) (past : Past M) where
       served = serves (and_then past es rs) ran.at
 
 -- a request that was served leaves an engine that can be run
-pub can_run_after : {D M : Type 0} (history : D → History) (x : Event) (r : Reply M) (old new : Engine D M) → is_read_only old ≡ false → CanRun history old → Serves history x r old new → CanRun history new
+pub can_run_after : {D M : Type 0} (history : D → History) (x : Event) (r : Reply M) (old new : Engine D M) → is_read_only old ≡ false → CanRun history old → ServesOn history x r old new → CanRun history new
 can_run_after history x r old new serving can serves = ⊎_elim
     (λ only. absurd (false≢true (sym serving ∙ only.mode)))
     (λ at. inr (and_then at.0 (x ∷ []) (r ∷ []), (serves at.0 at.1).0))
@@ -96,9 +96,9 @@ lawful_last failures (e ∷ es) [] event reply old mid new so_far lawful = absur
 lawful_last failures (e ∷ es) (r ∷ rs) event reply old mid new so_far lawful = (so_far.0, so_far.1, lawful_last failures es rs event reply so_far.0 mid new so_far.2 lawful)
 
 pub served_last : {D M : Type 0} (history : D → History) (failures : D → ℕ) (past : Past M) (es : List Event) (rs : List (Reply M)) (event : Event) (reply : Reply M) (old mid new : Engine D M) → IsAt history past old
-    → AreServed history failures past es rs old mid → IsLawful failures event reply mid new → Serves history event reply mid new → AreServed history failures past (es ++ event ∷ []) (rs ++ reply ∷ []) old new
+    → AreServed history failures past es rs old mid → IsLawful failures event reply mid new → ServesOn history event reply mid new → AreServed history failures past (es ++ event ∷ []) (rs ++ reply ∷ []) old new
 served_last history failures past [] [] event reply old mid new at so_far lawful serves =
-    let first = subst (λ e. Serves history event reply e new) so_far serves past at in
+    let first = subst (λ e. ServesOn history event reply e new) so_far serves past at in
     (new, subst (λ e. IsLawful failures event reply e new) so_far lawful, first.0, first.1, refl)
 served_last history failures past [] (r ∷ rs) event reply old mid new at so_far lawful serves = absurd so_far
 served_last history failures past (e ∷ es) [] event reply old mid new at so_far lawful serves = absurd so_far

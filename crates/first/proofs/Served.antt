@@ -12,10 +12,10 @@ use Rattle.sector_device.specs.History.{History}
 use Rattle.first.specs.declared.event.Event.{Event}
 use Rattle.first.specs.declared.event.Reply.{Reply}
 use Rattle.first.specs.declared.engine.Engine.{Engine}
-use Rattle.first.specs.History.{acknowledged, answered, asked, both, pairs_of}
+use Rattle.first.specs.History.{acknowledged, answered, asked, both, core_calls}
 use Rattle.first.specs.Lawful.{ServesInCore}
 use Rattle.first.specs.Parts.{core_of}
-use Rattle.first.specs.Store.{over, Serves}
+use Rattle.first.specs.Store.{over, ServesOn}
 use Rattle.first.proofs.Stories.{served_in_core}
 
 both_are : (asks : Option core.Event) (answers : Option core.Reply) (e : core.Event) (r : core.Reply) → asks ≡ Some e → answers ≡ Some r → (e, r) ∷ [] ≡ both asks answers
@@ -25,7 +25,7 @@ one_more : (made handed outbox new : List RecordValue) (more : List RecordValue)
 one_more made handed outbox new more split is = ap (λ (l : List RecordValue). l ++ more) split ∙ append_assoc handed outbox more ∙ ap (λ (l : List RecordValue). handed ++ l) (sym is)
 
 module _ {D M : Type 0} (history : D → History) (x : Event) (e : core.Event) (r : Reply M) (old new : Engine D M) (asks : asked x ≡ Some e) (in_core : ServesInCore e r old new) (quiet : (n : ℕ) → acknowledged n (r ∷ []) ≡ n) where
-  pub served : Serves history x r old new
+  pub served : ServesOn history x r old new
   served past is =
       served_in_core history past old new x r is (is.made ++ records_by is.state is.standing.made answer.step) (after_any is.state answer.step) (standing_after is.standing in_core.reply) in_core.rest
       (one_more is.made is.handed (core_of old).outbox (core_of new).outbox (records_by is.state is.standing.made answer.step) is.outbox answer.outbox)
@@ -36,7 +36,7 @@ module _ {D M : Type 0} (history : D → History) (x : Event) (e : core.Event) (
       answer : Answers (core_of old) is.state is.standing e in_core.reply (core_of new)
       answer = in_core.serves is.state is.standing is.shown
 
-      has : HasServed (over past.geometry past.given) (is.made ++ records_by is.state is.standing.made answer.step) (pairs_of past.events past.replies ++ both (asked x) (answered r)) (after_any is.state answer.step) (standing_after is.standing in_core.reply)
-      has = subst (λ (l : List (core.Event × core.Reply)). HasServed (over past.geometry past.given) (is.made ++ records_by is.state is.standing.made answer.step) (pairs_of past.events past.replies ++ l) (after_any is.state answer.step) (standing_after is.standing in_core.reply))
+      has : HasServed (over past.geometry past.given) (is.made ++ records_by is.state is.standing.made answer.step) (core_calls past.events past.replies ++ both (asked x) (answered r)) (after_any is.state answer.step) (standing_after is.standing in_core.reply)
+      has = subst (λ (l : List (core.Event × core.Reply)). HasServed (over past.geometry past.given) (is.made ++ records_by is.state is.standing.made answer.step) (core_calls past.events past.replies ++ l) (after_any is.state answer.step) (standing_after is.standing in_core.reply))
           (both_are (asked x) (answered r) e in_core.reply asks in_core.reply_is)
-          (served_allowed (over past.geometry past.given) is.opens is.made (pairs_of past.events past.replies) is.state is.standing is.served e in_core.reply answer.step answer.allowed)
+          (served_allowed (over past.geometry past.given) is.opens is.made (core_calls past.events past.replies) is.state is.standing is.served e in_core.reply answer.step answer.allowed)

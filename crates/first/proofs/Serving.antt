@@ -16,7 +16,7 @@ use Rattle.first.specs.declared.event.Reply.TheVariants as reply
 use Rattle.first.specs.History.{acknowledged, answered, asked}
 use Rattle.first.specs.Lawful.{IsAnswer, IsAnswerTo, IsFlushAnswer, IsInCore, IsInCoreBy, IsLawful, ServesInCore, is_read}
 use Rattle.first.specs.Parts.{core_of, is_read_only}
-use Rattle.first.specs.Store.{CanRun, IsSomewhere, Serves}
+use Rattle.first.specs.Store.{CanRun, IsSomewhere, ServesOn}
 use Rattle.first.proofs.Runs.{can_run_after, is_serving}
 use Rattle.first.proofs.Served.{served}
 
@@ -79,7 +79,7 @@ module _ {D M : Type 0} (history : D → History) (failures : D → ℕ) (x : Ev
   by_core (Some e) is in_core = (e, is, in_core)
 
   module _ (in_core : IsInCore x r old new) where
-    pub served_by_core : Serves history x r old new
+    pub served_by_core : ServesOn history x r old new
     served_by_core = let by = by_core (asked x) refl in_core in served history x by.0 r old new by.1 by.2 (quiet r by.2.reply by.2.reply_is)
 
     pub answered_by_core : IsAnswer failures x r old new
@@ -123,11 +123,11 @@ module _ {D M : Type 0} (history : D → History) (failures : D → ℕ) (x : Ev
   pub flush_somewhere : CanRun history old → IsSomewhere history mid
   flush_somewhere can = subst (IsSomewhere history) (sym same) (⊎_elim (λ only. absurd (false≢true (sym not_only ∙ only.mode))) (λ at. at) can)
 
-  pub flush_serves : Serves history event.Flush r mid new → Serves history x r old new
-  flush_serves serves = subst (λ e. Serves history e r old new) (sym is) (subst (λ e. Serves history event.Flush r e new) same serves)
+  pub flush_serves : ServesOn history event.Flush r mid new → ServesOn history x r old new
+  flush_serves serves = subst (λ e. ServesOn history e r old new) (sym is) (subst (λ e. ServesOn history event.Flush r e new) same serves)
 
   pub flush_lawful : IsFlushAnswer failures r mid new → IsLawful failures x r old new
   flush_lawful answer = inr (inl not_only, subst (λ e. IsAnswer failures e r old new) (sym is) (subst (λ e. IsFlushAnswer failures r e new) same answer))
 
-  pub flush_can_run : CanRun history old → Serves history event.Flush r mid new → CanRun history new
+  pub flush_can_run : CanRun history old → ServesOn history event.Flush r mid new → CanRun history new
   flush_can_run can serves = can_run_after history x r old new not_only can (flush_serves serves)

@@ -24,28 +24,28 @@ use Rattle.store_reader.proofs.Readings.{log_gives}
 use Rattle.first.specs.declared.event.Event.{Event}
 use Rattle.first.specs.declared.event.Reply.{Reply}
 use Rattle.first.specs.declared.engine.Engine.{Engine}
-use Rattle.first.specs.History.{acknowledged, answered, asked, both, pairs_of}
+use Rattle.first.specs.History.{acknowledged, answered, asked, both, core_calls}
 use Rattle.first.specs.Writer.{LeftBy, IsWriter}
 use Rattle.first.specs.Parts.{core_of}
-use Rattle.first.specs.Store.{Past, items_of, acknowledged_by, and_then, over, Survives, IsAt}
+use Rattle.first.specs.Store.{Past, items_told, acknowledged_by, and_then, over, Survives, IsAt}
 use Rattle.first.proofs.Told.{acknowledged_both, pairs_last}
 
 -- an image with a prefix of the records gives a beginning of the history
 pub survives : {M : Type 0} (past : Past M) (half : Half) (frame : Image) (made handed outbox : List RecordValue) (s : State) (k : Standing) (n floor : ℕ) (image : Image)
     → CanOpen (over past.geometry past.given) → IsStore past.geometry half frame → IsFresh past.geometry half frame → past.given ≡ nothing → made ≡ handed ++ outbox
-    → HasServed (over past.geometry past.given) made (pairs_of past.events past.replies) s k → floor ≤ past.given.last + n → LeftBy (log_area past.geometry half) frame handed n image → Survives past floor image
+    → HasServed (over past.geometry past.given) made (core_calls past.events past.replies) s k → floor ≤ past.given.last + n → LeftBy (log_area past.geometry half) frame handed n image → Survives past floor image
 survives past half frame made handed outbox s k n floor image can store fresh began split has reached left = record {
   given = given_after past.given read;
   gives = subst (λ (g : Given). Gives image past.geometry (given_after g read)) (sym began) gives;
-  beginning = lower_floor past.given (items_of past) (past.given.last + left.count) floor (given_after past.given read) crashed.0 (omega (arith, reached, left.floor));
+  beginning = lower_floor past.given (items_told past) (past.given.last + left.count) floor (given_after past.given read) crashed.0 (omega (arith, reached, left.floor));
   opens = crashed.1;
 }
   where
     read : List RecordValue
     read = take left.count handed
 
-    crashed : IsBeginning past.given (items_of past) (past.given.last + left.count) (given_after past.given read) × CanOpen (over past.geometry (given_after past.given read))
-    crashed = served_crashed (over past.geometry past.given) can made (pairs_of past.events past.replies) s k has handed outbox split left.count left.within
+    crashed : IsBeginning past.given (items_told past) (past.given.last + left.count) (given_after past.given read) × CanOpen (over past.geometry (given_after past.given read))
+    crashed = served_crashed (over past.geometry past.given) can made (core_calls past.events past.replies) s k has handed outbox split left.count left.within
 
     prefix : take left.count made ≡ read
     prefix = ap (take left.count) split ∙ take-append-le left.count handed outbox left.within
@@ -65,7 +65,7 @@ module _ {D M : Type 0} (history : D → History) (past : Past M) (old new : Eng
   later = and_then past (x ∷ []) (r ∷ [])
 
   abbrev pairs_now : List (core.Event × core.Reply)
-  pairs_now = pairs_of past.events past.replies ++ both (asked x) (answered r)
+  pairs_now = core_calls past.events past.replies ++ both (asked x) (answered r)
 
   -- what a request leaves, put together
   pub at_next : (made handed : List RecordValue) (s : State) (k : Standing) → made ≡ handed ++ (core_of new).outbox

@@ -9,7 +9,7 @@ use Rattle.sector_device.specs.Disk.{Image, Disk, IsSynced, SameOutside}
 use Rattle.sector_device.specs.History.{History, LeavesOnly}
 use Rattle.sector_device.proofs.Moments.{weaker, at_end}
 use Rattle.sector_device.proofs.Sectors.{crash_synced, same_outside_wider, same_outside_then}
-use Rattle.gate_log.specs.Area.{Area, Log, InArea, InSlot, IsInside, HoldsGroups, Stands, IsAppended, records_of}
+use Rattle.gate_log.specs.Area.{Area, Log, InArea, InSlot, IsAreaInside, HoldsGroups, Stands, IsAppended, records_of}
 use Rattle.first.specs.declared.writer.Writer.{Writer}
 use Rattle.first.specs.Writer.{LeftBy, StandsFor, IsWriter}
 
@@ -30,8 +30,8 @@ module _ {D M : Type 0} (history : D → History) (area : Area) (frame : Image) 
   pub all_synced : (n : ℕ) → InArea log.area n → disk.unsynced n ≡ false
   all_synced n inside = stood.synced n
 
-  pub has_room : IsInside log.area disk.content
-  has_room = subst (λ (a : Area). IsInside a disk.content) (sym is.area_is) is.inside
+  pub has_room : IsAreaInside log.area disk.content
+  has_room = subst (λ (a : Area). IsAreaInside a disk.content) (sym is.area_is) is.inside
 
   module _ (count : ℕ) (group : List RecordValue) (group_is : group ≡ take count old.waiting.items) (within : count ≤ length old.waiting.items) (room : old.log.open_slots ≢ old.log.area.slots) where
     below : old.log.open_slots < old.log.area.slots

@@ -86,14 +86,14 @@ pub record HasCome (v : CoreValue) : Type 0 where
   pub shown : IsState v state standing
 
 -- the visible entries are just the pairs of the rows
-abbrev pub IsWhole : CoreValue → Type 0
-IsWhole v = (pair : Pair) → (get v.index.entries pair ≡ Some Live) ↔ IsPairOf v.heap.rows pair
+abbrev pub IsIndexWhole : CoreValue → Type 0
+IsIndexWhole v = (pair : Pair) → (get v.index.entries pair ≡ Some Live) ↔ IsPairOf v.heap.rows pair
 
 -- With no transaction active, the rows are as they were, the index is complete, and the visible entries are just their pairs.
 pub record EndsWhole (old new : CoreValue) : Type 0 where
   pub rows : new.heap.rows ≡ old.heap.rows
   pub complete : new.life ≡ Complete
-  pub whole : IsWhole new
+  pub whole : IsIndexWhole new
 
 abbrev pub BuildsWhole : CoreValue → CoreValue → Type 0
 BuildsWhole old new = HasCome old → old.txns.active ≡ [] → EndsWhole old new

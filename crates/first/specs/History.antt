@@ -52,9 +52,9 @@ both (Some e) None = []
 both (Some e) (Some r) = (e, r) ∷ []
 
 -- each event of the core with its reply
-abbrev pub pairs_of : {M : Type 0} → List Event → List (Reply M) → List (core.Event × core.Reply)
-pairs_of (e ∷ events) (r ∷ replies) = both (asked e) (answered r) ++ pairs_of events replies
-pairs_of events replies = []
+abbrev pub core_calls : {M : Type 0} → List Event → List (Reply M) → List (core.Event × core.Reply)
+core_calls (e ∷ events) (r ∷ replies) = both (asked e) (answered r) ++ core_calls events replies
+core_calls events replies = []
 
 -- the greatest record number that a reply has told to be safe, or n
 abbrev pub acknowledged : {M : Type 0} → ℕ → List (Reply M) → ℕ

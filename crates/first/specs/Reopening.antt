@@ -15,7 +15,7 @@ use Rattle.first.specs.declared.event.Event.{Event}
 use Rattle.first.specs.declared.event.Reply.{Reply}
 use Rattle.first.specs.declared.engine.Engine.{Engine}
 use Rattle.first.specs.Parts.{core_of, device_of, horizon_of, has_failed, is_read_only}
-use Rattle.first.specs.Store.{Past, SurvivesAt, acknowledged_by, and_then, items_of, over, Survives, IsAt}
+use Rattle.first.specs.Store.{Past, SurvivesAt, acknowledged_by, and_then, items_told, over, Survives, IsAt}
 
 -- the core of what the image gives, whose log this is
 pub record IsCoreOf (image : Image) (log : Log) (core : CoreValue) : Type 0 where
@@ -58,7 +58,7 @@ pub record IsNotOpened {D : Type 0} (history : D → History) (failures : D → 
 -- holds is something that a core may begin with: as far as the index is built, it shows the pair of each row, and no other.
 pub record Recovers {D M : Type 0} (past : Past M) (floor : ℕ) (engine : Engine D M) : Type 0 where
   pub given : Given
-  pub beginning : IsBeginning past.given (items_of past) floor given
+  pub beginning : IsBeginning past.given (items_told past) floor given
   pub core : core_of engine ≡ holding past.geometry given
   pub opens : CanOpen (over past.geometry given)
 

@@ -18,7 +18,7 @@ use Rattle.store_reader.specs.Contents.{Gives, log_area}
 use Rattle.first.specs.declared.event.Event.{Event}
 use Rattle.first.specs.declared.event.Reply.{Reply}
 use Rattle.first.specs.declared.engine.Engine.{Engine}
-use Rattle.first.specs.History.{acknowledged, pairs_of}
+use Rattle.first.specs.History.{acknowledged, core_calls}
 use Rattle.first.specs.Writer.{IsWriter}
 use Rattle.first.specs.Lawful.{IsLawful}
 use Rattle.first.specs.Parts.{core_of, device_of, synced_of, is_read_only}
@@ -35,8 +35,8 @@ abbrev pub over : GeometryValue → Given → Opened
 over geometry given = record { given = given; pages = geometry.pages; places = geometry.entries }
 
 -- the history that the run's events and replies tell
-abbrev pub items_of : {M : Type 0} → Past M → List Item
-items_of past = told.items_of no_writes (pairs_of past.events past.replies)
+abbrev pub items_told : {M : Type 0} → Past M → List Item
+items_told past = told.items_of no_writes (core_calls past.events past.replies)
 
 abbrev pub acknowledged_by : {M : Type 0} → Past M → ℕ
 acknowledged_by past = acknowledged past.given.last past.replies
@@ -49,7 +49,7 @@ and_then past events replies = record past { events = past.events ++ events; rep
 pub record Survives {M : Type 0} (past : Past M) (floor : ℕ) (image : Image) : Type 0 where
   pub given : Given
   pub gives : Gives image past.geometry given
-  pub beginning : IsBeginning past.given (items_of past) floor given
+  pub beginning : IsBeginning past.given (items_told past) floor given
   pub opens : CanOpen (over past.geometry given)
 
 -- The engine is where this run leaves it.
@@ -63,7 +63,7 @@ pub record IsAt {D M : Type 0} (history : D → History) (past : Past M) (engine
   -- the core has replied so to these events, and shows the state and the standing after them
   pub state : State
   pub standing : Standing
-  pub served : HasServed (over past.geometry past.given) made (pairs_of past.events past.replies) state standing
+  pub served : HasServed (over past.geometry past.given) made (core_calls past.events past.replies) state standing
   pub shown : IsState (core_of engine) state standing
   -- the device held nothing but a fresh half as it was opened, and then what the writer wrote to that half's log
   pub half : Half
@@ -80,18 +80,18 @@ abbrev pub IsSomewhere : {D M : Type 0} → (D → History) → Engine D M → T
 IsSomewhere {D} {M} history engine = (past : Past M) × IsAt history past engine
 
 -- The engine only reads, since there were records as it was opened
-pub record OnlyReads {D M : Type 0} (engine : Engine D M) : Type 0 where
+pub record ServesReadsOnly {D M : Type 0} (engine : Engine D M) : Type 0 where
   pub mode : is_read_only engine ≡ true
   pub some : 0 < (core_of engine).last
 
 -- The engine is where some run leaves it, or only reads.
 abbrev pub CanRun : {D M : Type 0} → (D → History) → Engine D M → Type 0
-CanRun history engine = OnlyReads engine ⊎ IsSomewhere history engine
+CanRun history engine = ServesReadsOnly engine ⊎ IsSomewhere history engine
 
 -- One request was answered so: the engine is where it leaves it, and a crash at any moment of it leaves a prefix of
 -- the history with it, which holds what was acknowledged before.
-abbrev pub Serves : {D M : Type 0} → (D → History) → Event → Reply M → Engine D M → Engine D M → Type 0
-Serves {D} {M} history event reply old new = (past : Past M) → IsAt history past old
+abbrev pub ServesOn : {D M : Type 0} → (D → History) → Event → Reply M → Engine D M → Engine D M → Type 0
+ServesOn {D} {M} history event reply old new = (past : Past M) → IsAt history past old
     → IsAt history (and_then past (event ∷ []) (reply ∷ [])) new
     × LeavesOnly (history (device_of old)) (history (device_of new)) (Survives (and_then past (event ∷ []) (reply ∷ [])) (acknowledged_by past))
 

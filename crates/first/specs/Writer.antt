@@ -5,7 +5,7 @@ use Rattle.sector_device.specs.Disk.{Image, IsCrashImage, IsSynced, SameOutside}
 use Rattle.sector_device.specs.History.{History, Rises}
 use Rattle.records.specs.declared.error.Error.{Error}
 use Rattle.records.specs.declared.error.Error.TheVariants.{NoMemory, DeviceFailed}
-use Rattle.gate_log.specs.Area.{Area, InArea, IsInside, HoldsGroups, Stands, records_of}
+use Rattle.gate_log.specs.Area.{Area, InArea, IsAreaInside, HoldsGroups, Stands, records_of}
 use Rattle.gate_log.specs.Group.{spellings}
 use Rattle.gate_log.specs.declared.group.TheConstants.{GROUP_MAX}
 use Rattle.first.specs.declared.writer.Writer.{Writer}
@@ -37,7 +37,7 @@ pub record StandsFor {D M : Type 0} (history : D → History) (frame : Image) (r
 -- The records that were handed in are those in the log and those that wait; a crash now leaves a prefix of them that has the synced ones.
 pub record IsWriter {D M : Type 0} (history : D → History) (area : Area) (frame : Image) (handed : List RecordValue) (w : Writer D M) : Type 0 where
   pub area_is : w.log.area ≡ area
-  pub inside : IsInside area (history w.device).disk.content
+  pub inside : IsAreaInside area (history w.device).disk.content
   pub small : length handed < 2 ^ 63
   pub reached : w.synced ≤ length handed
   pub waits : w.waiting.items ≡ drop w.synced handed

@@ -1,7 +1,7 @@
 //! What the core is asked.
 ghost use Rattle.std.specs.Prelude.{◌≡◌, IfSome, IfNone};
 ghost use Rattle.core_contracts.specs.Events as events;
-ghost use Rattle.index_core.specs.Moves.{IsReadyOrNone, IsUnready, OwesNone, OwesOrNone, txn_of};
+ghost use Rattle.index_core.specs.Moves.{IsReadyOrNone, IsUnready, OwesNone, OwesOrNone, txn_shown};
 
 use crate::{Engine, Event, Reply};
 use index_core::Undone;
@@ -45,8 +45,8 @@ impl<D: Device, A: Allocator + Copy> Engine<D, A> {
 
     // Whether the transaction is active, and owes a step or is rolling back.
     fn is_unready(&self, txn: Txn) -> bool
-        ensures yes { IsTrue result → IsUnready (txn_of (core_of self.now) txn) }
-        ensures no { result ≡ false → IsReadyOrNone (txn_of (core_of self.now) txn) }
+        ensures yes { IsTrue result → IsUnready (txn_shown (core_of self.now) txn) }
+        ensures no { result ≡ false → IsReadyOrNone (txn_shown (core_of self.now) txn) }
     {
         self.core.is_active(txn) && !self.core.ready(txn)
     }
@@ -98,8 +98,8 @@ impl<D: Device, A: Allocator + Copy> Engine<D, A> {
 
     // Whether the transaction is active, and owes no step of a change.
     fn owes_none(&self, txn: Txn) -> bool
-        ensures yes { IsTrue result → OwesNone (txn_of (core_of self.now) txn) }
-        ensures no { result ≡ false → OwesOrNone (txn_of (core_of self.now) txn) }
+        ensures yes { IsTrue result → OwesNone (txn_shown (core_of self.now) txn) }
+        ensures no { result ≡ false → OwesOrNone (txn_shown (core_of self.now) txn) }
     {
         self.core.is_active(txn) && self.core.owes(txn).is_none()
     }

@@ -27,14 +27,14 @@ impl<D: Device, A: Allocator + Copy> Engine<D, A> {
     ghost use Rattle.first.specs.declared.event.Reply.TheVariants.{Horizon, Refused};
     ghost use Rattle.first.specs.Parts.{core_of, device_of, horizon_of, is_read_only};
     ghost use Rattle.first.specs.Lawful.{is_read, IsFlushAnswer, IsLawful, AreLawful};
-    ghost use Rattle.first.specs.Store.{CanRun, IsSomewhere, Serves, RunsOn, RunsLawfully, KeepsRun};
+    ghost use Rattle.first.specs.Store.{CanRun, IsSomewhere, ServesOn, RunsOn, RunsLawfully, KeepsRun};
     ghost use Rattle.first.specs.Reopening.{KeepsWholeRun, SurvivesAnyCrash};
 
     /// Serves one request. A crash at any moment of the call leaves a store that `restart` takes back to what was
     /// told by a prefix of the requests, and nothing that an earlier reply has told to be safe is lost (`serves`).
     pub fn serve(&mut self, event: Event) -> Reply<A>
         requires { CanRun D.history self.old }
-        ensures serves { Serves D.history event result self.old self.new }
+        ensures serves { ServesOn D.history event result self.old self.new }
         ensures lawful { IsLawful D.failures event result self.old self.new }
         ensures can_run { CanRun D.history self.new }
     {
@@ -100,7 +100,7 @@ impl<D: Device, A: Allocator + Copy> Engine<D, A> {
     // Hands the records over, and writes one group.
     fn flush(&mut self) -> Reply<A>
         requires { IsSomewhere D.history self.old }
-        ensures serves { Serves D.history Flush result self.old self.new }
+        ensures serves { ServesOn D.history Flush result self.old self.new }
         ensures answer { IsFlushAnswer D.failures result self.old self.new }
     {
         let last = self.core.last();

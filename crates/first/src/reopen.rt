@@ -3,7 +3,7 @@ ghost use Rattle.std.specs.Prelude.{◌≡◌, ◌⊎◌, List, OnOk, IfOk, IfEr
 ghost use Rattle.sector_device.specs.Disk.{IsSynced};
 ghost use Rattle.records.specs.GeometryValue.{GeometryValue};
 ghost use Rattle.model.specs.Given.{Given};
-ghost use Rattle.gate_log.specs.Area.{IsInside, Refuses};
+ghost use Rattle.gate_log.specs.Area.{IsAreaInside, Refuses};
 ghost use Rattle.store_reader.specs.Contents.{Gives, IsUnreadable};
 ghost use Rattle.index_core.specs.Value.{value_of};
 ghost use Rattle.first.specs.Store.{CanRun};
@@ -55,7 +55,7 @@ fn open_core<D: Device, A: Allocator + Copy>(
     device: &mut D,
 ) -> Result<(Core<A>, LogArea), Error>
     ensures found { IfOk result (λ r. IsCoreOf (D.history device.old).disk.content r.1 (value_of r.0)) }
-    ensures area { IfOk result (λ r. IsInside r.1.area (D.history device.old).disk.content) }
+    ensures area { IfOk result (λ r. IsAreaInside r.1.area (D.history device.old).disk.content) }
     ensures synced { OnOk result (IsSynced (D.history device.new).disk) }
     ensures only { OnlySyncs D.history device.old device.new }
     ensures refused { IfErr result (λ e. Refuses (D.failures device.old) (D.failures device.new) e ⊎ IsUnreadable (D.history device.old).disk.content e) }

@@ -9,7 +9,7 @@ use Rattle.sector_device.proofs.Sectors.{outside_synced, written_outside, crash_
 use Rattle.records.specs.GeometryValue.{GeometryValue}
 use Rattle.flip_image.specs.declared.half.Half.{Half}
 use Rattle.flip_image.specs.declared.half.Half.TheVariants.{A, B}
-use Rattle.flip_image.specs.Layout.{other, InHalf, InImage, InLog}
+use Rattle.flip_image.specs.Layout.{other, InHalf, InHalfImage, InLog}
 use Rattle.flip_image.specs.Store.{Names, IsSuperblock, IsStore, IsFlipping}
 
 -- ---- sectors
@@ -22,13 +22,13 @@ pub behind_front : (g : GeometryValue) (half : Half) (n : ℕ) → InHalf g half
 behind_front g A n inside = omega (arith, inside.0)
 behind_front g B n inside = omega (arith, inside.0)
 
-pub image_inside : (g : GeometryValue) (half : Half) (n : ℕ) → InImage g half n → InHalf g half n
+pub image_inside : (g : GeometryValue) (half : Half) (n : ℕ) → InHalfImage g half n → InHalf g half n
 image_inside g half n inside = (inside.0, omega (arith, inside.1))
 
 pub log_inside : (g : GeometryValue) (half : Half) (n : ℕ) → InLog g half n → InHalf g half n
 log_inside g half n inside = (omega (arith, inside.0), omega (arith, inside.1))
 
-pub parts_apart : (g : GeometryValue) (half : Half) (n : ℕ) → InImage g half n → ¬ InLog g half n
+pub parts_apart : (g : GeometryValue) (half : Half) (n : ℕ) → InHalfImage g half n → ¬ InLog g half n
 parts_apart g half n image log = omega (arith, image.1, log.0)
 
 -- ---- stores

@@ -43,8 +43,8 @@ abbrev pub InHalf : GeometryValue → Half → ℕ → Type 0
 InHalf g half n = (header_sector g half ≤ n) × (n < header_sector g half + half_sectors_of g)
 
 -- a sector of the half's image
-abbrev pub InImage : GeometryValue → Half → ℕ → Type 0
-InImage g half n = (header_sector g half ≤ n) × (n < log_first g half)
+abbrev pub InHalfImage : GeometryValue → Half → ℕ → Type 0
+InHalfImage g half n = (header_sector g half ≤ n) × (n < log_first g half)
 
 -- a sector of the log
 abbrev pub InLog : GeometryValue → Half → ℕ → Type 0

@@ -4,7 +4,7 @@ ghost use Rattle.sector_device.specs.Disk.{sector, IsSynced, SameOutside};
 ghost use Rattle.sector_device.specs.History.{OnlyReads, LeavesOnly, CountsFailure};
 ghost use Rattle.sector_device.specs.Values.{zero_sector};
 ghost use Rattle.records.specs.GeometryValue.{GeometryValue, IsGeometry, sectors_of};
-ghost use Rattle.image_half.specs.Image.{nothing};
+ghost use Rattle.image_half.specs.Image.{no_cells};
 ghost use Rattle.image_half.specs.Damage.{IsUnread};
 ghost use Rattle.flip_image.specs.Layout.{other, header_sector, log_first};
 ghost use Rattle.flip_image.specs.Store.{Names, IsFlipping, IsSuperblock, IsStore, IsFresh, HoldsImage, IsFormatted, AreGatesClosed, AreLogGatesZero, IsFormatSector, IsRefused, IsFirstUsed, AreZeros, IsDeviceFailure, IsUntitled, IsSuperblockDamaged};
@@ -125,7 +125,7 @@ impl Halves {
         device: &mut D,
         sink: &mut S,
     ) -> Result<u64, Error>
-        requires empty { S.cells sink.old ≡ nothing }
+        requires empty { S.cells sink.old ≡ no_cells }
         requires inside { sectors_of self.now.geometry ≤ length (D.history device.old).disk.content }
         ensures read { IfOk result (λ base. HoldsImage self.now.geometry self.now.current (D.history device.old).disk.content base (S.cells sink.new)) }
         ensures refused { IfErr result (IsUnread self.now.geometry (header_sector self.now.geometry self.now.current) (D.history device.old).disk.content (D.failures device.old) (D.failures device.new)) }
@@ -199,7 +199,7 @@ fn read_half<D: Device, S: CellSink, A: Allocator + Copy>(
     half: Half,
     sink: &mut S,
 ) -> Result<u64, Error>
-    requires empty { S.cells sink.old ≡ nothing }
+    requires empty { S.cells sink.old ≡ no_cells }
     requires inside { sectors_of geometry ≤ length (D.history device.old).disk.content }
     ensures read { IfOk result (λ base. HoldsImage geometry half (D.history device.old).disk.content base (S.cells sink.new)) }
     ensures refused { IfErr result (IsUnread geometry (header_sector geometry half) (D.history device.old).disk.content (D.failures device.old) (D.failures device.new)) }

@@ -6,7 +6,7 @@ ghost use Rattle.records.specs.declared.geometry.TheConstants.{FRONT_SECTORS};
 ghost use Rattle.records.specs.GeometryValue.{GeometryValue};
 ghost use Rattle.flip_image.specs.declared.half.Half.{Half};
 ghost use Rattle.flip_image.specs.declared.half.Half.TheVariants.{A};
-ghost use Rattle.flip_image.specs.Layout.{other, InHalf, InImage, InLog};
+ghost use Rattle.flip_image.specs.Layout.{other, InHalf, InHalfImage, InLog};
 ghost use Rattle.flip_image.specs.declared.half.TheConstants.{FLIP_SECTOR};
 ghost use Rattle.flip_image.specs.Store.{IsStore, IsFresh, IsFormatted, IsRefused, IsFirstUsed};
 
@@ -47,7 +47,7 @@ pub fn store_in_front()
 pub fn halves_apart()
     ensures other { (g : GeometryValue) (half : Half) (n : ℕ) → InHalf g half n → ¬ InHalf g (other half) n }
     ensures front { (g : GeometryValue) (half : Half) (n : ℕ) → InHalf g half n → FRONT_SECTORS ≤ n }
-    ensures image { (g : GeometryValue) (half : Half) (n : ℕ) → InImage g half n → InHalf g half n }
+    ensures image { (g : GeometryValue) (half : Half) (n : ℕ) → InHalfImage g half n → InHalf g half n }
     ensures log { (g : GeometryValue) (half : Half) (n : ℕ) → InLog g half n → InHalf g half n }
-    ensures parts { (g : GeometryValue) (half : Half) (n : ℕ) → InImage g half n → ¬ InLog g half n }
+    ensures parts { (g : GeometryValue) (half : Half) (n : ℕ) → InHalfImage g half n → ¬ InLog g half n }
 {}

@@ -10,7 +10,7 @@ use Rattle.sector_device.proofs.KnownSectors.{zero_not_marked}
 use Rattle.records.specs.RecordValue.{RecordValue}
 use Rattle.gate_log.specs.Group.{IsGroup}
 use Rattle.gate_log.proofs.Groups.{one_group}
-use Rattle.gate_log.specs.Area.{Area, gate, body, InArea, IsOpen, AreGatesZero, HoldsGroups, records_of, IsDamaged, IsFirstDamaged}
+use Rattle.gate_log.specs.Area.{Area, gate, body, InArea, IsOpen, AreGatesZero, HoldsGroups, records_of, IsDamaged, IsFirstDamagedSlot}
 
 -- two images have the same sectors in a slot
 abbrev SameSlot : Area → Image → Image → ℕ → Type 0
@@ -129,7 +129,7 @@ undamaged first slot slots image groups held i lt damaged = ⊎_elim
     (cases_lt i (length groups))
 
 -- the first damaged slot
-pub first_damaged : (first slot slots : ℕ) (image : Image) (groups : List (List RecordValue)) → slot < slots → HoldsGroups (record { first = first; slots = slot }) image groups → IsDamaged (record { first = first; slots = slots }) image slot → IsFirstDamaged (record { first = first; slots = slots }) image (first + 8 * slot)
+pub first_damaged : (first slot slots : ℕ) (image : Image) (groups : List (List RecordValue)) → slot < slots → HoldsGroups (record { first = first; slots = slot }) image groups → IsDamaged (record { first = first; slots = slots }) image slot → IsFirstDamagedSlot (record { first = first; slots = slots }) image (first + 8 * slot)
 first_damaged first slot slots image groups inside held damaged = record { slot = slot; inside = inside; gate-is = refl; damaged = damaged; before = undamaged first slot slots image groups held }
 
 pub none_here : {T : Type 0} (o : Option T) (P : Type 0) (Q : T → Type 0) → o ≡ None → MatchOption o P Q → P
@@ -156,10 +156,10 @@ one_reading area image a b p q =
     let long = one_list area image a b p q in
     ext_get_or [] a b long (λ i lt. one_group (slice_index_or a i []) (slice_index_or b i []) (body image (gate area i)) (p.opened i lt).1 (q.opened i (omega (arith, lt, long))).1)
 
-pub not_damaged : (area : Area) (image : Image) (sector : ℕ) (groups : List (List RecordValue)) → IsFirstDamaged area image sector → ¬ HoldsGroups area image groups
+pub not_damaged : (area : Area) (image : Image) (sector : ℕ) (groups : List (List RecordValue)) → IsFirstDamagedSlot area image sector → ¬ HoldsGroups area image groups
 not_damaged area image sector groups first held = undamaged area.first area.slots area.slots image groups held first.slot first.inside first.damaged
 
-pub one_damage : (area : Area) (image : Image) (a b : ℕ) → IsFirstDamaged area image a → IsFirstDamaged area image b → a ≡ b
+pub one_damage : (area : Area) (image : Image) (a b : ℕ) → IsFirstDamagedSlot area image a → IsFirstDamagedSlot area image b → a ≡ b
 one_damage area image a b p q = p.gate-is ∙ ap (gate area) same ∙ sym q.gate-is
   where
     same : p.slot ≡ q.slot

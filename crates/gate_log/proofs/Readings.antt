@@ -2,7 +2,7 @@
 use Rattle.std.proofs.Common.{◌≡◌, ℕ, List, [], ◌∷◌, ◌++◌, length, ◌∙◌, ap, refl, sym, append_assoc, append-nil}
 use Rattle.sector_device.specs.Disk.{Image, sector}
 use Rattle.records.specs.RecordValue.{RecordValue}
-use Rattle.gate_log.specs.Area.{Area, Log, InArea, records_of, HoldsGroups, Stands, IsFirstDamaged}
+use Rattle.gate_log.specs.Area.{Area, Log, InArea, records_of, HoldsGroups, Stands, IsFirstDamagedSlot}
 use Rattle.gate_log.proofs.Areas as areas
 
 -- an image holds one list of groups at most
@@ -10,11 +10,11 @@ pub one_reading : (area : Area) (image : Image) (a b : List (List RecordValue)) 
 one_reading = areas.one_reading
 
 -- it is damaged first at one sector at most
-pub one_damage : (area : Area) (image : Image) (a b : ℕ) → IsFirstDamaged area image a → IsFirstDamaged area image b → a ≡ b
+pub one_damage : (area : Area) (image : Image) (a b : ℕ) → IsFirstDamagedSlot area image a → IsFirstDamagedSlot area image b → a ≡ b
 one_damage = areas.one_damage
 
 -- where it is damaged it holds no groups
-pub not_damaged : (area : Area) (image : Image) (sector : ℕ) (groups : List (List RecordValue)) → IsFirstDamaged area image sector → ¬ HoldsGroups area image groups
+pub not_damaged : (area : Area) (image : Image) (sector : ℕ) (groups : List (List RecordValue)) → IsFirstDamagedSlot area image sector → ¬ HoldsGroups area image groups
 not_damaged = areas.not_damaged
 
 -- a log that stands for some groups stands for any that its area holds

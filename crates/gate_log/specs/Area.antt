@@ -39,8 +39,8 @@ abbrev pub IsGate : Area → ℕ → Type 0
 IsGate area n = (slot : ℕ) × (slot < area.slots) × (n ≡ gate area slot)
 
 -- the image has every sector of the area
-abbrev pub IsInside : Area → Image → Type 0
-IsInside area image = area.first + SLOT_SECTORS * area.slots ≤ length image
+abbrev pub IsAreaInside : Area → Image → Type 0
+IsAreaInside area image = area.first + SLOT_SECTORS * area.slots ≤ length image
 
 -- ---- groups
 
@@ -93,7 +93,7 @@ IsDamaged area image slot =
     × (((earlier : ℕ) × (earlier < slot) × (¬ IsOpen image (gate area earlier))) ⊎ ((records : List RecordValue) → ¬ IsGroup records (body image (gate area slot))))
 
 -- the gate of the first slot that can't be
-pub record IsFirstDamaged (area : Area) (image : Image) (sector : ℕ) : Type 0 where
+pub record IsFirstDamagedSlot (area : Area) (image : Image) (sector : ℕ) : Type 0 where
   pub slot : ℕ
   pub inside : slot < area.slots
   pub gate-is : sector ≡ gate area slot

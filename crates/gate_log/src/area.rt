@@ -5,7 +5,7 @@ ghost use Rattle.sector_device.specs.History.{RunsWithin, OnlyReads, LeavesOnly,
 ghost use Rattle.sector_device.specs.Values.{marked_sector};
 ghost use Rattle.records.specs.RecordValue.{RecordValue};
 ghost use Rattle.gate_log.specs.Group.{FitsGroup, IsGroup, IsSpelledGroup};
-ghost use Rattle.gate_log.specs.Area.{gate, InArea, InSlot, IsGate, IsInside, AreGatesZero, HoldsGroups, Stands, records_of, IsGateOf, IsAppended, IsFirstDamaged, Refuses};
+ghost use Rattle.gate_log.specs.Area.{gate, InArea, InSlot, IsGate, IsAreaInside, AreGatesZero, HoldsGroups, Stands, records_of, IsGateOf, IsAppended, IsFirstDamagedSlot, Refuses};
 
 use crate::group::spell;
 use crate::slot::{is_open, read_group, write_group};
@@ -77,7 +77,7 @@ impl LogArea {
         records: &[Record],
     ) -> Result<Appended, Error>
         requires fits { FitsGroup records.now }
-        requires inside { IsInside self.old.area (D.history device.old).disk.content }
+        requires inside { IsAreaInside self.old.area (D.history device.old).disk.content }
         requires synced { (n : ℕ) → InArea self.old.area n → (D.history device.old).disk.unsynced n ≡ false }
 
         // The groups are those that the log stands for at the call.
@@ -119,7 +119,7 @@ impl LogArea {
         body: &[u8],
     ) -> Result<Appended, Error>
         requires spelled { IsSpelledGroup body.now }
-        requires inside { IsInside self.old.area (D.history device.old).disk.content }
+        requires inside { IsAreaInside self.old.area (D.history device.old).disk.content }
         requires synced { (n : ℕ) → InArea self.old.area n → (D.history device.old).disk.unsynced n ≡ false }
 
         // The records are those that the body spells.
@@ -167,14 +167,14 @@ impl LogArea {
         alloc: A,
         device: &mut D,
     ) -> Result<Vec<Record, A>, Error>
-        requires inside { IsInside self.old.area (D.history device.old).disk.content }
+        requires inside { IsAreaInside self.old.area (D.history device.old).disk.content }
 
         // These are the only groups, by the law `one_reading`, and where there are such no sector is damaged.
         ensures read { IfOk result (λ records. (groups : List (List RecordValue))
             × Stands self.new (D.history device.old).disk.content groups
             × (records.items ≡ records_of groups)) }
         ensures refused { IfErr result (λ e. Refuses (D.failures device.old) (D.failures device.new) e
-            ⊎ ((sector : ℕ) × (e ≡ Error.Damaged sector) × IsFirstDamaged self.old.area (D.history device.old).disk.content sector)) }
+            ⊎ ((sector : ℕ) × (e ≡ Error.Damaged sector) × IsFirstDamagedSlot self.old.area (D.history device.old).disk.content sector)) }
         ensures area { self.new.area ≡ self.old.area }
         ensures err { OnErr result (self.new ≡ self.old) }
         ensures reads { OnlyReads (D.history device.old) (D.history device.new) }
@@ -195,7 +195,7 @@ impl LogArea {
         device: &mut D,
         index: usize,
     ) -> Result<Option<u64>, Error>
-        requires inside { IsInside self.now.area (D.history device.old).disk.content }
+        requires inside { IsAreaInside self.now.area (D.history device.old).disk.content }
         ensures found { IfOk result (λ found. (groups : List (List RecordValue))
             → Stands self.now (D.history device.old).disk.content groups
             → MatchOption found (length (records_of groups) ≤ index) (IsGateOf self.now.area groups index)) }
@@ -209,7 +209,7 @@ impl LogArea {
 
     /// Closes every gate, by a sector of zeros, and syncs. Until then the area may hold anything, and after `DeviceFailed` it may too.
     pub fn clear<D: Device>(&mut self, device: &mut D) -> Result<(), Error>
-        requires inside { IsInside self.old.area (D.history device.old).disk.content }
+        requires inside { IsAreaInside self.old.area (D.history device.old).disk.content }
         ensures cleared { OnOk result (Stands self.new (D.history device.new).disk.content []) }
         ensures zeros { OnOk result (AreGatesZero self.old.area (D.history device.new).disk.content) }
         ensures synced { OnOk result (IsSynced (D.history device.new).disk) }
@@ -251,7 +251,7 @@ fn read_slots<D: Device, A: Allocator + Copy>(
         × HoldsGroups (record { first = first; slots = slots }) (D.history device.old).disk.content groups
         × (found.1 ≡ length groups) × (found.0.items ≡ records_of groups)) }
     ensures refused { IfErr result (λ e. Refuses (D.failures device.old) (D.failures device.new) e
-        ⊎ ((sector : ℕ) × (e ≡ Error.Damaged sector) × IsFirstDamaged (record { first = first; slots = slots }) (D.history device.old).disk.content sector)) }
+        ⊎ ((sector : ℕ) × (e ≡ Error.Damaged sector) × IsFirstDamagedSlot (record { first = first; slots = slots }) (D.history device.old).disk.content sector)) }
     ensures reads { OnlyReads (D.history device.old) (D.history device.new) }
     ensures quiet { OnOk result (D.failures device.new ≡ D.failures device.old) }
     ensures later { D.failures device.old ≤ D.failures device.new }

@@ -2,14 +2,14 @@
 ghost use Rattle.std.specs.Prelude.{◌≡◌, ◌++◌, ◌∷◌, [], ℕ, List, length};
 ghost use Rattle.sector_device.specs.Disk.{Image, sector};
 ghost use Rattle.records.specs.RecordValue.{RecordValue};
-ghost use Rattle.gate_log.specs.Area.{Area, InArea, HoldsGroups, IsFirstDamaged, records_of};
+ghost use Rattle.gate_log.specs.Area.{Area, InArea, HoldsGroups, IsFirstDamagedSlot, records_of};
 
 /// A law: an image has one reading at most. It holds one list of groups, or it is damaged first at one sector, and
 /// never both.
 pub fn one_reading()
     ensures groups { (area : Area) (image : Image) (a b : List (List RecordValue)) → HoldsGroups area image a → HoldsGroups area image b → a ≡ b }
-    ensures sector { (area : Area) (image : Image) (a b : ℕ) → IsFirstDamaged area image a → IsFirstDamaged area image b → a ≡ b }
-    ensures either { (area : Area) (image : Image) (sector : ℕ) (groups : List (List RecordValue)) → IsFirstDamaged area image sector → ¬ HoldsGroups area image groups }
+    ensures sector { (area : Area) (image : Image) (a b : ℕ) → IsFirstDamagedSlot area image a → IsFirstDamagedSlot area image b → a ≡ b }
+    ensures either { (area : Area) (image : Image) (sector : ℕ) (groups : List (List RecordValue)) → IsFirstDamagedSlot area image sector → ¬ HoldsGroups area image groups }
 {}
 
 /// A law: which groups an image holds, its sectors in the area tell.

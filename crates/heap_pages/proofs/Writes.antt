@@ -10,7 +10,7 @@ use Rattle.records.specs.declared.rid.TheConstants.{SLOTS_PER_PAGE}
 use Rattle.records.specs.declared.row.Row.{Row}
 use Rattle.records.specs.Orders.{rid_cmp}
 use Rattle.records.specs.Maps.{rid_exact, set_at, get-set_at, alike}
-use Rattle.heap_pages.specs.Pages.{HeapValue, rows_of, IsInside}
+use Rattle.heap_pages.specs.Pages.{HeapValue, rows_of, IsPlaceInside}
 use Rattle.heap_pages.specs.Slots.{Slots, slots_of}
 use Rattle.heap_pages.proofs.RidOrder.{tied, untied}
 use Rattle.heap_pages.proofs.SlotLists.{cell, length-slots_of, slots_of-set, get-slots_of, page_slots, no_page_slots}
@@ -109,7 +109,7 @@ row_missing pages h n s r is rid page =
     ∙ ap (option_and_then (λ slots. cell slots s)) page
 
 -- each row is at a place of the heap
-row_inside : (pages : List (List (Option Row))) (h : HeapValue) (r : Place) → value_of pages ≡ h → AreWhole pages → IsSome (map_of.get h.rows r) → IsInside h r
+row_inside : (pages : List (List (Option Row))) (h : HeapValue) (r : Place) → value_of pages ≡ h → AreWhole pages → IsSome (map_of.get h.rows r) → IsPlaceInside h r
 row_inside pages h r is whole some =
     let found : IsSome (row_at pages r) = subst IsSome ((λ i. map_of.get ((sym is i).rows) r) ∙ get-rows_of pages r) some in
     let both = inside pages r.page r.slot whole found in
@@ -135,5 +135,5 @@ row_of_page pages h n s r page is rid here within =
 pub no_row_there : (pages : List Slots) (h : HeapValue) (n s : ℕ) (r : Place) → shown_of pages ≡ h → at n s ≡ r → slice_get pages n ≡ None → map_of.get h.rows r ≡ None
 no_row_there pages h n s r is rid here = row_missing (map slots_of pages) h n s r (by_slots pages h is) rid (no_page_slots pages n here)
 
-pub rows_inside : (pages : List Slots) (h : HeapValue) (r : Place) → shown_of pages ≡ h → IsSome (map_of.get h.rows r) → IsInside h r
+pub rows_inside : (pages : List Slots) (h : HeapValue) (r : Place) → shown_of pages ≡ h → IsSome (map_of.get h.rows r) → IsPlaceInside h r
 rows_inside pages h r is some = row_inside (map slots_of pages) h r (by_slots pages h is) (AreWhole-slots_of pages) some

@@ -22,12 +22,12 @@ abbrev pub coded_heap : Coded HeapValue
 coded_heap = code_by (ℕ × Rows) (coded× coded_ℕ (code coded_rid coded_row)) (λ h. (h.pages, h.rows)) (λ p. record { pages = p.0; rows = p.1 }) (λ _. refl)
 
 -- the place is one of the heap's
-abbrev pub IsInside : HeapValue → Place → Type 0
-IsInside h r = (r.page < h.pages) × (r.slot < SLOTS_PER_PAGE)
+abbrev pub IsPlaceInside : HeapValue → Place → Type 0
+IsPlaceInside h r = (r.page < h.pages) × (r.slot < SLOTS_PER_PAGE)
 
 -- a place of the heap that is empty and not among the held ones
 pub record IsEmptyAndUnheld (h : HeapValue) (held : List Place) (r : Place) : Type 0 where
-  pub inside : IsInside h r
+  pub inside : IsPlaceInside h r
   pub empty : get h.rows r ≡ None
   pub not_held : ¬ Contains held r
 

@@ -7,7 +7,7 @@ ghost use Rattle.records.specs.Values.{Place};
 ghost use Rattle.records.specs.Orders.{rid_cmp};
 ghost use Rattle.records.specs.Maps.{set_at};
 ghost use Rattle.records.specs.declared.pair.Pair.{Pair};
-ghost use Rattle.heap_pages.specs.Pages.{IsInside, IsEmptyAndUnheld, IsPairOnPage, page_rows, pairs_of};
+ghost use Rattle.heap_pages.specs.Pages.{IsPlaceInside, IsEmptyAndUnheld, IsPairOnPage, page_rows, pairs_of};
 
 use crate::page::{HeapPage, held_slots};
 use records::{Error, Pair, Rid, Row, SLOTS_PER_PAGE};
@@ -59,7 +59,7 @@ impl<A: Allocator + Copy> Heap<A> {
     /// How many pages there are.
     pub fn pages(&self) -> u32
         ensures number { result ≡ self.now.pages }
-        ensures rows_inside { (r : Place) → IsSome (get self.now.rows r) → IsInside self.now r }
+        ensures rows_inside { (r : Place) → IsSome (get self.now.rows r) → IsPlaceInside self.now r }
     {
         self.pages.len() as u32
     }
@@ -67,7 +67,7 @@ impl<A: Allocator + Copy> Heap<A> {
     /// The row at the place: none where it is empty, or on a page that the heap does not have.
     pub fn get(&self, rid: Rid) -> Option<Row>
         ensures row { result ≡ get self.now.rows rid }
-        ensures inside { IsSome result → IsInside self.now rid }
+        ensures inside { IsSome result → IsPlaceInside self.now rid }
     {
         match self.pages.get(rid.page as usize) {
             Some(page) => page.get(rid.slot),

@@ -11,14 +11,14 @@ use Rattle.image_parts.specs.declared.head.Head.{Head}
 use Rattle.image_parts.specs.declared.header.Header.{Header}
 use Rattle.image_half.specs.Layout.{heads_at}
 use Rattle.image_half.specs.Image.{IsHeader, AreHeads, IsImage, header_of}
-use Rattle.image_half.specs.Damage.{AnItem, APage, AnEntry, TheHeader, TheHeads, IsSound, Refuses, IsUnread, sector_of}
+use Rattle.image_half.specs.Damage.{AnItem, APage, AnEntry, TheHeader, TheHeads, IsSound, IsHindered, IsUnread, sector_of}
 use Rattle.records.specs.declared.error.Error.TheVariants.{Damaged}
 use Rattle.image_half.specs.Steps.{HoldsLists, HoldsPages, HoldsEntries, IsItemRefused, AreListsRefused, IsPageRefused, ArePagesRefused, AreEntriesRefused}
 use Rattle.image_half.proofs.Sound.{items_sound, pages_sound, header_first, heads_first, items_first, pages_first, entries_first}
 use Rattle.image_half.proofs.Growing.{slice_get-take}
 
 -- a refusal after calls that did not fail
-pub refuses_later : (a b c : ℕ) (e : Error) → b ≡ a → Refuses b c e → Refuses a c e
+pub refuses_later : (a b c : ℕ) (e : Error) → b ≡ a → IsHindered b c e → IsHindered a c e
 refuses_later a b c e same (inl memory) = inl memory
 refuses_later a b c e same (inr failed) = inr (failed.0, subst (λ (n : ℕ). Rises n c) same failed.1)
 
@@ -49,12 +49,12 @@ module _ (g : GeometryValue) (first : ℕ) (image now : Image) (a b c : ℕ) (e 
 
   -- ---- the whole image
 
-  pub header_unread : Refuses b c e ⊎ ((e ≡ Damaged first) × (¬ IsSound g first now TheHeader)) → IsUnread g first image a c e
+  pub header_unread : IsHindered b c e ⊎ ((e ≡ Damaged first) × (¬ IsSound g first now TheHeader)) → IsUnread g first image a c e
   header_unread (inl refused) = inl (refuses_later a b c e quiet refused)
   header_unread (inr (is, unsound)) = inr (first, is, header_first g first image (λ sound. unsound (subst (λ (x : Image). IsSound g first x TheHeader) (sym same) sound)))
 
   module _ (header : Header) (is_header : IsHeader g (sector image first) header) where
-    pub heads_unread : Refuses b c e ⊎ ((e ≡ Damaged (heads_at first)) × (¬ IsSound g first now TheHeads)) → IsUnread g first image a c e
+    pub heads_unread : IsHindered b c e ⊎ ((e ≡ Damaged (heads_at first)) × (¬ IsSound g first now TheHeads)) → IsUnread g first image a c e
     heads_unread (inl refused) = inl (refuses_later a b c e quiet refused)
     heads_unread (inr (is, unsound)) = inr (heads_at first, is, heads_first g first image header is_header (λ sound. unsound (subst (λ (x : Image). IsSound g first x TheHeads) (sym same) sound)))
 

@@ -71,9 +71,9 @@ pub record IsFirstDamaged (g : GeometryValue) (first : ℕ) (image : Image) (n :
   pub before : (earlier : ℕ) → earlier < n → ¬ IsDamagedAt g first image earlier
 
 -- there was no memory, or the device failed
-abbrev pub Refuses : ℕ → ℕ → Error → Type 0
-Refuses before now e = (e ≡ NoMemory) ⊎ ((e ≡ DeviceFailed) × Rises before now)
+abbrev pub IsHindered : ℕ → ℕ → Error → Type 0
+IsHindered before now e = (e ≡ NoMemory) ⊎ ((e ≡ DeviceFailed) × Rises before now)
 
 -- why no image was read: the image is damaged, or there was no memory, or the device failed
 abbrev pub IsUnread : GeometryValue → ℕ → Image → ℕ → ℕ → Error → Type 0
-IsUnread g first image before now e = Refuses before now e ⊎ ((n : ℕ) × (e ≡ Damaged n) × IsFirstDamaged g first image n)
+IsUnread g first image before now e = IsHindered before now e ⊎ ((n : ℕ) × (e ≡ Damaged n) × IsFirstDamaged g first image n)

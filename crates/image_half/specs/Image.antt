@@ -102,5 +102,5 @@ pub record IsImage (g : GeometryValue) (first : ℕ) (image : Image) (base : ℕ
   pub entries : (i : ℕ) (e : Pair × Mark) → slice_get (finite.entries cells.entries) i ≡ Some e → IsEntry g (entry_bytes g image first i) e
 
 -- no row, no entry, no transaction and no index
-abbrev pub nothing : Cells
-nothing = record { rows = finite.empty; entries = finite.empty; pending = finite.empty; life = Absent }
+abbrev pub no_cells : Cells
+no_cells = record { rows = finite.empty; entries = finite.empty; pending = finite.empty; life = Absent }

@@ -20,7 +20,7 @@ use Rattle.records.specs.Spelling.{PairFits}
 use Rattle.image_parts.specs.Spelling.{entry, head, item, HeadFits, ItemFits}
 use Rattle.image_half.specs.Layout.{cut}
 use Rattle.image_half.specs.Image.{HoldsList, IsRow, IsEntry, row_bytes, entry_bytes, head_of}
-use Rattle.image_half.specs.Damage.{AnItem, APage, AnEntry, sector_of, IsSound, Refuses}
+use Rattle.image_half.specs.Damage.{AnItem, APage, AnEntry, sector_of, IsSound, IsHindered}
 
 -- the head may stand at index k behind these: each of those before it is used, and the last one has a lesser number
 pub record IsNextHead (heads : List Head) (k : ℕ) (h : Head) : Type 0 where
@@ -74,22 +74,22 @@ IsLastPair entries n (Some pair) = (m : ℕ) × (e : Pair × Mark) × (n ≡ m +
 -- Why a step of reading was refused: there was no memory, or the device failed, or the part is the first of its kind that
 -- says nothing.
 abbrev pub IsItemRefused : GeometryValue → ℕ → Image → (h count before now : ℕ) → Error → Type 0
-IsItemRefused g first image h count before now e = Refuses before now e
+IsItemRefused g first image h count before now e = IsHindered before now e
     ⊎ ((p : ℕ) × (p < count) × (e ≡ Damaged (sector_of g first (AnItem h p))) × (¬ IsSound g first image (AnItem h p)) × ((q : ℕ) → q < p → IsSound g first image (AnItem h q)))
 
 abbrev pub AreListsRefused : GeometryValue → ℕ → Image → List Head → (before now : ℕ) → Error → Type 0
-AreListsRefused g first image heads before now e = Refuses before now e
+AreListsRefused g first image heads before now e = IsHindered before now e
     ⊎ ((h : ℕ) × (p : ℕ) × (x : Head) × (slice_get heads h ≡ Some x) × (p < x.changes) × (e ≡ Damaged (sector_of g first (AnItem h p))) × (¬ IsSound g first image (AnItem h p))
     × ((q : ℕ) → q < p → IsSound g first image (AnItem h q)) × ((k q : ℕ) (y : Head) → k < h → slice_get heads k ≡ Some y → q < y.changes → IsSound g first image (AnItem k q)))
 
 abbrev pub IsPageRefused : GeometryValue → ℕ → Image → (page before now : ℕ) → Error → Type 0
-IsPageRefused g first image page before now e = Refuses before now e
+IsPageRefused g first image page before now e = IsHindered before now e
     ⊎ ((e ≡ Damaged (sector_of g first (APage page))) × (¬ IsSound g first image (APage page)))
 
 abbrev pub ArePagesRefused : GeometryValue → ℕ → Image → (before now : ℕ) → Error → Type 0
-ArePagesRefused g first image before now e = Refuses before now e
+ArePagesRefused g first image before now e = IsHindered before now e
     ⊎ ((page : ℕ) × (page < g.pages) × (e ≡ Damaged (sector_of g first (APage page))) × (¬ IsSound g first image (APage page)) × ((earlier : ℕ) → earlier < page → IsSound g first image (APage earlier)))
 
 abbrev pub AreEntriesRefused : GeometryValue → ℕ → Image → (count before now : ℕ) → Error → Type 0
-AreEntriesRefused g first image count before now e = Refuses before now e
+AreEntriesRefused g first image count before now e = IsHindered before now e
     ⊎ ((i : ℕ) × (i < count) × (e ≡ Damaged (sector_of g first (AnEntry i))) × (¬ IsSound g first image (AnEntry i)) × ((j : ℕ) → j < i → IsSound g first image (AnEntry j)))

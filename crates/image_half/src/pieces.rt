@@ -3,7 +3,7 @@ ghost use Rattle.std.specs.Prelude.{◌≡◌, ℕ, ◌+◌, ◌*◌, ◌/◌, �
 ghost use Rattle.sector_device.specs.Disk.{sector};
 ghost use Rattle.sector_device.specs.History.{OnlyReads};
 ghost use Rattle.image_half.specs.Layout.{cut};
-ghost use Rattle.image_half.specs.Damage.{Refuses};
+ghost use Rattle.image_half.specs.Damage.{IsHindered};
 
 use records::Error;
 use sector_device::{Device, SECTOR_SIZE};
@@ -22,7 +22,7 @@ pub(crate) fn load<D: Device>(
     requires number { at + i / to_a_sector < 2 ^ 64 }
     requires held { 0 < i % to_a_sector → buffer.old ≡ sector (D.history device.old).disk.content (at + i / to_a_sector) }
     ensures loaded { OnOk result (buffer.new ≡ sector (D.history device.old).disk.content (at + i / to_a_sector)) }
-    ensures refused { IfErr result (Refuses (D.failures device.old) (D.failures device.new)) }
+    ensures refused { IfErr result (IsHindered (D.failures device.old) (D.failures device.new)) }
     ensures reads { OnlyReads (D.history device.old) (D.history device.new) }
     ensures quiet { OnOk result (D.failures device.new ≡ D.failures device.old) }
     ensures later { D.failures device.old ≤ D.failures device.new }

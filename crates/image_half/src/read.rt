@@ -7,8 +7,8 @@ ghost use Rattle.records.specs.Maps.{set_at};
 ghost use Rattle.records.specs.declared.txn.TheConstants.{TXNS_MAX};
 ghost use Rattle.records.specs.declared.change.TheConstants.{CHANGES_MAX};
 ghost use Rattle.image_half.specs.Layout.{heads_at, undo_at, page_at, entries_at, image_end};
-ghost use Rattle.image_half.specs.Image.{IsHeader, AreHeads, IsImage, HoldsList, nothing};
-ghost use Rattle.image_half.specs.Damage.{IsSound, TheHeader, TheHeads, AnItem, APage, AnEntry, Refuses, IsUnread};
+ghost use Rattle.image_half.specs.Image.{IsHeader, AreHeads, IsImage, HoldsList, no_cells};
+ghost use Rattle.image_half.specs.Damage.{IsSound, TheHeader, TheHeads, AnItem, APage, AnEntry, IsHindered, IsUnread};
 ghost use Rattle.image_half.specs.Steps.{HoldsLists, HoldsPages, HoldsEntries, IsItemRefused, AreListsRefused, IsPageRefused, ArePagesRefused, AreEntriesRefused};
 
 use crate::parts::{entry_in, header_in, heads_in, is_above, item_in};
@@ -40,7 +40,7 @@ pub(crate) fn page_at(first: u64, page: u64) -> u64
 fn read_header<D: Device>(device: &mut D, geometry: Geometry, first: u64) -> Result<Header, Error>
     requires inside { first < length (D.history device.old).disk.content }
     ensures found { IfOk result (IsHeader geometry (sector (D.history device.old).disk.content first)) }
-    ensures refused { IfErr result (λ e. Refuses (D.failures device.old) (D.failures device.new) e
+    ensures refused { IfErr result (λ e. IsHindered (D.failures device.old) (D.failures device.new) e
         ⊎ ((e ≡ Error.Damaged first) × (¬ IsSound geometry first (D.history device.old).disk.content TheHeader))) }
     ensures reads { OnlyReads (D.history device.old) (D.history device.new) }
     ensures quiet { OnOk result (D.failures device.new ≡ D.failures device.old) }
@@ -63,7 +63,7 @@ fn read_heads<D: Device, A: Allocator + Copy>(
     requires inside { heads_at first < length (D.history device.old).disk.content }
     requires number { heads_at first < 2 ^ 64 }
     ensures found { IfOk result (λ heads. AreHeads (sector (D.history device.old).disk.content (heads_at first)) heads.items) }
-    ensures refused { IfErr result (λ e. Refuses (D.failures device.old) (D.failures device.new) e
+    ensures refused { IfErr result (λ e. IsHindered (D.failures device.old) (D.failures device.new) e
         ⊎ ((e ≡ Error.Damaged (heads_at first)) × (¬ IsSound geometry first (D.history device.old).disk.content TheHeads))) }
     ensures reads { OnlyReads (D.history device.old) (D.history device.new) }
     ensures quiet { OnOk result (D.failures device.new ≡ D.failures device.old) }
@@ -274,7 +274,7 @@ pub fn read_image<D: Device, S: CellSink, A: Allocator + Copy>(
     first: u64,
     sink: &mut S,
 ) -> Result<u64, Error>
-    requires empty { S.cells sink.old ≡ nothing }
+    requires empty { S.cells sink.old ≡ no_cells }
     requires inside { image_end geometry first ≤ length (D.history device.old).disk.content }
     requires number { image_end geometry first < 2 ^ 64 }
 

@@ -120,22 +120,22 @@ module _ (v : CoreValue) (s : State) (k : Standing) (is : IsState v s k) where
   number_is = ap (λ n. n + 1) same_begun
 
   abbrev active' : List (ℕ × TxnState)
-  active' = v.txns.active ++ (v.txns.begun + 1, table.new_txn) ∷ []
+  active' = v.txns.active ++ (v.txns.begun + 1, table.fresh_txn) ∷ []
 
   states : (u : ℕ) → AreOne (table.state_of u active') (core.with_txn s t core.new_txn u)
   states u = elim (nat_decided u t) [
-    | inl same ↦ subst (λ o. AreOne o (core.with_txn s t core.new_txn u)) (sym (ap (λ n. table.state_of n active') (same ∙ number_is) ∙ next_here (v.txns.begun + 1) table.new_txn v.txns.active (ap (λ n. table.state_of n v.txns.active) (sym number_is) ∙ new_number)))
+    | inl same ↦ subst (λ o. AreOne o (core.with_txn s t core.new_txn u)) (sym (ap (λ n. table.state_of n active') (same ∙ number_is) ∙ next_here (v.txns.begun + 1) table.fresh_txn v.txns.active (ap (λ n. table.state_of n v.txns.active) (sym number_is) ∙ new_number)))
         (core.new_txn, ap (core.with_txn s t core.new_txn) same ∙ txn_here s t core.new_txn, record { changes = refl; phase = refl; rolling = refl })
-    | inr other ↦ subst (λ o. AreOne o (core.with_txn s t core.new_txn u)) (sym (next_other u (v.txns.begun + 1) table.new_txn v.txns.active (λ e. other (e ∙ sym number_is))))
+    | inr other ↦ subst (λ o. AreOne o (core.with_txn s t core.new_txn u)) (sym (next_other u (v.txns.begun + 1) table.fresh_txn v.txns.active (λ e. other (e ∙ sym number_is))))
         (subst (AreOne (table.state_of u v.txns.active)) (sym (txn_apart s t core.new_txn u other)) (h.txns u))
   ]
 
   places : (u : ℕ) → get (insert s.pledges t 0) u ≡ option_map (λ (y : TxnState). y.reserved) (table.state_of u active')
   places u = elim (nat_decided u t) [
     | inl same ↦ ap (get (insert s.pledges t 0)) same ∙ get-set_at_same nat_exact s.pledges t (Some 0)
-        ∙ sym (ap (option_map (λ (y : TxnState). y.reserved)) (ap (λ n. table.state_of n active') (same ∙ number_is) ∙ next_here (v.txns.begun + 1) table.new_txn v.txns.active (ap (λ n. table.state_of n v.txns.active) (sym number_is) ∙ new_number)))
+        ∙ sym (ap (option_map (λ (y : TxnState). y.reserved)) (ap (λ n. table.state_of n active') (same ∙ number_is) ∙ next_here (v.txns.begun + 1) table.fresh_txn v.txns.active (ap (λ n. table.state_of n v.txns.active) (sym number_is) ∙ new_number)))
     | inr other ↦ get-set_at_other nat_exact s.pledges t (Some 0) u other ∙ h.pledges u
-        ∙ sym (ap (option_map (λ (y : TxnState). y.reserved)) (next_other u (v.txns.begun + 1) table.new_txn v.txns.active (λ e. other (e ∙ sym number_is))))
+        ∙ sym (ap (option_map (λ (y : TxnState). y.reserved)) (next_other u (v.txns.begun + 1) table.fresh_txn v.txns.active (λ e. other (e ∙ sym number_is))))
   ]
 
   pledged : all_reserved (insert s.pledges t 0) ≡ v.index.pledged
@@ -167,7 +167,7 @@ module _ (v : CoreValue) (s : State) (k : Standing) (is : IsState v s k) where
     scan = record { run = h.scan.run; made = h.scan.made; given = h.scan.given; missed = h.scan.missed; taken = h.scan.taken; in_a_row = h.scan.in_a_row };
     made = h.made;
     begun = ap (λ n. n + 1) same_begun;
-    active = ap (λ n. n + 1) h.active ∙ sym (length-append v.txns.active ((v.txns.begun + 1, table.new_txn) ∷ []));
+    active = ap (λ n. n + 1) h.active ∙ sym (length-append v.txns.active ((v.txns.begun + 1, table.fresh_txn) ∷ []));
     attempts = h.attempts;
     all_attempts = h.all_attempts;
     commits = h.commits;

@@ -24,7 +24,7 @@ use Rattle.model.specs.declared.life.Life.{Life}
 use Rattle.model.specs.declared.life.Life.TheVariants.{Absent, Building, Complete}
 use Rattle.marked_index.specs.Index.{IsAbsent, IsFull}
 use Rattle.sorted_scan.specs.Pairs.{is_above, is_among}
-use Rattle.sorted_scan.specs.Runs.{HandedOut, IsAtEnd, IsNextOf, IsSteady, ScanRun, Took, is_given, is_missed, is_taken, last_pair, taken_in_a_row, with_step}
+use Rattle.sorted_scan.specs.Runs.{HandedOut, IsAtEnd, IsSteady, MayHandOut, ScanRun, Took, is_given, is_missed, is_taken, last_pair, taken_in_a_row, with_step}
 use Rattle.sorted_scan.specs.Scans.{HasRun, ScanValue}
 use Rattle.core_model.proofs.Laws.{build_put_some, not_none}
 use Rattle.core_model.specs.Logs.{one_record}
@@ -83,7 +83,7 @@ module _ (v : CoreValue) (s : State) (k : Standing) (h : Shows v s k) where
   steady : (q : Pair) → s.taken q.rid.page ≡ true → s.missed q ≡ false → IsSteady run q
   steady q taken left = record { taken = sym (h.scan.taken q.rid.page) ∙ taken; always = sym (h.scan.missed q) ∙ left }
 
-  next_is : (p : Pair) → IsNextOf run p → IsNextPair s p
+  next_is : (p : Pair) → MayHandOut run p → IsNextPair s p
   next_is p next = record {
     given = h.scan.given p ∙ next.given;
     rising = bound_is p ∙ next.rising;
@@ -294,7 +294,7 @@ module _ (v : CoreValue) (s : State) (k : Standing) (st : IsState v s k) (built 
       page_made v' t = subst (Answers v s k Event.Build scanned) (sym t.others) (page_answers v'.scan t.pairs t.each t.run t.last_pair t.pages)
 
     -- ---- an attempt
-    module _ (p : Pair) (next : (r : ScanRun) → HasRun v.scan r → IsNextOf r p) where
+    module _ (p : Pair) (next : (r : ScanRun) → HasRun v.scan r → MayHandOut r p) where
       next_pair : IsNextPair s p
       next_pair = next_is v s k h p (next h.scan.run h.scan.made)
 
@@ -451,7 +451,7 @@ module _ (v : CoreValue) (built : IsBuilding v.life) where
     pub page_serves : (page : ℕ) → v.scan.wanted ≡ Some page → (v' : CoreValue) → HasTaken v page v' → Serves v Event.Build (events.Built (events.Scanned page)) v'
     page_serves page wanted v' t s k st = page_made v s k st built few page wanted v' t
 
-    module _ (p : Pair) (next : (r : ScanRun) → HasRun v.scan r → IsNextOf r p) where
+    module _ (p : Pair) (next : (r : ScanRun) → HasRun v.scan r → MayHandOut r p) where
       pub attempt_serves : (result : Result BuildReply Error) (v' : CoreValue) → IfOk result (λ a. HasAttempted v p a v') → IfErr result (IsUnplaced v p) → OnErr result (v' ≡ v) → Serves v Event.Build (reply_by builds.built result) v'
       attempt_serves (Ok answer) v' did why same s k st = elim did [
         | inl was ↦ subst (λ a. Answers v s k Event.Build (builds.built a) v') (sym was.0) (rejected_made v s k st built few p next was.1 v' was.2)

@@ -21,7 +21,7 @@ use Rattle.model.specs.Pairs.{is_indexed, old_pair}
 use Rattle.txn_table.specs.Table as table
 use Rattle.txn_table.specs.Table.{TxnState, holder_of}
 use Rattle.txn_table.specs.declared.progress.Progress.TheVariants.{Ready}
-use Rattle.marked_index.specs.Index.{IndexValue, places_used}
+use Rattle.marked_index.specs.Index.{IndexValue, pledges_used}
 use Rattle.core_model.proofs.Laws.{not_none}
 use Rattle.core_model.specs.Logs.{one_record}
 use Rattle.core_model.specs.Records.{action_of, first_action}
@@ -30,7 +30,7 @@ use Rattle.core_model.specs.Steps.{IsReady, Start, MachineStep, after, txn_at}
 use Rattle.core_contracts.specs.Events.{Event, Refused, Standing, Stepped}
 use Rattle.core_contracts.specs.Replies.{HasNoMoreChanges, IsDue, IsFirst, IsHeldByOther, IsOfNone, IsProper, WantsMemory, change_of, refusals, refused, refused_last, unknown}
 use Rattle.index_core.specs.View.{Answers, CoreValue, IsState, Serves, Shows}
-use Rattle.index_core.specs.Moves.{IsAble, IsMine, IsReadyOrNone, IsUnchangeable, IsUnroomy, MayStart, first_made, is_busy, is_full, is_missing, is_unable, is_unknown, is_unroomy, next_change, txn_of}
+use Rattle.index_core.specs.Moves.{IsAble, IsMine, IsReadyOrNone, IsUnchangeable, IsUnroomy, MayStart, first_made, is_busy, is_full, is_missing, is_unable, is_unknown, is_unroomy, next_change, txn_shown}
 use Rattle.index_core.proofs.Due.{made, no_number, refusal, wants_memory}
 use Rattle.index_core.proofs.Inserting.{able, full, has_places, lacks_places, no_txn, not_full, same_position, some_is, unable}
 use Rattle.index_core.proofs.Moved.{is_ready, known}
@@ -98,7 +98,7 @@ deletes t r = record { of_none = λ s h. h; known = λ s h. h; proper = λ s h. 
 pub updates : (t : ℕ) (r : Place) (row : Row) → IsChange (Event.Update t r row) t r (λ old. Updated old row)
 updates t r row = record { of_none = λ s h. h; known = λ s h. h; proper = λ s h. h; refused = λ s k o h. h; due = λ s k old h. (old, h, refl, refl); wants = tt }
 
-module _ (v : CoreValue) (t : ℕ) (r : Place) (e : Event) (rows : Row → Rows) (is : IsChange e t r rows) (asked : IsReadyOrNone (txn_of v t)) where
+module _ (v : CoreValue) (t : ℕ) (r : Place) (e : Event) (rows : Row → Rows) (is : IsChange e t r rows) (asked : IsReadyOrNone (txn_shown v t)) where
   module _ (s : State) (k : Standing) (st : IsState v s k) where
     abbrev h : Shows v s k
     h = st.shown
@@ -178,8 +178,8 @@ module _ (v : CoreValue) (t : ℕ) (r : Place) (e : Event) (rows : Row → Rows)
 pub marked_there : (i now : IndexValue) (p : Pair) (n : ℕ) → now ≡ record i { entries = set_at i.entries p (Some Marked); pledged = n } → get now.entries p ≢ None
 marked_there i now p n is none = not_none (ap (λ (w : IndexValue). get w.entries p) is ∙ get-set_at_same pair_exact i.entries p (Some Marked)) none
 
-pub as_before : (i now back : IndexValue) (p : Pair) (before : Option Mark) (left : ℕ) → before ≡ get i.entries p → left ≡ PLACES_PER_CHANGE - places_used (get i.entries p)
-    → now ≡ record i { entries = set_at i.entries p (Some Marked); pledged = i.pledged + (PLACES_PER_CHANGE - places_used (get i.entries p)) }
+pub as_before : (i now back : IndexValue) (p : Pair) (before : Option Mark) (left : ℕ) → before ≡ get i.entries p → left ≡ PLACES_PER_CHANGE - pledges_used (get i.entries p)
+    → now ≡ record i { entries = set_at i.entries p (Some Marked); pledged = i.pledged + (PLACES_PER_CHANGE - pledges_used (get i.entries p)) }
     → back ≡ record now { entries = set_at now.entries p before; pledged = now.pledged - left } → back ≡ i
 as_before i now back p before left b l n e =
     e ∙ ap (λ (w : IndexValue). record w { entries = set_at w.entries p before; pledged = w.pledged - left }) n

@@ -33,42 +33,42 @@ use Rattle.core_model.specs.Steps.{IsReady, Start, MachineStep, after, all_reser
 use Rattle.core_contracts.specs.Events.{Event, Refused, Reply, Standing}
 use Rattle.core_contracts.specs.Replies.{HasNoMoreChanges, IsDue, IsFirst, IsFree, IsLeastFree, change_of, refusals, refused, refused_last, unknown}
 use Rattle.index_core.specs.View.{Answers, AreOne, CoreValue, IsState, Serves, Shows}
-use Rattle.index_core.specs.Moves.{is_full, is_unknown, HasFreePlaces, IsAble, IsFreePlace, IsPlaceFor, IsReadyOrNone, IsUnable, IsUnroomy, MayStart, changes_of, next_change, row_first, txn_of}
+use Rattle.index_core.specs.Moves.{is_full, is_unknown, HasPlacesLeft, IsAble, IsFreePlace, IsPlaceFor, IsReadyOrNone, IsUnable, IsUnroomy, MayStart, changes_of, next_change, row_first, txn_shown}
 use Rattle.index_core.proofs.Due.{made, no_number, refusal, wants_memory}
 use Rattle.index_core.proofs.Moved.{is_ready, known, many}
 use Rattle.index_core.proofs.Started.{row_shown}
 
 -- ---- what refuses any change
-pub no_txn : (v : CoreValue) (s : State) (k : Standing) → Shows v s k → (t : ℕ) → txn_of v t ≡ None → s.txns t ≡ None
+pub no_txn : (v : CoreValue) (s : State) (k : Standing) → Shows v s k → (t : ℕ) → txn_shown v t ≡ None → s.txns t ≡ None
 no_txn v s k h t none = subst (λ o. AreOne o (s.txns t)) none (h.txns t)
 
 pub some_is : {A : Type 0} (a b : A) → (◌≡◌ {A = Option A} (Some a) (Some b)) → a ≡ b
 some_is a b e = cc
 
 pub unable : (v : CoreValue) (t : ℕ) (e : Error) → table.change_refusal t v.txns.active ≡ Some e → IsUnable v t e
-unable v t e same = by_txn (txn_of v t) refl same
+unable v t e same = by_txn (txn_shown v t) refl same
   where
-    by_many : (x : TxnState) → txn_of v t ≡ Some x → (b : Bool) → leb CHANGES_MAX (length x.changes) ≡ b → cond b (Some TooManyChanges) None ≡ Some e → IsUnable v t e
+    by_many : (x : TxnState) → txn_shown v t ≡ Some x → (b : Bool) → leb CHANGES_MAX (length x.changes) ≡ b → cond b (Some TooManyChanges) None ≡ Some e → IsUnable v t e
     by_many x here true is same = is_full x here (grind (arith, nat_tests, is)) (sym (some_is TooManyChanges e same))
     by_many x here false is same = absurd cc
 
-    by_txn : (o : Option TxnState) → txn_of v t ≡ o → table.full_refusal o ≡ Some e → IsUnable v t e
+    by_txn : (o : Option TxnState) → txn_shown v t ≡ o → table.full_refusal o ≡ Some e → IsUnable v t e
     by_txn None here same = is_unknown here (sym (some_is NoSuchTxn e same))
     by_txn (Some x) here same = by_many x here (leb CHANGES_MAX (length x.changes)) refl same
 
 pub able : (v : CoreValue) (t : ℕ) → table.change_refusal t v.txns.active ≡ None → IsAble v t
-able v t same = by_txn (txn_of v t) refl same
+able v t same = by_txn (txn_shown v t) refl same
   where
-    by_many : (x : TxnState) → txn_of v t ≡ Some x → (b : Bool) → leb CHANGES_MAX (length x.changes) ≡ b → cond b (Some TooManyChanges) None ≡ None → IsAble v t
+    by_many : (x : TxnState) → txn_shown v t ≡ Some x → (b : Bool) → leb CHANGES_MAX (length x.changes) ≡ b → cond b (Some TooManyChanges) None ≡ None → IsAble v t
     by_many x here true is same = absurd cc
     by_many x here false is same = record { txn = x; here = here; room = leb-false CHANGES_MAX (length x.changes) is }
 
-    by_txn : (o : Option TxnState) → txn_of v t ≡ o → table.full_refusal o ≡ None → IsAble v t
+    by_txn : (o : Option TxnState) → txn_shown v t ≡ o → table.full_refusal o ≡ None → IsAble v t
     by_txn None here same = absurd cc
     by_txn (Some x) here same = by_many x here (leb CHANGES_MAX (length x.changes)) refl same
 
 -- ---- room and numbers
-pub has_places : (v : CoreValue) (s : State) (k : Standing) → Shows v s k → HasFreePlaces v → (is_indexed s.life ≡ true) × (s.places < len s.entries + all_reserved s.pledges + places_of true) → ⊥
+pub has_places : (v : CoreValue) (s : State) (k : Standing) → Shows v s k → HasPlacesLeft v → (is_indexed s.life ≡ true) × (s.places < len s.entries + all_reserved s.pledges + places_of true) → ⊥
 has_places v s k h fits less = more _ _ _ _ _ _ h.places (ap len h.entries) h.pledged (fits (ap is_indexed (sym h.life) ∙ less.0)) less.1
   where
     more : (p n r p' n' r' : ℕ) → p ≡ p' → n ≡ n' → r ≡ r' → n' + r' + PLACES_PER_CHANGE ≤ p' → p < n + r + PLACES_PER_CHANGE → ⊥
@@ -80,7 +80,7 @@ lacks_places v s k h is less = (ap is_indexed h.life ∙ is, more _ _ _ _ _ _ h.
     more : (p n r p' n' r' : ℕ) → p ≡ p' → n ≡ n' → r ≡ r' → p' < n' + r' + PLACES_PER_CHANGE → p < n + r + PLACES_PER_CHANGE
     more p n r p' n' r' e f g less = omega (arith, e, f, g, less)
 
-pub same_position : (v : CoreValue) (s : State) (k : Standing) → Shows v s k → (t : ℕ) (x : TxnState) → txn_of v t ≡ Some x → length (as_list (txn_at s t).changes) ≡ changes_of (txn_of v t)
+pub same_position : (v : CoreValue) (s : State) (k : Standing) → Shows v s k → (t : ℕ) (x : TxnState) → txn_shown v t ≡ Some x → length (as_list (txn_at s t).changes) ≡ changes_of (txn_shown v t)
 same_position v s k h t x here = many v s k h t x here ∙ sym (ap changes_of here)
 
 pub not_full : (v : CoreValue) (s : State) (k : Standing) → Shows v s k → (t : ℕ) (a : IsAble v t) → HasNoMoreChanges s t → ⊥
@@ -89,7 +89,7 @@ not_full v s k h t a le = apart _ _ (many v s k h t a.txn a.here) le a.room
     apart : (n m : ℕ) → n ≡ m → CHANGES_MAX ≤ n → m < CHANGES_MAX → ⊥
     apart n m e l r = omega (arith, e, l, r)
 
-pub full : (v : CoreValue) (s : State) (k : Standing) → Shows v s k → (t : ℕ) (x : TxnState) → txn_of v t ≡ Some x → CHANGES_MAX ≤ length x.changes → HasNoMoreChanges s t
+pub full : (v : CoreValue) (s : State) (k : Standing) → Shows v s k → (t : ℕ) (x : TxnState) → txn_shown v t ≡ Some x → CHANGES_MAX ≤ length x.changes → HasNoMoreChanges s t
 full v s k h t x here le = subst (λ n. CHANGES_MAX ≤ n) (sym (many v s k h t x here)) le
 
 -- ---- an insertion
@@ -113,7 +113,7 @@ is_place v held are r free least = record {
   least = λ q other. least q (record { inside = other.inside; empty = other.empty; not_held = λ has. none_or_some (holder_of q v.txns.active) other.unheld ((are q).0 has) });
 }
 
-module _ (v : CoreValue) (t : ℕ) (row : Row) (asked : IsReadyOrNone (txn_of v t)) where
+module _ (v : CoreValue) (t : ℕ) (row : Row) (asked : IsReadyOrNone (txn_shown v t)) where
   abbrev e : Event
   e = Event.Insert t row
 
@@ -179,7 +179,7 @@ module _ (v : CoreValue) (t : ℕ) (row : Row) (asked : IsReadyOrNone (txn_of v 
       insert_full : is_indexed v.life ≡ true → v.index.capacity < len v.index.entries + v.index.pledged + PLACES_PER_CHANGE → Answers v s k e (Refused Error.IndexFull) v
       insert_full is less = refusal v s k e Error.IndexFull h (refused_last there proper first (Reply.Rid r) (Some step) due Error.IndexFull (inl (lacks_places v s k h is less, refl)))
 
-      module _ (fits : HasFreePlaces v) where
+      module _ (fits : HasPlacesLeft v) where
         insert_spent : LAST_NUMBER ≤ v.last → Answers v s k e (Refused Error.Exhausted) v
         insert_spent le = no_number v s k h e there proper first (Reply.Rid r) step due (has_places v s k h fits) makes le
 

@@ -20,16 +20,16 @@ use Rattle.model.specs.Table.{Table}
 use Rattle.core_contracts.specs.Events.{Ended, Event, Refused, Reply, Standing}
 use Rattle.core_contracts.specs.Replies.{unknown}
 use Rattle.index_core.specs.View.{Answers, AreOne, CoreValue, Serves, Shows}
-use Rattle.index_core.specs.Moves.{HasNoChange, HasNoRecord, HasRecord, IsReadyOrNone, ended, reserved_of, txn_of}
+use Rattle.index_core.specs.Moves.{HasNoChange, HasNoRecord, HasRecord, IsReadyOrNone, ended, reserved_of, txn_shown}
 use Rattle.index_core.proofs.Due.{made, no_number, refusal, wants_memory}
 use Rattle.index_core.proofs.Inserting.{no_txn, some_is}
 use Rattle.index_core.proofs.Moved.{is_ready, known, listed, other_number, places_are, same_number, unchanged}
 
 -- ---- the transaction that is there
-pub there : (v : CoreValue) (t : ℕ) → txn_of v t ≢ None → (x : TxnState) × (txn_of v t ≡ Some x)
-there v t ne = by (txn_of v t) refl ne
+pub there : (v : CoreValue) (t : ℕ) → txn_shown v t ≢ None → (x : TxnState) × (txn_shown v t ≡ Some x)
+there v t ne = by (txn_shown v t) refl ne
   where
-    by : (o : Option TxnState) → txn_of v t ≡ o → o ≢ None → (x : TxnState) × (txn_of v t ≡ Some x)
+    by : (o : Option TxnState) → txn_shown v t ≡ o → o ≢ None → (x : TxnState) × (txn_shown v t ≡ Some x)
     by None e n = absurd (n refl)
     by (Some x) e n = (x, e)
 
@@ -42,7 +42,7 @@ shorter t x (e ∷ es) h = by (eqb t e.0) h (shorter t x es)
     by true h rest = omega arith
     by false h rest = let r : length (without t es) + 1 ≡ length es = rest h in omega (arith, r)
 
-module _ (v : CoreValue) (s : State) (k : Standing) (h : Shows v s k) (t : ℕ) (x : TxnState) (here : txn_of v t ≡ Some x) (sound : IsSound v.txns) (action : TxnAction) (committed : Table) where
+module _ (v : CoreValue) (s : State) (k : Standing) (h : Shows v s k) (t : ℕ) (x : TxnState) (here : txn_shown v t ≡ Some x) (sound : IsSound v.txns) (action : TxnAction) (committed : Table) where
   abbrev active' : List (ℕ × TxnState)
   active' = without t v.txns.active
 
@@ -64,7 +64,7 @@ module _ (v : CoreValue) (s : State) (k : Standing) (h : Shows v s k) (t : ℕ) 
     | inr other ↦ get-set_at_other nat_exact s.pledges t None u other ∙ h.pledges u ∙ sym (ap (option_map (λ (y : TxnState). y.reserved)) (state_is u ∙ ap (λ b. cond b None (table.state_of u v.txns.active)) (other_number u t other)))
   ]
 
-  pledged_is : all_reserved (remove s.pledges t) ≡ v.index.pledged - reserved_of (txn_of v t)
+  pledged_is : all_reserved (remove s.pledges t) ≡ v.index.pledged - reserved_of (txn_shown v t)
   pledged_is = sums _ _ _ _ _ (reserved_left s.pledges t) (places_are v s k h t x here) h.pledged (ap reserved_of here)
     where
       sums : (rest all r pledged res : ℕ) → rest + r ≡ all → r ≡ x.reserved → all ≡ pledged → res ≡ x.reserved → rest ≡ pledged - res
@@ -108,14 +108,14 @@ module _ (v : CoreValue) (s : State) (k : Standing) (h : Shows v s k) (t : ℕ) 
 
 -- ---- the replies to both
 module _ (v : CoreValue) (t : ℕ) where
-  pub end_refused : HasNoChange (txn_of v t) → (error : Error) → HasNoRecord v t error → Serves v (Event.End t) (Refused error) v
+  pub end_refused : HasNoChange (txn_shown v t) → (error : Error) → HasNoRecord v t error → Serves v (Event.End t) (Refused error) v
   end_refused asked error (inl why) s k is = subst (λ n. Answers v s k (Event.End t) (Refused n) v) (sym why.0) (refusal v s k (Event.End t) NoSuchTxn is.shown (unknown (no_txn v s k is.shown t why.1)))
   end_refused asked error (inr why) s k is =
       let x = there v t why.1 in
       subst (λ n. Answers v s k (Event.End t) (Refused n) v) (sym why.0)
       (no_number v s k is.shown (Event.End t) (known v s k is.shown t x.0 x.1) (unchanged _ (listed v s k is.shown t x.0 x.1 ∙ subst HasNoChange x.1 asked)) refl Ended (MachineStep.End t) (refl, refl) (λ n. n) (λ n. not_none refl n) why.2)
 
-  pub commit_refused : IsReadyOrNone (txn_of v t) → (error : Error) → HasNoRecord v t error → Serves v (Event.Commit t) (Refused error) v
+  pub commit_refused : IsReadyOrNone (txn_shown v t) → (error : Error) → HasNoRecord v t error → Serves v (Event.Commit t) (Refused error) v
   commit_refused asked error (inl why) s k is = subst (λ n. Answers v s k (Event.Commit t) (Refused n) v) (sym why.0) (refusal v s k (Event.Commit t) NoSuchTxn is.shown (unknown (no_txn v s k is.shown t why.1)))
   commit_refused asked error (inr why) s k is =
       let x = there v t why.1 in
@@ -123,26 +123,26 @@ module _ (v : CoreValue) (t : ℕ) where
       (no_number v s k is.shown (Event.Commit t) (known v s k is.shown t x.0 x.1) (is_ready v s k is.shown t x.0 x.1 (subst IsReadyOrNone x.1 asked)) refl (Reply.Committed (k.made + 1) (k.commits + 1)) (MachineStep.Commit t) (refl, refl) (λ n. n) (λ n. not_none refl n) why.2)
 
   module _ (has : HasRecord v t) where
-    pub end_wants : HasNoChange (txn_of v t) → (error : Error) (v' : CoreValue) → error ≡ Error.NoMemory → v' ≡ v → Serves v (Event.End t) (Refused error) v'
+    pub end_wants : HasNoChange (txn_shown v t) → (error : Error) (v' : CoreValue) → error ≡ Error.NoMemory → v' ≡ v → Serves v (Event.End t) (Refused error) v'
     end_wants asked error v' e same s k is =
         let x = there v t has.active in
         subst (λ w. Answers v s k (Event.End t) (Refused error) w) (sym same) (subst (λ n. Answers v s k (Event.End t) (Refused n) v) (sym e)
         (wants_memory v s k is.shown (Event.End t) (known v s k is.shown t x.0 x.1) (unchanged _ (listed v s k is.shown t x.0 x.1 ∙ subst HasNoChange x.1 asked)) refl Ended (MachineStep.End t) (refl, refl) (λ n. n) (λ n. has.numbered) tt))
 
-    pub commit_wants : IsReadyOrNone (txn_of v t) → (error : Error) (v' : CoreValue) → error ≡ Error.NoMemory → v' ≡ v → Serves v (Event.Commit t) (Refused error) v'
+    pub commit_wants : IsReadyOrNone (txn_shown v t) → (error : Error) (v' : CoreValue) → error ≡ Error.NoMemory → v' ≡ v → Serves v (Event.Commit t) (Refused error) v'
     commit_wants asked error v' e same s k is =
         let x = there v t has.active in
         subst (λ w. Answers v s k (Event.Commit t) (Refused error) w) (sym same) (subst (λ n. Answers v s k (Event.Commit t) (Refused n) v) (sym e)
         (wants_memory v s k is.shown (Event.Commit t) (known v s k is.shown t x.0 x.1) (is_ready v s k is.shown t x.0 x.1 (subst IsReadyOrNone x.1 asked)) refl (Reply.Committed (k.made + 1) (k.commits + 1)) (MachineStep.Commit t) (refl, refl) (λ n. n) (λ n. has.numbered) tt))
 
-    pub end_served : HasNoChange (txn_of v t) → IsSound v.txns → (v' : CoreValue) → v' ≡ ended v t TxnAction.End → Serves v (Event.End t) Ended v'
+    pub end_served : HasNoChange (txn_shown v t) → IsSound v.txns → (v' : CoreValue) → v' ≡ ended v t TxnAction.End → Serves v (Event.End t) Ended v'
     end_served asked sound v' same s k is =
         let x = there v t has.active in
         subst (λ w. Answers v s k (Event.End t) Ended w) (sym same)
         (made v s k is.shown (Event.End t) (known v s k is.shown t x.0 x.1) (unchanged _ (listed v s k is.shown t x.0 x.1 ∙ subst HasNoChange x.1 asked)) refl Ended (MachineStep.End t) (refl, refl) (λ n. n) (λ n. has.numbered) (ended v t TxnAction.End)
         (subst (λ n. Shows (ended v t TxnAction.End) (after s (MachineStep.End t)) (record k { made = k.made + 1; active = k.active - 1; commits = n })) (sym is.shown.commits) (left_shown v s k is.shown t x.0 x.1 sound TxnAction.End s.committed v.commits)) refl)
 
-    pub commit_served : IsReadyOrNone (txn_of v t) → IsSound v.txns → (n c : ℕ) (v' : CoreValue) → n ≡ v.last + 1 → c ≡ v.commits + 1 → v' ≡ record (ended v t TxnAction.Commit) { commits = v.commits + 1 } → Serves v (Event.Commit t) (Reply.Committed n c) v'
+    pub commit_served : IsReadyOrNone (txn_shown v t) → IsSound v.txns → (n c : ℕ) (v' : CoreValue) → n ≡ v.last + 1 → c ≡ v.commits + 1 → v' ≡ record (ended v t TxnAction.Commit) { commits = v.commits + 1 } → Serves v (Event.Commit t) (Reply.Committed n c) v'
     commit_served asked sound n c v' ns cs same s k is =
         let x = there v t has.active in
         let made_is : k.made + 1 ≡ n = ap (λ m. m + 1) is.shown.made ∙ sym ns in

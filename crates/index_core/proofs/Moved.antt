@@ -17,7 +17,7 @@ use Rattle.core_model.specs.States.{Active, State}
 use Rattle.core_model.specs.Steps.{IsReady, all_reserved, new_txn, reserved, txn_at, with_txn}
 use Rattle.core_contracts.specs.Events.{Standing}
 use Rattle.sorted_scan.specs.Scans.{HasRun, ScanValue}
-use Rattle.index_core.specs.View.{AreOne, CoreValue, IsAt, IsTxn, Shows}
+use Rattle.index_core.specs.View.{AreOne, CoreValue, IsProgressOf, Shows, ShowsTxn}
 
 -- ---- a transaction that the table knows
 module _ (v : CoreValue) (s : State) (k : Standing) (h : Shows v s k) (t : ℕ) (x : TxnState) (here : table.state_of t v.txns.active ≡ Some x) where
@@ -32,7 +32,7 @@ module _ (v : CoreValue) (s : State) (k : Standing) (h : Shows v s k) (t : ℕ) 
 
   pub is_ready : x.progress ≡ Ready → IsReady (txn_at s t)
   is_ready e = (
-    ap (λ (y : Active). y.phase) at ∙ subst (λ p. IsAt p one.0.phase) e one.2.phase,
+    ap (λ (y : Active). y.phase) at ∙ subst (λ p. IsProgressOf p one.0.phase) e one.2.phase,
     ap (λ (y : Active). y.rolling) at ∙ one.2.rolling ∙ ap rolls e,
   )
 
@@ -84,7 +84,7 @@ module _ (v : CoreValue) (s : State) (k : Standing) (h : Shows v s k) (t : ℕ) 
     pub entries : s'.entries ≡ v'.index.entries
     pub txn : Active
     pub txns : s'.txns ≡ with_txn s t txn
-    pub is : IsTxn x' txn
+    pub is : ShowsTxn x' txn
     pub holder : (q : Place) → s'.holder q ≡ holder_of q v'.txns.active
     pub places : s'.pledges ≡ insert s.pledges t x'.reserved
     pub pledged : v'.index.pledged + x.reserved ≡ v.index.pledged + x'.reserved

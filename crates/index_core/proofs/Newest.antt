@@ -6,7 +6,7 @@ use Rattle.records.specs.ChangeValue.{ChangeValue}
 use Rattle.std.specs.FinMap.{get}
 use Rattle.records.specs.declared.pair.Mark.{Mark}
 use Rattle.records.specs.declared.pair.Pair.{Pair}
-use Rattle.marked_index.specs.Index.{places_used}
+use Rattle.marked_index.specs.Index.{pledges_used}
 use Rattle.model.specs.Pairs.{is_indexed, new_pair, old_pair}
 use Rattle.txn_table.specs.Table.{TxnState, last_change}
 use Rattle.core_model.proofs.Laws.{not_none}
@@ -15,8 +15,8 @@ use Rattle.core_model.specs.Invariants.{HasShape, IsHolderOf, IsShaped, lacking,
 use Rattle.core_model.specs.States.{Active, State}
 use Rattle.core_model.specs.Steps.{reserved, txn_at}
 use Rattle.core_contracts.specs.Events.{Standing}
-use Rattle.index_core.specs.View.{CoreValue, IsAt, IsState, Shows}
-use Rattle.index_core.specs.Moves.{txn_of}
+use Rattle.index_core.specs.View.{CoreValue, IsProgressOf, IsState, Shows}
+use Rattle.index_core.specs.Moves.{txn_shown}
 use Rattle.index_core.proofs.Moved.{at, listed, one, places_are, unchanged}
 
 some_same : (x c : ChangeValue) → (◌≡◌ {A = Option ChangeValue} (Some x) (Some c)) → x ≡ c
@@ -37,7 +37,7 @@ none_last (x ∷ xs) is = by (slice_get_cases (x ∷ xs) (length (x ∷ xs) - 1)
     by (inr none) = let long = none.0 in absurd (omega arith)
 
 -- ---- of a transaction
-module _ (v : CoreValue) (s : State) (k : Standing) (is : IsState v s k) (t : ℕ) (x : TxnState) (here : txn_of v t ≡ Some x) where
+module _ (v : CoreValue) (s : State) (k : Standing) (is : IsState v s k) (t : ℕ) (x : TxnState) (here : txn_shown v t ≡ Some x) where
   abbrev h : Shows v s k
   h = is.shown
 
@@ -55,8 +55,8 @@ module _ (v : CoreValue) (s : State) (k : Standing) (is : IsState v s k) (t : �
   pub none_changed : last_change x ≡ None → (txn_at s t).changes ≡ Unchanged
   none_changed last = unchanged _ (listed v s k h t x here ∙ none_last x.changes last)
 
-  pub phase_of : IsAt x.progress (txn_at s t).phase
-  phase_of = subst (λ (y : Active). IsAt x.progress y.phase) (sym (at v s k h t x here)) (one v s k h t x here).2.phase
+  pub phase_of : IsProgressOf x.progress (txn_at s t).phase
+  phase_of = subst (λ (y : Active). IsProgressOf x.progress y.phase) (sym (at v s k h t x here)) (one v s k h t x here).2.phase
 
   active : s.txns t ≡ Some (txn_at s t)
   active = (one v s k h t x here).1 ∙ ap Some (sym (at v s k h t x here))
@@ -88,19 +88,19 @@ module _ (v : CoreValue) (s : State) (k : Standing) (is : IsState v s k) (t : �
     new_is : new_pair (is_indexed s.life) c ≡ new_pair (is_indexed v.life) c
     new_is = ap (λ life. new_pair (is_indexed life) c) h.life
 
-    one_place : (o : Option Mark) → cond (is_some o) 0 1 ≡ places_used o
+    one_place : (o : Option Mark) → cond (is_some o) 0 1 ≡ pledges_used o
     one_place None = refl
     one_place (Some m) = refl
 
     -- the transaction has reserved a place for the entry of either row, where there is none
-    pub old_paid : (p : Pair) → old_pair (is_indexed v.life) c ≡ Some p → places_used (get v.index.entries p) ≤ x.reserved
-    old_paid p e = part _ _ _ paid (ap (lacks s.entries) (old_is ∙ e) ∙ one_place (get s.entries p) ∙ ap (λ m. places_used (get m p)) h.entries)
+    pub old_paid : (p : Pair) → old_pair (is_indexed v.life) c ≡ Some p → pledges_used (get v.index.entries p) ≤ x.reserved
+    old_paid p e = part _ _ _ paid (ap (lacks s.entries) (old_is ∙ e) ∙ one_place (get s.entries p) ∙ ap (λ m. pledges_used (get m p)) h.entries)
       where
         part : (a b r : ℕ) {n : ℕ} → a + b ≤ r → a ≡ n → n ≤ r
         part a b r l e = omega (arith, l, e)
 
-    pub new_paid : (p : Pair) → new_pair (is_indexed v.life) c ≡ Some p → places_used (get v.index.entries p) ≤ x.reserved
-    new_paid p e = part _ _ _ paid (ap (lacks s.entries) (new_is ∙ e) ∙ one_place (get s.entries p) ∙ ap (λ m. places_used (get m p)) h.entries)
+    pub new_paid : (p : Pair) → new_pair (is_indexed v.life) c ≡ Some p → pledges_used (get v.index.entries p) ≤ x.reserved
+    new_paid p e = part _ _ _ paid (ap (lacks s.entries) (new_is ∙ e) ∙ one_place (get s.entries p) ∙ ap (λ m. pledges_used (get m p)) h.entries)
       where
         part : (a b r : ℕ) {n : ℕ} → a + b ≤ r → b ≡ n → n ≤ r
         part a b r l e = omega (arith, l, e)

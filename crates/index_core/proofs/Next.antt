@@ -19,7 +19,7 @@ use Rattle.model.specs.Pairs.{is_indexed, new_pair}
 use Rattle.txn_table.specs.Table.{TxnState, last_change, put_at, rolls}
 use Rattle.txn_table.specs.declared.progress.Progress.{Progress}
 use Rattle.txn_table.specs.declared.progress.Progress.TheVariants.{OwesEntry, OwesRow, Ready}
-use Rattle.marked_index.specs.Index.{places_used}
+use Rattle.marked_index.specs.Index.{pledges_used}
 use Rattle.core_model.proofs.Laws.{not_none}
 use Rattle.core_model.specs.Invariants.{HasShape, IsShaped}
 use Rattle.core_model.specs.Logs.{one_record}
@@ -30,8 +30,8 @@ use Rattle.core_model.specs.Steps as core
 use Rattle.core_model.specs.Steps.{Next, after, carried_on, reserved, row_made, txn_at, with_entry, with_phase, with_places}
 use Rattle.core_contracts.specs.Events.{Event, Refused, Standing, Stepped}
 use Rattle.core_contracts.specs.Replies.{Owes, unknown}
-use Rattle.index_core.specs.View.{Answers, CoreValue, IsAt, IsSafe, IsState, Serves, Shows}
-use Rattle.index_core.specs.Moves.{HasNoRecord, HasRecord, OwesOrNone, entry_stepped, reserved_of, row_progress, row_stepped, txn_of}
+use Rattle.index_core.specs.View.{Answers, CoreValue, IsProgressOf, IsSafe, IsState, Serves, Shows}
+use Rattle.index_core.specs.Moves.{HasNoRecord, HasRecord, OwesOrNone, entry_stepped, reserved_of, row_progress, row_stepped, txn_shown}
 use Rattle.index_core.proofs.Due.{made, no_number, refusal, wants_memory}
 use Rattle.index_core.proofs.Inserting.{no_txn}
 use Rattle.index_core.proofs.Leaving.{there}
@@ -41,14 +41,14 @@ use Rattle.index_core.proofs.Places.{reserved_within}
 use Rattle.index_core.proofs.Started.{none_rolls, phase_is}
 use Rattle.index_core.proofs.Stepped.{entry_moved, put_now, row_moved}
 
-row_phase : (x : Progress) (phase : Phase) → x ≡ OwesRow → IsAt x phase → phase ≡ OldMarked
-row_phase x phase e a = subst (λ p. IsAt p phase) e a
+row_phase : (x : Progress) (phase : Phase) → x ≡ OwesRow → IsProgressOf x phase → phase ≡ OldMarked
+row_phase x phase e a = subst (λ p. IsProgressOf p phase) e a
 
-entry_phase : (x : Progress) (phase : Phase) → x ≡ OwesEntry → IsAt x phase → phase ≡ RowSet
-entry_phase x phase e a = subst (λ p. IsAt p phase) e a
+entry_phase : (x : Progress) (phase : Phase) → x ≡ OwesEntry → IsProgressOf x phase → phase ≡ RowSet
+entry_phase x phase e a = subst (λ p. IsProgressOf p phase) e a
 
 -- ---- what is owed is there
-module _ (v : CoreValue) (safe : IsSafe v) (t : ℕ) (x : TxnState) (here : txn_of v t ≡ Some x) where
+module _ (v : CoreValue) (safe : IsSafe v) (t : ℕ) (x : TxnState) (here : txn_shown v t ≡ Some x) where
   abbrev s : State
   s = safe.state
 
@@ -79,11 +79,11 @@ module _ (v : CoreValue) (safe : IsSafe v) (t : ℕ) (x : TxnState) (here : txn_
     inside_by : c.rid.page < v.heap.pages
     inside_by = inside v s k safe.is t x here c first.0 first.1
 
-    paid_by : (p : Pair) → new_pair (is_indexed v.life) c ≡ Some p → places_used (get v.index.entries p) ≤ x.reserved
+    paid_by : (p : Pair) → new_pair (is_indexed v.life) c ≡ Some p → pledges_used (get v.index.entries p) ≤ x.reserved
     paid_by = new_paid v s k safe.is t x here c first.0 first.1
 
 -- ---- the step
-module _ (v : CoreValue) (s : State) (k : Standing) (st : IsState v s k) (t : ℕ) (x : TxnState) (here : txn_of v t ≡ Some x) (c : ChangeValue) (last : last_change x ≡ Some c) where
+module _ (v : CoreValue) (s : State) (k : Standing) (st : IsState v s k) (t : ℕ) (x : TxnState) (here : txn_shown v t ≡ Some x) (c : ChangeValue) (last : last_change x ≡ Some c) where
   abbrev h : Shows v s k
   h = st.shown
 
@@ -99,7 +99,7 @@ module _ (v : CoreValue) (s : State) (k : Standing) (st : IsState v s k) (t : �
   same_index : is_indexed s.life ≡ indexed
   same_index = ap is_indexed h.life
 
-  same_places : reserved_of (txn_of v t) ≡ x.reserved
+  same_places : reserved_of (txn_shown v t) ≡ x.reserved
   same_places = ap reserved_of here
 
   not_rolling : rolls x.progress ≡ false → (txn_at s t).rolling ≡ false
@@ -120,10 +120,10 @@ module _ (v : CoreValue) (s : State) (k : Standing) (st : IsState v s k) (t : �
 
     row_shown : Shows row_value (after s (Next t)) (record k { made = k.made + 1 })
     row_shown = subst (λ z. Shows row_value z (record k { made = k.made + 1 })) (sym row_is)
-        (row_moved v s k h t x here (put_at (row_progress (new_pair indexed c)) (reserved_of (txn_of v t)) x) (with_phase (txn_at s t) (row_made (new_pair (is_indexed s.life) c)))
+        (row_moved v s k h t x here (put_at (row_progress (new_pair indexed c)) (reserved_of (txn_shown v t)) x) (with_phase (txn_at s t) (row_made (new_pair (is_indexed s.life) c)))
         (record {
           changes = listed v s k h t x here;
-          phase = subst (λ b. IsAt (row_progress (new_pair indexed c)) (row_made (new_pair b c))) (sym same_index) (phase_is (new_pair indexed c));
+          phase = subst (λ b. IsProgressOf (row_progress (new_pair indexed c)) (row_made (new_pair b c))) (sym same_index) (phase_is (new_pair indexed c));
           rolling = not_rolling (ap rolls owes) ∙ sym (none_rolls (new_pair indexed c));
         }) _ (put_now v.txns.active t x here _ _) row_value.outbox c.rid (new_row c.rows) same_places)
 
@@ -138,7 +138,7 @@ module _ (v : CoreValue) (s : State) (k : Standing) (st : IsState v s k) (t : �
     is_entry = entry_phase x.progress _ owes (phase_of v s k st t x here)
 
     abbrev used : ℕ
-    used = places_used (get v.index.entries p)
+    used = pledges_used (get v.index.entries p)
 
     abbrev entry_value : CoreValue
     entry_value = entry_stepped v t Ready p Live (Forward NewEntry c)
@@ -163,7 +163,7 @@ module _ (v : CoreValue) (s : State) (k : Standing) (st : IsState v s k) (t : �
 
     entry_shown : Shows entry_value (after s (Next t)) (record k { made = k.made + 1 })
     entry_shown = subst (λ z. Shows entry_value z (record k { made = k.made + 1 })) (sym entry_is)
-        (entry_moved v s k h t x here (put_at Ready (reserved_of (txn_of v t) - used) x) (with_phase (txn_at s t) Made)
+        (entry_moved v s k h t x here (put_at Ready (reserved_of (txn_shown v t) - used) x) (with_phase (txn_at s t) Made)
         (record { changes = listed v s k h t x here; phase = refl; rolling = not_rolling (ap rolls owes) })
         _ (put_now v.txns.active t x here _ _) entry_value.outbox p Live (ap (λ n. n - used) same_places) enough (reserved_within v t x here safe))
 
@@ -189,14 +189,14 @@ module _ (v : CoreValue) (s : State) (k : Standing) (st : IsState v s k) (t : �
   wants_answers owes numbered = wants_memory v s k h (Event.Step t) (known v s k h t x here) (proper_by owes) refl Stepped (Next t) (refl, refl) (λ n. n) (λ n. numbered) tt
 
 -- ---- whatever state the core stands for
-owed_newest : (v : CoreValue) → IsSafe v → (t : ℕ) (x : TxnState) → txn_of v t ≡ Some x → (x.progress ≡ OwesRow) ⊎ (x.progress ≡ OwesEntry) → (c : ChangeValue) × (last_change x ≡ Some c)
+owed_newest : (v : CoreValue) → IsSafe v → (t : ℕ) (x : TxnState) → txn_shown v t ≡ Some x → (x.progress ≡ OwesRow) ⊎ (x.progress ≡ OwesEntry) → (c : ChangeValue) × (last_change x ≡ Some c)
 owed_newest v safe t x here owes = by (last_change x) refl
   where
     by : (o : Option ChangeValue) → last_change x ≡ o → (c : ChangeValue) × (last_change x ≡ Some c)
     by None e = absurd (owed_by v safe t x here owes e)
     by (Some c) e = (c, e)
 
-module _ (v : CoreValue) (t : ℕ) (asked : OwesOrNone (txn_of v t)) where
+module _ (v : CoreValue) (t : ℕ) (asked : OwesOrNone (txn_shown v t)) where
   pub next_refused : (error : Error) → HasNoRecord v t error → Serves v (Event.Step t) (Refused error) v
   next_refused error (inl why) s k is = subst (λ n. Answers v s k (Event.Step t) (Refused n) v) (sym why.0) (refusal v s k (Event.Step t) NoSuchTxn is.shown (unknown (no_txn v s k is.shown t why.1)))
   next_refused error (inr why) s k is =
@@ -213,23 +213,23 @@ module _ (v : CoreValue) (t : ℕ) (asked : OwesOrNone (txn_of v t)) where
         let c = owed_newest v (record { state = s; standing = k; is = is }) t x.0 x.1 owes in
         subst (λ w. Answers v s k (Event.Step t) (Refused error) w) (sym same) (subst (λ n. Answers v s k (Event.Step t) (Refused n) v) (sym e) (wants_answers v s k is t x.0 x.1 c.0 c.1 owes has.numbered))
 
-    pub row_served : (x : TxnState) (c : ChangeValue) → txn_of v t ≡ Some x → last_change x ≡ Some c → x.progress ≡ OwesRow → (v' : CoreValue) → v' ≡ row_stepped v t (row_progress (new_pair (is_indexed v.life) c)) c.rid (new_row c.rows) (Forward Slot c) → Serves v (Event.Step t) Stepped v'
+    pub row_served : (x : TxnState) (c : ChangeValue) → txn_shown v t ≡ Some x → last_change x ≡ Some c → x.progress ≡ OwesRow → (v' : CoreValue) → v' ≡ row_stepped v t (row_progress (new_pair (is_indexed v.life) c)) c.rid (new_row c.rows) (Forward Slot c) → Serves v (Event.Step t) Stepped v'
     row_served x c here last owes v' same s k is = subst (λ w. Answers v s k (Event.Step t) Stepped w) (sym same) (row_answers v s k is t x here c last owes has.numbered)
 
-    pub entry_served : (x : TxnState) (c : ChangeValue) (p : Pair) → txn_of v t ≡ Some x → last_change x ≡ Some c → x.progress ≡ OwesEntry → new_pair (is_indexed v.life) c ≡ Some p → (v' : CoreValue) → v' ≡ entry_stepped v t Ready p Live (Forward NewEntry c) → Serves v (Event.Step t) Stepped v'
+    pub entry_served : (x : TxnState) (c : ChangeValue) (p : Pair) → txn_shown v t ≡ Some x → last_change x ≡ Some c → x.progress ≡ OwesEntry → new_pair (is_indexed v.life) c ≡ Some p → (v' : CoreValue) → v' ≡ entry_stepped v t Ready p Live (Forward NewEntry c) → Serves v (Event.Step t) Stepped v'
     entry_served x c p here last owes pair v' same s k is = subst (λ w. Answers v s k (Event.Step t) Stepped w) (sym same) (entry_answers v s k is t x here c last owes p pair has.numbered)
 
 -- ---- what the code needs to know
-pub owed_inside : (v : CoreValue) (t : ℕ) (x : TxnState) (c : ChangeValue) → txn_of v t ≡ Some x → last_change x ≡ Some c → IsSafe v → c.rid.page < v.heap.pages
+pub owed_inside : (v : CoreValue) (t : ℕ) (x : TxnState) (c : ChangeValue) → txn_shown v t ≡ Some x → last_change x ≡ Some c → IsSafe v → c.rid.page < v.heap.pages
 owed_inside v t x c here last safe = inside_by v safe t x here c last
 
-pub owed_missing : (v : CoreValue) (t : ℕ) (x : TxnState) → txn_of v t ≡ Some x → (x.progress ≡ OwesRow) ⊎ (x.progress ≡ OwesEntry) → last_change x ≡ None → IsSafe v → ⊥
+pub owed_missing : (v : CoreValue) (t : ℕ) (x : TxnState) → txn_shown v t ≡ Some x → (x.progress ≡ OwesRow) ⊎ (x.progress ≡ OwesEntry) → last_change x ≡ None → IsSafe v → ⊥
 owed_missing v t x here owes none safe = owed_by v safe t x here owes none
 
-pub owed_places : (v : CoreValue) (t : ℕ) (x : TxnState) (c : ChangeValue) (p : Pair) → txn_of v t ≡ Some x → last_change x ≡ Some c → new_pair (is_indexed v.life) c ≡ Some p → IsSafe v → places_used (get v.index.entries p) ≤ x.reserved
+pub owed_places : (v : CoreValue) (t : ℕ) (x : TxnState) (c : ChangeValue) (p : Pair) → txn_shown v t ≡ Some x → last_change x ≡ Some c → new_pair (is_indexed v.life) c ≡ Some p → IsSafe v → pledges_used (get v.index.entries p) ≤ x.reserved
 owed_places v t x c p here last pair safe = paid_by v safe t x here c last p pair
 
-pub owed_pair : (v : CoreValue) (t : ℕ) (x : TxnState) (c : ChangeValue) → txn_of v t ≡ Some x → last_change x ≡ Some c → x.progress ≡ OwesEntry → new_pair (is_indexed v.life) c ≡ None → IsSafe v → ⊥
+pub owed_pair : (v : CoreValue) (t : ℕ) (x : TxnState) (c : ChangeValue) → txn_shown v t ≡ Some x → last_change x ≡ Some c → x.progress ≡ OwesEntry → new_pair (is_indexed v.life) c ≡ None → IsSafe v → ⊥
 owed_pair v t x c here last owes none safe =
     let s = safe.state in
     let first = newest_last v s safe.standing safe.is t x here c last in
@@ -249,28 +249,28 @@ so_far x (Some y) here f p e is = let same : (◌≡◌ {A = Option Progress} (S
     inside_of : (a b : Progress) → (◌≡◌ {A = Option Progress} (Some a) (Some b)) → a ≡ b
     inside_of a b e = cc
 
-module _ (v : CoreValue) (t : ℕ) (c : ChangeValue) (newest : option_and_then last_change (txn_of v t) ≡ Some c) where
-  of_txn : (x : TxnState) × (txn_of v t ≡ Some x) × (last_change x ≡ Some c)
-  of_txn = some_txn (txn_of v t) c newest
+module _ (v : CoreValue) (t : ℕ) (c : ChangeValue) (newest : option_and_then last_change (txn_shown v t) ≡ Some c) where
+  of_txn : (x : TxnState) × (txn_shown v t ≡ Some x) × (last_change x ≡ Some c)
+  of_txn = some_txn (txn_shown v t) c newest
 
   pub newest_inside : IsSafe v → c.rid.page + 1 ≤ v.heap.pages
   newest_inside safe = let less : c.rid.page < v.heap.pages = owed_inside v t of_txn.0 c of_txn.1 of_txn.2 safe in omega (arith, less)
 
-  pub entry_enough : (p : Pair) → new_pair (is_indexed v.life) c ≡ Some p → IsSafe v → places_used (get v.index.entries p) ≤ reserved_of (txn_of v t)
-  entry_enough p pair safe = subst (λ o. places_used (get v.index.entries p) ≤ reserved_of o) (sym of_txn.1) (owed_places v t of_txn.0 c p of_txn.1 of_txn.2 pair safe)
+  pub entry_enough : (p : Pair) → new_pair (is_indexed v.life) c ≡ Some p → IsSafe v → pledges_used (get v.index.entries p) ≤ reserved_of (txn_shown v t)
+  entry_enough p pair safe = subst (λ o. pledges_used (get v.index.entries p) ≤ reserved_of o) (sym of_txn.1) (owed_places v t of_txn.0 c p of_txn.1 of_txn.2 pair safe)
 
-  module _ (f : Progress) (at_f : ◌≡◌ {A = Option Progress} (Some f) (option_map (λ (y : TxnState). y.progress) (txn_of v t))) where
+  module _ (f : Progress) (at_f : ◌≡◌ {A = Option Progress} (Some f) (option_map (λ (y : TxnState). y.progress) (txn_shown v t))) where
     pub no_entry : f ≡ OwesEntry → new_pair (is_indexed v.life) c ≡ None → IsSafe v → ⊥
-    no_entry is none safe = owed_pair v t of_txn.0 c of_txn.1 of_txn.2 (so_far of_txn.0 (txn_of v t) of_txn.1 f OwesEntry at_f is) none safe
+    no_entry is none safe = owed_pair v t of_txn.0 c of_txn.1 of_txn.2 (so_far of_txn.0 (txn_shown v t) of_txn.1 f OwesEntry at_f is) none safe
 
-    module _ (asked : OwesOrNone (txn_of v t)) (has : HasRecord v t) where
+    module _ (asked : OwesOrNone (txn_shown v t)) (has : HasRecord v t) where
       pub row_carried : f ≡ OwesRow → (v' : CoreValue) → v' ≡ row_stepped v t (row_progress (new_pair (is_indexed v.life) c)) c.rid (new_row c.rows) (Forward Slot c) → Serves v (Event.Step t) Stepped v'
-      row_carried is v' same = row_served v t asked has of_txn.0 c of_txn.1 of_txn.2 (so_far of_txn.0 (txn_of v t) of_txn.1 f OwesRow at_f is) v' same
+      row_carried is v' same = row_served v t asked has of_txn.0 c of_txn.1 of_txn.2 (so_far of_txn.0 (txn_shown v t) of_txn.1 f OwesRow at_f is) v' same
 
       pub entry_carried : f ≡ OwesEntry → (m : Pair × TxnAction) → new_pair (is_indexed v.life) c ≡ Some m.0 → m.1 ≡ Forward NewEntry c → (v' : CoreValue) → v' ≡ entry_stepped v t Ready m.0 Live m.1 → Serves v (Event.Step t) Stepped v'
-      entry_carried is m pair action v' same = entry_served v t asked has of_txn.0 c m.0 of_txn.1 of_txn.2 (so_far of_txn.0 (txn_of v t) of_txn.1 f OwesEntry at_f is) pair v' (same ∙ ap (entry_stepped v t Ready m.0 Live) action)
+      entry_carried is m pair action v' same = entry_served v t asked has of_txn.0 c m.0 of_txn.1 of_txn.2 (so_far of_txn.0 (txn_shown v t) of_txn.1 f OwesEntry at_f is) pair v' (same ∙ ap (entry_stepped v t Ready m.0 Live) action)
 
-pub newest_missing : (v : CoreValue) (t : ℕ) → OwesOrNone (txn_of v t) → txn_of v t ≢ None → option_and_then last_change (txn_of v t) ≡ None → IsSafe v → ⊥
+pub newest_missing : (v : CoreValue) (t : ℕ) → OwesOrNone (txn_shown v t) → txn_shown v t ≢ None → option_and_then last_change (txn_shown v t) ≡ None → IsSafe v → ⊥
 newest_missing v t asked active none safe =
     let x = there v t active in
     owed_missing v t x.0 x.1 (subst OwesOrNone x.1 asked) (ap (option_and_then last_change) (sym x.1) ∙ none) safe

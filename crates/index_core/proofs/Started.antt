@@ -13,7 +13,7 @@ use Rattle.records.specs.declared.pair.Mark.{Mark}
 use Rattle.records.specs.declared.pair.Mark.TheVariants.{Marked}
 use Rattle.records.specs.declared.limits.TheConstants.{PLACES_PER_CHANGE}
 use Rattle.records.specs.Orders.{pair_cmp_total}
-use Rattle.marked_index.specs.Index.{places_used}
+use Rattle.marked_index.specs.Index.{pledges_used}
 use Rattle.model.specs.Table.{Index}
 use Rattle.core_model.specs.States.{OldMarked}
 use Rattle.txn_table.specs.declared.progress.Progress.TheVariants.{OwesRow}
@@ -21,7 +21,7 @@ use Rattle.index_core.specs.Moves.{first_made, mark_first}
 use Rattle.std.proofs.Common.{is_some, ◌-◌, ◌≤◌}
 use Rattle.model.specs.Pairs.{is_indexed, new_pair, old_pair}
 use Rattle.txn_table.specs.Table as table
-use Rattle.txn_table.specs.Table.{TxnState, holder_of, noted, put_at, rolls}
+use Rattle.txn_table.specs.Table.{TxnState, change_noted, holder_of, put_at, rolls}
 use Rattle.txn_table.proofs.TableLaws.{holder_of-noted_other, holder_of-put_at, state_of-with_state}
 use Rattle.txn_table.specs.declared.progress.Progress.{Progress}
 use Rattle.txn_table.specs.declared.progress.Progress.TheVariants.{Ready}
@@ -30,8 +30,8 @@ use Rattle.core_model.specs.States.{State}
 use Rattle.core_model.specs.Steps as core
 use Rattle.core_model.specs.Steps.{Start, update, after, places_of, reserved, row_made, started, txn_at, with_places}
 use Rattle.core_contracts.specs.Events.{Standing}
-use Rattle.index_core.specs.View.{CoreValue, IsAt, Shows}
-use Rattle.index_core.specs.Moves.{reserved_of, row_first, row_progress, txn_of, with_change}
+use Rattle.index_core.specs.View.{CoreValue, IsProgressOf, Shows}
+use Rattle.index_core.specs.Moves.{change_begun, reserved_of, row_first, row_progress, txn_shown}
 use Rattle.index_core.proofs.Moved.{HasMoved, is_ready, listed, moved_shown, places_are, same_number}
 
 pub either : {X : Type 0} (b : Bool) (p q r : X) → cond b p (cond b q r) ≡ cond b p r
@@ -52,30 +52,30 @@ module _ (es : List (ℕ × TxnState)) (t : ℕ) (x : TxnState) (here : table.st
   state_set f u = state_of-with_state f t u es ∙ ap (λ o. cond (eqb u t) (option_map f o) (table.state_of u es)) here
 
 module _ (es : List (ℕ × TxnState)) (t : ℕ) (x : TxnState) (here : table.state_of t es ≡ Some x) (c : ChangeValue) (p : Progress) (n : ℕ) where
-  late : table.state_of t (table.with_state (noted c) t es) ≡ Some (noted c x)
-  late = state_set es t x here (noted c) t ∙ ap (λ b. cond b (Some (noted c x)) (table.state_of t es)) (same_number t t refl)
+  late : table.state_of t (table.with_state (change_noted c) t es) ≡ Some (change_noted c x)
+  late = state_set es t x here (change_noted c) t ∙ ap (λ b. cond b (Some (change_noted c x)) (table.state_of t es)) (same_number t t refl)
 
-  pub states_changed : (u : ℕ) → table.state_of u (with_change es t c p n) ≡ cond (eqb u t) (Some (put_at p n (noted c x))) (table.state_of u es)
+  pub states_changed : (u : ℕ) → table.state_of u (change_begun es t c p n) ≡ cond (eqb u t) (Some (put_at p n (change_noted c x))) (table.state_of u es)
   states_changed u =
-      state_set (table.with_state (noted c) t es) t (noted c x) late (put_at p n) u
-      ∙ ap (cond (eqb u t) (Some (put_at p n (noted c x)))) (state_set es t x here (noted c) u)
-      ∙ either (eqb u t) (Some (put_at p n (noted c x))) (Some (noted c x)) (table.state_of u es)
+      state_set (table.with_state (change_noted c) t es) t (change_noted c x) late (put_at p n) u
+      ∙ ap (cond (eqb u t) (Some (put_at p n (change_noted c x)))) (state_set es t x here (change_noted c) u)
+      ∙ either (eqb u t) (Some (put_at p n (change_noted c x))) (Some (change_noted c x)) (table.state_of u es)
 
-  pub many_changed : length (with_change es t c p n) ≡ length es
-  many_changed = long (put_at p n) t (table.with_state (noted c) t es) ∙ long (noted c) t es
+  pub many_changed : length (change_begun es t c p n) ≡ length es
+  many_changed = long (put_at p n) t (table.with_state (change_noted c) t es) ∙ long (change_noted c) t es
 
-  pub holder_apart : (q : Place) → q ≢ c.rid → holder_of q (with_change es t c p n) ≡ holder_of q es
-  holder_apart q other = holder_of-put_at p n t q (table.with_state (noted c) t es) ∙ holder_of-noted_other t c q es other
+  pub holder_apart : (q : Place) → q ≢ c.rid → holder_of q (change_begun es t c p n) ≡ holder_of q es
+  holder_apart q other = holder_of-put_at p n t q (table.with_state (change_noted c) t es) ∙ holder_of-noted_other t c q es other
 
 -- ---- a place for an entry that is added
-grown_by : (n l : ℕ) (o : Option Mark) → l ≡ cond (is_some o) n (n + 1) → l - n ≡ places_used o
+grown_by : (n l : ℕ) (o : Option Mark) → l ≡ cond (is_some o) n (n + 1) → l - n ≡ pledges_used o
 grown_by n l None e = omega (arith, e)
 grown_by n l (Some m) e = omega (arith, e)
 
-pub grown : (m : Index) (p : Pair) (mark : Mark) → len (set_at m p (Some mark)) - len m ≡ places_used (get m p)
+pub grown : (m : Index) (p : Pair) (mark : Mark) → len (set_at m p (Some mark)) - len m ≡ pledges_used (get m p)
 grown m p mark = grown_by (len m) (len (set_at m p (Some mark))) (get m p) (len-insert pair_cmp_total m p mark)
 
-pub used_few : (o : Option Mark) → places_used o ≤ 1
+pub used_few : (o : Option Mark) → pledges_used o ≤ 1
 used_few None = omega arith
 used_few (Some m) = omega arith
 
@@ -85,7 +85,7 @@ has_index false c p e = absurd cc
 has_index true c p e = refl
 
 -- ---- the row is set first
-pub phase_is : (o : Option Pair) → IsAt (row_progress o) (row_made o)
+pub phase_is : (o : Option Pair) → IsProgressOf (row_progress o) (row_made o)
 phase_is None = refl
 phase_is (Some p) = refl
 
@@ -100,10 +100,10 @@ module _ (v : CoreValue) (s : State) (k : Standing) (h : Shows v s k) (t : ℕ) 
   same_index : is_indexed s.life ≡ indexed
   same_index = ap is_indexed h.life
 
-  same_places : reserved_of (txn_of v t) ≡ x.reserved
+  same_places : reserved_of (txn_shown v t) ≡ x.reserved
   same_places = ap reserved_of here
 
-  now_reserved : reserved s.pledges t ≡ reserved_of (txn_of v t)
+  now_reserved : reserved s.pledges t ≡ reserved_of (txn_shown v t)
   now_reserved = places_are v s k h t x here ∙ sym same_places
 
   holder_is : (es : List (ℕ × TxnState)) → holder_of c.rid es ≡ Some t → ((q : Place) → q ≢ c.rid → holder_of q es ≡ holder_of q v.txns.active) → (q : Place) → update rid_cmp s.holder c.rid (Some t) q ≡ holder_of q es
@@ -123,7 +123,7 @@ module _ (v : CoreValue) (s : State) (k : Standing) (h : Shows v s k) (t : ℕ) 
 
   module _ (none : old_pair indexed c ≡ None) (held : holder_of c.rid (row_first v t c).txns.active ≡ Some t) where
     abbrev set_txn : TxnState
-    set_txn = put_at (row_progress (new_pair indexed c)) (reserved_of (txn_of v t) + places_of indexed) (noted c x)
+    set_txn = put_at (row_progress (new_pair indexed c)) (reserved_of (txn_shown v t) + places_of indexed) (change_noted c x)
 
     abbrev set_state : State
     set_state = record (started s t (txn_at s t) c None) { pledges = with_places s t (places_of (is_indexed s.life)) s.entries }
@@ -131,7 +131,7 @@ module _ (v : CoreValue) (s : State) (k : Standing) (h : Shows v s k) (t : ℕ) 
     set_is : after s (Start t c) ≡ set_state
     set_is = ap (λ o. record (started s t (txn_at s t) c o) { pledges = with_places s t (places_of (is_indexed s.life)) (started s t (txn_at s t) c o).entries }) (old_is None none)
 
-    set_places : reserved s.pledges t + places_of (is_indexed s.life) - (len s.entries - len s.entries) ≡ reserved_of (txn_of v t) + places_of indexed
+    set_places : reserved s.pledges t + places_of (is_indexed s.life) - (len s.entries - len s.entries) ≡ reserved_of (txn_shown v t) + places_of indexed
     set_places = sums _ _ (len s.entries) _ _ now_reserved (ap places_of same_index)
       where
         sums : (n1 n2 n n3 n4 : ℕ) → n1 ≡ n3 → n2 ≡ n4 → n1 + n2 - (n - n) ≡ n3 + n4
@@ -145,10 +145,10 @@ module _ (v : CoreValue) (s : State) (k : Standing) (h : Shows v s k) (t : ℕ) 
       txns = refl;
       is = record {
         changes = one_more;
-        phase = subst (λ b. IsAt (row_progress (new_pair indexed c)) (row_made (new_pair b c))) (sym same_index) (phase_is (new_pair indexed c));
+        phase = subst (λ b. IsProgressOf (row_progress (new_pair indexed c)) (row_made (new_pair b c))) (sym same_index) (phase_is (new_pair indexed c));
         rolling = (is_ready v s k h t x here ready).1 ∙ sym (none_rolls (new_pair indexed c));
       };
-      holder = holder_is (row_first v t c).txns.active held (holder_apart v.txns.active t x here c (row_progress (new_pair indexed c)) (reserved_of (txn_of v t) + places_of indexed));
+      holder = holder_is (row_first v t c).txns.active held (holder_apart v.txns.active t x here c (row_progress (new_pair indexed c)) (reserved_of (txn_shown v t) + places_of indexed));
       places = ap (insert s.pledges t) set_places;
       pledged = sums _ _ _ _ same_places;
       states = states_changed v.txns.active t x here c _ _;
@@ -184,10 +184,10 @@ module _ (v : CoreValue) (s : State) (k : Standing) (h : Shows v s k) (t : ℕ) 
   -- ---- the entry of the old row is marked first
   module _ (p : Pair) (some : old_pair indexed c ≡ Some p) (held : holder_of c.rid (mark_first v t c p).txns.active ≡ Some t) where
     abbrev left_over : ℕ
-    left_over = PLACES_PER_CHANGE - places_used (get v.index.entries p)
+    left_over = PLACES_PER_CHANGE - pledges_used (get v.index.entries p)
 
     abbrev mark_txn : TxnState
-    mark_txn = put_at OwesRow (reserved_of (txn_of v t) + left_over) (noted c x)
+    mark_txn = put_at OwesRow (reserved_of (txn_shown v t) + left_over) (change_noted c x)
 
     abbrev mark_state : State
     mark_state = record (started s t (txn_at s t) c (Some p)) { pledges = with_places s t (places_of (is_indexed s.life)) (set_at s.entries p (Some Marked)) }
@@ -195,8 +195,8 @@ module _ (v : CoreValue) (s : State) (k : Standing) (h : Shows v s k) (t : ℕ) 
     mark_is : after s (Start t c) ≡ mark_state
     mark_is = ap (λ o. record (started s t (txn_at s t) c o) { pledges = with_places s t (places_of (is_indexed s.life)) (started s t (txn_at s t) c o).entries }) (old_is (Some p) some)
 
-    mark_places : reserved s.pledges t + places_of (is_indexed s.life) - (len (set_at s.entries p (Some Marked)) - len s.entries) ≡ reserved_of (txn_of v t) + left_over
-    mark_places = sums _ _ _ _ _ now_reserved (ap places_of (same_index ∙ has_index indexed c p some)) (grown s.entries p Marked ∙ ap (λ m. places_used (get m p)) h.entries) (used_few (get v.index.entries p))
+    mark_places : reserved s.pledges t + places_of (is_indexed s.life) - (len (set_at s.entries p (Some Marked)) - len s.entries) ≡ reserved_of (txn_shown v t) + left_over
+    mark_places = sums _ _ _ _ _ now_reserved (ap places_of (same_index ∙ has_index indexed c p some)) (grown s.entries p Marked ∙ ap (λ m. pledges_used (get m p)) h.entries) (used_few (get v.index.entries p))
       where
         sums : (r places u r' u' : ℕ) → r ≡ r' → places ≡ PLACES_PER_CHANGE → u ≡ u' → u' ≤ 1 → r + places - u ≡ r' + (PLACES_PER_CHANGE - u')
         sums r places u r' u' e f g few = omega (arith, e, f, g, few)
@@ -208,10 +208,10 @@ module _ (v : CoreValue) (s : State) (k : Standing) (h : Shows v s k) (t : ℕ) 
       txn = core.with_change (txn_at s t) c OldMarked;
       txns = refl;
       is = record { changes = one_more; phase = refl; rolling = (is_ready v s k h t x here ready).1 };
-      holder = holder_is (mark_first v t c p).txns.active held (holder_apart v.txns.active t x here c OwesRow (reserved_of (txn_of v t) + left_over));
+      holder = holder_is (mark_first v t c p).txns.active held (holder_apart v.txns.active t x here c OwesRow (reserved_of (txn_shown v t) + left_over));
       places = ap (insert s.pledges t) mark_places;
       pledged = sums v.index.pledged left_over _ _ same_places;
-      states = states_changed v.txns.active t x here c OwesRow (reserved_of (txn_of v t) + left_over);
+      states = states_changed v.txns.active t x here c OwesRow (reserved_of (txn_shown v t) + left_over);
       rest = record {
         life = refl;
         pages = refl;
@@ -222,7 +222,7 @@ module _ (v : CoreValue) (s : State) (k : Standing) (h : Shows v s k) (t : ℕ) 
         attempts = refl;
         commits = refl;
         begun = refl;
-        many = many_changed v.txns.active t x here c OwesRow (reserved_of (txn_of v t) + left_over);
+        many = many_changed v.txns.active t x here c OwesRow (reserved_of (txn_shown v t) + left_over);
         same_life = refl;
         same_pages = refl;
         same_places = refl;

@@ -12,13 +12,13 @@ use Rattle.txn_table.specs.Table as table
 use Rattle.txn_table.specs.Table.{TableValue, TxnState, holder_of, put_at, without_last}
 use Rattle.txn_table.specs.declared.progress.Progress.{Progress}
 use Rattle.txn_table.proofs.TableLaws.{holder_of-put_at, holder_of-without_last}
-use Rattle.marked_index.specs.Index.{places_used}
+use Rattle.marked_index.specs.Index.{pledges_used}
 use Rattle.core_model.specs.States.{Active, State}
 use Rattle.core_model.specs.Steps.{reserved, with_places, with_txn}
 use Rattle.core_contracts.specs.Events.{Standing}
-use Rattle.index_core.specs.View.{CoreValue, IsTxn, Shows}
+use Rattle.index_core.specs.View.{CoreValue, Shows, ShowsTxn}
 use Rattle.index_core.specs.Moves.{row_stepped}
-use Rattle.index_core.specs.Undoing.{taken_off}
+use Rattle.index_core.specs.Undoing.{newest_taken_off}
 use Rattle.index_core.proofs.Moved.{HasMoved, moved_shown, places_are, same_number}
 use Rattle.index_core.proofs.Started.{either, grown, long, state_set}
 
@@ -61,11 +61,11 @@ pub row_as : (v : CoreValue) (t : ℕ) {f f' : Progress} {r r' : Place} {row row
 row_as v t e g h k = λ i. row_stepped v t (e i) (g i) (h i) (k i)
 
 -- the newest change goes off the list behind a step
-pub taken_off_behind : (w target : CoreValue) (t : ℕ) (txns : TableValue) → txns ≡ record w.txns { active = table.with_state without_last t w.txns.active } → w ≡ target → record w { txns = txns } ≡ taken_off target t
-taken_off_behind w target t txns popped same = ap (λ (x : TableValue). record w { txns = x }) popped ∙ ap (λ (x : CoreValue). taken_off x t) same
+pub taken_off_behind : (w target : CoreValue) (t : ℕ) (txns : TableValue) → txns ≡ record w.txns { active = table.with_state without_last t w.txns.active } → w ≡ target → record w { txns = txns } ≡ newest_taken_off target t
+taken_off_behind w target t txns popped same = ap (λ (x : TableValue). record w { txns = x }) popped ∙ ap (λ (x : CoreValue). newest_taken_off x t) same
 
 -- ---- what the core shows
-module _ (v : CoreValue) (s : State) (k : Standing) (h : Shows v s k) (t : ℕ) (x : TxnState) (here : table.state_of t v.txns.active ≡ Some x) (x' : TxnState) (a : Active) (is : IsTxn x' a) (active : List (ℕ × TxnState)) (now : IsNow v.txns.active t x' active) (outbox : List RecordValue) where
+module _ (v : CoreValue) (s : State) (k : Standing) (h : Shows v s k) (t : ℕ) (x : TxnState) (here : table.state_of t v.txns.active ≡ Some x) (x' : TxnState) (a : Active) (is : ShowsTxn x' a) (active : List (ℕ × TxnState)) (now : IsNow v.txns.active t x' active) (outbox : List RecordValue) where
   next_standing : record k { made = k.made + 1 } ≡ record k { made = v.last + 1 }
   next_standing = ap (λ n. record k { made = n + 1 }) h.made
 
@@ -119,9 +119,9 @@ module _ (v : CoreValue) (s : State) (k : Standing) (h : Shows v s k) (t : ℕ) 
     pub row_moved : Shows row_value row_state (record k { made = k.made + 1 })
     row_moved = moved_shown v s k h t x here x' row_value row_state (record k { made = k.made + 1 }) did_row
 
-  module _ (p : Pair) (mark : Mark) (used : x'.reserved ≡ x.reserved - places_used (get v.index.entries p)) (enough : places_used (get v.index.entries p) ≤ x.reserved) (within : x.reserved ≤ v.index.pledged) where
+  module _ (p : Pair) (mark : Mark) (used : x'.reserved ≡ x.reserved - pledges_used (get v.index.entries p)) (enough : pledges_used (get v.index.entries p) ≤ x.reserved) (within : x.reserved ≤ v.index.pledged) where
     abbrev entry_value : CoreValue
-    entry_value = record v { txns = record v.txns { active = active }; index = record v.index { entries = set_at v.index.entries p (Some mark); pledged = v.index.pledged - places_used (get v.index.entries p) }; last = v.last + 1; outbox = outbox }
+    entry_value = record v { txns = record v.txns { active = active }; index = record v.index { entries = set_at v.index.entries p (Some mark); pledged = v.index.pledged - pledges_used (get v.index.entries p) }; last = v.last + 1; outbox = outbox }
 
     abbrev entry_state : State
     entry_state = record s { entries = set_at s.entries p (Some mark); txns = with_txn s t a; pledges = with_places s t 0 (set_at s.entries p (Some mark)) }
@@ -134,7 +134,7 @@ module _ (v : CoreValue) (s : State) (k : Standing) (h : Shows v s k) (t : ℕ) 
       txns = refl;
       is = is;
       holder = λ q. h.holder q ∙ sym (now.holders q);
-      places = ap (insert s.pledges t) (sums _ _ _ _ _ now_reserved (grown s.entries p mark ∙ ap (λ m. places_used (get m p)) h.entries) used);
+      places = ap (insert s.pledges t) (sums _ _ _ _ _ now_reserved (grown s.entries p mark ∙ ap (λ m. pledges_used (get m p)) h.entries) used);
       pledged = paid_sums _ _ _ _ used enough within;
       states = now.states;
       rest = record {

@@ -19,7 +19,7 @@ use Rattle.txn_table.specs.Table as table
 use Rattle.txn_table.specs.Table.{TxnState, last_change, put_at, without_last}
 use Rattle.txn_table.specs.declared.progress.Progress.{Progress}
 use Rattle.txn_table.specs.declared.progress.Progress.TheVariants.{OwesEntry, OwesRow, Ready, Rolling, UndoesEntry, UndoesRow}
-use Rattle.marked_index.specs.Index.{places_used}
+use Rattle.marked_index.specs.Index.{pledges_used}
 use Rattle.core_model.proofs.Laws.{not_none}
 use Rattle.core_model.specs.Changes.{Changes, Unchanged, as_list, ◌▹◌}
 use Rattle.core_model.specs.Invariants.{HasShape, IsShaped}
@@ -30,9 +30,9 @@ use Rattle.core_model.specs.Steps as core
 use Rattle.core_model.specs.Steps.{Undo, after, txn_at, undoing, undone, undone_first, undone_row, with_entry, with_places, with_txn, without_newest}
 use Rattle.core_contracts.specs.Events.{Empty, Event, Refused, Standing, Undone}
 use Rattle.core_contracts.specs.Replies.{unknown}
-use Rattle.index_core.specs.View.{Answers, CoreValue, IsAt, IsSafe, IsState, IsTxn, Serves, Shows}
-use Rattle.index_core.specs.Moves.{HasNoRecord, HasRecord, reserved_of, txn_of}
-use Rattle.index_core.specs.Undoing.{entry_restored, part_to_undo, row_restored, taken_off, undo_begun}
+use Rattle.index_core.specs.View.{Answers, CoreValue, IsProgressOf, IsSafe, IsState, Serves, Shows, ShowsTxn}
+use Rattle.index_core.specs.Moves.{HasNoRecord, HasRecord, reserved_of, txn_shown}
+use Rattle.index_core.specs.Undoing.{entry_restored, newest_taken_off, part_to_undo, row_restored, undo_begun}
 use Rattle.index_core.proofs.Due.{made, no_number, refusal, wants_memory}
 use Rattle.index_core.proofs.Inserting.{no_txn}
 use Rattle.index_core.proofs.Leaving.{there}
@@ -69,7 +69,7 @@ record IsFirstPhase (phase : Phase) : Type 0 where
 first_made : IsFirstPhase Made
 first_made = record { applied = true; does = λ s t x older c. refl; says = λ b t older c. refl }
 
-first_by : (f : Progress) (phase : Phase) → part_to_undo f ≡ NewEntry → IsAt f phase → IsFirstPhase phase
+first_by : (f : Progress) (phase : Phase) → part_to_undo f ≡ NewEntry → IsProgressOf f phase → IsFirstPhase phase
 first_by Ready phase un e = subst IsFirstPhase (sym e) first_made
 first_by OwesRow phase un e = subst IsFirstPhase (sym e) (record { applied = false; does = λ s t x older c. refl; says = λ b t older c. refl })
 first_by OwesEntry phase un e = subst IsFirstPhase (sym e) (record { applied = true; does = λ s t x older c. refl; says = λ b t older c. refl })
@@ -88,7 +88,7 @@ sets_first s c phase first none = record {
   says = λ t older. first.says (is_indexed s.life) t older c ∙ ap (λ o. Some (begun_action t c (old_pair (is_indexed s.life) c) o)) none;
 }
 
-sets_second : (s : State) (c : ChangeValue) (phase : Phase) → IsAt UndoesRow phase → SetsRow s c phase
+sets_second : (s : State) (c : ChangeValue) (phase : Phase) → IsProgressOf UndoesRow phase → SetsRow s c phase
 sets_second s c phase marked = subst (SetsRow s c) (sym marked.1) (record { does = λ t x older. refl; says = λ t older. refl })
 
 -- ---- the list without its last change
@@ -98,7 +98,7 @@ front older c all e =
     sym (take-append_seam older (c ∷ [])) ∙ ap (λ n. take n (older ++ c ∷ [])) long ∙ ap (λ xs. take (length xs - 1) xs) e
 
 -- ---- of a transaction
-module _ (v : CoreValue) (s : State) (k : Standing) (st : IsState v s k) (t : ℕ) (x : TxnState) (here : txn_of v t ≡ Some x) where
+module _ (v : CoreValue) (s : State) (k : Standing) (st : IsState v s k) (t : ℕ) (x : TxnState) (here : txn_shown v t ≡ Some x) where
   abbrev h : Shows v s k
   h = st.shown
 
@@ -108,7 +108,7 @@ module _ (v : CoreValue) (s : State) (k : Standing) (st : IsState v s k) (t : �
   safe : IsSafe v
   safe = record { state = s; standing = k; is = st }
 
-  same_places : reserved_of (txn_of v t) ≡ x.reserved
+  same_places : reserved_of (txn_shown v t) ≡ x.reserved
   same_places = ap reserved_of here
 
   within : x.reserved ≤ v.index.pledged
@@ -131,7 +131,7 @@ module _ (v : CoreValue) (s : State) (k : Standing) (st : IsState v s k) (t : �
     still_listed : as_list (txn_at s t).changes ≡ x.changes
     still_listed = listed v s k h t x here
 
-    popped_txn : (n : ℕ) → IsTxn (without_last (put_at Rolling n x)) (without_newest older.0)
+    popped_txn : (n : ℕ) → ShowsTxn (without_last (put_at Rolling n x)) (without_newest older.0)
     popped_txn n = record { changes = front (as_list older.0) c x.changes (ap as_list (sym older.1) ∙ still_listed); phase = refl; rolling = refl }
 
     abbrev put_list : ℕ → List (ℕ × TxnState)
@@ -170,10 +170,10 @@ module _ (v : CoreValue) (s : State) (k : Standing) (st : IsState v s k) (t : �
       row_shown : (o : Option Pair) → old_pair (is_indexed v.life) c ≡ o → Shows (row_restored v t c o) (after s (Undo t)) (record k { made = k.made + 1 })
       row_shown None e =
           subst (λ z. Shows (row_restored v t c None) z (record k { made = k.made + 1 })) (sym (row_is None e))
-          (row_moved v s k h t x here (without_last (put_at Rolling (reserved_of (txn_of v t)) x)) (without_newest older.0) (popped_txn _) _ (popped_list _) (row_restored v t c None).outbox c.rid (old_row c.rows) same_places)
+          (row_moved v s k h t x here (without_last (put_at Rolling (reserved_of (txn_shown v t)) x)) (without_newest older.0) (popped_txn _) _ (popped_list _) (row_restored v t c None).outbox c.rid (old_row c.rows) same_places)
       row_shown (Some p) e =
           subst (λ z. Shows (row_restored v t c (Some p)) z (record k { made = k.made + 1 })) (sym (row_is (Some p) e))
-          (row_moved v s k h t x here (put_at UndoesEntry (reserved_of (txn_of v t)) x) (undoing (txn_at s t) OldSet) (record { changes = still_listed; phase = refl; rolling = refl }) _ (put_now v.txns.active t x here UndoesEntry _) (row_restored v t c (Some p)).outbox c.rid (old_row c.rows) same_places)
+          (row_moved v s k h t x here (put_at UndoesEntry (reserved_of (txn_shown v t)) x) (undoing (txn_at s t) OldSet) (record { changes = still_listed; phase = refl; rolling = refl }) _ (put_now v.txns.active t x here UndoesEntry _) (row_restored v t c (Some p)).outbox c.rid (old_row c.rows) same_places)
 
       row_waits : (o : Option Pair) → old_pair (is_indexed v.life) c ≡ o → (row_restored v t c o).outbox ≡ v.outbox ++ one_record v.last (action_of s (Undo t))
       row_waits None e = ap (λ a. v.outbox ++ one_record v.last a) (sym (row_says None e))
@@ -198,7 +198,7 @@ module _ (v : CoreValue) (s : State) (k : Standing) (st : IsState v s k) (t : �
       begun_answers numbered (Some p) e =
           answer numbered _
           (subst (λ z. Shows (undo_begun v t c (old_pair (is_indexed v.life) c) (Some p)) z (record k { made = k.made + 1 })) (sym (mark_is p e))
-          (entry_moved v s k h t x here (put_at UndoesRow (reserved_of (txn_of v t) - places_used (get v.index.entries p)) x) (undoing (txn_at s t) (NewMarked first.applied)) (record { changes = still_listed; phase = (first.applied, refl); rolling = refl }) _ (put_now v.txns.active t x here UndoesRow _) (undo_begun v t c (old_pair (is_indexed v.life) c) (Some p)).outbox p Marked (ap (λ n. n - places_used (get v.index.entries p)) same_places) (new_paid v s k st t x here c older.0 older.1 p e) within))
+          (entry_moved v s k h t x here (put_at UndoesRow (reserved_of (txn_shown v t) - pledges_used (get v.index.entries p)) x) (undoing (txn_at s t) (NewMarked first.applied)) (record { changes = still_listed; phase = (first.applied, refl); rolling = refl }) _ (put_now v.txns.active t x here UndoesRow _) (undo_begun v t c (old_pair (is_indexed v.life) c) (Some p)).outbox p Marked (ap (λ n. n - pledges_used (get v.index.entries p)) same_places) (new_paid v s k st t x here c older.0 older.1 p e) within))
           (ap (λ a. v.outbox ++ one_record v.last a) (sym (mark_says p e)))
 
     -- ---- the old entry is live again
@@ -217,7 +217,7 @@ module _ (v : CoreValue) (s : State) (k : Standing) (st : IsState v s k) (t : �
       live_answers numbered =
           answer numbered _
           (subst (λ z. Shows (entry_restored v t c p) z (record k { made = k.made + 1 })) (sym live_is)
-          (entry_moved v s k h t x here (without_last (put_at Rolling (reserved_of (txn_of v t) - places_used (get v.index.entries p)) x)) (without_newest older.0) (popped_txn _) _ (popped_list _) (entry_restored v t c p).outbox p Live (ap (λ n. n - places_used (get v.index.entries p)) same_places) (old_paid v s k st t x here c older.0 older.1 p pair) within))
+          (entry_moved v s k h t x here (without_last (put_at Rolling (reserved_of (txn_shown v t) - pledges_used (get v.index.entries p)) x)) (without_newest older.0) (popped_txn _) _ (popped_list _) (entry_restored v t c p).outbox p Live (ap (λ n. n - pledges_used (get v.index.entries p)) same_places) (old_paid v s k st t x here c older.0 older.1 p pair) within))
           (ap (λ a. v.outbox ++ one_record v.last a) (sym live_says))
 
     -- ---- nothing but a number or memory refuses it
@@ -260,7 +260,7 @@ module _ (v : CoreValue) (s : State) (k : Standing) (st : IsState v s k) (t : �
     same_made : k ≡ record k { made = v.last }
     same_made = ap (λ n. record k { made = n }) h.made
 
-    did_nothing : HasMoved v s k h t x here (without_last x) (taken_off v t) empty_state k
+    did_nothing : HasMoved v s k h t x here (without_last x) (newest_taken_off v t) empty_state k
     did_nothing = record {
       rows = h.rows;
       entries = h.entries;
@@ -301,9 +301,9 @@ module _ (v : CoreValue) (s : State) (k : Standing) (st : IsState v s k) (t : �
         sums : (r n r' : ℕ) → r ≡ r' → r + 0 - (n - n) ≡ r'
         sums r n r' e = omega (arith, e)
 
-    empty_answers : Answers v s k (Event.Undo t) Empty (taken_off v t)
-    empty_answers = made v s k h (Event.Undo t) (known v s k h t x here) tt refl Empty (Undo t) (inl (empty, refl), refl) (λ n. n) (λ n. absurd (n no_action)) (taken_off v t)
-        (subst (λ z. Shows (taken_off v t) z k) (sym empty_is) (moved_shown v s k h t x here (without_last x) (taken_off v t) empty_state k did_nothing))
+    empty_answers : Answers v s k (Event.Undo t) Empty (newest_taken_off v t)
+    empty_answers = made v s k h (Event.Undo t) (known v s k h t x here) tt refl Empty (Undo t) (inl (empty, refl), refl) (λ n. n) (λ n. absurd (n no_action)) (newest_taken_off v t)
+        (subst (λ z. Shows (newest_taken_off v t) z k) (sym empty_is) (moved_shown v s k h t x here (without_last x) (newest_taken_off v t) empty_state k did_nothing))
         (sym (append-nil v.outbox) ∙ ap (λ o. v.outbox ++ one_record v.last o) (sym no_action))
 
 -- ---- whether a transaction is active
@@ -322,17 +322,17 @@ is_there (Some x) e none = not_none refl none
 -- ---- whatever state the core stands for
 module _ (v : CoreValue) (t : ℕ) where
   -- a transaction that has no change, and one that is not active
-  pub nothing_left : option_and_then last_change (txn_of v t) ≡ None → txn_of v t ≢ None → (v' : CoreValue) → v' ≡ taken_off v t → Serves v (Event.Undo t) Empty v'
+  pub nothing_left : option_and_then last_change (txn_shown v t) ≡ None → txn_shown v t ≢ None → (v' : CoreValue) → v' ≡ newest_taken_off v t → Serves v (Event.Undo t) Empty v'
   nothing_left none active v' same s k is =
       let x = there v t active in
       subst (Answers v s k (Event.Undo t) Empty) (sym same) (empty_answers v s k is t x.0 x.1 (ap (option_and_then last_change) (sym x.1) ∙ none))
 
-  pub undo_unknown : txn_of v t ≡ None → Serves v (Event.Undo t) (Refused NoSuchTxn) v
+  pub undo_unknown : txn_shown v t ≡ None → Serves v (Event.Undo t) (Refused NoSuchTxn) v
   undo_unknown none s k is = refusal v s k (Event.Undo t) NoSuchTxn is.shown (unknown (no_txn v s k is.shown t none))
 
-  module _ (c : ChangeValue) (newest : option_and_then last_change (txn_of v t) ≡ Some c) where
-    of_txn : (x : TxnState) × (txn_of v t ≡ Some x) × (last_change x ≡ Some c)
-    of_txn = some_txn (txn_of v t) c newest
+  module _ (c : ChangeValue) (newest : option_and_then last_change (txn_shown v t) ≡ Some c) where
+    of_txn : (x : TxnState) × (txn_shown v t ≡ Some x) × (last_change x ≡ Some c)
+    of_txn = some_txn (txn_shown v t) c newest
 
     pub undo_refused : (error : Error) → HasNoRecord v t error → Serves v (Event.Undo t) (Refused error) v
     undo_refused error (inl why) s k is = subst (λ n. Answers v s k (Event.Undo t) (Refused n) v) (sym why.0) (undo_unknown why.1 s k is)
@@ -344,12 +344,12 @@ module _ (v : CoreValue) (t : ℕ) where
           subst (λ w. Answers v s k (Event.Undo t) (Refused error) w) (sym same) (subst (λ n. Answers v s k (Event.Undo t) (Refused n) v) (sym e) (wants_answers v s k is t of_txn.0 of_txn.1 c of_txn.2 has.numbered))
 
       -- by how far the transaction is
-      module _ (f : Progress) (at_f : ◌≡◌ {A = Option Progress} (Some f) (option_map (λ (y : TxnState). y.progress) (txn_of v t))) where
+      module _ (f : Progress) (at_f : ◌≡◌ {A = Option Progress} (Some f) (option_map (λ (y : TxnState). y.progress) (txn_shown v t))) where
         so : (g : Progress) → f ≡ g → of_txn.0.progress ≡ g
-        so g e = so_far of_txn.0 (txn_of v t) of_txn.1 f g at_f e
+        so g e = so_far of_txn.0 (txn_shown v t) of_txn.1 f g at_f e
 
-        phase : (s : State) (k : Standing) (is : IsState v s k) (g : Progress) → f ≡ g → IsAt g (txn_at s t).phase
-        phase s k is g e = subst (λ p. IsAt p (txn_at s t).phase) (so g e) (phase_of v s k is t of_txn.0 of_txn.1)
+        phase : (s : State) (k : Standing) (is : IsState v s k) (g : Progress) → f ≡ g → IsProgressOf g (txn_at s t).phase
+        phase s k is g e = subst (λ p. IsProgressOf p (txn_at s t).phase) (so g e) (phase_of v s k is t of_txn.0 of_txn.1)
 
         -- the change has the entry that is owed
         entry_there : (s : State) (k : Standing) (is : IsState v s k) → f ≡ UndoesEntry → (p : Pair) × (old_pair (is_indexed v.life) c ≡ Some p)
@@ -373,8 +373,8 @@ module _ (v : CoreValue) (t : ℕ) where
             subst (Answers v s k (Event.Undo t) Undone) (sym (same p.0 p.1)) (live_answers v s k is t of_txn.0 of_txn.1 c of_txn.2 (phase s k is UndoesEntry (undoes_entry f is_entry)) p.0 p.1 has.numbered)
 
 -- ---- what the code needs to know
-pub old_enough : (v : CoreValue) (t : ℕ) (c : ChangeValue) → option_and_then last_change (txn_of v t) ≡ Some c → (p : Pair) → old_pair (is_indexed v.life) c ≡ Some p → IsSafe v → places_used (get v.index.entries p) ≤ reserved_of (txn_of v t)
+pub old_enough : (v : CoreValue) (t : ℕ) (c : ChangeValue) → option_and_then last_change (txn_shown v t) ≡ Some c → (p : Pair) → old_pair (is_indexed v.life) c ≡ Some p → IsSafe v → pledges_used (get v.index.entries p) ≤ reserved_of (txn_shown v t)
 old_enough v t c newest p pair safe =
-    let x = some_txn (txn_of v t) c newest in
+    let x = some_txn (txn_shown v t) c newest in
     let first = newest_last v safe.state safe.standing safe.is t x.0 x.1 c x.2 in
-    subst (λ o. places_used (get v.index.entries p) ≤ reserved_of o) (sym x.1) (old_paid v safe.state safe.standing safe.is t x.0 x.1 c first.0 first.1 p pair)
+    subst (λ o. pledges_used (get v.index.entries p) ≤ reserved_of o) (sym x.1) (old_paid v safe.state safe.standing safe.is t x.0 x.1 c first.0 first.1 p pair)

@@ -25,16 +25,16 @@ use Rattle.records.specs.declared.record.TxnAction.{TxnAction}
 use Rattle.records.specs.GeometryValue.{GeometryValue}
 use Rattle.model.specs.declared.life.Life.TheVariants.{Absent}
 use Rattle.sorted_scan.specs.Scans.{begun}
-use Rattle.heap_pages.specs.Pages.{IsInside}
+use Rattle.heap_pages.specs.Pages.{IsPlaceInside}
 use Rattle.model.specs.Pairs.{is_indexed, new_pair}
 use Rattle.txn_table.specs.Table as table
-use Rattle.txn_table.specs.Table.{TxnState, holder_of, noted, put_at}
+use Rattle.txn_table.specs.Table.{TxnState, change_noted, holder_of, put_at}
 use Rattle.txn_table.specs.declared.progress.Progress.{Progress}
 use Rattle.txn_table.specs.declared.progress.Progress.TheVariants.{OwesEntry, OwesRow, Ready}
 use Rattle.core_steps.specs.declared.step.Cell.{Cell}
 use Rattle.core_steps.specs.declared.step.Cell.TheVariants as cell
 use Rattle.core_steps.specs.declared.step.Step.{Step}
-use Rattle.marked_index.specs.Index.{places_used}
+use Rattle.marked_index.specs.Index.{pledges_used}
 use Rattle.core_model.specs.Steps.{places_of}
 use Rattle.index_core.specs.View.{CoreValue}
 
@@ -61,30 +61,30 @@ abbrev pub reserved_of : Option TxnState → ℕ
 reserved_of None = 0
 reserved_of (Some x) = x.reserved
 
-abbrev pub txn_of : CoreValue → ℕ → Option TxnState
-txn_of v t = table.state_of t v.txns.active
+abbrev pub txn_shown : CoreValue → ℕ → Option TxnState
+txn_shown v t = table.state_of t v.txns.active
 
 -- a place of the heap without a row, which no transaction holds
 pub record IsFreePlace (v : CoreValue) (r : Place) : Type 0 where
-  pub inside : IsInside v.heap r
+  pub inside : IsPlaceInside v.heap r
   pub empty : get v.heap.rows r ≡ None
   pub unheld : holder_of r v.txns.active ≡ None
 
 -- there is room for the places of one more change
-abbrev pub HasFreePlaces : CoreValue → Type 0
-HasFreePlaces v = is_indexed v.life ≡ true → len v.index.entries + v.index.pledged + PLACES_PER_CHANGE ≤ v.index.capacity
+abbrev pub HasPlacesLeft : CoreValue → Type 0
+HasPlacesLeft v = is_indexed v.life ≡ true → len v.index.entries + v.index.pledged + PLACES_PER_CHANGE ≤ v.index.capacity
 
 abbrev pub LacksPlaces : CoreValue → Type 0
 LacksPlaces v = (is_indexed v.life ≡ true) × (v.index.capacity < len v.index.entries + v.index.pledged + PLACES_PER_CHANGE)
 
 -- why a change that nothing else refuses has no room
 abbrev pub IsUnroomy : CoreValue → Error → Type 0
-IsUnroomy v e = ((e ≡ IndexFull) × LacksPlaces v) ⊎ ((e ≡ Exhausted) × HasFreePlaces v × (LAST_NUMBER ≤ v.last))
+IsUnroomy v e = ((e ≡ IndexFull) × LacksPlaces v) ⊎ ((e ≡ Exhausted) × HasPlacesLeft v × (LAST_NUMBER ≤ v.last))
 
 -- a transaction that may make one more change
 pub record IsAble (v : CoreValue) (t : ℕ) : Type 0 where
   pub txn : TxnState
-  pub here : txn_of v t ≡ Some txn
+  pub here : txn_shown v t ≡ Some txn
   pub room : length txn.changes < CHANGES_MAX
 
 -- an insertion goes to this place
@@ -97,13 +97,13 @@ pub record MayStart (v : CoreValue) (t : ℕ) (r : Place) : Type 0 where
   pub able : IsAble v t
   pub free : table.touch_refusal t r v.txns.active ≡ None
   pub inside : r.page < v.heap.pages
-  pub fits : HasFreePlaces v
+  pub fits : HasPlacesLeft v
   pub numbered : v.last < LAST_NUMBER
 
 -- why a transaction may change no row any more
 pub data IsUnable (v : CoreValue) (t : ℕ) (e : Error) : Type 0 where
-  is_unknown : txn_of v t ≡ None → e ≡ NoSuchTxn → IsUnable v t e
-  is_full : (x : TxnState) → txn_of v t ≡ Some x → CHANGES_MAX ≤ length x.changes → e ≡ TooManyChanges → IsUnable v t e
+  is_unknown : txn_shown v t ≡ None → e ≡ NoSuchTxn → IsUnable v t e
+  is_full : (x : TxnState) → txn_shown v t ≡ Some x → CHANGES_MAX ≤ length x.changes → e ≡ TooManyChanges → IsUnable v t e
 
 -- no other transaction holds the row
 abbrev pub IsMine : CoreValue → ℕ → Place → Type 0
@@ -118,7 +118,7 @@ pub data IsUnchangeable (v : CoreValue) (t : ℕ) (r : Place) (e : Error) : Type
 
 -- the change that a transaction makes next
 abbrev pub next_change : CoreValue → ℕ → Place → Rows → ChangeValue
-next_change v t r rows = record { position = changes_of (txn_of v t); rid = r; rows = rows }
+next_change v t r rows = record { position = changes_of (txn_shown v t); rid = r; rows = rows }
 
 abbrev pub with_record : CoreValue → Action → CoreValue
 with_record v action = record v { last = v.last + 1; outbox = v.outbox ++ record { number = v.last + 1; action = action } ∷ [] }
@@ -129,14 +129,14 @@ row_progress None = Ready
 row_progress (Some p) = OwesEntry
 
 -- the transactions after one has noted a change, is so far, and has so many places
-abbrev pub with_change : List (ℕ × TxnState) → ℕ → ChangeValue → Progress → ℕ → List (ℕ × TxnState)
-with_change active t c progress reserved = table.with_state (put_at progress reserved) t (table.with_state (noted c) t active)
+abbrev pub change_begun : List (ℕ × TxnState) → ℕ → ChangeValue → Progress → ℕ → List (ℕ × TxnState)
+change_begun active t c progress reserved = table.with_state (put_at progress reserved) t (table.with_state (change_noted c) t active)
 
 -- the core after the first step of a change that sets the row
 abbrev pub row_first : CoreValue → ℕ → ChangeValue → CoreValue
 row_first v t c = record v {
   heap = record v.heap { rows = set_at v.heap.rows c.rid (new_row c.rows) };
-  txns = record v.txns { active = with_change v.txns.active t c (row_progress (new_pair (is_indexed v.life) c)) (reserved_of (txn_of v t) + places_of (is_indexed v.life)) };
+  txns = record v.txns { active = change_begun v.txns.active t c (row_progress (new_pair (is_indexed v.life) c)) (reserved_of (txn_shown v t) + places_of (is_indexed v.life)) };
   index = record v.index { pledged = v.index.pledged + places_of (is_indexed v.life) };
   last = v.last + 1;
   outbox = v.outbox ++ record { number = v.last + 1; action = OfTxn t (Forward Slot c) } ∷ [];
@@ -144,11 +144,11 @@ row_first v t c = record v {
 
 -- why a transaction's next step, which nothing else refuses, has no record
 abbrev pub HasNoRecord : CoreValue → ℕ → Error → Type 0
-HasNoRecord v t e = ((e ≡ NoSuchTxn) × (txn_of v t ≡ None)) ⊎ ((e ≡ Exhausted) × (txn_of v t ≢ None) × (LAST_NUMBER ≤ v.last))
+HasNoRecord v t e = ((e ≡ NoSuchTxn) × (txn_shown v t ≡ None)) ⊎ ((e ≡ Exhausted) × (txn_shown v t ≢ None) × (LAST_NUMBER ≤ v.last))
 
 -- the transaction is active, and there is a number for its next record
 pub record HasRecord (v : CoreValue) (t : ℕ) : Type 0 where
-  pub active : txn_of v t ≢ None
+  pub active : txn_shown v t ≢ None
   pub numbered : v.last < LAST_NUMBER
 
 -- no change is left to take back
@@ -160,7 +160,7 @@ HasNoChange (Some x) = x.changes ≡ []
 abbrev pub ended : CoreValue → ℕ → TxnAction → CoreValue
 ended v t action = record v {
   txns = record v.txns { active = table.without t v.txns.active };
-  index = record v.index { pledged = v.index.pledged - reserved_of (txn_of v t) };
+  index = record v.index { pledged = v.index.pledged - reserved_of (txn_shown v t) };
   last = v.last + 1;
   outbox = v.outbox ++ record { number = v.last + 1; action = OfTxn t action } ∷ [];
 }
@@ -184,8 +184,8 @@ fresh g base = record {
 -- the core after the first step of a change that marks this entry
 abbrev pub mark_first : CoreValue → ℕ → ChangeValue → Pair → CoreValue
 mark_first v t c p = record v {
-  txns = record v.txns { active = with_change v.txns.active t c OwesRow (reserved_of (txn_of v t) + (PLACES_PER_CHANGE - places_used (get v.index.entries p))) };
-  index = record v.index { entries = set_at v.index.entries p (Some Marked); pledged = v.index.pledged + (PLACES_PER_CHANGE - places_used (get v.index.entries p)) };
+  txns = record v.txns { active = change_begun v.txns.active t c OwesRow (reserved_of (txn_shown v t) + (PLACES_PER_CHANGE - pledges_used (get v.index.entries p))) };
+  index = record v.index { entries = set_at v.index.entries p (Some Marked); pledged = v.index.pledged + (PLACES_PER_CHANGE - pledges_used (get v.index.entries p)) };
   last = v.last + 1;
   outbox = v.outbox ++ record { number = v.last + 1; action = OfTxn t (Forward OldEntry c) } ∷ [];
 }
@@ -212,7 +212,7 @@ OwesOrNone (Some x) = (x.progress ≡ OwesRow) ⊎ (x.progress ≡ OwesEntry)
 abbrev pub row_stepped : CoreValue → ℕ → Progress → Place → Option Row → TxnAction → CoreValue
 row_stepped v t progress r row action = record v {
   heap = record v.heap { rows = set_at v.heap.rows r row };
-  txns = record v.txns { active = table.with_state (put_at progress (reserved_of (txn_of v t))) t v.txns.active };
+  txns = record v.txns { active = table.with_state (put_at progress (reserved_of (txn_shown v t))) t v.txns.active };
   last = v.last + 1;
   outbox = v.outbox ++ record { number = v.last + 1; action = OfTxn t action } ∷ [];
 }
@@ -220,8 +220,8 @@ row_stepped v t progress r row action = record v {
 -- the core after a step of a transaction that gives an entry this mark, in a reserved place where there was none
 abbrev pub entry_stepped : CoreValue → ℕ → Progress → Pair → Mark → TxnAction → CoreValue
 entry_stepped v t progress p mark action = record v {
-  txns = record v.txns { active = table.with_state (put_at progress (reserved_of (txn_of v t) - places_used (get v.index.entries p))) t v.txns.active };
-  index = record v.index { entries = set_at v.index.entries p (Some mark); pledged = v.index.pledged - places_used (get v.index.entries p) };
+  txns = record v.txns { active = table.with_state (put_at progress (reserved_of (txn_shown v t) - pledges_used (get v.index.entries p))) t v.txns.active };
+  index = record v.index { entries = set_at v.index.entries p (Some mark); pledged = v.index.pledged - pledges_used (get v.index.entries p) };
   last = v.last + 1;
   outbox = v.outbox ++ record { number = v.last + 1; action = OfTxn t action } ∷ [];
 }

@@ -17,9 +17,9 @@ use Rattle.index_core.specs.declared.reply.Undone.{Undone}
 use Rattle.index_core.specs.declared.reply.Undone.TheVariants as reply
 
 -- the reply in the words of the events
-abbrev pub undone : Undone → Reply
-undone reply.Step = Reply.Undone
-undone reply.Empty = Reply.Empty
+abbrev pub undone_reply : Undone → Reply
+undone_reply reply.Step = Reply.Undone
+undone_reply reply.Empty = Reply.Empty
 
 -- the part of its newest change that a transaction so far takes back next
 abbrev pub part_to_undo : Progress → Part
@@ -31,12 +31,12 @@ part_to_undo UndoesRow = Slot
 part_to_undo UndoesEntry = OldEntry
 
 -- the newest change, where there is one, is off the list of the transaction, which is rolling back
-abbrev pub taken_off : CoreValue → ℕ → CoreValue
-taken_off v t = record v { txns = record v.txns { active = table.with_state table.without_last t v.txns.active } }
+abbrev pub newest_taken_off : CoreValue → ℕ → CoreValue
+newest_taken_off v t = record v { txns = record v.txns { active = table.with_state table.without_last t v.txns.active } }
 
 -- the row is as before the change; this old entry is then owed, and without one the undo is at its end
 abbrev pub row_restored : CoreValue → ℕ → ChangeValue → (old : Option Pair) → CoreValue
-row_restored v t c None = taken_off (row_stepped v t Rolling c.rid (old_row c.rows) (Undo Slot c true)) t
+row_restored v t c None = newest_taken_off (row_stepped v t Rolling c.rid (old_row c.rows) (Undo Slot c true)) t
 row_restored v t c (Some p) = row_stepped v t UndoesEntry c.rid (old_row c.rows) (Undo Slot c false)
 
 -- the first step of an undo marks this new entry, and without one restores the row
@@ -46,4 +46,4 @@ undo_begun v t c old (Some p) = entry_stepped v t UndoesRow p Marked (Undo NewEn
 
 -- the old entry is live again, and the undo at its end
 abbrev pub entry_restored : CoreValue → ℕ → ChangeValue → Pair → CoreValue
-entry_restored v t c p = taken_off (entry_stepped v t Rolling p Live (Undo OldEntry c true)) t
+entry_restored v t c p = newest_taken_off (entry_stepped v t Rolling p Live (Undo OldEntry c true)) t

@@ -9,7 +9,7 @@ use Rattle.records.specs.declared.pair.Pair.{Pair}
 use Rattle.model.specs.declared.life.Life.{Life}
 use Rattle.heap_pages.specs.Pages.{HeapValue}
 use Rattle.txn_table.specs.Table as table
-use Rattle.txn_table.specs.Table.{TableValue, TxnState, holder_of, noted, put_at, rolls}
+use Rattle.txn_table.specs.Table.{TableValue, TxnState, change_noted, holder_of, put_at, rolls}
 use Rattle.txn_table.specs.declared.progress.Progress.{Progress}
 use Rattle.txn_table.specs.declared.progress.Progress.TheVariants.{OwesEntry, OwesRow, Ready, Rolling, UndoesEntry, UndoesRow}
 use Rattle.marked_index.specs.Index.{IndexValue}
@@ -38,22 +38,22 @@ pub record CoreValue : Type 0 where
 -- ---- transactions
 
 -- the machine also knows which forward steps a change under undo had made
-abbrev pub IsAt : Progress → Phase → Type 0
-IsAt Ready phase = phase ≡ Made
-IsAt OwesRow phase = phase ≡ OldMarked
-IsAt OwesEntry phase = phase ≡ RowSet
-IsAt Rolling phase = phase ≡ Made
-IsAt UndoesRow phase = (applied : Bool) × (phase ≡ NewMarked applied)
-IsAt UndoesEntry phase = phase ≡ OldSet
+abbrev pub IsProgressOf : Progress → Phase → Type 0
+IsProgressOf Ready phase = phase ≡ Made
+IsProgressOf OwesRow phase = phase ≡ OldMarked
+IsProgressOf OwesEntry phase = phase ≡ RowSet
+IsProgressOf Rolling phase = phase ≡ Made
+IsProgressOf UndoesRow phase = (applied : Bool) × (phase ≡ NewMarked applied)
+IsProgressOf UndoesEntry phase = phase ≡ OldSet
 
-pub record IsTxn (x : TxnState) (a : Active) : Type 0 where
+pub record ShowsTxn (x : TxnState) (a : Active) : Type 0 where
   pub changes : as_list a.changes ≡ x.changes
-  pub phase : IsAt x.progress a.phase
+  pub phase : IsProgressOf x.progress a.phase
   pub rolling : a.rolling ≡ rolls x.progress
 
 abbrev pub AreOne : Option TxnState → Option Active → Type 0
 AreOne None o = o ≡ None
-AreOne (Some x) o = (a : Active) × (o ≡ Some a) × IsTxn x a
+AreOne (Some x) o = (a : Active) × (o ≡ Some a) × ShowsTxn x a
 
 -- ---- the scan
 

@@ -7,7 +7,7 @@ ghost use Rattle.core_model.specs.States.{State};
 ghost use Rattle.core_contracts.specs.Events.{Event, Reply, Standing, standing_after};
 ghost use Rattle.core_contracts.specs.Replies.{after_any};
 ghost use Rattle.index_core.specs.View.{Answers, CoreValue, IsState, Serves};
-ghost use Rattle.index_core.specs.Moves.{IsUnready, OwesNone, txn_of};
+ghost use Rattle.index_core.specs.Moves.{IsUnready, OwesNone, txn_shown};
 
 /// A law: whatever state a core stands for, an answer leaves it standing for the state after its step.
 pub fn each_answer()
@@ -17,10 +17,10 @@ pub fn each_answer()
 /// A law: which events of an active transaction are to be skipped. A change, or a commit, of one that owes a step or is
 /// rolling back; the next step of one that owes none; and the end of one that has a change left.
 pub fn skipped_events()
-    ensures insert { (v : CoreValue) (t : ℕ) (row : Row) → IsUnready (txn_of v t) → Serves v (Event.Insert t row) Reply.Skipped v }
-    ensures delete { (v : CoreValue) (t : ℕ) (r : Place) → IsUnready (txn_of v t) → Serves v (Event.Delete t r) Reply.Skipped v }
-    ensures update { (v : CoreValue) (t : ℕ) (r : Place) (row : Row) → IsUnready (txn_of v t) → Serves v (Event.Update t r row) Reply.Skipped v }
-    ensures commit { (v : CoreValue) (t : ℕ) → IsUnready (txn_of v t) → Serves v (Event.Commit t) Reply.Skipped v }
-    ensures step { (v : CoreValue) (t : ℕ) → OwesNone (txn_of v t) → Serves v (Event.Step t) Reply.Skipped v }
-    ensures end { (v : CoreValue) (t : ℕ) (x : TxnState) → txn_of v t ≡ Some x → x.changes ≢ [] → Serves v (Event.End t) Reply.Skipped v }
+    ensures insert { (v : CoreValue) (t : ℕ) (row : Row) → IsUnready (txn_shown v t) → Serves v (Event.Insert t row) Reply.Skipped v }
+    ensures delete { (v : CoreValue) (t : ℕ) (r : Place) → IsUnready (txn_shown v t) → Serves v (Event.Delete t r) Reply.Skipped v }
+    ensures update { (v : CoreValue) (t : ℕ) (r : Place) (row : Row) → IsUnready (txn_shown v t) → Serves v (Event.Update t r row) Reply.Skipped v }
+    ensures commit { (v : CoreValue) (t : ℕ) → IsUnready (txn_shown v t) → Serves v (Event.Commit t) Reply.Skipped v }
+    ensures step { (v : CoreValue) (t : ℕ) → OwesNone (txn_shown v t) → Serves v (Event.Step t) Reply.Skipped v }
+    ensures end { (v : CoreValue) (t : ℕ) (x : TxnState) → txn_shown v t ≡ Some x → x.changes ≢ [] → Serves v (Event.End t) Reply.Skipped v }
 {}

@@ -3,7 +3,7 @@ ghost use Rattle.std.specs.Prelude.{◌≡◌, ◌≢◌, ◌+◌, None, Some, o
 ghost use Rattle.core_contracts.specs.Events.{Event, Reply};
 ghost use Rattle.txn_table.specs.Table as table;
 ghost use Rattle.index_core.specs.View.{IsSafe, Serves};
-ghost use Rattle.index_core.specs.Moves.{HasRecord, OwesOrNone, txn_of};
+ghost use Rattle.index_core.specs.Moves.{HasRecord, OwesOrNone, txn_shown};
 ghost use Rattle.index_core.specs.Replies.{reply_by};
 ghost use Rattle.index_core.specs.Parts.{parts_of};
 
@@ -16,9 +16,9 @@ impl<A: Allocator + Copy> Parts<A> {
     // The newest change of a transaction that owes a step of it.
     fn owed_change(&self, txn: Txn) -> Change
         requires safe { ∥ IsSafe (parts_of self.now) ∥₁ }
-        requires asked { OwesOrNone (txn_of (parts_of self.now) txn) }
-        requires active { txn_of (parts_of self.now) txn ≢ None }
-        ensures { option_and_then table.last_change (txn_of (parts_of self.now) txn) ≡ Some result }
+        requires asked { OwesOrNone (txn_shown (parts_of self.now) txn) }
+        requires active { txn_shown (parts_of self.now) txn ≢ None }
+        ensures { option_and_then table.last_change (txn_shown (parts_of self.now) txn) ≡ Some result }
     {
         let Some(change) = self.txns.newest(txn) else {
             unreachable!()
@@ -29,9 +29,9 @@ impl<A: Allocator + Copy> Parts<A> {
     // The owed step of this change. `NoMemory` leaves all as before.
     fn carry_on(&mut self, number: RecordNumber, txn: Txn, change: Change) -> Result<(), Error>
         requires safe { ∥ IsSafe (parts_of self.old) ∥₁ }
-        requires asked { OwesOrNone (txn_of (parts_of self.old) txn) }
+        requires asked { OwesOrNone (txn_shown (parts_of self.old) txn) }
         requires has { HasRecord (parts_of self.old) txn }
-        requires newest { option_and_then table.last_change (txn_of (parts_of self.old) txn) ≡ Some change }
+        requires newest { option_and_then table.last_change (txn_shown (parts_of self.old) txn) ≡ Some change }
         requires number { number ≡ (parts_of self.old).last + 1 }
         ensures { Serves (parts_of self.old) (Event.Step txn) (reply_by (λ _. Reply.Stepped) result) (parts_of self.new) }
     {
@@ -56,7 +56,7 @@ impl<A: Allocator + Copy> Parts<A> {
     /// The step that a transaction owes.
     pub(crate) fn next_step(&mut self, txn: Txn) -> Result<(), Error>
         requires safe { ∥ IsSafe (parts_of self.old) ∥₁ }
-        requires asked { OwesOrNone (txn_of (parts_of self.old) txn) }
+        requires asked { OwesOrNone (txn_shown (parts_of self.old) txn) }
         ensures { Serves (parts_of self.old) (Event.Step txn) (reply_by (λ _. Reply.Stepped) result) (parts_of self.new) }
     {
         let number = self.number_for(txn)?;

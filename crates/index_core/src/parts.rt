@@ -3,7 +3,7 @@ ghost use Rattle.std.specs.Prelude.{◌≡◌, ◌≢◌, ◌≤◌, ◌<◌, �
 ghost use Rattle.std.specs.FinMap as map;
 ghost use Rattle.records.specs.Maps.{set_at};
 ghost use Rattle.std.specs.Prelude.{option_and_then};
-ghost use Rattle.marked_index.specs.Index.{places_used};
+ghost use Rattle.marked_index.specs.Index.{pledges_used};
 ghost use Rattle.records.specs.Values.{Place};
 ghost use Rattle.records.specs.Spelling.{new_row, old_row};
 ghost use Rattle.records.specs.ChangeValue.{ChangeValue};
@@ -14,7 +14,7 @@ ghost use Rattle.core_model.specs.Steps.{places_of};
 ghost use Rattle.core_contracts.specs.Events.{Event, Reply};
 ghost use Rattle.txn_table.specs.Table as table;
 ghost use Rattle.index_core.specs.View.{CoreValue, IsSafe, Serves};
-ghost use Rattle.index_core.specs.Moves.{IsUnchangeable, entry_in, first_made, mark_first, HasFreePlaces, HasNoChange, HasNoRecord, HasRecord, ended, IsAble, IsFreePlace, IsPlaceFor, IsReadyOrNone, IsUnroomy, MayStart, changes_of, fresh, next_change, reserved_of, row_first, row_progress, txn_of, with_change};
+ghost use Rattle.index_core.specs.Moves.{IsUnchangeable, entry_in, first_made, mark_first, HasPlacesLeft, HasNoChange, HasNoRecord, HasRecord, ended, IsAble, IsFreePlace, IsPlaceFor, IsReadyOrNone, IsUnroomy, MayStart, changes_of, fresh, next_change, reserved_of, row_first, row_progress, txn_shown, change_begun};
 ghost use Rattle.index_core.specs.Replies.{reply_by, reply_of_ticket};
 ghost use Rattle.index_core.specs.Builds.{HasNextNumber};
 ghost use Rattle.txn_table.specs.Sound.{IsSound};
@@ -112,7 +112,7 @@ fn note<A: Allocator + Copy>(
     change: Change,
 ) -> Result<(), Error>
     requires { table.touch_refusal txn change.rid txns.old.active ≡ None }
-    ensures txns { OnOk result (txns.new ≡ record txns.old { active = table.with_state (table.noted change) txn txns.old.active }) }
+    ensures txns { OnOk result (txns.new ≡ record txns.old { active = table.with_state (table.change_noted change) txn txns.old.active }) }
     ensures held { OnOk result (table.holder_of change.rid txns.new.active ≡ Some txn) }
     ensures outbox { OnOk result (outbox.new.items ≡ outbox.old.items ++ made ∷ []) }
     ensures unchanged { OnErr result ((txns.new ≡ txns.old) × (outbox.new.items ≡ outbox.old.items)) }
@@ -170,10 +170,10 @@ fn mark_in_new_places<A: Allocator + Clone>(
     pair: &Pair,
 ) -> Result<usize, Error>
     requires { map.len index.old.entries + index.old.pledged + PLACES_PER_CHANGE ≤ index.old.capacity }
-    ensures left { IfOk result (λ left. left ≡ PLACES_PER_CHANGE - places_used (map.get index.old.entries pair.now)) }
+    ensures left { IfOk result (λ left. left ≡ PLACES_PER_CHANGE - pledges_used (map.get index.old.entries pair.now)) }
     ensures ok { IfOk result (λ left. index.new ≡ record index.old {
       entries = set_at index.old.entries pair.now (Some Mark.Marked);
-      pledged = index.old.pledged + (PLACES_PER_CHANGE - places_used (map.get index.old.entries pair.now));
+      pledged = index.old.pledged + (PLACES_PER_CHANGE - pledges_used (map.get index.old.entries pair.now));
     }) }
     ensures no_memory { IfErr result (λ e. e ≡ Error.NoMemory) }
     ensures unchanged { OnErr result (index.new ≡ index.old) }
@@ -261,7 +261,7 @@ impl<A: Allocator + Copy> Parts<A> {
     // How many entry places the transaction has reserved and not used.
     pub(crate) fn reserved(&self, txn: Txn) -> usize
         requires { ∥ IsSafe (parts_of self.now) ∥₁ }
-        ensures number { result ≡ reserved_of (txn_of (parts_of self.now) txn) }
+        ensures number { result ≡ reserved_of (txn_shown (parts_of self.now) txn) }
         ensures few { result ≤ 65536 }
         ensures within { result ≤ (parts_of self.now).index.pledged }
     {
@@ -281,7 +281,7 @@ impl<A: Allocator + Copy> Parts<A> {
     // The number of the next record, where the places of one more change may be reserved: the errors
     // are `IndexFull`, and then `Exhausted`.
     fn may_add(&self) -> Result<RecordNumber, Error>
-        ensures fits { OnOk result (HasFreePlaces (parts_of self.now)) }
+        ensures fits { OnOk result (HasPlacesLeft (parts_of self.now)) }
         ensures numbered { IfOk result (λ n. ((parts_of self.now).last < LAST_NUMBER) × (n ≡ (parts_of self.now).last + 1)) }
         ensures err { IfErr result (λ e. IsUnroomy (parts_of self.now) e) }
     {
@@ -295,7 +295,7 @@ impl<A: Allocator + Copy> Parts<A> {
     // Where an insertion goes, and the number of its record; or why there is none, but for want of
     // memory.
     fn place_for(&self, txn: Txn) -> Result<(Rid, RecordNumber), Error>
-        requires { IsReadyOrNone (txn_of (parts_of self.now) txn) }
+        requires { IsReadyOrNone (txn_shown (parts_of self.now) txn) }
         ensures refused { IfErr result (λ e. (row : Row) → Serves (parts_of self.now) (Event.Insert txn row) (Reply.Refused e) (parts_of self.now)) }
         ensures place { IfOk result (λ p. IsPlaceFor (parts_of self.now) p.0) }
         ensures may { IfOk result (λ p. MayStart (parts_of self.now) txn p.0) }
@@ -403,7 +403,7 @@ impl<A: Allocator + Copy> Parts<A> {
     // The row that a change finds, and the number of its record; or why it can't be changed, but for
     // want of memory.
     fn row_for(&self, txn: Txn, rid: Rid) -> Result<(Row, RecordNumber), Error>
-        requires { IsReadyOrNone (txn_of (parts_of self.now) txn) }
+        requires { IsReadyOrNone (txn_shown (parts_of self.now) txn) }
         ensures found { IfOk result (λ p. map.get (parts_of self.now).heap.rows rid ≡ Some p.0) }
         ensures may { OnOk result (MayStart (parts_of self.now) txn rid) }
         ensures number { IfOk result (λ p. p.1 ≡ (parts_of self.now).last + 1) }
@@ -420,7 +420,7 @@ impl<A: Allocator + Copy> Parts<A> {
     /// The first step of a deletion.
     pub(crate) fn start_delete(&mut self, txn: Txn, rid: Rid) -> Result<(), Error>
         requires safe { ∥ IsSafe (parts_of self.old) ∥₁ }
-        requires asked { IsReadyOrNone (txn_of (parts_of self.old) txn) }
+        requires asked { IsReadyOrNone (txn_shown (parts_of self.old) txn) }
         ensures { Serves (parts_of self.old) (Event.Delete txn rid) (reply_by (λ _. Reply.Stepped) result) (parts_of self.new) }
     {
         let (old, number) = self.row_for(txn, rid)?;
@@ -438,7 +438,7 @@ impl<A: Allocator + Copy> Parts<A> {
         body: Body,
     ) -> Result<(), Error>
         requires safe { ∥ IsSafe (parts_of self.old) ∥₁ }
-        requires asked { IsReadyOrNone (txn_of (parts_of self.old) txn) }
+        requires asked { IsReadyOrNone (txn_shown (parts_of self.old) txn) }
         ensures { Serves (parts_of self.old) (Event.Update txn rid (record { key = key; body = body })) (reply_by (λ _. Reply.Stepped) result) (parts_of self.new) }
     {
         let (old, number) = self.row_for(txn, rid)?;
@@ -451,7 +451,7 @@ impl<A: Allocator + Copy> Parts<A> {
     /// The first step of an insertion.
     pub(crate) fn start_insert(&mut self, txn: Txn, key: Key, body: Body) -> Result<Rid, Error>
         requires safe { ∥ IsSafe (parts_of self.old) ∥₁ }
-        requires asked { IsReadyOrNone (txn_of (parts_of self.old) txn) }
+        requires asked { IsReadyOrNone (txn_shown (parts_of self.old) txn) }
         ensures { Serves (parts_of self.old) (Event.Insert txn (record { key = key; body = body })) (reply_by Reply.Rid result) (parts_of self.new) }
     {
         let (rid, number) = self.place_for(txn)?;
@@ -507,7 +507,7 @@ impl<A: Allocator + Copy> Parts<A> {
     /// Ends a transaction that has no change left.
     pub(crate) fn end(&mut self, txn: Txn) -> Result<(), Error>
         requires safe { ∥ IsSafe (parts_of self.old) ∥₁ }
-        requires asked { HasNoChange (txn_of (parts_of self.old) txn) }
+        requires asked { HasNoChange (txn_shown (parts_of self.old) txn) }
         ensures { Serves (parts_of self.old) (Event.End txn) (reply_by (λ _. Reply.Ended) result) (parts_of self.new) }
     {
         let number = self.number_for(txn)?;
@@ -518,7 +518,7 @@ impl<A: Allocator + Copy> Parts<A> {
     /// Commits a transaction.
     pub(crate) fn commit(&mut self, txn: Txn) -> Result<Ticket, Error>
         requires safe { ∥ IsSafe (parts_of self.old) ∥₁ }
-        requires asked { IsReadyOrNone (txn_of (parts_of self.old) txn) }
+        requires asked { IsReadyOrNone (txn_shown (parts_of self.old) txn) }
         ensures { Serves (parts_of self.old) (Event.Commit txn) (reply_by reply_of_ticket result) (parts_of self.new) }
     {
         let record = self.number_for(txn)?;

@@ -3,9 +3,9 @@ ghost use Rattle.std.specs.Prelude.{◌≡◌, ◌<◌, ◌≤◌, ◌+◌, ◌-
 ghost use Rattle.std.specs.FinMap as map;
 ghost use Rattle.records.specs.Maps.{set_at};
 ghost use Rattle.records.specs.RecordValue.{txn_has_rows};
-ghost use Rattle.marked_index.specs.Index.{places_used};
+ghost use Rattle.marked_index.specs.Index.{pledges_used};
 ghost use Rattle.index_core.specs.View.{IsSafe};
-ghost use Rattle.index_core.specs.Moves.{entry_stepped, reserved_of, row_stepped, txn_of};
+ghost use Rattle.index_core.specs.Moves.{entry_stepped, reserved_of, row_stepped, txn_shown};
 ghost use Rattle.index_core.specs.Parts.{parts_of};
 
 use crate::parts::{Parts, record_of};
@@ -24,11 +24,11 @@ fn mark_in_reserved_place<A: Allocator + Copy>(
     pair: &Pair,
     mark: Mark,
 ) -> Result<usize, Error>
-    requires { places_used (map.get index.old.entries pair.now) ≤ index.old.pledged }
-    ensures used { IfOk result (λ used. used ≡ places_used (map.get index.old.entries pair.now)) }
+    requires { pledges_used (map.get index.old.entries pair.now) ≤ index.old.pledged }
+    ensures used { IfOk result (λ used. used ≡ pledges_used (map.get index.old.entries pair.now)) }
     ensures index { OnOk result (index.new ≡ record index.old {
       entries = set_at index.old.entries pair.now (Some mark);
-      pledged = index.old.pledged - places_used (map.get index.old.entries pair.now);
+      pledged = index.old.pledged - pledges_used (map.get index.old.entries pair.now);
     }) }
     ensures outbox { OnOk result (outbox.new.items ≡ outbox.old.items ++ made ∷ []) }
     ensures unchanged { OnErr result ((index.new ≡ index.old) × (outbox.new.items ≡ outbox.old.items)) }
@@ -88,7 +88,7 @@ impl<A: Allocator + Copy> Parts<A> {
         entry: (Pair, TxnAction),
     ) -> Result<(), Error>
         requires safe { ∥ IsSafe (parts_of self.old) ∥₁ }
-        requires places { places_used (map.get (parts_of self.old).index.entries entry.0) ≤ reserved_of (txn_of (parts_of self.old) txn) }
+        requires places { pledges_used (map.get (parts_of self.old).index.entries entry.0) ≤ reserved_of (txn_shown (parts_of self.old) txn) }
         requires number { number ≡ (parts_of self.old).last + 1 }
         requires whole { IsTrue (txn_has_rows entry.1) }
         ensures ok { OnOk result (parts_of self.new ≡ entry_stepped (parts_of self.old) txn progress entry.0 mark entry.1) }

@@ -6,7 +6,7 @@ ghost use Rattle.records.specs.Maps.{set_at};
 ghost use Rattle.btree_node.specs.Above.{IsLeastAbove};
 ghost use Rattle.core_contracts.specs.Events.{Event, Reply};
 ghost use Rattle.index_core.specs.View.{IsSafe, Serves};
-ghost use Rattle.index_core.specs.Moves.{OwesOrNone, HasNoChange, IsReadyOrNone, fresh, txn_of};
+ghost use Rattle.index_core.specs.Moves.{OwesOrNone, HasNoChange, IsReadyOrNone, fresh, txn_shown};
 ghost use Rattle.index_core.specs.Replies.{reply_by, reply_of_ticket};
 ghost use Rattle.index_core.specs.Parts.{parts_of};
 ghost use Rattle.index_core.specs.Loading.{IsLifeInside, IsQuiet, IsPairInside, entry_loaded, life_loaded};
@@ -15,7 +15,7 @@ ghost use Rattle.index_core.specs.Asked.{owed, progress_of};
 ghost use Rattle.index_core.specs.Outbox.{HandsOn};
 ghost use Rattle.index_core.specs.Builds.{built};
 ghost use Rattle.index_core.specs.Cleaning.{cleaner};
-ghost use Rattle.index_core.specs.Undoing.{undone};
+ghost use Rattle.index_core.specs.Undoing.{undone_reply};
 
 use crate::parts::{Parts, Ticket};
 use crate::reply::{BuildReply, CleanReply, Owed, Undone};
@@ -134,7 +134,7 @@ impl<A: Allocator + Copy> Core<A> {
 
     /// Whether the transaction has begun, and neither committed nor ended.
     pub fn is_active(&self, txn: Txn) -> bool
-        ensures { result ≡ is_some (txn_of (value_of self.now) txn) }
+        ensures { result ≡ is_some (txn_shown (value_of self.now) txn) }
     {
         self.parts.txns.is_active(txn)
     }
@@ -162,7 +162,7 @@ impl<A: Allocator + Copy> Core<A> {
 
     /// Whether no change of the transaction is left to take back.
     pub fn may_end(&self, txn: Txn) -> bool
-        ensures { IsTrue result ↔ HasNoChange (txn_of (value_of self.now) txn) }
+        ensures { IsTrue result ↔ HasNoChange (txn_shown (value_of self.now) txn) }
     {
         match self.parts.txns.changes(txn) {
             Some(changes) => changes.is_empty(),
@@ -186,7 +186,7 @@ impl<A: Allocator + Copy> Core<A> {
     /// place, `IndexFull` where the places of one more change can't be reserved, `Exhausted` where no
     /// number is left for a record, and `NoMemory`. After a refusal the core is as before.
     pub fn start_insert(&mut self, txn: Txn, key: Key, body: Body) -> Result<Rid, Error>
-        requires { IsReadyOrNone (txn_of (value_of self.old) txn) }
+        requires { IsReadyOrNone (txn_shown (value_of self.old) txn) }
         ensures { Serves (value_of self.old) (Event.Insert txn (record { key = key; body = body })) (reply_by Reply.Rid result) (value_of self.new) }
     {
         self.parts.start_insert(txn, key, body)
@@ -200,7 +200,7 @@ impl<A: Allocator + Copy> Core<A> {
     /// more change can't be reserved, `Exhausted` where no number is left for a record, and
     /// `NoMemory`. After a refusal the core is as before.
     pub fn start_delete(&mut self, txn: Txn, rid: Rid) -> Result<(), Error>
-        requires { IsReadyOrNone (txn_of (value_of self.old) txn) }
+        requires { IsReadyOrNone (txn_shown (value_of self.old) txn) }
         ensures { Serves (value_of self.old) (Event.Delete txn rid) (reply_by (λ _. Reply.Stepped) result) (value_of self.new) }
     {
         self.parts.start_delete(txn, rid)
@@ -212,7 +212,7 @@ impl<A: Allocator + Copy> Core<A> {
     ///
     /// The refusals are those of `start_delete`.
     pub fn start_update(&mut self, txn: Txn, rid: Rid, key: Key, body: Body) -> Result<(), Error>
-        requires { IsReadyOrNone (txn_of (value_of self.old) txn) }
+        requires { IsReadyOrNone (txn_shown (value_of self.old) txn) }
         ensures { Serves (value_of self.old) (Event.Update txn rid (record { key = key; body = body })) (reply_by (λ _. Reply.Stepped) result) (value_of self.new) }
     {
         self.parts.start_update(txn, rid, key, body)
@@ -222,7 +222,7 @@ impl<A: Allocator + Copy> Core<A> {
     ///
     /// The refusals are those of `end`.
     pub fn next_step(&mut self, txn: Txn) -> Result<(), Error>
-        requires { OwesOrNone (txn_of (value_of self.old) txn) }
+        requires { OwesOrNone (txn_shown (value_of self.old) txn) }
         ensures { Serves (value_of self.old) (Event.Step txn) (reply_by (λ _. Reply.Stepped) result) (value_of self.new) }
     {
         self.parts.next_step(txn)
@@ -237,7 +237,7 @@ impl<A: Allocator + Copy> Core<A> {
     /// `NoSuchTxn`, and where a change is left `Exhausted`, where no number is left for a record, and
     /// `NoMemory`; never for want of room. After a refusal the core is as before.
     pub fn undo_step(&mut self, txn: Txn) -> Result<Undone, Error>
-        ensures { Serves (value_of self.old) (Event.Undo txn) (reply_by undone result) (value_of self.new) }
+        ensures { Serves (value_of self.old) (Event.Undo txn) (reply_by undone_reply result) (value_of self.new) }
     {
         self.parts.undo_step(txn)
     }
@@ -247,7 +247,7 @@ impl<A: Allocator + Copy> Core<A> {
     /// `NoSuchTxn`, then `Exhausted` where no number is left for a record, and `NoMemory`. After a
     /// refusal the core is as before.
     pub fn end(&mut self, txn: Txn) -> Result<(), Error>
-        requires { HasNoChange (txn_of (value_of self.old) txn) }
+        requires { HasNoChange (txn_shown (value_of self.old) txn) }
         ensures { Serves (value_of self.old) (Event.End txn) (reply_by (λ _. Reply.Ended) result) (value_of self.new) }
     {
         self.parts.end(txn)
@@ -257,7 +257,7 @@ impl<A: Allocator + Copy> Core<A> {
     ///
     /// The refusals are those of `end`.
     pub fn commit(&mut self, txn: Txn) -> Result<Ticket, Error>
-        requires { IsReadyOrNone (txn_of (value_of self.old) txn) }
+        requires { IsReadyOrNone (txn_shown (value_of self.old) txn) }
         ensures { Serves (value_of self.old) (Event.Commit txn) (reply_by reply_of_ticket result) (value_of self.new) }
     {
         self.parts.commit(txn)

@@ -5,9 +5,9 @@ ghost use Rattle.model.specs.Pairs as pairs;
 ghost use Rattle.core_contracts.specs.Events.{Event, Reply};
 ghost use Rattle.txn_table.specs.Table as table;
 ghost use Rattle.index_core.specs.View.{IsSafe, Serves};
-ghost use Rattle.index_core.specs.Moves.{HasRecord, txn_of};
+ghost use Rattle.index_core.specs.Moves.{HasRecord, txn_shown};
 ghost use Rattle.index_core.specs.Replies.{reply_by};
-ghost use Rattle.index_core.specs.Undoing.{entry_restored, part_to_undo, row_restored, undo_begun, undone};
+ghost use Rattle.index_core.specs.Undoing.{entry_restored, part_to_undo, row_restored, undo_begun, undone_reply};
 ghost use Rattle.index_core.specs.Parts.{parts_of};
 
 use crate::parts::{Parts, entry_of};
@@ -33,7 +33,7 @@ impl<A: Allocator + Copy> Parts<A> {
     // Sets the row as it was before the newest change. `NoMemory` leaves all as before.
     fn restore_row(&mut self, number: RecordNumber, txn: Txn, change: Change) -> Result<(), Error>
         requires safe { ∥ IsSafe (parts_of self.old) ∥₁ }
-        requires newest { option_and_then table.last_change (txn_of (parts_of self.old) txn) ≡ Some change }
+        requires newest { option_and_then table.last_change (txn_shown (parts_of self.old) txn) ≡ Some change }
         requires number { number ≡ (parts_of self.old).last + 1 }
         ensures ok { OnOk result (parts_of self.new ≡ row_restored (parts_of self.old) txn change (pairs.old_pair (pairs.is_indexed (parts_of self.old).life) change)) }
         ensures unchanged { OnErr result (parts_of self.new ≡ parts_of self.old) }
@@ -57,7 +57,7 @@ impl<A: Allocator + Copy> Parts<A> {
     // Makes the entry of the newest change's old row live again. `NoMemory` leaves all as before.
     fn restore_entry(&mut self, number: RecordNumber, txn: Txn, change: Change) -> Result<(), Error>
         requires safe { ∥ IsSafe (parts_of self.old) ∥₁ }
-        requires newest { option_and_then table.last_change (txn_of (parts_of self.old) txn) ≡ Some change }
+        requires newest { option_and_then table.last_change (txn_shown (parts_of self.old) txn) ≡ Some change }
         requires number { number ≡ (parts_of self.old).last + 1 }
         requires moved { pairs.old_pair (pairs.is_indexed (parts_of self.old).life) change ≢ None }
         ensures ok { OnOk result ((p : Pair) → pairs.old_pair (pairs.is_indexed (parts_of self.old).life) change ≡ Some p → parts_of self.new ≡ entry_restored (parts_of self.old) txn change p) }
@@ -75,7 +75,7 @@ impl<A: Allocator + Copy> Parts<A> {
     // The first step of the undo of the newest change. `NoMemory` leaves all as before.
     fn begin_undo(&mut self, number: RecordNumber, txn: Txn, change: Change) -> Result<(), Error>
         requires safe { ∥ IsSafe (parts_of self.old) ∥₁ }
-        requires newest { option_and_then table.last_change (txn_of (parts_of self.old) txn) ≡ Some change }
+        requires newest { option_and_then table.last_change (txn_shown (parts_of self.old) txn) ≡ Some change }
         requires number { number ≡ (parts_of self.old).last + 1 }
         ensures ok { OnOk result (parts_of self.new ≡ undo_begun (parts_of self.old) txn change (pairs.old_pair (pairs.is_indexed (parts_of self.old).life) change) (pairs.new_pair (pairs.is_indexed (parts_of self.old).life) change)) }
         ensures unchanged { OnErr result (parts_of self.new ≡ parts_of self.old) }
@@ -92,7 +92,7 @@ impl<A: Allocator + Copy> Parts<A> {
     // The next step of the undo of the newest change. `NoMemory` leaves all as before.
     fn take_back(&mut self, number: RecordNumber, txn: Txn, change: Change) -> Result<(), Error>
         requires safe { ∥ IsSafe (parts_of self.old) ∥₁ }
-        requires newest { option_and_then table.last_change (txn_of (parts_of self.old) txn) ≡ Some change }
+        requires newest { option_and_then table.last_change (txn_shown (parts_of self.old) txn) ≡ Some change }
         requires has { HasRecord (parts_of self.old) txn }
         requires number { number ≡ (parts_of self.old).last + 1 }
         ensures { Serves (parts_of self.old) (Event.Undo txn) (reply_by (λ _. Reply.Undone) result) (parts_of self.new) }
@@ -110,8 +110,8 @@ impl<A: Allocator + Copy> Parts<A> {
 
     // Begins the rollback of a transaction that has no change.
     fn undo_nothing(&mut self, txn: Txn) -> Result<Undone, Error>
-        requires { option_and_then table.last_change (txn_of (parts_of self.old) txn) ≡ None }
-        ensures { Serves (parts_of self.old) (Event.Undo txn) (reply_by undone result) (parts_of self.new) }
+        requires { option_and_then table.last_change (txn_shown (parts_of self.old) txn) ≡ None }
+        ensures { Serves (parts_of self.old) (Event.Undo txn) (reply_by undone_reply result) (parts_of self.new) }
     {
         if !self.txns.is_active(txn) {
             return Err(Error::NoSuchTxn);
@@ -123,7 +123,7 @@ impl<A: Allocator + Copy> Parts<A> {
     /// The next step that takes a change of the transaction back.
     pub(crate) fn undo_step(&mut self, txn: Txn) -> Result<Undone, Error>
         requires { ∥ IsSafe (parts_of self.old) ∥₁ }
-        ensures { Serves (parts_of self.old) (Event.Undo txn) (reply_by undone result) (parts_of self.new) }
+        ensures { Serves (parts_of self.old) (Event.Undo txn) (reply_by undone_reply result) (parts_of self.new) }
     {
         let Some(change) = self.txns.newest(txn) else {
             return self.undo_nothing(txn);

@@ -11,7 +11,7 @@ use Rattle.model.specs.KeyActions.{after_action}
 use Rattle.model.specs.Table.{Index}
 use Rattle.records.specs.declared.geometry.TheConstants.{ENTRIES_MAX}
 use Rattle.records.specs.declared.error.Error.{Error}
-use Rattle.marked_index.specs.Index.{IndexValue, HasRoom, entries_after}
+use Rattle.marked_index.specs.Index.{IndexValue, IsWithinCapacity, entries_after}
 
 -- to set what is there changes nothing
 as_it_was : (m : Index) (p : Pair) (o : Option Mark) → map.get m p ≡ o → set_at m p o ≡ m
@@ -62,16 +62,16 @@ len_removed m p = subst (λ n. n ≤ map.len m) (sym (map.len-remove pair_cmp_to
 
 -- ---- room for what a change leaves
 
-pub room_removed : (m n : Index) (p : Pair) (k c : ℕ) → HasRoom (record { entries = m; pledged = k; capacity = c }) → n ≡ map.remove m p → HasRoom (record { entries = n; pledged = k; capacity = c })
+pub room_removed : (m n : Index) (p : Pair) (k c : ℕ) → IsWithinCapacity (record { entries = m; pledged = k; capacity = c }) → n ≡ map.remove m p → IsWithinCapacity (record { entries = n; pledged = k; capacity = c })
 room_removed m n p k c room e = record { within = omega (arith, len_removed m p, ap map.len e, room.within); most = room.most }
 
-pub room_changed : (m n : Index) (p : Pair) (x : Mark) (k c : ℕ) → HasRoom (record { entries = m; pledged = k; capacity = c }) → is_some (map.get m p) ≡ true → n ≡ map.insert m p x → HasRoom (record { entries = n; pledged = k; capacity = c })
+pub room_changed : (m n : Index) (p : Pair) (x : Mark) (k c : ℕ) → IsWithinCapacity (record { entries = m; pledged = k; capacity = c }) → is_some (map.get m p) ≡ true → n ≡ map.insert m p x → IsWithinCapacity (record { entries = n; pledged = k; capacity = c })
 room_changed m n p x k c room there e = record { within = omega (arith, len_changed m p x there, ap map.len e, room.within); most = room.most }
 
 -- one more entry, and j places pledged
-pub room_added : (m n : Index) (p : Pair) (x : Mark) (j c : ℕ) → map.len m + 1 + j ≤ c → c ≤ ENTRIES_MAX → map.get m p ≡ None → n ≡ map.insert m p x → HasRoom (record { entries = n; pledged = j; capacity = c })
+pub room_added : (m n : Index) (p : Pair) (x : Mark) (j c : ℕ) → map.len m + 1 + j ≤ c → c ≤ ENTRIES_MAX → map.get m p ≡ None → n ≡ map.insert m p x → IsWithinCapacity (record { entries = n; pledged = j; capacity = c })
 room_added m n p x j c fits most absent e = record { within = omega (arith, len_added m p x absent, ap map.len e, fits); most = most }
 
-pub room_tried : (m n : Index) (p : Pair) (x : Mark) (k c : ℕ) (r : Result (Unit {0}) Error) → HasRoom (record { entries = m; pledged = k; capacity = c }) → map.len m + k < c → map.get m p ≡ None → OnOk r (n ≡ map.insert m p x) → OnErr r (n ≡ m) → HasRoom (record { entries = n; pledged = k; capacity = c })
+pub room_tried : (m n : Index) (p : Pair) (x : Mark) (k c : ℕ) (r : Result (Unit {0}) Error) → IsWithinCapacity (record { entries = m; pledged = k; capacity = c }) → map.len m + k < c → map.get m p ≡ None → OnOk r (n ≡ map.insert m p x) → OnErr r (n ≡ m) → IsWithinCapacity (record { entries = n; pledged = k; capacity = c })
 room_tried m n p x k c (Ok u) room fits absent done left = room_added m n p x k c (omega arith) room.most absent done
 room_tried m n p x k c (Err e) room fits absent done left = record { within = omega (arith, ap map.len left, room.within); most = room.most }

@@ -21,7 +21,7 @@ abbrev pub coded_index : Coded IndexValue
 coded_index = code_by (Index × (ℕ × ℕ)) (coded× (map.code coded_pair coded_mark) (coded× coded_ℕ coded_ℕ)) (λ v. (v.entries, (v.pledged, v.capacity))) (λ p. record { entries = p.0; pledged = p.1.0; capacity = p.1.1 }) (λ _. refl)
 
 -- the entries and the pledged places are within the capacity, and that is what a tree can hold
-pub record HasRoom (v : IndexValue) : Type 0 where
+pub record IsWithinCapacity (v : IndexValue) : Type 0 where
   pub within : map.len v.entries + v.pledged ≤ v.capacity
   pub most : v.capacity ≤ ENTRIES_MAX
 
@@ -37,13 +37,13 @@ abbrev pub entries_after : Index → KeyAction → Pair → Index
 entries_after entries action pair = set_at entries pair (after_action action (map.get entries pair))
 
 -- how many pledged places a transaction's action uses: one where there was no entry
-abbrev pub places_used : Option Mark → ℕ
-places_used None = 1
-places_used (Some mark) = 0
+abbrev pub pledges_used : Option Mark → ℕ
+pledges_used None = 1
+pledges_used (Some mark) = 0
 
 -- the index after a transaction's action
 abbrev pub after_txn_action : IndexValue → KeyAction → Pair → IndexValue
 after_txn_action v action pair = record v {
   entries = entries_after v.entries action pair;
-  pledged = v.pledged - places_used (map.get v.entries pair);
+  pledged = v.pledged - pledges_used (map.get v.entries pair);
 }

@@ -10,7 +10,7 @@ ghost use Rattle.records.specs.Values.{Place};
 ghost use Rattle.model.specs.declared.key_action.KeyAction.{KeyAction};
 ghost use Rattle.btree_node.specs.Above.{IsLeastAbove};
 ghost use Rattle.btree_node.specs.Contents.{contents};
-ghost use Rattle.marked_index.specs.Index.{HasRoom, IsFull, IsAbsent, entries_after, places_used, after_txn_action};
+ghost use Rattle.marked_index.specs.Index.{IsWithinCapacity, IsFull, IsAbsent, entries_after, pledges_used, after_txn_action};
 ghost use Rattle.marked_index.specs.Shown.{IsNextOf, mark_at};
 
 use btree_node::{BTree, ENTRIES_MAX};
@@ -54,7 +54,7 @@ pub struct MarkedIndex<A: Allocator> {
 
 impl<A: Allocator> Model for MarkedIndex<A> {
     ghost use Rattle.btree_node.specs.Contents.{contents};
-    ghost use Rattle.marked_index.specs.Index.{IndexValue, coded_index, HasRoom};
+    ghost use Rattle.marked_index.specs.Index.{IndexValue, coded_index, IsWithinCapacity};
 
     ghost Value = { IndexValue };
 
@@ -62,7 +62,7 @@ impl<A: Allocator> Model for MarkedIndex<A> {
 
     ghost view = { λ i. record { entries = contents i.tree; pledged = i.pledged; capacity = i.capacity } };
 
-    ghost invariant = { λ i. HasRoom (record { entries = contents i.tree; pledged = i.pledged; capacity = i.capacity }) };
+    ghost invariant = { λ i. IsWithinCapacity (record { entries = contents i.tree; pledged = i.pledged; capacity = i.capacity }) };
 }
 
 /// Puts an absent pair into a tree with a mark. The one error is `NoMemory`.
@@ -95,7 +95,7 @@ impl<A: Allocator + Clone> MarkedIndex<A> {
     /// How many entries there are.
     pub fn len(&self) -> usize
         ensures len { result ≡ map.len self.now.entries }
-        ensures room { HasRoom self.now }
+        ensures room { IsWithinCapacity self.now }
     {
         self.tree.len()
     }
@@ -110,7 +110,7 @@ impl<A: Allocator + Clone> MarkedIndex<A> {
     /// How many places are pledged and not used yet.
     pub fn pledged(&self) -> usize
         ensures pledged { result ≡ self.now.pledged }
-        ensures room { HasRoom self.now }
+        ensures room { IsWithinCapacity self.now }
     {
         self.pledged
     }
@@ -185,7 +185,7 @@ impl<A: Allocator + Clone> MarkedIndex<A> {
         requires place { IsAbsent self.old.entries pair.now → 0 < self.old.pledged }
         ensures ok { OnOk result (self.new ≡ record self.old {
           entries = map.insert self.old.entries pair.now mark;
-          pledged = self.old.pledged - places_used (map.get self.old.entries pair.now);
+          pledged = self.old.pledged - pledges_used (map.get self.old.entries pair.now);
         }) }
         ensures added { IfOk result (λ s. (s ≡ Stepped.Added) ↔ IsAbsent self.old.entries pair.now) }
         ensures no_memory { IfErr result (λ e. (e ≡ Error.NoMemory) × IsAbsent self.old.entries pair.now) }
@@ -224,7 +224,7 @@ impl<A: Allocator + Clone> MarkedIndex<A> {
     // How many places are taken or pledged.
     fn taken(&self) -> usize
         ensures taken { result ≡ map.len self.now.entries + self.now.pledged }
-        ensures room { HasRoom self.now }
+        ensures room { IsWithinCapacity self.now }
     {
         self.len() + self.pledged
     }

@@ -10,7 +10,7 @@ use Rattle.std.specs.FinMap as map
 use Rattle.records.specs.declared.txn.TheConstants.{TXNS_MAX}
 use Rattle.model.specs.Cells.{Cells, Pending, set_by, cells_after}
 use Rattle.model.proofs.CellsLaws.{cells_after_one_more}
-use Rattle.model.specs.Following.{IsLastOf, HasRoom, CanFollow, AreFollowing, IsFirstUnfit}
+use Rattle.model.specs.Following.{IsLastOf, IsAdmitted, CanFollow, AreFollowing, IsFirstUnfit}
 
 -- ---- the last change of a list
 
@@ -68,7 +68,7 @@ not_following pages last cells records n unfit all =
 
 -- ---- room for a transaction
 
-pub room_test : (pending : Pending) (txn n : ℕ) → map.get pending txn ≡ None → n ≡ length (map.entries pending) → IsTrue (nat_lt n TXNS_MAX) ↔ HasRoom pending txn
+pub room_test : (pending : Pending) (txn n : ℕ) → map.get pending txn ≡ None → n ≡ length (map.entries pending) → IsTrue (nat_lt n TXNS_MAX) ↔ IsAdmitted pending txn
 room_test pending txn n none is = (
   (λ test. inr (omega (arith, is, ltb-true _ _ test))),
   (λ room. ⊎_elim (λ some. absurd (some none)) (λ less. lt-ltb _ _ (omega (arith, less, is))) room),
@@ -78,7 +78,7 @@ pub none_is : {A : Type 0} (o : Option A) → is_some o ≡ false → o ≡ None
 none_is None e = refl
 none_is (Some a) e = absurd cc
 
-pub room_there : (pending : Pending) (txn : ℕ) (b : Bool) → b ≡ is_some (map.get pending txn) → b ≡ true → IsTrue b ↔ HasRoom pending txn
+pub room_there : (pending : Pending) (txn : ℕ) (b : Bool) → b ≡ is_some (map.get pending txn) → b ≡ true → IsTrue b ↔ IsAdmitted pending txn
 room_there pending txn b is e = ((λ test. inl (λ none. absurd (both_ways (sym e ∙ is ∙ ap is_some none)))), (λ room. e))
   where
     both_ways : true ≡ false → ⊥

@@ -21,7 +21,7 @@ use Rattle.records.specs.declared.record.Action.TheVariants.{OfTxn, OfIndex}
 use Rattle.model.specs.Pairs.{pair_at, with_entry}
 use Rattle.model.specs.Table.{Table, Index}
 use Rattle.model.specs.Cells.{Cells, cells_after, set_by, rows_by, entries_by, pending_by, life_by, list_of}
-use Rattle.model.specs.Following.{AllowsPart, AreFollowing, CanFollow, CanFollowBy, CanFollowIndex, CanFollowTxn, HasRoom, IsLastOf, IsNextOn}
+use Rattle.model.specs.Following.{AllowsPart, AreFollowing, CanFollow, CanFollowBy, CanFollowIndex, CanFollowTxn, IsAdmitted, IsLastOf, IsNextOn}
 use Rattle.model.specs.Images.{IsCopied}
 
 module _ {K X : Type 0} {R : K → K → Ordering} where
@@ -141,7 +141,7 @@ follows_too pages last a b r p l h = record { number = h.number; allowed = by_ac
       h.0,
       subst (λ life. AllowsPart life part) l h.1,
       subst (λ pending. IsNextOn (list_of pending txn) c) p h.2,
-      subst (λ pending. HasRoom pending txn) p h.3,
+      subst (λ pending. IsAdmitted pending txn) p h.3,
     )
     by_txn txn (Undo part c last) h = (h.0, subst (λ life. AllowsPart life part) l h.1, subst (λ pending. IsLastOf (list_of pending txn) c) p h.2)
     by_txn txn Commit h = tt

@@ -28,7 +28,7 @@ use Rattle.model.specs.Pairs.{gone, is_indexed, new_pair, old_pair, pair_at, pai
 use Rattle.model.specs.Cells.{Cells, Pending, cells_after, entries_by_index, entries_by_txn, life_by_index, list_of, set_by, with_list}
 use Rattle.model.specs.Following.{AreFollowing, CanFollowBy, CanFollowIndex, CanFollowTxn}
 use Rattle.model.specs.Given.{all_entries_reverted, entries_reverted, entries_without, recovered}
-use Rattle.model.specs.Inside.{AreEntriesWithin, AreInside, IsInside, IsLifeWithin}
+use Rattle.model.specs.Inside.{AreEntriesWithin, AreInside, IsGivenInside, IsLifeWithin}
 use Rattle.model.proofs.PlacesLaws.{recovered_within, set_within, step_in, with_list_here}
 use Rattle.model.proofs.RecoveryLaws.{each_named}
 
@@ -128,7 +128,7 @@ module _ (pages : ℕ) where
   all_inside indexed pending (e ∷ part) entries here names is =
       all_inside indexed pending part (entries_reverted indexed entries e.1) here names.1 (reverted_inside indexed entries e.1 (All-same Here _ _ (sym names.0) (here e.0)) is)
 
-  pub recovered_inside : (cells : Cells) (last : ℕ) → AreInside pages cells → IsInside pages (recovered cells last)
+  pub recovered_inside : (cells : Cells) (last : ℕ) → AreInside pages cells → IsGivenInside pages (recovered cells last)
   recovered_inside cells last is = record {
     rows = recovered_within pages cells is.changes is.rows;
     entries = all_inside (is_indexed cells.life) cells.pending (map.entries cells.pending) cells.entries is.changes (each_named cells.pending) is.entries;

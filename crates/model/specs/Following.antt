@@ -29,8 +29,8 @@ abbrev pub IsNextOn : List ChangeValue → ChangeValue → Type 0
 IsNextOn changes c = (c.position ≡ length changes) ⊎ IsLastOf changes c
 
 -- the transaction has made a record already, or fewer than `TXNS_MAX` have that neither committed nor ended
-abbrev pub HasRoom : Pending → ℕ → Type 0
-HasRoom pending txn = (finite.get pending txn ≢ None) ⊎ (length (finite.entries pending) < TXNS_MAX)
+abbrev pub IsAdmitted : Pending → ℕ → Type 0
+IsAdmitted pending txn = (finite.get pending txn ≢ None) ⊎ (length (finite.entries pending) < TXNS_MAX)
 
 -- a step on a row needs nothing more, a step on an entry an index
 abbrev pub AllowsPart : Life → Part → Type 0
@@ -39,7 +39,7 @@ AllowsPart life OldEntry = life ≢ Absent
 AllowsPart life NewEntry = life ≢ Absent
 
 abbrev pub CanFollowTxn : ℕ → Cells → ℕ → TxnAction → Type 0
-CanFollowTxn pages cells txn (Forward part c) = (c.rid.page < pages) × AllowsPart cells.life part × IsNextOn (list_of cells.pending txn) c × HasRoom cells.pending txn
+CanFollowTxn pages cells txn (Forward part c) = (c.rid.page < pages) × AllowsPart cells.life part × IsNextOn (list_of cells.pending txn) c × IsAdmitted cells.pending txn
 CanFollowTxn pages cells txn (Undo part c last) = (c.rid.page < pages) × AllowsPart cells.life part × IsLastOf (list_of cells.pending txn) c
 CanFollowTxn pages cells txn Commit = Unit {0}
 CanFollowTxn pages cells txn End = Unit {0}

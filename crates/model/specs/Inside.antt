@@ -30,7 +30,7 @@ pub record AreInside (pages : ℕ) (cells : Cells) : Type 0 where
   pub life : IsLifeWithin pages cells.life
 
 -- what is given is of a store of so many pages
-pub record IsInside (pages : ℕ) (given : Given) : Type 0 where
+pub record IsGivenInside (pages : ℕ) (given : Given) : Type 0 where
   pub rows : IsWithin pages given.table
   pub entries : AreEntriesWithin pages given.entries
   pub life : IsLifeWithin pages given.life

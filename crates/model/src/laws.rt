@@ -18,7 +18,7 @@ ghost use Rattle.records.specs.declared.pair.Mark.TheVariants.{Live};
 ghost use Rattle.model.specs.Table.{IsPairOf};
 ghost use Rattle.model.specs.Cells.{Cells, cells_after, rows_after, set_by, reverted, list_of, noted, taken_off};
 ghost use Rattle.records.specs.declared.record.Action.{Action};
-ghost use Rattle.model.specs.Inside.{AreInside, IsInside};
+ghost use Rattle.model.specs.Inside.{AreInside, IsGivenInside};
 ghost use Rattle.model.specs.Following.{CanFollow, CanFollowBy, AreFollowing, ArePlaced, IsFirstUnfit};
 ghost use Rattle.model.specs.History.{Item, table_after, table_with, life_after, life_with, up_to, AreRising};
 
@@ -99,5 +99,5 @@ pub fn beginnings()
 /// What the cells of a store hold stays in its pages by each record that can follow, and so does what is recovered of them.
 pub fn inside_pages()
     ensures record { (pages : ℕ) (cells : Cells) (action : Action) → CanFollowBy pages cells action → AreInside pages cells → AreInside pages (set_by cells action) }
-    ensures recovered { (pages : ℕ) (cells : Cells) (last : ℕ) → AreInside pages cells → IsInside pages (recovered cells last) }
+    ensures recovered { (pages : ℕ) (cells : Cells) (last : ℕ) → AreInside pages cells → IsGivenInside pages (recovered cells last) }
 {}

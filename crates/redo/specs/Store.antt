@@ -27,23 +27,23 @@ pub record StoreValue : Type 0 where
 
 -- ---- one cell
 
-abbrev pub with_row : StoreValue → Place → Option Row → StoreValue
-with_row v rid row = record v { cells = record v.cells { rows = set_at v.cells.rows rid row } }
+abbrev pub setting_row : StoreValue → Place → Option Row → StoreValue
+setting_row v rid row = record v { cells = record v.cells { rows = set_at v.cells.rows rid row } }
 
-abbrev pub with_entry : StoreValue → Pair → Option Mark → StoreValue
-with_entry v pair mark = record v { cells = record v.cells { entries = set_at v.cells.entries pair mark } }
+abbrev pub setting_entry : StoreValue → Pair → Option Mark → StoreValue
+setting_entry v pair mark = record v { cells = record v.cells { entries = set_at v.cells.entries pair mark } }
 
-abbrev pub with_list : StoreValue → ℕ → List ChangeValue → StoreValue
-with_list v txn changes = record v { cells = record v.cells { pending = model_cells.with_list v.cells.pending txn (Some changes) } }
+abbrev pub setting_list : StoreValue → ℕ → List ChangeValue → StoreValue
+setting_list v txn changes = record v { cells = record v.cells { pending = model_cells.with_list v.cells.pending txn (Some changes) } }
 
-abbrev pub with_life : StoreValue → Life → StoreValue
-with_life v life = record v { cells = record v.cells { life = life } }
+abbrev pub setting_life : StoreValue → Life → StoreValue
+setting_life v life = record v { cells = record v.cells { life = life } }
 
 -- ---- records
 
 -- nothing but the number of the last record
-abbrev pub nothing : GeometryValue → ℕ → StoreValue
-nothing geometry last = record {
+abbrev pub empty_store : GeometryValue → ℕ → StoreValue
+empty_store geometry last = record {
   geometry = geometry;
   cells = record { rows = map.empty; entries = map.empty; pending = map.empty; life = Absent };
   last = last;

@@ -1,7 +1,7 @@
 //! What is restored of a store.
 ghost use Rattle.std.specs.Prelude.{◌≤◌};
 ghost use Rattle.records.specs.declared.number.TheConstants.{LAST_NUMBER};
-ghost use Rattle.model.specs.Inside.{IsInside};
+ghost use Rattle.model.specs.Inside.{IsGivenInside};
 
 use model::{EntryMap, Life, RowMap};
 use records::Geometry;
@@ -21,6 +21,6 @@ pub struct Restored<A: Allocator> {
     pub life: Life,
     /// The number of the last record.
     pub last: u64,
-    ghost inside: { IsInside geometry.pages (record { table = rows; entries = entries; life = life; last = last }) },
+    ghost inside: { IsGivenInside geometry.pages (record { table = rows; entries = entries; life = life; last = last }) },
     ghost numbered: { last ≤ LAST_NUMBER },
 }

@@ -4,7 +4,7 @@ ghost use Rattle.records.specs.declared.number.TheConstants.{LAST_NUMBER};
 ghost use Rattle.model.specs.Following.{AreFollowing, IsFirstUnfit};
 ghost use Rattle.model.specs.Given.{recovered};
 ghost use Rattle.model.specs.Inside.{AreChangesWithin, IsLifeWithin};
-ghost use Rattle.redo.specs.Store.{CanRedo, after_record, after_records, nothing, with_entry, with_life, with_list, with_row};
+ghost use Rattle.redo.specs.Store.{CanRedo, after_record, after_records, empty_store, setting_entry, setting_list, setting_row, setting_life};
 ghost use Rattle.redo.specs.Restored.{given_in};
 
 use crate::refusal::{Refusal, Stopped};
@@ -45,7 +45,7 @@ impl<A: Allocator + Copy> StoreCells<A> {
     /// No row, no entry, no transaction and no index, with `base` as the number of the last record.
     pub fn new(alloc: A, geometry: Geometry, base: u64) -> Self
         requires { base ≤ LAST_NUMBER }
-        ensures { result ≡ nothing geometry base }
+        ensures { result ≡ empty_store geometry base }
     {
         StoreCells {
             alloc,
@@ -65,7 +65,7 @@ impl<A: Allocator + Copy> StoreCells<A> {
     /// Leaves this row at the place, or none, as an image has it.
     pub fn set_row(&mut self, rid: Rid, row: Option<Row>) -> Result<(), AllocError>
         requires { rid.page < self.old.geometry.pages }
-        ensures ok { OnOk result (self.new ≡ with_row self.old rid row) }
+        ensures ok { OnOk result (self.new ≡ setting_row self.old rid row) }
         ensures err { OnErr result (self.new ≡ self.old) }
     {
         self.maps.rows.set(rid, row)
@@ -74,7 +74,7 @@ impl<A: Allocator + Copy> StoreCells<A> {
     /// Leaves this entry of the pair, or none, as an image has it.
     pub fn set_entry(&mut self, pair: &Pair, mark: Option<Mark>) -> Result<(), AllocError>
         requires { pair.now.rid.page < self.old.geometry.pages }
-        ensures ok { OnOk result (self.new ≡ with_entry self.old pair.now mark) }
+        ensures ok { OnOk result (self.new ≡ setting_entry self.old pair.now mark) }
         ensures err { OnErr result (self.new ≡ self.old) }
     {
         self.maps.entries.set(*pair, mark)
@@ -83,7 +83,7 @@ impl<A: Allocator + Copy> StoreCells<A> {
     /// Gives the transaction this list of changes that it may still take back, as an image has it.
     pub fn set_list(&mut self, txn: Txn, changes: Vec<Change, A>) -> Result<(), AllocError>
         requires { AreChangesWithin self.old.geometry.pages changes.items }
-        ensures ok { OnOk result (self.new ≡ with_list self.old txn changes.items) }
+        ensures ok { OnOk result (self.new ≡ setting_list self.old txn changes.items) }
         ensures err { OnErr result (self.new ≡ self.old) }
     {
         self.maps.lists.set(txn, changes)?;
@@ -93,7 +93,7 @@ impl<A: Allocator + Copy> StoreCells<A> {
     /// Leaves the index this far, as an image has it.
     pub fn set_life(&mut self, life: Life)
         requires { IsLifeWithin self.old.geometry.pages life }
-        ensures { self.new ≡ with_life self.old life }
+        ensures { self.new ≡ setting_life self.old life }
     {
         self.maps.life = life;
     }

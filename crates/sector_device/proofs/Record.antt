@@ -13,11 +13,11 @@ use Rattle.sector_device.specs.declared.call.Call.TheVariants.{Write, Sync}
 use Rattle.sector_device.specs.Disk.{Image, sector, IsSector, IsWhole, Disk, after_write, after_sync}
 use Rattle.sector_device.specs.History.{Elapses}
 use Rattle.sector_device.specs.Values.{zero_sector}
-use Rattle.sector_device.specs.Memory.{State, initial_state, step, state_after, disk_of, memory_history, unsynced_since, Represents}
+use Rattle.sector_device.specs.Memory.{MemoryState, initial_state, step, state_after, disk_of, memory_history, unsynced_since, Represents}
 
 -- ---- the record
 
-pub state_after-push : (s : State) (calls : List Call) (call : Call) → state_after s (calls ++ call ∷ []) ≡ step (state_after s calls) call
+pub state_after-push : (s : MemoryState) (calls : List Call) (call : Call) → state_after s (calls ++ call ∷ []) ≡ step (state_after s calls) call
 state_after-push s [] call = refl
 state_after-push s (c ∷ calls) call = state_after-push (step s c) calls call
 
@@ -110,7 +110,7 @@ synced_count-set synced_at (at ∷ written_at) (suc n) now below own after =
 
 -- ---- one call more
 
-module _ (s : State) (calls : ℕ) (content before : Image) (written_at : List ℕ) (synced_at : ℕ) (represents : Represents s calls content before written_at synced_at) where
+module _ (s : MemoryState) (calls : ℕ) (content before : Image) (written_at : List ℕ) (synced_at : ℕ) (represents : Represents s calls content before written_at synced_at) where
   sizes : length s.content ≡ length content
   sizes = ap length represents.content_is
 

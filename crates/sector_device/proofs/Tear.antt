@@ -7,18 +7,18 @@ use Rattle.std.proofs.lemmas.Grind.{common_steps}
 use Rattle.sector_device.specs.declared.call.Fate.{Fate}
 use Rattle.sector_device.specs.declared.call.Fate.TheVariants.{Old, New, Zero, Gate, Junk}
 use Rattle.sector_device.specs.Disk.{Image, sector, IsSector, IsWhole, IsCrashImage}
-use Rattle.sector_device.specs.Memory.{State, disk_of, unsynced_since, Represents}
+use Rattle.sector_device.specs.Memory.{MemoryState, disk_of, unsynced_since, Represents}
 use Rattle.sector_device.specs.Crash.{IsJunk, IsFilled, HasFate, fate_at, unsynced_below, IsCrashed}
 
 -- the sectors below k have their fates, and the others are as they were
-pub record TornBelow (fates : List Fate) (s : State) (image : Image) (k next : ℕ) : Type 0 where
+pub record TornBelow (fates : List Fate) (s : MemoryState) (image : Image) (k next : ℕ) : Type 0 where
   pub count : next ≡ unsynced_below s.unsynced k
   pub sectors : length image ≡ length s.content
   pub synced : (j : ℕ) → slice_index_or s.unsynced j false ≡ false → sector image j ≡ sector s.content j
   pub fated : (j : ℕ) → j < k → slice_index_or s.unsynced j false ≡ true → HasFate (fate_at fates (unsynced_below s.unsynced j)) (sector s.synced j) (sector s.content j) (sector image j)
   pub rest : (j : ℕ) → k ≤ j → sector image j ≡ sector s.content j
 
-pub torn_start : (fates : List Fate) (s : State) → TornBelow fates s s.content 0 0
+pub torn_start : (fates : List Fate) (s : MemoryState) → TornBelow fates s s.content 0 0
 torn_start fates s = record { count = refl; sectors = refl; synced = λ j is. refl; fated = λ j below is. absurd (omega arith); rest = λ j le. refl }
 
 one_more : (flags : List Bool) (k : ℕ) → k < length flags → slice_index_or flags k false ≡ true → unsynced_below flags (k + 1) ≡ unsynced_below flags k + 1
@@ -27,7 +27,7 @@ one_more flags k below is = grind (arith, common_steps)
 no_more : (flags : List Bool) (k : ℕ) → k < length flags → slice_index_or flags k false ≡ false → unsynced_below flags (k + 1) ≡ unsynced_below flags k
 no_more flags k below is = grind (arith, common_steps)
 
-module _ (fates : List Fate) (s : State) (image : Image) (k next : ℕ) (so_far : TornBelow fates s image k next) (below : k < length s.content) (flag : k < length s.unsynced) where
+module _ (fates : List Fate) (s : MemoryState) (image : Image) (k next : ℕ) (so_far : TornBelow fates s image k next) (below : k < length s.content) (flag : k < length s.unsynced) where
   pub torn_synced : slice_index_or s.unsynced k false ≡ false → TornBelow fates s image (k + 1) next
   torn_synced is = record {
     count = so_far.count ∙ sym (no_more s.unsynced k flag is);
@@ -61,7 +61,7 @@ module _ (fates : List Fate) (s : State) (image : Image) (k next : ℕ) (so_far 
       elsewhere : (j : ℕ) → j < k → j ≢ k → slice_index_or s.unsynced j false ≡ true → HasFate (fate_at fates (unsynced_below s.unsynced j)) (sector s.synced j) (sector s.content j) (sector (slice_set image k bytes) j)
       elsewhere j under other flags = subst (HasFate (fate_at fates (unsynced_below s.unsynced j)) (sector s.synced j) (sector s.content j)) (sym (get_or-set_other image k j bytes [] other)) (so_far.fated j under flags)
 
-pub torn_end : (fates : List Fate) (s : State) (image : Image) (k next : ℕ) → length s.content ≤ k → TornBelow fates s image k next → IsCrashed fates s image
+pub torn_end : (fates : List Fate) (s : MemoryState) (image : Image) (k next : ℕ) → length s.content ≤ k → TornBelow fates s image k next → IsCrashed fates s image
 torn_end fates s image k next past torn = record { sectors = torn.sectors; synced = torn.synced; unsynced = λ j below is. torn.fated j (omega (arith, below, past)) is }
 
 -- each fate leaves 512 bytes
@@ -91,7 +91,7 @@ fate_sector Gate old new bytes of_old of_new is = filled_sector 165 bytes (omega
 fate_sector Junk old new bytes of_old of_new is = junk_sector bytes is
 
 -- what a crash makes of the vectors is what it makes of the state
-pub crashed_state : (fates : List Fate) (s : State) (calls : ℕ) (content before : Image) (written_at : List ℕ) (synced_at : ℕ) (image : Image) → Represents s calls content before written_at synced_at
+pub crashed_state : (fates : List Fate) (s : MemoryState) (calls : ℕ) (content before : Image) (written_at : List ℕ) (synced_at : ℕ) (image : Image) → Represents s calls content before written_at synced_at
     → IsCrashed fates (record { content = content; synced = before; unsynced = unsynced_since synced_at written_at }) image → IsCrashed fates s image
 crashed_state fates s calls content before written_at synced_at image represents crashed = record {
   sectors = crashed.sectors ∙ ap length (sym represents.content_is);
@@ -106,7 +106,7 @@ crashed_state fates s calls content before written_at synced_at image represents
         (subst (λ b. HasFate (fate_at fates (unsynced_below (unsynced_since synced_at written_at) k)) b (sector content k) (sector image k)) (sym (represents.before_is k is)) fate))
 
 -- it is a crash image of the disk
-pub crash_image : (fates : List Fate) (s : State) (image : Image) → IsWhole s.content → ((k : ℕ) → k < length s.content → IsSector (sector s.synced k)) → IsCrashed fates s image → IsCrashImage (disk_of s) image
+pub crash_image : (fates : List Fate) (s : MemoryState) (image : Image) → IsWhole s.content → ((k : ℕ) → k < length s.content → IsSector (sector s.synced k)) → IsCrashed fates s image → IsCrashImage (disk_of s) image
 crash_image fates s image whole synced_whole crashed = record {
   sectors = crashed.sectors;
   kept = crashed.synced;

@@ -3,7 +3,7 @@ use Rattle.std.specs.Prelude.{ℕ, ◌⊎◌, ◌+◌, ◌-◌, ◌≤◌, lengt
 use Rattle.sector_device.specs.declared.memory.MemDisk.{MemDisk}
 use Rattle.sector_device.specs.Disk.{Image}
 use Rattle.sector_device.specs.History.{History}
-use Rattle.sector_device.specs.Memory.{State, initial_state, state_after, memory_history}
+use Rattle.sector_device.specs.Memory.{MemoryState, initial_state, state_after, memory_history}
 
 module _ {A : Type 0} where
   -- the disk as it is, and as it was after each call of the record
@@ -15,7 +15,7 @@ module _ {A : Type 0} where
   failures_of d = d.failures
 
   -- the content, the content at the last sync, and which sectors are unsynced
-  abbrev pub state_of : MemDisk A → State
+  abbrev pub state_of : MemDisk A → MemoryState
   state_of d = state_after (initial_state d.first.items) d.calls.items
 
   -- what each sector held at the last sync

@@ -9,26 +9,26 @@ use Rattle.sector_device.specs.Disk.{Image, sector, IsSector, IsWhole, Disk}
 use Rattle.sector_device.specs.History.{History}
 
 -- the content, the content at the last sync, and for each sector whether it is unsynced
-pub record State : Type 0 where
+pub record MemoryState : Type 0 where
   pub content : Image
   pub synced : Image
   pub unsynced : List Bool
 
 -- no sector is unsynced
-abbrev pub initial_state : Image → State
+abbrev pub initial_state : Image → MemoryState
 initial_state image = record { content = image; synced = image; unsynced = replicate (length image) false }
 
 -- after one call more
-abbrev pub step : State → Call → State
+abbrev pub step : MemoryState → Call → MemoryState
 step s (Write n bytes) = record { content = slice_set s.content n bytes; synced = s.synced; unsynced = slice_set s.unsynced n true }
 step s Sync = record { content = s.content; synced = s.content; unsynced = replicate (length s.content) false }
 
 -- after these calls
-abbrev pub state_after : State → List Call → State
+abbrev pub state_after : MemoryState → List Call → MemoryState
 state_after s [] = s
 state_after s (call ∷ calls) = state_after (step s call) calls
 
-abbrev pub disk_of : State → Disk
+abbrev pub disk_of : MemoryState → Disk
 disk_of s = record { content = s.content; unsynced = λ k. slice_index_or s.unsynced k false }
 
 -- the disk after each number of the calls
@@ -47,7 +47,7 @@ unsynced_since synced_at written_at = map (λ at. nat_lt synced_at at) written_a
 
 -- This is how a disk in memory keeps a state that so many calls made: the content; of each unsynced sector also what it
 -- held at the last sync; and after how many calls each sector was written last, and the disk synced last.
-pub record Represents (s : State) (calls : ℕ) (content before : Image) (written_at : List ℕ) (synced_at : ℕ) : Type 0 where
+pub record Represents (s : MemoryState) (calls : ℕ) (content before : Image) (written_at : List ℕ) (synced_at : ℕ) : Type 0 where
   pub content_is : s.content ≡ content
   pub unsynced_is : s.unsynced ≡ unsynced_since synced_at written_at
   pub before_is : (k : ℕ) → slice_index_or s.unsynced k false ≡ true → sector s.synced k ≡ sector before k

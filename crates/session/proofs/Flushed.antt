@@ -5,7 +5,7 @@ use Rattle.std.proofs.lemmas.List.Elements.{All-nil, All-cons}
 use Rattle.std.specs.declared.alloc.Global.{Global}
 use Rattle.first.specs.declared.event.Reply.{Reply}
 use Rattle.first.specs.declared.event.Reply.TheVariants as reply
-use Rattle.session.specs.Session.{horizon_of, horizon_after, asks_again, IsFlushed, FlushesOn}
+use Rattle.session.specs.Session.{horizon_of, horizon_after, asks_again, FlushesOnce, FlushesOn}
 use Rattle.session.specs.declared.session.Session.{Session}
 
 rising_cons : (x n : ℕ) (xs : List ℕ) → x < n → IsStrictlyIncreasing (n ∷ xs) → IsStrictlyIncreasing (x ∷ n ∷ xs)
@@ -32,7 +32,7 @@ none_flushed last session = record {
 }
 
 -- a reply that asks for another flush, before those that follow
-pub one_more : (last : ℕ) (old next new : Session) (told : Reply Global) → asks_again last (horizon_of old) told ≡ true → IsFlushed told old next → FlushesOn last next new → FlushesOn last old new
+pub one_more : (last : ℕ) (old next new : Session) (told : Reply Global) → asks_again last (horizon_of old) told ≡ true → FlushesOnce told old next → FlushesOn last next new → FlushesOn last old new
 one_more last old next new (reply.Horizon n) again flushed on =
     let parts = both (nat_lt (horizon_of old) n) (nat_lt n last) again in
     let at : horizon_of next ≡ n = ap (λ (s : Session). horizon_of s) flushed.rest in

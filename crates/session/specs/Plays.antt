@@ -74,8 +74,8 @@ IsFault arguments text e =
     ⊎ (IsGeometry (geometry_of arguments) × IsNoStart (sectors_asked arguments.sectors (geometry_of arguments)) (geometry_of arguments) e)))
 
 -- the text is all that the input has, where that is known
-abbrev pub IsWhole : Option (List ℕ) → List ℕ → Type 0
-IsWhole input text = IfSome input (λ bytes. text ≡ bytes)
+abbrev pub IsWholeInput : Option (List ℕ) → List ℕ → Type 0
+IsWholeInput input text = IfSome input (λ bytes. text ≡ bytes)
 
 module _ {W : Type 0} (contents : W → Option (List ℕ)) where
   -- the refusal was printed, and the status says so
@@ -113,7 +113,7 @@ module _ {W : Type 0} (contents : W → Option (List ℕ)) where
   -- The whole input was played as a script.
   abbrev pub PlaysInput : Arguments → Option (List ℕ) → ℕ → W → W → Type 0
   PlaysInput arguments input status before after =
-      (text : List ℕ) × IsWhole input text × Plays arguments text status before after
+      (text : List ℕ) × IsWholeInput input text × Plays arguments text status before after
 
   -- The words ask for these arguments, and the whole input was played under them. Or nothing of it was read: the words ask
   -- for help, which has the status 0, or 1 where it can't be written; or they have a fault, which has the status 2 and

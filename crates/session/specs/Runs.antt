@@ -10,7 +10,7 @@ use Rattle.first.specs.declared.event.Event.TheVariants as event
 use Rattle.first.specs.declared.event.Reply.{Reply}
 use Rattle.script.specs.declared.command.Command.{Command}
 use Rattle.session.specs.Disk.{LosesPower}
-use Rattle.session.specs.Session.{has_crashed, disk_of, last_made, life_of, outcome_of, LeavesItsRun, Serves, Flushes, calls_to_stop, Reopens}
+use Rattle.session.specs.Session.{has_crashed, disk_of, last_made, life_of, outcome_of, LeavesItsRun, ServesEvent, Flushes, calls_to_stop, Reopens}
 use Rattle.session.specs.Requests.{request_of, only_reads}
 use Rattle.replay_values.specs.Steps.{is_last_step}
 use Rattle.replay_values.specs.Texts.{line_of}
@@ -57,7 +57,7 @@ module _ {W : Type 0} (contents : W → Option (List ℕ)) where
   abbrev pub PrintsSteps : Event → List Answer → Session → Session → W → W → Type 0
   PrintsSteps event [] old new before after = (new ≡ old) × (after ≡ before)
   PrintsSteps event (answer ∷ answers) old new before after =
-      (mid : Session) × (reply : Reply Global) × (between : W) × Serves event reply old mid × (outcome_of mid reply ≡ Ok answer)
+      (mid : Session) × (reply : Reply Global) × (between : W) × ServesEvent event reply old mid × (outcome_of mid reply ≡ Ok answer)
       × (is_last_step answer ≡ false) × Prints answer before between × PrintsSteps event answers mid new between after
 
   -- As many steps of this kind as were asked for were made. Or fewer: one more had the last answer, or was stopped.
@@ -65,13 +65,13 @@ module _ {W : Type 0} (contents : W → Option (List ℕ)) where
   MakesSteps event count old next before after =
       (answers : List Answer) × (mid : Session) × (between : W) × PrintsSteps event answers old mid before between
       × (((length answers ≡ count) × (next ≡ Ok mid) × (after ≡ between))
-      ⊎ ((length answers < count) × (new : Session) × (reply : Reply Global) × Serves event reply mid new
+      ⊎ ((length answers < count) × (new : Session) × (reply : Reply Global) × ServesEvent event reply mid new
       × IsLast (outcome_of new reply) × GoesOn (outcome_of new reply) new next between after))
 
   -- The request was served, and what came of it was printed.
   abbrev pub Runs : Request → Session → Result Session End → W → W → Type 0
   Runs (request.Event e) old next before after =
-      (new : Session) × (reply : Reply Global) × Serves e reply old new × GoesOn (outcome_of new reply) new next before after
+      (new : Session) × (reply : Reply Global) × ServesEvent e reply old new × GoesOn (outcome_of new reply) new next before after
   Runs (request.Build count) old next before after = MakesSteps event.Build count old next before after
   Runs (request.Clean count) old next before after = MakesSteps event.Clean count old next before after
   Runs request.Flush old next before after =

@@ -105,7 +105,7 @@ last_made session = (core_of session.engine).last
 -- reply behind it, and a crash of the disk at any moment of it leaves what a prefix of the run committed, with all that an
 -- earlier reply has told to be safe.
 abbrev pub IsReply : Event → Reply Global → Engine (FaultDisk (MemDisk Global)) Global → Engine (FaultDisk (MemDisk Global)) Global → Type 0
-IsReply event reply old new = IsLawful disk_failures event reply old new × store.Serves disk_history event reply old new
+IsReply event reply old new = IsLawful disk_failures event reply old new × store.ServesOn disk_history event reply old new
 
 -- whether the reply tells that the write or sync that was to be cut short was made
 abbrev pub is_stop : Session → Reply Global → Bool
@@ -117,7 +117,7 @@ abbrev pub outcome_of : Session → Reply Global → Result Answer Stopped
 outcome_of session reply = if is_stop session reply then Err (record {}) else Ok (answer_of (horizon_of session) reply)
 
 -- The event had this reply, and nothing but the engine has changed.
-pub record Serves (event : Event) (reply : Reply Global) (old new : Session) : Type 0 where
+pub record ServesEvent (event : Event) (reply : Reply Global) (old new : Session) : Type 0 where
   pub replied : IsReply event reply old.engine new.engine
   pub rest : new ≡ record old { engine = new.engine }
 
@@ -132,14 +132,14 @@ asks_again last horizon (Horizon number) = nat_lt horizon number && nat_lt numbe
 asks_again last horizon _ = false
 
 -- One flush had this reply.
-pub record IsFlushed (reply : Reply Global) (old new : Session) : Type 0 where
+pub record FlushesOnce (reply : Reply Global) (old new : Session) : Type 0 where
   pub replied : IsReply Flush reply old.engine new.engine
   pub rest : new ≡ record old { engine = new.engine; horizon = horizon_after (horizon_of old) reply }
 
 -- One flush after another had these replies.
 abbrev pub AreFlushed : List (Reply Global) → Session → Session → Type 0
 AreFlushed [] old new = new ≡ old
-AreFlushed (reply ∷ replies) old new = (mid : Session) × IsFlushed reply old mid × AreFlushed replies mid new
+AreFlushed (reply ∷ replies) old new = (mid : Session) × FlushesOnce reply old mid × AreFlushed replies mid new
 
 -- One flush after another told of more synced records than the one before, and not yet of all up to the last.
 pub record FlushesOn (last : ℕ) (old new : Session) : Type 0 where
@@ -153,5 +153,5 @@ pub record FlushesOn (last : ℕ) (old new : Session) : Type 0 where
 pub record Flushes (last : ℕ) (final : Reply Global) (old new : Session) : Type 0 where
   pub mid : Session
   pub before : FlushesOn last old mid
-  pub final_flush : IsFlushed final mid new
+  pub final_flush : FlushesOnce final mid new
   pub ends : (n : ℕ) → final ≡ Horizon n → (last ≤ n) ⊎ (n ≤ horizon_of mid)

@@ -3,7 +3,7 @@ ghost use Rattle.std.specs.Prelude.{◌≡◌, ◌⊎◌, map, IfOk, IfErr, OnOk
 ghost use Rattle.script.specs.Grammar.{lines, IsScript};
 ghost use Rattle.session.specs.Session.{IsOpen};
 ghost use Rattle.session.specs.Runs.{Prints, GoesOn, Restarts, MakesSteps, Runs, RunsRequest, RunsCommand, RunsCommands};
-ghost use Rattle.session.specs.Plays.{geometry_of, sectors_asked, Starts, IsNoStart, IsCutAt, StartsFor, IsFault, IsRefused, IsStopped, Ends, Plays, IsWhole, PlaysInput, RunsWords};
+ghost use Rattle.session.specs.Plays.{geometry_of, sectors_asked, Starts, IsNoStart, IsCutAt, StartsFor, IsFault, IsRefused, IsStopped, Ends, Plays, IsWholeInput, PlaysInput, RunsWords};
 
 use crate::request::Request;
 use crate::session::{Disk, End, Session, Stopped};
@@ -306,7 +306,7 @@ pub fn run_script<W: Write>(
 
 // The whole of the input.
 fn all_of<R: Read>(alloc: Global, input: &mut R) -> io::Result<Vec<u8>>
-    ensures { IfOk result (λ text. IsWhole (R.remaining input.old) text.items) }
+    ensures { IfOk result (λ text. IsWholeInput (R.remaining input.old) text.items) }
 {
     let mut bytes = Vec::new(alloc);
     input.read_to_end(&mut bytes)?;

@@ -91,7 +91,7 @@ fn dump_entry<W: Write>(pair: Pair, mark: Mark, output: &mut W) -> io::Result<()
 
 impl Session {
     ghost use Rattle.first.specs.declared.event.Reply.{Reply};
-    ghost use Rattle.session.specs.Session.{IsOpen, OpensOn, IsRefusedOn, LeavesItsRun, has_crashed, disk_of, last_made, is_stop, outcome_of, Serves, IsFlushed, Flushes, calls_to_stop, Reopens, rows_of, entries_of, life_of};
+    ghost use Rattle.session.specs.Session.{IsOpen, OpensOn, IsRefusedOn, LeavesItsRun, has_crashed, disk_of, last_made, is_stop, outcome_of, ServesEvent, FlushesOnce, Flushes, calls_to_stop, Reopens, rows_of, entries_of, life_of};
 
     /// Opens the store on the disk, whose write or sync of this number is cut short, or none at 0.
     /// Where the restart is refused, the disk comes back.
@@ -172,7 +172,7 @@ impl Session {
     // One event's reply.
     fn reply_to(&mut self, event: Event) -> Reply<Global>
         requires { IsOpen self.old }
-        ensures serves { Serves event result self.old self.new }
+        ensures serves { ServesEvent event result self.old self.new }
         ensures open { IsOpen self.new }
     {
         self.engine.serve(event)
@@ -191,7 +191,7 @@ impl Session {
     /// Serves one event.
     pub fn serve(&mut self, event: Event) -> Result<Answer, Stopped>
         requires { IsOpen self.old }
-        ensures answer { (reply : Reply Global) × Serves event reply self.old self.new × (result ≡ outcome_of self.new reply) }
+        ensures answer { (reply : Reply Global) × ServesEvent event reply self.old self.new × (result ≡ outcome_of self.new reply) }
         ensures open { IsOpen self.new }
     {
         let reply = self.reply_to(event);
@@ -201,7 +201,7 @@ impl Session {
     // Flushes once.
     fn flush_once(&mut self) -> Reply<Global>
         requires { IsOpen self.old }
-        ensures flushed { IsFlushed result self.old self.new }
+        ensures flushed { FlushesOnce result self.old self.new }
         ensures open { IsOpen self.new }
     {
         let reply = self.reply_to(Event::Flush);

@@ -9,7 +9,7 @@ use Rattle.std.proofs.lemmas.List.Elements.{All-tail, All-contains, Contains-get
 use Rattle.records.specs.Orders.{pair_cmp}
 use Rattle.records.specs.declared.pair.Pair.{Pair}
 use Rattle.sorted_scan.specs.Pairs.{is_above, least, AreSame, IsOnceEach, IsLow}
-use Rattle.sorted_scan.specs.Runs.{ScanStep, Took, HandedOut, ScanRun, with_step, takes, is_given, last_pair, AreInTurn, IsNextOf, IsAtEnd}
+use Rattle.sorted_scan.specs.Runs.{ScanStep, Took, HandedOut, ScanRun, with_step, takes, is_given, last_pair, AreInTurn, MayHandOut, IsAtEnd}
 use Rattle.sorted_scan.specs.Scans.{ScanValue, page_from, HasRun, IsSound}
 use Rattle.sorted_scan.proofs.Order.{less_is, above_above, among_others, same_pair}
 use Rattle.sorted_scan.proofs.Counts.{same_all, same_contains, same_length, same_once, not_again, rest_once}
@@ -31,7 +31,7 @@ scan_of pages wanted low waiting = record { pages = pages; last = low; wanted = 
 
 module _ (pages : ℕ) (low : Option Pair) (waiting : List Pair) (r : ScanRun) (has : HasRun (scan_of pages None low waiting) r) where
   -- the least of the pairs that wait is the next one
-  pub is_next : (p : Pair) → Contains waiting p → IsLow p waiting → All (λ q. is_above low q ≡ true) waiting → IsNextOf r p
+  pub is_next : (p : Pair) → Contains waiting p → IsLow p waiting → All (λ q. is_above low q ≡ true) waiting → MayHandOut r p
   is_next p waits lowest above = record {
     all_taken = λ n h. has.taken n h tt;
     given = All-contains (λ q. is_given r q ≡ true) waiting p has.given waits;
@@ -101,7 +101,7 @@ module _ (pages next_page : ℕ) (low : Option Pair) (remaining : ℕ) (gathered
     value_is : v ≡ scan_of pages None low merged
     value_is = sym view ∙ view_merged
 
-    pub next_pair : (result : Option Pair) → result ≡ least merged → IfSome result (λ p. (r : ScanRun) → HasRun v r → IsNextOf r p)
+    pub next_pair : (result : Option Pair) → result ≡ least merged → IfSome result (λ p. (r : ScanRun) → HasRun v r → MayHandOut r p)
     next_pair None e = tt
     next_pair (Some p) e = λ r has. let it = least_has merged p (sym e) in is_next pages low merged r (subst (λ x. HasRun x r) value_is has) p it.0 it.1 merged_above
 

@@ -3,7 +3,7 @@ ghost use Rattle.std.specs.Prelude.{◌≡◌, ℕ, ◌+◌, ◌<◌, ◌≤◌,
 ghost use Rattle.std.specs.List.Sorted.{IsStrictlyIncreasing};
 ghost use Rattle.records.specs.declared.pair.Pair.{Pair};
 ghost use Rattle.sorted_scan.specs.Pairs.{is_above, AreSame};
-ghost use Rattle.sorted_scan.specs.Runs.{ScanRun, Took, HandedOut, with_step, IsNextOf, IsAtEnd};
+ghost use Rattle.sorted_scan.specs.Runs.{ScanRun, Took, HandedOut, with_step, MayHandOut, IsAtEnd};
 ghost use Rattle.sorted_scan.specs.Scans.{begun, begun_run, page_from, next_of, HasRun};
 
 use crate::merge::Merge;
@@ -213,7 +213,7 @@ impl<A: Allocator + Copy> Scan<A> {
     /// The scan stays as it is, so that the pair is not lost where what is done with it is refused.
     pub fn next(&self) -> Option<Pair>
         ensures pair { result ≡ next_of self.now }
-        ensures next { IfSome result (λ p. (r : ScanRun) → HasRun self.now r → IsNextOf r p) }
+        ensures next { IfSome result (λ p. (r : ScanRun) → HasRun self.now r → MayHandOut r p) }
         ensures end { IfNone result (self.now.wanted ≡ None
             → (r : ScanRun) → HasRun self.now r → IsAtEnd r) }
     {

@@ -23,7 +23,7 @@ use Rattle.flip_image.specs.declared.half.Half.{Half}
 use Rattle.flip_image.specs.declared.half.Half.TheVariants.{A}
 use Rattle.flip_image.specs.Store.{AreGatesClosed, AreZeros, IsFormatted, IsStore, IsFresh, IsFirstUsed}
 use Rattle.flip_image.proofs.Stores as stores
-use Rattle.store_reader.specs.Contents.{log_area, Gives, HoldsLog, IsFound, IsMisplacedAt, IsOverfull, IsHalfDamaged, IsDamagedAt, IsUnreadable}
+use Rattle.store_reader.specs.Contents.{log_area, Gives, HoldsLog, IsFound, IsMisplacedAt, IsOverfull, IsHalfDamaged, IsStoreDamagedAt, IsUnreadable}
 
 -- ---- one answer
 
@@ -71,7 +71,7 @@ found image g half area groups records given store fresh is stands all following
 }
 
 -- what is restored of records that were redone over nothing, and for which store
-pub restored : (geometry : GeometryValue) (records : List RecordValue) (begun mid : StoreValue) (given : Given) → begun ≡ store.nothing geometry 0 → AreFollowing begun.geometry.pages begun.last begun.cells records
+pub restored : (geometry : GeometryValue) (records : List RecordValue) (begun mid : StoreValue) (given : Given) → begun ≡ store.empty_store geometry 0 → AreFollowing begun.geometry.pages begun.last begun.cells records
     → mid ≡ after_records begun records → given ≡ recovered mid.cells mid.last
     → AreFollowing geometry.pages 0 (opening_cells nothing) records × (given ≡ given_after nothing records) × (mid.geometry ≡ geometry)
 restored geometry records begun mid given is following redone given_is = (
@@ -81,7 +81,7 @@ restored geometry records begun mid given is following redone given_is = (
 )
 
 -- the first record that could not be redone over nothing
-pub first_unfit : (geometry : GeometryValue) (records : List RecordValue) (read : List RecordValue) (begun : StoreValue) (index : ℕ) → begun ≡ store.nothing geometry 0 → records ≡ read
+pub first_unfit : (geometry : GeometryValue) (records : List RecordValue) (read : List RecordValue) (begun : StoreValue) (index : ℕ) → begun ≡ store.empty_store geometry 0 → records ≡ read
     → IsFirstUnfit begun.geometry.pages begun.last begun.cells records index → IsFirstUnfit geometry.pages 0 (opening_cells nothing) read index
 first_unfit geometry records read begun index is same first =
     subst (λ (l : List RecordValue). IsFirstUnfit geometry.pages 0 (opening_cells nothing) l index) same
@@ -228,7 +228,7 @@ module _ (one_part : (g : GeometryValue) (half : Half) (image : Image) (m n : �
   one_half_damage g half image m n (inr (fresh, (inr p))) (inr (fresh', (inl q))) = let held = held_of g half image m p in absurd (log.not_damaged (log_area g half) image n held.0 q held.1)
   one_half_damage g half image m n (inr (fresh, (inr p))) (inr (fresh', (inr q))) = one_of_records g half image m n p q
 
-  one_damage : (image : Image) (m n : ℕ) → IsDamagedAt image m → IsDamagedAt image n → m ≡ n
+  one_damage : (image : Image) (m n : ℕ) → IsStoreDamagedAt image m → IsStoreDamagedAt image n → m ≡ n
   one_damage image m n p q =
       let same_geometry = stores.one_geometry q.geometry p.geometry q.half p.half image q.store p.store in
       let same_half = stores.one_half q.geometry p.geometry q.half p.half image q.store p.store in

@@ -6,7 +6,7 @@ use Rattle.records.specs.RecordValue.{RecordValue}
 use Rattle.records.specs.GeometryValue.{GeometryValue}
 use Rattle.records.specs.declared.error.Error.{Error}
 use Rattle.records.specs.declared.error.Error.TheVariants.{Damaged}
-use Rattle.gate_log.specs.Area.{Area, Log, HoldsGroups, Stands, records_of, IsGateOf, IsFirstDamaged, Refuses}
+use Rattle.gate_log.specs.Area.{Area, Log, HoldsGroups, Stands, records_of, IsGateOf, IsFirstDamagedSlot, Refuses}
 use Rattle.flip_image.specs.declared.half.Half.{Half}
 use Rattle.flip_image.specs.Layout.{header_sector, log_first}
 use Rattle.flip_image.specs.Store.{IsStore, IsFresh, IsFirstUsed, IsDeviceFailure}
@@ -34,10 +34,10 @@ module _ (image now : Image) (g : GeometryValue) (half : Half) (a b c : ℕ) (e 
       inr (inr (n, is, record { geometry = g; half = half; store = store; damaged = inl (subst (λ (i : Image). IsFirstUsed g half i n) same used) }))
 
   module _ (fresh : IsFresh g half image) where
-    pub slot_damaged : (area : Area) → area ≡ log_area g half → Refuses b c e ⊎ ((n : ℕ) × (e ≡ Damaged n) × IsFirstDamaged area now n) → Why image a c e
+    pub slot_damaged : (area : Area) → area ≡ log_area g half → Refuses b c e ⊎ ((n : ℕ) × (e ≡ Damaged n) × IsFirstDamagedSlot area now n) → Why image a c e
     slot_damaged area is (inl refused) = inl (refused_later a b c e quiet refused)
     slot_damaged area is (inr (n, named, damaged)) =
-        let first = subst (λ (i : Image). IsFirstDamaged (log_area g half) i n) same (subst (λ (x : Area). IsFirstDamaged x now n) is damaged) in
+        let first = subst (λ (i : Image). IsFirstDamagedSlot (log_area g half) i n) same (subst (λ (x : Area). IsFirstDamagedSlot x now n) is damaged) in
         inr (inr (n, named, record { geometry = g; half = half; store = store; damaged = inr (fresh, inl first) }))
 
     pub record_misplaced : (log : Log) (groups : List (List RecordValue)) (index : ℕ) → log.area ≡ log_area g half → Stands log now groups → IsFirstUnfit g.pages 0 (opening_cells nothing) (records_of groups) index

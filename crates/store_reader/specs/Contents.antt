@@ -8,7 +8,7 @@ use Rattle.records.specs.declared.error.Error.{Error}
 use Rattle.records.specs.declared.error.Error.TheVariants.{Damaged}
 use Rattle.model.specs.Following.{AreFollowing, IsFirstUnfit}
 use Rattle.model.specs.Given.{Given, given_after, nothing, opening_cells}
-use Rattle.gate_log.specs.Area.{Area, Log, HoldsGroups, Stands, records_of, IsGateOf, IsFirstDamaged}
+use Rattle.gate_log.specs.Area.{Area, Log, HoldsGroups, Stands, records_of, IsGateOf, IsFirstDamagedSlot}
 use Rattle.flip_image.specs.declared.half.Half.{Half}
 use Rattle.flip_image.specs.Layout.{header_sector, log_first}
 use Rattle.flip_image.specs.Store.{IsStore, IsFresh, IsRefused, IsFirstUsed}
@@ -65,10 +65,10 @@ pub record IsOverfull (geometry : GeometryValue) (half : Half) (image : Image) (
 abbrev pub IsHalfDamaged : GeometryValue → Half → Image → ℕ → Type 0
 IsHalfDamaged geometry half image sector =
     IsFirstUsed geometry half image sector
-    ⊎ (IsFresh geometry half image × (IsFirstDamaged (log_area geometry half) image sector ⊎ (IsMisplacedAt geometry half image sector ⊎ IsOverfull geometry half image sector)))
+    ⊎ (IsFresh geometry half image × (IsFirstDamagedSlot (log_area geometry half) image sector ⊎ (IsMisplacedAt geometry half image sector ⊎ IsOverfull geometry half image sector)))
 
 -- the store's current half is damaged at this sector
-pub record IsDamagedAt (image : Image) (sector : ℕ) : Type 0 where
+pub record IsStoreDamagedAt (image : Image) (sector : ℕ) : Type 0 where
   pub geometry : GeometryValue
   pub half : Half
   pub store : IsStore geometry half image
@@ -76,4 +76,4 @@ pub record IsDamagedAt (image : Image) (sector : ℕ) : Type 0 where
 
 -- why the image gives nothing: it is refused as a store, or its current half is damaged
 abbrev pub IsUnreadable : Image → Error → Type 0
-IsUnreadable image e = IsRefused image e ⊎ ((sector : ℕ) × (e ≡ Damaged sector) × IsDamagedAt image sector)
+IsUnreadable image e = IsRefused image e ⊎ ((sector : ℕ) × (e ≡ Damaged sector) × IsStoreDamagedAt image sector)

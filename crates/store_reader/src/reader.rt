@@ -6,7 +6,7 @@ ghost use Rattle.records.specs.GeometryValue.{GeometryValue};
 ghost use Rattle.records.specs.declared.number.TheConstants.{LAST_NUMBER};
 ghost use Rattle.model.specs.Given.{Given};
 ghost use Rattle.redo.specs.Restored.{given_in};
-ghost use Rattle.gate_log.specs.Area.{IsInside, Stands, records_of, IsGateOf, Refuses};
+ghost use Rattle.gate_log.specs.Area.{IsAreaInside, Stands, records_of, IsGateOf, Refuses};
 ghost use Rattle.flip_image.specs.declared.half.Half.{Half};
 ghost use Rattle.flip_image.specs.Store.{IsStore, IsFresh};
 ghost use Rattle.store_reader.specs.Contents.{Gives, IsFound, IsUnreadable};
@@ -48,7 +48,7 @@ fn misplaced<D: Device, A: Allocator + Copy>(
     log: &LogArea,
     index: usize,
 ) -> Error
-    requires inside { IsInside log.now.area (D.history device.old).disk.content }
+    requires inside { IsAreaInside log.now.area (D.history device.old).disk.content }
     requires stands { (groups : List (List RecordValue)) × Stands log.now (D.history device.old).disk.content groups × (index < length (records_of groups)) }
     ensures told { Refuses (D.failures device.old) (D.failures device.new) result
         ⊎ ((sector : ℕ) × (result ≡ Error.Damaged sector) × ((groups : List (List RecordValue)) → Stands log.now (D.history device.old).disk.content groups → IsGateOf log.now.area groups index sector)) }
@@ -76,7 +76,7 @@ pub fn read_store<D: Device, A: Allocator + Copy>(
     device: &mut D,
 ) -> Result<Found<A>, Error>
     ensures found { IfOk result (λ found. IsFound (D.history device.old).disk.content found.restored.geometry found.log (given_in found.restored)) }
-    ensures area { IfOk result (λ found. IsInside found.log.area (D.history device.old).disk.content) }
+    ensures area { IfOk result (λ found. IsAreaInside found.log.area (D.history device.old).disk.content) }
     ensures numbered { IfOk result (λ found. found.restored.last ≤ LAST_NUMBER) }
     ensures accepted { (geometry : GeometryValue) (given : Given) → Gives (D.history device.old).disk.content geometry given
         → IfErr result (Refuses (D.failures device.old) (D.failures device.new)) }

@@ -5,7 +5,7 @@ use Rattle.std.proofs.lemmas.List.Folds.{list_any_at}
 use Rattle.std.specs.Map.{lookup, set_value}
 use Rattle.records.specs.Values.{Place}
 use Rattle.records.specs.ChangeValue.{ChangeValue}
-use Rattle.txn_table.specs.Table.{TxnState, is_among, with_rid, holder_of, without, noted}
+use Rattle.txn_table.specs.Table.{TxnState, is_among, with_rid, holder_of, without, change_noted}
 use Rattle.txn_table.specs.Sound.{OneHolder, AreHeldRows}
 use Rattle.txn_table.proofs.Lookups.{place_test, is_among-append, not_among}
 
@@ -59,16 +59,16 @@ is_among-with_rid q r rs = by (is_among r rs) refl
     by false among = is_among-append q r rs
 
 is_some-noted : (txn : ℕ) (c : ChangeValue) (q : Place) (es : List (ℕ × TxnState)) (s : TxnState) → lookup (nat_eq txn) es ≡ Some s
-    → is_some (holder_of q (set_value (nat_eq txn) es (noted c s))) ≡ (is_some (holder_of q es) || is_same q c.rid)
+    → is_some (holder_of q (set_value (nat_eq txn) es (change_noted c s))) ≡ (is_some (holder_of q es) || is_same q c.rid)
 is_some-noted txn c q [] s here = absurd cc
 is_some-noted txn c q (e ∷ es) s here = by (is_some-noted txn c q es s) (eqb txn e.0) here
   where
     before : is_some (holder_of q (e ∷ es)) ≡ (is_among q e.1.rows || is_some (holder_of q es))
     before = is_some-cond (is_among q e.1.rows) e.0 (holder_of q es)
 
-    by : (lookup (nat_eq txn) es ≡ Some s → is_some (holder_of q (set_value (nat_eq txn) es (noted c s))) ≡ (is_some (holder_of q es) || is_same q c.rid))
+    by : (lookup (nat_eq txn) es ≡ Some s → is_some (holder_of q (set_value (nat_eq txn) es (change_noted c s))) ≡ (is_some (holder_of q es) || is_same q c.rid))
         → (b : Bool) → cond b (Some e.1) (lookup (nat_eq txn) es) ≡ Some s
-        → is_some (holder_of q (cond b ((e.0, noted c s) ∷ es) (e ∷ set_value (nat_eq txn) es (noted c s)))) ≡ (is_some (holder_of q (e ∷ es)) || is_same q c.rid)
+        → is_some (holder_of q (cond b ((e.0, change_noted c s) ∷ es) (e ∷ set_value (nat_eq txn) es (change_noted c s)))) ≡ (is_some (holder_of q (e ∷ es)) || is_same q c.rid)
     by rest true h =
         let its : e.1 ≡ s = cc in
         is_some-cond (is_among q (with_rid c.rid s.rows)) e.0 (holder_of q es)
@@ -77,13 +77,13 @@ is_some-noted txn c q (e ∷ es) s here = by (is_some-noted txn c q es s) (eqb t
         ∙ ap (λ (x : TxnState). (is_among q x.rows || is_some (holder_of q es)) || is_same q c.rid) (sym its)
         ∙ ap (λ a. a || is_same q c.rid) (sym before)
     by rest false h =
-        is_some-cond (is_among q e.1.rows) e.0 (holder_of q (set_value (nat_eq txn) es (noted c s)))
+        is_some-cond (is_among q e.1.rows) e.0 (holder_of q (set_value (nat_eq txn) es (change_noted c s)))
         ∙ ap (λ a. is_among q e.1.rows || a) (rest h)
         ∙ together (is_among q e.1.rows) (is_some (holder_of q es)) (is_same q c.rid)
         ∙ ap (λ a. a || is_same q c.rid) (sym before)
 
 pub AreHeldRows-noted : (txn : ℕ) (c : ChangeValue) (held : List Place) (es : List (ℕ × TxnState)) (s : TxnState) → lookup (nat_eq txn) es ≡ Some s
-    → AreHeldRows held es → AreHeldRows (with_rid c.rid held) (set_value (nat_eq txn) es (noted c s))
+    → AreHeldRows held es → AreHeldRows (with_rid c.rid held) (set_value (nat_eq txn) es (change_noted c s))
 AreHeldRows-noted txn c held es s here are = λ q.
     is_among-with_rid q c.rid held ∙ ap (λ a. a || is_same q c.rid) (are q) ∙ sym (is_some-noted txn c q es s here)
 

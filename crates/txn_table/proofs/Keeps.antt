@@ -7,7 +7,7 @@ use Rattle.records.specs.Values.{Place}
 use Rattle.records.specs.ChangeValue.{ChangeValue}
 use Rattle.records.specs.declared.change.TheConstants.{CHANGES_MAX}
 use Rattle.records.specs.declared.txn.TheConstants.{TXNS_MAX}
-use Rattle.txn_table.specs.Table.{TxnState, TableValue, new_txn, is_among, with_rid, holder_of, with_next, without, noted, without_last, put_at}
+use Rattle.txn_table.specs.Table.{TxnState, TableValue, fresh_txn, is_among, with_rid, holder_of, with_next, without, change_noted, without_last, put_at}
 use Rattle.txn_table.specs.declared.progress.Progress.{Progress}
 use Rattle.txn_table.specs.Sound.{Rises, AllHeld, IsSoundTxn, EachSoundTxn, OneHolder, IsSound, IsKept}
 use Rattle.txn_table.proofs.Lookups.{holder_above, not_among, among_kept, among_new, among_more}
@@ -31,22 +31,22 @@ Rises-next : (low n : ℕ) (es : List (ℕ × TxnState)) (w : TxnState) → Rise
 Rises-next low n [] w rises = (omega arith, omega arith)
 Rises-next low n (e ∷ es) w rises = (rises.0, Rises-next e.0 n es w rises.1)
 
-EachSoundTxn-next : (k : ℕ) (es : List (ℕ × TxnState)) → EachSoundTxn es → EachSoundTxn (es ++ (k, new_txn) ∷ [])
+EachSoundTxn-next : (k : ℕ) (es : List (ℕ × TxnState)) → EachSoundTxn es → EachSoundTxn (es ++ (k, fresh_txn) ∷ [])
 EachSoundTxn-next k [] txns = (record { few = omega arith; held = tt }, tt)
 EachSoundTxn-next k (e ∷ es) txns = (txns.0, EachSoundTxn-next k es txns.1)
 
-pub holder_of-next : (k : ℕ) (r : Place) (es : List (ℕ × TxnState)) → holder_of r (es ++ (k, new_txn) ∷ []) ≡ holder_of r es
+pub holder_of-next : (k : ℕ) (r : Place) (es : List (ℕ × TxnState)) → holder_of r (es ++ (k, fresh_txn) ∷ []) ≡ holder_of r es
 holder_of-next k r [] = refl
 holder_of-next k r (e ∷ es) = ap (λ h. cond (is_among r e.1.rows) (Some e.0) h) (holder_of-next k r es)
 
-OneHolder-next : (k : ℕ) (es : List (ℕ × TxnState)) → OneHolder es → OneHolder (es ++ (k, new_txn) ∷ [])
+OneHolder-next : (k : ℕ) (es : List (ℕ × TxnState)) → OneHolder es → OneHolder (es ++ (k, fresh_txn) ∷ [])
 OneHolder-next k [] one = (λ r among. refl, tt)
 OneHolder-next k (e ∷ es) one = (λ r among. holder_of-next k r es ∙ one.0 r among, OneHolder-next k es one.1)
 
 pub IsSound-next : (t : TableValue) → length t.active < TXNS_MAX → IsSound t → IsSound (with_next t)
 IsSound-next t room sound = record {
-  few = omega (arith, length-append t.active ((t.begun + 1, new_txn) ∷ []));
-  rising = Rises-next 0 t.begun t.active new_txn sound.rising;
+  few = omega (arith, length-append t.active ((t.begun + 1, fresh_txn) ∷ []));
+  rising = Rises-next 0 t.begun t.active fresh_txn sound.rising;
   txns = EachSoundTxn-next (t.begun + 1) t.active sound.txns;
   one_holder = OneHolder-next (t.begun + 1) t.active sound.one_holder;
 }
@@ -231,7 +231,7 @@ AllHeld-take zero rows cs held = tt
 AllHeld-take (suc n) rows [] held = tt
 AllHeld-take (suc n) rows (c ∷ cs) held = (held.0, AllHeld-take n rows cs held.1)
 
-pub IsSoundTxn-noted : (c : ChangeValue) (w : TxnState) → length w.changes < CHANGES_MAX → IsSoundTxn w → IsSoundTxn (noted c w)
+pub IsSoundTxn-noted : (c : ChangeValue) (w : TxnState) → length w.changes < CHANGES_MAX → IsSoundTxn w → IsSoundTxn (change_noted c w)
 IsSoundTxn-noted c w room is = record {
   few = omega (arith, length-append w.changes (c ∷ []));
   held = AllHeld-append (with_rid c.rid w.rows) c w.changes (among_new c.rid w.rows) (AllHeld-more w.rows c.rid w.changes is.held);
@@ -291,9 +291,9 @@ IsKept-without t held txn s here kept = record {
 }
 
 pub IsKept-noted : (t : TableValue) (held : List Place) (txn : ℕ) (c : ChangeValue) (s : TxnState) → lookup (nat_eq txn) t.active ≡ Some s → length s.changes < CHANGES_MAX → ((k : ℕ) → holder_of c.rid t.active ≡ Some k → k ≡ txn)
-    → IsKept t held → IsKept (table (set_value (nat_eq txn) t.active (noted c s)) t.begun) (with_rid c.rid held)
+    → IsKept t held → IsKept (table (set_value (nat_eq txn) t.active (change_noted c s)) t.begun) (with_rid c.rid held)
 IsKept-noted t held txn c s here room own kept = record {
-  sound = IsSound-set t txn c.rid s (noted c s) here (IsSoundTxn-noted c s room (state_is txn t.active s here kept.sound.txns)) (λ q among. among_more q c.rid s.rows among) own kept.sound;
+  sound = IsSound-set t txn c.rid s (change_noted c s) here (IsSoundTxn-noted c s room (state_is txn t.active s here kept.sound.txns)) (λ q among. among_more q c.rid s.rows among) own kept.sound;
   held_rows = AreHeldRows-noted txn c held t.active s here kept.held_rows;
 }
 

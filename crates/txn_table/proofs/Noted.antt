@@ -8,7 +8,7 @@ use Rattle.records.specs.Values.{Place}
 use Rattle.records.specs.ChangeValue.{ChangeValue}
 use Rattle.records.specs.declared.change.TheConstants.{CHANGES_MAX}
 use Rattle.records.specs.declared.error.Error.TheVariants.{TooManyChanges, RowBusy}
-use Rattle.txn_table.specs.Table.{TxnState, TableValue, is_among, with_rid, holder_of, with_state, noted, without_last, put_at, is_other, full_refusal, busy_refusal, touch_refusal}
+use Rattle.txn_table.specs.Table.{TxnState, TableValue, is_among, with_rid, holder_of, with_state, change_noted, without_last, put_at, is_other, full_refusal, busy_refusal, touch_refusal}
 use Rattle.txn_table.specs.declared.progress.Progress.{Progress}
 use Rattle.txn_table.specs.Sound.{IsKept}
 use Rattle.txn_table.proofs.Lookups.{set_value-with_state, set_value-same, with_state-unknown}
@@ -40,7 +40,7 @@ not_refused txn holder s none = by (nat_le CHANGES_MAX (length s.changes)) refl 
     by true full none = absurd cc
     by false room none = (has_room (length s.changes) room, not_busy txn holder none)
 
-pub kept_after_note : (es xs : List (ℕ × TxnState)) (held rows : List Place) (n txn : ℕ) (c : ChangeValue) (s s' : TxnState) → lookup (nat_eq txn) es ≡ Some s → xs ≡ set_value (nat_eq txn) es s' → s' ≡ noted c s → rows ≡ with_rid c.rid held
+pub kept_after_note : (es xs : List (ℕ × TxnState)) (held rows : List Place) (n txn : ℕ) (c : ChangeValue) (s s' : TxnState) → lookup (nat_eq txn) es ≡ Some s → xs ≡ set_value (nat_eq txn) es s' → s' ≡ change_noted c s → rows ≡ with_rid c.rid held
     → touch_refusal txn c.rid es ≡ None → IsKept (table es n) held → IsKept (table xs n) rows
 kept_after_note es xs held rows n txn c s s' here set ok is accepted kept =
     let free = not_refused txn (holder_of c.rid es) s (ap (λ o. option_or (full_refusal o) (busy_refusal txn (holder_of c.rid es))) (sym here) ∙ accepted) in

@@ -4,7 +4,7 @@ use Rattle.std.proofs.Math.Bool.{or-false}
 use Rattle.std.proofs.lemmas.Bool.Decides.{eqb_tells}
 use Rattle.records.specs.Values.{Place}
 use Rattle.records.specs.ChangeValue.{ChangeValue}
-use Rattle.txn_table.specs.Table.{TxnState, TableValue, is_among, with_rid, noted, without_last, put_at, state_of, with_state, without, with_next, holder_of}
+use Rattle.txn_table.specs.Table.{TxnState, TableValue, is_among, with_rid, change_noted, without_last, put_at, state_of, with_state, without, with_next, holder_of}
 use Rattle.txn_table.specs.declared.progress.Progress.{Progress}
 use Rattle.txn_table.specs.Sound.{Rises, OneHolder, IsSound}
 use Rattle.txn_table.proofs.Lookups.{place_test, among_new, holder_above, holder_is}
@@ -125,22 +125,22 @@ not_same q r ne = by (is_same q r) refl
     by false e = refl
 
 -- a change of another row
-pub holder_of-noted_other : (txn : ℕ) (c : ChangeValue) (q : Place) (es : List (ℕ × TxnState)) → q ≢ c.rid → holder_of q (with_state (noted c) txn es) ≡ holder_of q es
+pub holder_of-noted_other : (txn : ℕ) (c : ChangeValue) (q : Place) (es : List (ℕ × TxnState)) → q ≢ c.rid → holder_of q (with_state (change_noted c) txn es) ≡ holder_of q es
 holder_of-noted_other txn c q [] ne = refl
 holder_of-noted_other txn c q (e ∷ es) ne = by (eqb txn e.0) (holder_of-noted_other txn c q es ne)
   where
     among : is_among q (with_rid c.rid e.1.rows) ≡ is_among q e.1.rows
     among = is_among-with_rid q c.rid e.1.rows ∙ ap (λ b. is_among q e.1.rows || b) (not_same q c.rid ne) ∙ or-false (is_among q e.1.rows)
 
-    by : (b : Bool) → holder_of q (with_state (noted c) txn es) ≡ holder_of q es → holder_of q (cond b ((e.0, noted c e.1) ∷ es) (e ∷ with_state (noted c) txn es)) ≡ holder_of q (e ∷ es)
+    by : (b : Bool) → holder_of q (with_state (change_noted c) txn es) ≡ holder_of q es → holder_of q (cond b ((e.0, change_noted c e.1) ∷ es) (e ∷ with_state (change_noted c) txn es)) ≡ holder_of q (e ∷ es)
     by true rest = ap (λ b. cond b (Some e.0) (holder_of q es)) among
     by false rest = ap (cond (is_among q e.1.rows) (Some e.0)) rest
 
 -- a change of this row
-pub holder_of-noted : (txn : ℕ) (c : ChangeValue) (es : List (ℕ × TxnState)) (s : TxnState) → state_of txn es ≡ Some s → OneHolder (with_state (noted c) txn es) → holder_of c.rid (with_state (noted c) txn es) ≡ Some txn
+pub holder_of-noted : (txn : ℕ) (c : ChangeValue) (es : List (ℕ × TxnState)) (s : TxnState) → state_of txn es ≡ Some s → OneHolder (with_state (change_noted c) txn es) → holder_of c.rid (with_state (change_noted c) txn es) ≡ Some txn
 holder_of-noted txn c es s here one =
-    holder_is txn (noted c s) c.rid (with_state (noted c) txn es) one
-    (state_of-with_state (noted c) txn txn es ∙ ap (λ b. cond b (option_map (noted c) (state_of txn es)) (state_of txn es)) (eqb_itself txn txn refl) ∙ ap (option_map (noted c)) here)
+    holder_is txn (change_noted c s) c.rid (with_state (change_noted c) txn es) one
+    (state_of-with_state (change_noted c) txn txn es ∙ ap (λ b. cond b (option_map (change_noted c) (state_of txn es)) (state_of txn es)) (eqb_itself txn txn refl) ∙ ap (option_map (change_noted c)) here)
     (among_new c.rid s.rows)
 
 -- the rows of a transaction are those that it is the holder of

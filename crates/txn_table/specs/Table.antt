@@ -28,8 +28,8 @@ pub record TxnState : Type 0 where
   pub reserved : ℕ
 
 -- a transaction as it begins
-abbrev pub new_txn : TxnState
-new_txn = record { changes = []; rows = []; progress = Ready; reserved = 0 }
+abbrev pub fresh_txn : TxnState
+fresh_txn = record { changes = []; rows = []; progress = Ready; reserved = 0 }
 
 -- the active transactions by their numbers, oldest first, and how many were begun at all
 pub record TableValue : Type 0 where
@@ -45,8 +45,8 @@ abbrev pub with_rid : Place → List Place → List Place
 with_rid r rs = if is_among r rs then rs else rs ++ r ∷ []
 
 -- a transaction with one more change, whose row it holds from now on
-abbrev pub noted : ChangeValue → TxnState → TxnState
-noted c s = record { changes = s.changes ++ c ∷ []; rows = with_rid c.rid s.rows; progress = s.progress; reserved = s.reserved }
+abbrev pub change_noted : ChangeValue → TxnState → TxnState
+change_noted c s = record { changes = s.changes ++ c ∷ []; rows = with_rid c.rid s.rows; progress = s.progress; reserved = s.reserved }
 
 -- a transaction without its last change, where it had one. It still holds the row, and is rolling back from now on
 abbrev pub without_last : TxnState → TxnState
@@ -80,7 +80,7 @@ without txn active = remove_entry (nat_eq txn) active
 
 -- the table with the next transaction
 abbrev pub with_next : TableValue → TableValue
-with_next t = record { active = t.active ++ (t.begun + 1, new_txn) ∷ []; begun = t.begun + 1 }
+with_next t = record { active = t.active ++ (t.begun + 1, fresh_txn) ∷ []; begun = t.begun + 1 }
 
 -- the transaction that holds the row
 abbrev pub holder_of : Place → List (ℕ × TxnState) → Option ℕ

@@ -1,6 +1,6 @@
 //! One active transaction.
 ghost use Rattle.std.specs.Prelude.{◌≡◌, ◌↔◌, ◌≤◌, [], IsTrue, IfErr, OnOk, OnErr, length};
-ghost use Rattle.txn_table.specs.Table.{is_among, new_txn, noted, without_last, last_change, put_at};
+ghost use Rattle.txn_table.specs.Table.{is_among, fresh_txn, change_noted, without_last, last_change, put_at};
 
 use crate::progress::Progress;
 use records::{CHANGES_MAX, Change, Error, Rid};
@@ -29,7 +29,7 @@ impl<A: Allocator> Model for ActiveTxn<A> {
 impl<A: Allocator + Copy> ActiveTxn<A> {
     /// No change and no row.
     pub(crate) fn new(alloc: A) -> Self
-        ensures { result ≡ new_txn }
+        ensures { result ≡ fresh_txn }
     {
         ActiveTxn {
             changes: Vec::new(alloc),
@@ -69,7 +69,7 @@ impl<A: Allocator + Copy> ActiveTxn<A> {
 
     /// Puts the change at the end of the list, and holds its row.
     pub(crate) fn note(&mut self, change: Change) -> Result<(), Error>
-        ensures ok { OnOk result (self.new ≡ noted change self.old) }
+        ensures ok { OnOk result (self.new ≡ change_noted change self.old) }
         ensures err { OnErr result (self.new ≡ self.old) }
         ensures no_memory { IfErr result (λ e. e ≡ Error.NoMemory) }
     {

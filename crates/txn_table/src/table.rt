@@ -2,7 +2,7 @@
 ghost use Rattle.std.specs.Prelude.{◌≡◌, ◌≢◌, ◌+◌, ◌<◌, ◌≤◌, ◌↔◌, ℕ, [], length, not, filter, Contains, Some, None, is_some, slice_get, option_map, option_and_then, IsTrue, IsErr, IsSome, IfOk, IfErr, OnOk, OnErr, IsOkUnless};
 ghost use Rattle.std.specs.Result.{result_err};
 ghost use Rattle.records.specs.Values.{Place};
-ghost use Rattle.txn_table.specs.Table.{TxnState, is_among, with_rid, holder_of, state_of, is_rolling, with_state, with_next, without, noted, without_last, put_at, last_change, change_refusal, touch_refusal};
+ghost use Rattle.txn_table.specs.Table.{TxnState, is_among, with_rid, holder_of, state_of, is_rolling, with_state, with_next, without, change_noted, without_last, put_at, last_change, change_refusal, touch_refusal};
 ghost use Rattle.txn_table.specs.Sound.{IsSound};
 
 use crate::active::ActiveTxn;
@@ -252,7 +252,7 @@ impl<A: Allocator + Copy> TxnTable<A> {
         ensures accepted { touch_refusal txn change.rid self.old.active ≡ None →
             IsOkUnless result Error.NoMemory }
         ensures ok { OnOk result (self.new ≡
-            record self.old { active = with_state (noted change) txn self.old.active }) }
+            record self.old { active = with_state (change_noted change) txn self.old.active }) }
         ensures err { OnErr result (self.new ≡ self.old) }
 
         ensures held { OnOk result (holder_of change.rid self.new.active ≡ Some txn) }

@@ -1,7 +1,7 @@
 use Rattle.std.proofs.Common.{◌≡◌, ◌⊎◌, ◌∙◌, sym, ap, subst}
 use Rattle.std.proofs.lemmas.Result.{err_from_is_err_and}
 use Rattle.sector_device.specs.Disk.{Image, Disk}
-use Rattle.gate_log.specs.Area.{IsInside, Refuses}
+use Rattle.gate_log.specs.Area.{IsAreaInside, Refuses}
 use Rattle.store_reader.specs.Contents.{Gives, IsUnreadable}
 use Rattle.redo.specs.Restored.{given_in}
 use Rattle.index_core.specs.Value.{value_of}
@@ -43,7 +43,7 @@ returns-clause-only g c =
     }
 
 pub returns-clause-area : goal.returns-clause-area
-returns-clause-area g c = subst (λ (d : Disk). IsInside c.in_ok-found.found.log.area d.content) c.in-Ok.ensures.ok c.in_ok-found.ensures.area
+returns-clause-area g c = subst (λ (d : Disk). IsAreaInside c.in_ok-found.found.log.area d.content) c.in-Ok.ensures.ok c.in_ok-found.ensures.area
 
 pub returns-clause-found : goal.returns-clause-found
 returns-clause-found g c =

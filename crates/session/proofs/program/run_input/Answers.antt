@@ -1,10 +1,10 @@
 use Rattle.std.proofs.Common.{inl, ℕ, List, [], Option, Some, None, refl, sym, subst}
 use Rattle.std.proofs.lemmas.Result.{IfOk-weaker}
-use Rattle.session.specs.Plays.{IsWhole}
+use Rattle.session.specs.Plays.{IsWholeInput}
 use Rattle.session.proofs.program.run_input.Goals as goal
 
 -- a text that the input may have
-some_text : (input : Option (List ℕ)) → (text : List ℕ) × IsWhole input text
+some_text : (input : Option (List ℕ)) → (text : List ℕ) × IsWholeInput input text
 some_text (Some bytes) = (bytes, refl)
 some_text None = ([], tt)
 
@@ -13,7 +13,7 @@ returns-in-Ok g c =
     let contents = g.W.Write.contents in
     let input = g.R.Read.remaining c.args.input.now in
     let text = c.deref.result.now in
-    let whole : IsWhole input text = subst (λ (t : List ℕ). IsWhole input t) (sym c.deref.ensures.value) c.in-Ok.ensures in
+    let whole : IsWholeInput input text = subst (λ (t : List ℕ). IsWholeInput input t) (sym c.deref.ensures.value) c.in-Ok.ensures in
     IfOk-weaker c.run_script.result _ _ (λ status plays. (text, whole, plays)) c.run_script.ensures
 
 pub returns-in-OutOfMemory : goal.returns-in-OutOfMemory

@@ -2,7 +2,7 @@ use Rattle.std.proofs.Common.{◌≡◌, ℕ, List, Option, Result, Ok, Err, IfO
 use Rattle.std.specs.declared.alloc.Global.{Global}
 use Rattle.first.specs.declared.event.Event.{Event}
 use Rattle.first.specs.declared.event.Reply.{Reply}
-use Rattle.session.specs.Session.{Serves, Flushes, last_made, outcome_of}
+use Rattle.session.specs.Session.{ServesEvent, Flushes, last_made, outcome_of}
 use Rattle.session.specs.Runs.{GoesOn, Runs}
 use Rattle.replay_values.specs.declared.answer.Answer.{Answer}
 use Rattle.session.specs.declared.request.Request.{Request}
@@ -15,7 +15,7 @@ use Rattle.session.proofs.program.serve.Goals as goal
 module _ {W F : Type 0} (contents : W → Option (List ℕ)) (old new : Session) (before after : W) (answer : Result Answer Stopped) where
   -- what comes of an event, where its answer was printed
   event_runs : (event : Event) (result : Result (Result Session End) F)
-      → ((reply : Reply Global) × Serves event reply old new × (answer ≡ outcome_of new reply))
+      → ((reply : Reply Global) × ServesEvent event reply old new × (answer ≡ outcome_of new reply))
       → IfOk result (λ (next : Result Session End). GoesOn contents answer new next before after)
       → IfOk result (λ (next : Result Session End). Runs contents (request.Event event) old next before after)
   event_runs event (Ok next) answered goes =

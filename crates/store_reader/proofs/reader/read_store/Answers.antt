@@ -48,7 +48,7 @@ returns-in-Ok-clause-found g c =
     let stands = subst (λ (d : Disk). Stands log d.content read.0) c.in_ok-halves.ensures.reads.disk read.1 in
     let given = given_in c.in_ok-restored-in-Ok.restored in
     let made = restored geometry c.deref.result.now c.new-cells.result c.redo_all.new.self given
-    (c.new-cells.ensures ∙ ap (λ (x : GeometryValue). store.nothing x 0) c.geometry-geometry.ensures) c.in-Ok.ensures.following c.in-Ok.ensures.ok c.in_ok-restored-in-Ok.ensures.given in
+    (c.new-cells.ensures ∙ ap (λ (x : GeometryValue). store.empty_store x 0) c.geometry-geometry.ensures) c.in-Ok.ensures.following c.in-Ok.ensures.ok c.in_ok-restored-in-Ok.ensures.given in
     let room : len given.entries ≤ geometry.entries =
     omega (arith, c.if-len-geometry.false, c.len.ensures, ap (λ (x : GeometryValue). x.entries) (c.geometry-2.view_is ∙ c.geometry-geometry.ensures)) in
     subst (λ (x : GeometryValue). IsFound image x log given) (sym (c.in_ok-restored-in-Ok.ensures.geometry ∙ made.2))
@@ -68,7 +68,7 @@ returns-then-len-geometry-clause-refused g c =
     let stands = subst (λ (d : Disk). Stands log d.content read.0) c.in_ok-halves.ensures.reads.disk read.1 in
     let given = given_in c.in_ok-restored-in-Ok.restored in
     let made = restored geometry c.deref.result.now c.new-cells.result c.redo_all.new.self given
-    (c.new-cells.ensures ∙ ap (λ (x : GeometryValue). store.nothing x 0) c.geometry-geometry.ensures) c.in-Ok.ensures.following c.in-Ok.ensures.ok c.in_ok-restored-in-Ok.ensures.given in
+    (c.new-cells.ensures ∙ ap (λ (x : GeometryValue). store.empty_store x 0) c.geometry-geometry.ensures) c.in-Ok.ensures.following c.in-Ok.ensures.ok c.in_ok-restored-in-Ok.ensures.given in
     let crowded : geometry.entries < len given.entries =
     omega (arith, c.if-len-geometry.true, c.len.ensures, ap (λ (x : GeometryValue). x.entries) (c.geometry-2.view_is ∙ c.geometry-geometry.ensures)) in
     overfull image geometry half c.deref.result.now c.header_sector.result _ _
@@ -95,7 +95,7 @@ returns-in-Unfit-clause-refused g c =
     let stands = subst (λ (d : Disk). Stands log d.content read.0) (sym c.in_ok-records.ensures.reads.disk) read.1 in
     let index = c.in-Err.stopped.index in
     let first = first_unfit geometry c.deref.result.now (records_of read.0) c.new-cells.result index
-    (c.new-cells.ensures ∙ ap (λ (x : GeometryValue). store.nothing x 0) c.geometry-geometry.ensures) (c.deref.ensures.value ∙ read.2) (c.in-Err.ensures.unfit c.in-Unfit.is) in
+    (c.new-cells.ensures ∙ ap (λ (x : GeometryValue). store.empty_store x 0) c.geometry-geometry.ensures) (c.deref.ensures.value ∙ read.2) (c.in-Err.ensures.unfit c.in-Unfit.is) in
     record_misplaced image now geometry half _ _ _ _ c.in_ok-halves.ensures.opened same (c.in_ok-records.ensures.quiet ∙ c.in_ok-halves.ensures.quiet) c.in_ok-halves.ensures.fresh
     log read.0 index area stands first c.misplaced.ensures.told
 

@@ -1,6 +1,6 @@
 use Rattle.std.proofs.Common.{refl}
 use Rattle.core_contracts.specs.Events as core
-use Rattle.index_core.specs.Moves.{txn_of}
+use Rattle.index_core.specs.Moves.{txn_shown}
 use Rattle.index_core.proofs.Offered.{skips_end}
 use Rattle.first.specs.declared.engine.Engine.{Engine}
 use Rattle.first.specs.declared.event.Reply.TheVariants as reply
@@ -11,7 +11,7 @@ use Rattle.first.proofs.engine.Engine.end.Goals as goal
 pub returns-then-not-may_end : goal.returns-then-not-may_end
 returns-then-not-may_end g c =
     let old = c.args.self.now in
-    let has = has_change (txn_of (core_of old) c.args.txn) c.may_end.result c.may_end.ensures c.if-not-may_end.true in
+    let has = has_change (txn_shown (core_of old) c.args.txn) c.may_end.result c.may_end.ensures c.if-not-may_end.true in
     answered_still (core.End c.args.txn) old reply.Skipped core.Skipped refl (skips_end (core_of old) c.args.txn has.0 has.1 has.2)
 
 pub returns-in-Ok : goal.returns-in-Ok

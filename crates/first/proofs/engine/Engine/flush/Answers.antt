@@ -8,7 +8,7 @@ use Rattle.store_reader.specs.Contents.{log_area}
 use Rattle.first.specs.Writer.{IsFlushed}
 use Rattle.first.specs.Parts.{unwritten, horizon_of}
 use Rattle.first.specs.History.{acknowledged}
-use Rattle.first.specs.Store.{Serves}
+use Rattle.first.specs.Store.{ServesOn}
 use Rattle.first.specs.declared.event.Reply.{Reply}
 use Rattle.first.specs.Lawful.{IsFlushAnswer}
 use Rattle.first.specs.declared.event.Event.TheVariants.{Flush}
@@ -61,19 +61,19 @@ returns-in-Ok-Nothing g c =
     let flushed : IsFlushed Nothing mid c.flush_group.new.self = subst (λ f. IsFlushed f mid c.flush_group.new.self) c.in-Ok-Nothing.field-0-is c.in-Ok-Nothing.ensures.flushed in
     let wrote = writes history old (value_of c.take_outbox.new.self) mid hands refl new refl c.requires.0 c.requires.1 (c.flush_group.ensures.writer (log_area c.requires.0.geometry c.requires.1.half) c.requires.1.frame (c.requires.1.handed ++ hands.handed) (taken history old (value_of c.take_outbox.new.self) mid hands refl c.requires.0 c.requires.1)) 0 c.flush_group.ensures.base (omega (arith, ap (λ w. w.synced) flushed.0)) refl g.D.Device.failures c.flush_group.ensures.later in
     let all : horizon_of new ≡ horizon_of old = omega (arith, wrote.horizon) in
-    let tells : (r : Reply _) → ((n : ℕ) → n ≤ horizon_of new → acknowledged n (r ∷ []) ≤ horizon_of new) → Serves history Flush r old new = λ r safe. served_flush history old (value_of c.take_outbox.new.self) mid hands refl new refl r c.flush_group.ensures.writer c.flush_group.ensures.images c.flush_group.ensures.grows c.flush_group.ensures.base safe refl in
+    let tells : (r : Reply _) → ((n : ℕ) → n ≤ horizon_of new → acknowledged n (r ∷ []) ≤ horizon_of new) → ServesOn history Flush r old new = λ r safe. served_flush history old (value_of c.take_outbox.new.self) mid hands refl new refl r c.flush_group.ensures.writer c.flush_group.ensures.images c.flush_group.ensures.grows c.flush_group.ensures.base safe refl in
     elim (cases_lt (horizon_of new) c.last-last.result) [
       | inr reached ↦
           let is : c.told_up_to.result ≡ Horizon (horizon_of new) = c.told_up_to.ensures.all reached in
           let written : unwritten old ≡ [] = all_written history old (value_of c.take_outbox.new.self) mid hands refl new c.requires.0 c.requires.1 flushed.0 flushed.1 (omega (arith, reached, c.last-last.ensures)) in
           record {
-            serves = subst (λ (r : Reply _). Serves history Flush r old new) (sym is) (tells (Horizon (horizon_of new)) (λ n le. omega (arith, le)));
+            serves = subst (λ (r : Reply _). ServesOn history Flush r old new) (sym is) (tells (Horizon (horizon_of new)) (λ n le. omega (arith, le)));
             answer = subst (λ (r : Reply _). IsFlushAnswer g.D.Device.failures r old new) (sym is) (c.in-Ok-Nothing.ensures.sound.0, c.in-Ok-Nothing.ensures.sound.1, refl, (λ some. absurd (some written)), (0, wrote, fills history old (value_of c.take_outbox.new.self) mid hands refl new refl 0 (λ below. absurd (omega (arith, below, ap length flushed.1)))));
           }
       | inl over ↦
           let is : c.told_up_to.result ≡ Refused NoMemory = c.told_up_to.ensures.some over in
           record {
-            serves = subst (λ (r : Reply _). Serves history Flush r old new) (sym is) (tells (Refused NoMemory) (λ n le. le));
+            serves = subst (λ (r : Reply _). ServesOn history Flush r old new) (sym is) (tells (Refused NoMemory) (λ n le. le));
             answer = subst (λ (r : Reply _). IsFlushAnswer g.D.Device.failures r old new) (sym is) (inl (refl, c.in-Ok-Nothing.ensures.sound.0, c.in-Ok-Nothing.ensures.sound.1, some_unwritten history old (value_of c.take_outbox.new.self) mid hands refl c.requires.0 c.requires.1 (horizon_of new) (omega (arith, ap (λ w. w.base) flushed.0, ap (λ w. w.synced) flushed.0)) (omega (arith, over, c.last-last.ensures))), wrote);
           }
     ]

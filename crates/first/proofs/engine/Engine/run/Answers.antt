@@ -3,7 +3,7 @@ use Rattle.std.proofs.lemmas.List.{take_more, take_all}
 use Rattle.first.specs.declared.event.Event.{Event}
 use Rattle.first.specs.declared.event.Reply.{Reply}
 use Rattle.first.specs.Lawful.{IsLawful, AreLawful}
-use Rattle.first.specs.Store.{Past, IsAt, Serves, GoesOn, AreServed, and_then}
+use Rattle.first.specs.Store.{Past, IsAt, ServesOn, GoesOn, AreServed, and_then}
 use Rattle.first.proofs.Runs.{goes_nowhere, goes_further, lawful_last, served_last}
 use Rattle.first.proofs.Crashes.{survives_any_crash}
 use Rattle.first.proofs.Stories.{crash_now}
@@ -38,11 +38,11 @@ loop-event-preserved g c =
       served = λ past is.
           subst (λ (es : List Event). AreServed history g.D.Device.failures past es c.push.new.self.items c.args.self.now c.serve-reply.new.self) (sym (take_more events i c.event-item.result c.loop-event-test.true))
           (subst (λ (rs : List (Reply _)). AreServed history g.D.Device.failures past (take i events ++ get_or events i c.event-item.result ∷ []) rs c.args.self.now c.serve-reply.new.self) (sym c.in-Ok.ensures.items)
-          (served_last history g.D.Device.failures past (take i events) c.loop-event.replies.items (get_or events i c.event-item.result) c.serve-reply.result c.args.self.now c.loop-event.self c.serve-reply.new.self is (inv.served past is) (subst (λ e. IsLawful g.D.Device.failures e c.serve-reply.result c.loop-event.self c.serve-reply.new.self) item c.serve-reply.ensures.lawful) (subst (λ e. Serves history e c.serve-reply.result c.loop-event.self c.serve-reply.new.self) item c.serve-reply.ensures.serves)));
+          (served_last history g.D.Device.failures past (take i events) c.loop-event.replies.items (get_or events i c.event-item.result) c.serve-reply.result c.args.self.now c.loop-event.self c.serve-reply.new.self is (inv.served past is) (subst (λ e. IsLawful g.D.Device.failures e c.serve-reply.result c.loop-event.self c.serve-reply.new.self) item c.serve-reply.ensures.lawful) (subst (λ e. ServesOn history e c.serve-reply.result c.loop-event.self c.serve-reply.new.self) item c.serve-reply.ensures.serves)));
       ran = λ past is.
           subst (λ (es : List Event). GoesOn history past es c.push.new.self.items c.args.self.now c.serve-reply.new.self) (sym (take_more events i c.event-item.result c.loop-event-test.true))
           (subst (λ (rs : List (Reply _)). GoesOn history past (take i events ++ get_or events i c.event-item.result ∷ []) rs c.args.self.now c.serve-reply.new.self) (sym c.in-Ok.ensures.items)
-          (goes_further history past (take i events) c.loop-event.replies.items c.args.self.now c.loop-event.self c.serve-reply.new.self (get_or events i c.event-item.result) c.serve-reply.result even (inv.ran past is) (subst (λ e. Serves history e c.serve-reply.result c.loop-event.self c.serve-reply.new.self) item c.serve-reply.ensures.serves)));
+          (goes_further history past (take i events) c.loop-event.replies.items c.args.self.now c.loop-event.self c.serve-reply.new.self (get_or events i c.event-item.result) c.serve-reply.result even (inv.ran past is) (subst (λ e. ServesOn history e c.serve-reply.result c.loop-event.self c.serve-reply.new.self) item c.serve-reply.ensures.serves)));
     }
 
 pub returns : goal.returns

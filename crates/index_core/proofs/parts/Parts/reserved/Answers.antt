@@ -1,7 +1,7 @@
 use Rattle.std.proofs.Common.{arith, rules, ◌≤◌}
 use Rattle.std.proofs.Math.Bridge.{le_prop}
 use Rattle.std.proofs.Math.Logic.{∥∥₁_elim}
-use Rattle.index_core.specs.Moves.{reserved_of, txn_of}
+use Rattle.index_core.specs.Moves.{reserved_of, txn_shown}
 use Rattle.index_core.specs.Parts.{parts_of}
 use Rattle.index_core.proofs.Places.{few_reserved}
 use Rattle.index_core.proofs.parts.Parts.reserved.Goals as goal
@@ -12,7 +12,7 @@ returns-clause-number g c = search rules
 pub returns-clause-within : goal.returns-clause-within
 returns-clause-within g c =
     let v = parts_of c.args.self.now in
-    let pledged : reserved_of (txn_of v c.args.txn) ≤ v.index.pledged = ∥∥₁_elim c.requires le_prop (few_reserved v c.args.txn) in
+    let pledged : reserved_of (txn_shown v c.args.txn) ≤ v.index.pledged = ∥∥₁_elim c.requires le_prop (few_reserved v c.args.txn) in
     omega (arith, returns-clause-number g c, pledged)
 
 pub returns-clause-few : goal.returns-clause-few

@@ -1,6 +1,6 @@
 use Rattle.std.proofs.Common.{rules, ◌≡◌, ◌∙◌, ⊎_elim, ap, sym, arith, ◌+◌, ◌<◌, ◌≤◌, ◌++◌, [], ◌∷◌, length, vec_len, vec_capacity, slice_set, length-set}
 use Rattle.sector_device.specs.declared.call.Call.TheVariants.{Write}
-use Rattle.sector_device.specs.Memory.{State}
+use Rattle.sector_device.specs.Memory.{MemoryState}
 use Rattle.sector_device.proofs.Record.{represents_write, represents_push, disk_write, disk_push, state_push, synced_count, synced_count_at_most, synced_count-set}
 use Rattle.sector_device.proofs.memory.MemDisk.put.Goals as goal
 
@@ -42,4 +42,4 @@ returns-clause-last_synced g c =
     let d = c.args.self.now in
     let call = Write c.args.n c.args.bytes.now in
     let pushed : c.push.new.self.items ≡ d.calls.items ++ call ∷ [] = search rules in
-    ap (λ (s : State). s.synced) (state_push _ _ _ call pushed)
+    ap (λ (s : MemoryState). s.synced) (state_push _ _ _ call pushed)

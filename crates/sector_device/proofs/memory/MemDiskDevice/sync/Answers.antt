@@ -1,6 +1,6 @@
 use Rattle.std.proofs.Common.{rules, ◌≡◌, ◌∙◌, ap, arith, ◌+◌, ◌≤◌, ◌++◌, [], ◌∷◌, length, vec_len, vec_capacity}
 use Rattle.sector_device.specs.declared.call.Call.TheVariants.{Sync}
-use Rattle.sector_device.specs.Memory.{State}
+use Rattle.sector_device.specs.Memory.{MemoryState}
 use Rattle.sector_device.proofs.Record.{represents_sync, represents_push, disk_sync, disk_push, state_push, synced_count, synced_count_at_most}
 use Rattle.sector_device.proofs.memory.MemDiskDevice.sync.Goals as goal
 
@@ -36,4 +36,4 @@ pub returns-clause-last_synced : goal.returns-clause-last_synced
 returns-clause-last_synced g c =
     let d = c.args.self.now in
     let pushed : c.push.new.self.items ≡ d.calls.items ++ Sync ∷ [] = search rules in
-    ap (λ (s : State). s.synced) (state_push _ _ _ Sync pushed)
+    ap (λ (s : MemoryState). s.synced) (state_push _ _ _ Sync pushed)

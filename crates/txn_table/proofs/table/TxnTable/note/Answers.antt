@@ -1,6 +1,6 @@
 use Rattle.std.proofs.Common.{◌≡◌, None, take, sym, ap, ◌∙◌}
 use Rattle.records.specs.ChangeValue.{ChangeValue}
-use Rattle.txn_table.specs.Table.{TableValue, with_rid, noted, touch_refusal}
+use Rattle.txn_table.specs.Table.{TableValue, with_rid, change_noted, touch_refusal}
 use Rattle.txn_table.proofs.Noted.{kept_after_note, kept_as_before, after_write, after_same, take_with_rid}
 use Rattle.std.proofs.Common.{subst}
 use Rattle.txn_table.specs.Table.{state_of, holder_of}
@@ -31,7 +31,7 @@ invariant_of-self-in_default-note g c =
 
 pub returns-clause-ok : goal.returns-clause-ok
 returns-clause-ok g c =
-    after_write (noted c.args.change) c.self.inside.active.entries _ c.self.inside.begun c.args.txn c.in-Some.active.now c.note.new.self c.args.self.now c.self.view_is (sym c.in-Some.ensures.value) (c.get_mut.follows.holds c.note.new.self).0 c.in_default-note.ensures.ok
+    after_write (change_noted c.args.change) c.self.inside.active.entries _ c.self.inside.begun c.args.txn c.in-Some.active.now c.note.new.self c.args.self.now c.self.view_is (sym c.in-Some.ensures.value) (c.get_mut.follows.holds c.note.new.self).0 c.in_default-note.ensures.ok
 
 pub returns-clause-held : goal.returns-clause-held
 returns-clause-held g c =
