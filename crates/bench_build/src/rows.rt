@@ -1,5 +1,6 @@
 //! Rows with keys in no order.
 ghost use Rattle.std.specs.Prelude.{◌≡◌, IfOk};
+ghost use Rattle.index_core.specs.Loading.{IsQuiet};
 ghost use Rattle.index_core.specs.Value.{value_of};
 
 use anyhow::Result;
@@ -9,7 +10,8 @@ use std::alloc::Global;
 
 /// A core of 256 pages whose index has room for a pair of each row.
 pub(crate) fn new_core(alloc: Global) -> Result<Core<Global>>
-    ensures { IfOk result (λ core. (value_of core).heap.pages ≡ 256) }
+    ensures quiet { IfOk result (λ core. IsQuiet (value_of core)) }
+    ensures pages { IfOk result (λ core. (value_of core).heap.pages ≡ 256) }
 {
     let geometry = Geometry::new(256, 65_536, 4)?;
     Ok(Core::new(alloc, geometry, 0)?)
@@ -37,7 +39,8 @@ pub(crate) fn pairs_of(alloc: Global, pages: u32) -> Result<Vec<Pair>> {
 
 /// Loads the row of each of these pairs whose place the core has.
 pub(crate) fn load(core: &mut Core<Global>, pairs: &[Pair]) -> Result<()>
-    requires { (value_of core.old).heap.pages ≡ 256 }
+    requires quiet { IsQuiet (value_of core.old) }
+    requires pages { (value_of core.old).heap.pages ≡ 256 }
 {
     let body = Body::new(b"")?;
     for pair in pairs {

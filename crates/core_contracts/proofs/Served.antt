@@ -1,6 +1,7 @@
 -- Events with allowed replies make a run, and tell its history.
-use Rattle.std.proofs.Common.{Bool, List, None, Option, Some, [], ap, append-nil, arith, cond, false, inl, inr, is_some, length, nat_eq, refl, subst, suc, sym, take, true, true≢false, zero, ℕ, ◌++◌, ◌+◌, ◌-◌, ◌<◌, ◌||◌, ◌∙◌, ◌∷◌, ◌≡◌, ◌≢◌, ◌≤◌, ◌⊎◌}
+use Rattle.std.proofs.Common.{Bool, List, None, Option, Some, [], ap, append-nil, arith, cond, false, inl, inr, is_some, length, nat_eq, not, refl, subst, suc, sym, take, true, true≢false, zero, ℕ, ◌++◌, ◌+◌, ◌-◌, ◌<◌, ◌&&◌, ◌||◌, ◌∙◌, ◌∷◌, ◌≡◌, ◌≢◌, ◌≤◌, ◌⊎◌}
 use Rattle.std.proofs.lemmas.Bool.{eq-eqb}
+use Rattle.std.proofs.lemmas.Bool.Decides.{eqb_tells}
 use Rattle.std.specs.Cmp.{nat_cmp_total}
 use Rattle.std.specs.FinMap.{empty, empty_of_len, get, get-empty, insert, len, len-empty, len-insert, len-remove, nat_cmp-IsAntisymmetric, remove}
 use Rattle.std.specs.Ordering.{nat_cmp}
@@ -25,47 +26,49 @@ use Rattle.records.specs.declared.number.TheConstants.{LAST_NUMBER}
 use Rattle.records.specs.declared.txn.TheConstants.{TXNS_MAX}
 use Rattle.std.proofs.lemmas.Bool.{cases_lt}
 use Rattle.core_contracts.specs.Replies.{IsAllowed, IsBuildDue, IsDue, IsFirst, IsOfNone, IsProper, accepted, after_any, build_step, change_of, clean_step, last_refusals, refusals_of, no_memory, refusals, refused, refused_last, skipped, unknown}
-use Rattle.core_contracts.specs.Served.{HasCounts, HasServed, HasStanding, asked_over, records_by, IsEnabledAny, IsMove, ServesAll, asked_after, items_at, items_of, nothing, number_after, served}
+use Rattle.core_contracts.specs.Served.{AreTakenOnce, HasCounts, HasServed, HasStanding, asked_over, records_by, IsEnabledAny, IsMove, ServesAll, asked_after, items_at, items_of, nothing, number_after, served}
 use Rattle.core_model.proofs.Laws.{fit_step, interleaved, items_deeds, deeds, made_holds, made_more, made_nothing, made_recovers, nat_decided, not_none, txn_apart, update_apart, update_here}
 use Rattle.core_model.specs.Changes.{Changes, Unchanged, new_pair, old_pair, ◌▹◌}
 use Rattle.core_model.specs.Histories.{CanOpen, IsFaithful, Opened, deeds_of, no_writes, opened, writes_after}
 use Rattle.core_model.specs.Invariants.{Invariant, IsShaped, IsWellFormed}
 use Rattle.core_model.specs.States.{Active, Made, NewMarked, OldMarked, OldSet, Phase, Pledges, RowSet, State}
-use Rattle.core_model.specs.Steps.{IsActive, IsBuilding, Next, Start, MachineStep, after, carried_on, is_indexed, new_txn, row_made, row_undone, started, txn_at, undoing, undone, undone_first, update, with_change, with_phase, with_txn, without_newest}
+use Rattle.core_model.specs.Steps.{IsActive, IsBuilding, Next, Start, MachineStep, Take, after, carried_on, is_indexed, is_pair_of, new_txn, page_taken, row_made, row_undone, started, txn_at, undoing, undone, undone_first, update, with_change, with_phase, with_txn, without_newest}
 
 -- ---- what the standing says stays
 record SameScan (s s' : State) : Type 0 where
   pub pages : s'.pages ≡ s.pages
   pub bound : s'.bound ≡ s.bound
+  pub given : s'.given ≡ s.given
+  pub missed : s'.missed ≡ s.missed
   pub taken : s'.taken ≡ s.taken
   pub life : s'.life ≡ s.life
 
 same_self : (s : State) → SameScan s s
-same_self s = record { pages = refl; bound = refl; taken = refl; life = refl }
+same_self s = record { pages = refl; bound = refl; given = refl; missed = refl; taken = refl; life = refl }
 
 scan_started : (s : State) (t : ℕ) (x : Active) (c : ChangeValue) (o : Option Pair) → SameScan s (started s t x c o)
-scan_started s t x c None = record { pages = refl; bound = refl; taken = refl; life = refl }
-scan_started s t x c (Some p) = record { pages = refl; bound = refl; taken = refl; life = refl }
+scan_started s t x c None = record { pages = refl; bound = refl; given = refl; missed = refl; taken = refl; life = refl }
+scan_started s t x c (Some p) = record { pages = refl; bound = refl; given = refl; missed = refl; taken = refl; life = refl }
 
 scan_carried : (s : State) (t : ℕ) (x : Active) (cs : Changes) (phase : Phase) → SameScan s (carried_on s t x cs phase)
 scan_carried s t x Unchanged phase = same_self s
-scan_carried s t x (older ▹ c) OldMarked = record { pages = refl; bound = refl; taken = refl; life = refl }
-scan_carried s t x (older ▹ c) RowSet = record { pages = refl; bound = refl; taken = refl; life = refl }
+scan_carried s t x (older ▹ c) OldMarked = record { pages = refl; bound = refl; given = refl; missed = refl; taken = refl; life = refl }
+scan_carried s t x (older ▹ c) RowSet = record { pages = refl; bound = refl; given = refl; missed = refl; taken = refl; life = refl }
 scan_carried s t x (older ▹ c) Made = same_self s
 scan_carried s t x (older ▹ c) (NewMarked b) = same_self s
 scan_carried s t x (older ▹ c) OldSet = same_self s
 
 scan_first : (s : State) (t : ℕ) (x : Active) (c : ChangeValue) (older : Changes) (b : Bool) (o : Option Pair) → SameScan s (undone_first s t x c older b o)
-scan_first s t x c older b None = record { pages = refl; bound = refl; taken = refl; life = refl }
-scan_first s t x c older b (Some p) = record { pages = refl; bound = refl; taken = refl; life = refl }
+scan_first s t x c older b None = record { pages = refl; bound = refl; given = refl; missed = refl; taken = refl; life = refl }
+scan_first s t x c older b (Some p) = record { pages = refl; bound = refl; given = refl; missed = refl; taken = refl; life = refl }
 
 scan_undone : (s : State) (t : ℕ) (x : Active) (cs : Changes) (phase : Phase) → SameScan s (undone s t x cs phase)
-scan_undone s t x Unchanged phase = record { pages = refl; bound = refl; taken = refl; life = refl }
+scan_undone s t x Unchanged phase = record { pages = refl; bound = refl; given = refl; missed = refl; taken = refl; life = refl }
 scan_undone s t x (older ▹ c) OldMarked = scan_first s t x c older false (new_pair (is_indexed s.life) c)
 scan_undone s t x (older ▹ c) RowSet = scan_first s t x c older true (new_pair (is_indexed s.life) c)
 scan_undone s t x (older ▹ c) Made = scan_first s t x c older true (new_pair (is_indexed s.life) c)
-scan_undone s t x (older ▹ c) (NewMarked b) = record { pages = refl; bound = refl; taken = refl; life = refl }
-scan_undone s t x (older ▹ c) OldSet = record { pages = refl; bound = refl; taken = refl; life = refl }
+scan_undone s t x (older ▹ c) (NewMarked b) = record { pages = refl; bound = refl; given = refl; missed = refl; taken = refl; life = refl }
+scan_undone s t x (older ▹ c) OldSet = record { pages = refl; bound = refl; given = refl; missed = refl; taken = refl; life = refl }
 
 -- no transaction has a greater number
 module _ (s : State) (n : ℕ) (le : (u : ℕ) (y : Active) → s.txns u ≡ Some y → u ≤ n) where
@@ -112,16 +115,54 @@ module _ (s : State) (n : ℕ) (le : (u : ℕ) (y : Active) → s.txns u ≡ Som
     undone_le (older ▹ c) (NewMarked b) u y e = put_le (row_undone x older (old_pair (is_indexed s.life) c)) u y e
     undone_le (older ▹ c) OldSet u y e = put_le (without_newest older) u y e
 
+-- ---- no page is taken twice
+once_kept : (s s' : State) → SameScan s s' → AreTakenOnce s → AreTakenOnce s'
+once_kept s s' v once = record {
+  given = λ p e. let was = once.given p (sym (ap (λ f. f p) v.given) ∙ e) in (ap (λ f. f p.rid.page) v.taken ∙ was.0, ap (λ f. f p) v.missed ∙ was.1);
+  missed = λ p e. ap (λ f. f p.rid.page) v.taken ∙ once.missed p (sym (ap (λ f. f p) v.missed) ∙ e);
+}
+
+none_taken : (s : State) → ((p : Pair) → s.given p ≡ false) → ((p : Pair) → s.missed p ≡ false) → AreTakenOnce s
+none_taken s given missed = record { given = λ p e. absurd (true≢false (sym e ∙ given p)); missed = λ p e. absurd (true≢false (sym e ∙ missed p)) }
+
+or_true : (t : Bool) → (t || true) ≡ true
+or_true true = refl
+or_true false = refl
+
+-- of a pair: whether it was given, missed, and its page taken; whether it is of the page that is taken now, and has a row there
+given_then : (given missed taken now row : Bool) → (given ≡ true → (taken ≡ true) × (missed ≡ false)) → (missed ≡ true → taken ≡ true) → (now ≡ true → taken ≡ false) → (given || (now && row)) ≡ true → ((taken || now) ≡ true) × ((missed || (now && not row)) ≡ false)
+given_then true missed taken true row g m n e = absurd (true≢false (sym (g refl).0 ∙ n refl))
+given_then true missed taken false row g m n e = (ap (λ x. x || false) (g refl).0, ap (λ x. x || false) (g refl).1)
+given_then false missed taken false row g m n e = absurd (true≢false (sym e))
+given_then false missed taken true false g m n e = absurd (true≢false (sym e))
+given_then false true taken true true g m n e = absurd (true≢false (sym (m refl) ∙ n refl))
+given_then false false taken true true g m n e = (or_true taken, refl)
+
+missed_then : (missed taken now row : Bool) → (missed ≡ true → taken ≡ true) → (missed || (now && not row)) ≡ true → (taken || now) ≡ true
+missed_then true taken now row m e = ap (λ x. x || now) (m refl)
+missed_then false taken true row m e = or_true taken
+missed_then false taken false row m e = absurd (true≢false (sym e))
+
+page_once : (s : State) (page : ℕ) → s.taken page ≡ false → AreTakenOnce s → AreTakenOnce (page_taken s page)
+page_once s page fresh once = record {
+  given = λ p. given_then (s.given p) (s.missed p) (s.taken p.rid.page) (nat_eq p.rid.page page) (is_pair_of (get s.rows p.rid) p) (once.given p) (once.missed p) (untaken p.rid.page);
+  missed = λ p. missed_then (s.missed p) (s.taken p.rid.page) (nat_eq p.rid.page page) (is_pair_of (get s.rows p.rid) p) (once.missed p);
+}
+  where
+    untaken : (n : ℕ) → nat_eq n page ≡ true → s.taken n ≡ false
+    untaken n e = elim (eqb_tells n page) [ inl same ↦ ap s.taken same.1 ∙ fresh | inr other ↦ absurd (true≢false (sym e ∙ other.0)) ]
+
 -- all that the standing says but the counts
 record Stands (s : State) (k : Standing) : Type 0 where
   pub begun : (t : ℕ) (x : Active) → s.txns t ≡ Some x → t ≤ k.begun
   pub in_a_row : k.scanned ≤ s.pages
   pub taken : (n : ℕ) → n < k.scanned → s.taken n ≡ true
+  pub once : AreTakenOnce s
   pub tried : 1 ≤ k.attempts → IsBuilding s.life → s.bound ≢ None
 
 module _ (s : State) (k : Standing) (h : HasStanding s k) where
   as_before : Stands s k
-  as_before = record { begun = h.begun; in_a_row = h.in_a_row; taken = h.taken; tried = h.tried }
+  as_before = record { begun = h.begun; in_a_row = h.in_a_row; taken = h.taken; once = h.once; tried = h.tried }
 
   -- the builder is where it was
   standing_kept : (s' : State) (k' : Standing) → SameScan s s' → k'.scanned ≡ k.scanned → k'.attempts ≡ k.attempts → ((u : ℕ) (y : Active) → s'.txns u ≡ Some y → u ≤ k'.begun) → Stands s' k'
@@ -129,6 +170,7 @@ module _ (s : State) (k : Standing) (h : HasStanding s k) where
     begun = le;
     in_a_row = rw (a, v.pages) h.in_a_row;
     taken = λ n l. ap (λ f. f n) v.taken ∙ h.taken n (subst (λ m. n < m) a l);
+    once = once_kept s s' v h.once;
     tried = λ l building e. h.tried (subst (λ m. 1 ≤ m) b l) (subst IsBuilding v.life building) (sym v.bound ∙ e);
   }
 
@@ -154,33 +196,41 @@ module _ (s : State) (k : Standing) (h : HasStanding s k) where
     begun = h.begun;
     in_a_row = h.in_a_row;
     taken = h.taken;
+    once = record { given = h.once.given; missed = h.once.missed };
     tried = λ l. absurd (omega (arith, l));
   }
   built_standing (Scanned page) d = record {
     begun = h.begun;
     in_a_row = row_more d.1 d.2;
     taken = λ n l. scanned_taken page n d.1 l;
+    once = again (page_once s page d.3 h.once);
     tried = h.tried;
   }
     where
       row_more : page ≡ k.scanned → page < s.pages → k.scanned + 1 ≤ s.pages
       row_more e l = omega (arith, e, l)
+
+      again : AreTakenOnce (page_taken s page) → AreTakenOnce (after s (Take page))
+      again once = record { given = once.given; missed = once.missed }
   built_standing (Placed p) d = record {
     begun = h.begun;
     in_a_row = omega arith;
     taken = λ n l. absurd (omega (arith, l));
+    once = record { given = h.once.given; missed = h.once.missed };
     tried = λ l building e. not_none refl e;
   }
   built_standing (Rejected p) d = record {
     begun = h.begun;
     in_a_row = omega arith;
     taken = λ n l. absurd (omega (arith, l));
+    once = record { given = h.once.given; missed = h.once.missed };
     tried = λ l building e. not_none refl e;
   }
   built_standing (Done n) d = record {
     begun = h.begun;
     in_a_row = h.in_a_row;
     taken = h.taken;
+    once = record { given = h.once.given; missed = h.once.missed };
     tried = λ l building. absurd (not_complete building.0 building.1);
   }
     where
@@ -188,9 +238,9 @@ module _ (s : State) (k : Standing) (h : HasStanding s k) where
       not_complete highest e = absurd (cc)
 
   cleaned_standing : (c : CleanReply) → Stands (after s (clean_step c)) (after_clean k c)
-  cleaned_standing (Cleaned p) = standing_kept _ _ (record { pages = refl; bound = refl; taken = refl; life = refl }) refl refl h.begun
-  cleaned_standing (Kept p) = standing_kept _ _ (record { pages = refl; bound = refl; taken = refl; life = refl }) refl refl h.begun
-  cleaned_standing Wrapped = standing_kept _ _ (record { pages = refl; bound = refl; taken = refl; life = refl }) refl refl h.begun
+  cleaned_standing (Cleaned p) = standing_kept _ _ (record { pages = refl; bound = refl; given = refl; missed = refl; taken = refl; life = refl }) refl refl h.begun
+  cleaned_standing (Kept p) = standing_kept _ _ (record { pages = refl; bound = refl; given = refl; missed = refl; taken = refl; life = refl }) refl refl h.begun
+  cleaned_standing Wrapped = standing_kept _ _ (record { pages = refl; bound = refl; given = refl; missed = refl; taken = refl; life = refl }) refl refl h.begun
 
   -- with the reply and the step that are due
   at_due : (e : MachineStep) (right : Reply) (reply : Reply) (step : Option MachineStep) → reply ≡ right → step ≡ Some e → Stands (after s e) (standing_after k right) → Stands (after_any s step) (standing_after k reply)
@@ -200,7 +250,7 @@ module _ (s : State) (k : Standing) (h : HasStanding s k) where
   at_rest right reply step p q a = rw (p, q) a
 
   other_made : (s' : State) (pledges : Pledges) → SameScan s s' → SameScan s (record s' { pledges = pledges })
-  other_made s' pledges v = record { pages = v.pages; bound = v.bound; taken = v.taken; life = v.life }
+  other_made s' pledges v = record { pages = v.pages; bound = v.bound; given = v.given; missed = v.missed; taken = v.taken; life = v.life }
 
   start_standing : (t : ℕ) (c : ChangeValue) (k' : Standing) → IsActive s t → k'.scanned ≡ k.scanned → k'.attempts ≡ k.attempts → k'.begun ≡ k.begun → Stands (after s (Start t c)) k'
   start_standing t c k' active a b n =
@@ -208,7 +258,7 @@ module _ (s : State) (k : Standing) (h : HasStanding s k) where
       (λ u y e. rw n (started_le s k.begun h.begun t (txn_at s t) active c (old_pair (is_indexed s.life) c) u y e))
 
   due_stands : (e : Event) (reply : Reply) (step : Option MachineStep) → (IsOfNone s e → ⊥) → IsDue s k e reply step → Stands (after_any s step) (standing_after k reply)
-  due_stands Event.Begin reply step known d = at_due _ _ reply step d.0 d.1 (standing_kept _ _ (record { pages = refl; bound = refl; taken = refl; life = refl }) refl refl (begun_le s k.begun h.begun))
+  due_stands Event.Begin reply step known d = at_due _ _ reply step d.0 d.1 (standing_kept _ _ (record { pages = refl; bound = refl; given = refl; missed = refl; taken = refl; life = refl }) refl refl (begun_le s k.begun h.begun))
   due_stands (Event.Insert t row) reply step known d = at_due _ _ reply step d.2 d.3 (start_standing t (change_of s t d.0 (Inserted row)) _ (is_active s t known) refl refl refl)
   due_stands (Event.Delete t r) reply step known d = at_due _ _ reply step d.2 d.3 (start_standing t (change_of s t r (Deleted d.0)) _ (is_active s t known) refl refl refl)
   due_stands (Event.Update t r row) reply step known d = at_due _ _ reply step d.2 d.3 (start_standing t (change_of s t r (Updated d.0 row)) _ (is_active s t known) refl refl refl)
@@ -224,12 +274,13 @@ module _ (s : State) (k : Standing) (h : HasStanding s k) where
       undone_standing t k' active a b n =
           standing_kept _ k' (other_made _ _ (scan_undone s t (txn_at s t) (txn_at s t).changes (txn_at s t).phase)) a b
           (λ u y e. rw n (undone_le s k.begun h.begun t (txn_at s t) active (txn_at s t).changes (txn_at s t).phase u y e))
-  due_stands (Event.End t) reply step known d = at_due _ _ reply step d.0 d.1 (standing_kept _ _ (record { pages = refl; bound = refl; taken = refl; life = refl }) refl refl (gone_le s k.begun h.begun t))
-  due_stands (Event.Commit t) reply step known d = at_due _ _ reply step d.0 d.1 (standing_kept _ _ (record { pages = refl; bound = refl; taken = refl; life = refl }) refl refl (gone_le s k.begun h.begun t))
+  due_stands (Event.End t) reply step known d = at_due _ _ reply step d.0 d.1 (standing_kept _ _ (record { pages = refl; bound = refl; given = refl; missed = refl; taken = refl; life = refl }) refl refl (gone_le s k.begun h.begun t))
+  due_stands (Event.Commit t) reply step known d = at_due _ _ reply step d.0 d.1 (standing_kept _ _ (record { pages = refl; bound = refl; given = refl; missed = refl; taken = refl; life = refl }) refl refl (gone_le s k.begun h.begun t))
   due_stands Event.Create reply step known d = at_due MachineStep.Create (Reply.Created (k.made + 1)) reply step d.0 d.1 (record {
     begun = h.begun;
     in_a_row = omega arith;
     taken = λ n l. absurd (omega (arith, l));
+    once = none_taken _ (λ p. refl) (λ p. refl);
     tried = λ l. absurd (omega (arith, l));
   })
   due_stands Event.Build reply step known d = rw (d.2, d.3) (built_standing d.0 d.1)
@@ -494,6 +545,7 @@ module _ (s : State) (k : Standing) (i : IsWellFormed s) (h : HasStanding s k) w
         begun = a.begun;
         in_a_row = a.in_a_row;
         taken = a.taken;
+        once = a.once;
         tried = a.tried;
         counts = due_counts s k i h e reply step known first d;
         within = subst (λ n. n ≤ LAST_NUMBER) (sym (due_made s k i e reply step known proper d)) (number_within s k step last h.within);
@@ -596,6 +648,7 @@ opened_standing o last le = record {
   begun = λ t x e. absurd (not_none e refl);
   in_a_row = omega arith;
   taken = λ n l. absurd (omega (arith, l));
+  once = none_taken (opened o) (λ p. refl) (λ p. refl);
   tried = λ l. absurd (omega (arith, l));
   counts = record { active = sym (len-empty nat_cmp ℕ); few = omega arith; ended = omega arith };
   within = le;

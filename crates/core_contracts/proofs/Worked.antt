@@ -109,7 +109,7 @@ allowed_2 = accepted (λ h. active_there h) (refl, refl) (inr (λ h. no_changes 
 
 allowed_3 : IsAllowed (s3) k3 Event.Build (Built (Scanned 0)) (Some (Take 0))
 unfolding update
-allowed_3 = accepted (λ h. h) tt (inr (λ e. building≢absent e, refl)) (Built (Scanned 0)) (Some (Take 0)) (Scanned 0, (((None, refl), omega arith), refl, omega arith), refl, refl) (nothing_refused 2 (omega arith))
+allowed_3 = accepted (λ h. h) tt (inr (λ e. building≢absent e, refl)) (Built (Scanned 0)) (Some (Take 0)) (Scanned 0, (((None, refl), omega arith), refl, omega arith, refl), refl, refl) (nothing_refused 2 (omega arith))
 
 allowed_4 : IsAllowed (s4) k4 (Event.Undo 1) Undone (Some (MachineStep.Undo 1))
 unfolding update

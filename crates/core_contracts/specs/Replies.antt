@@ -128,7 +128,7 @@ pub record IsNextPair (s : State) (p : Pair) : Type 0 where
 abbrev pub IsBuildDue : State → Standing → BuildReply → Type 0
 IsBuildDue s k Idle = s.life ≡ Complete
 IsBuildDue s k (BuildReply.Marked p n) = IsBuilding s.life × (ATTEMPTS_PER_CHECKPOINT ≤ k.attempts) × (s.bound ≡ Some p) × (n ≡ k.made + 1)
-IsBuildDue s k (Scanned page) = IsBetween s k × (page ≡ k.scanned) × (page < s.pages)
+IsBuildDue s k (Scanned page) = IsBetween s k × (page ≡ k.scanned) × (page < s.pages) × (s.taken page ≡ false)
 IsBuildDue s k (Placed p) = IsBetween s k × IsNextPair s p × (get s.entries p ≡ None)
 IsBuildDue s k (Rejected p) = IsBetween s k × IsNextPair s p × (get s.entries p ≢ None)
 IsBuildDue s k (Done n) = IsBetween s k × CanFinish s × (n ≡ k.made + 1)
@@ -181,11 +181,21 @@ IsDue s k Event.Life reply step = (reply ≡ LifeIs s.life) × (step ≡ None)
 
 -- ---- all of it
 
--- whether an event may want memory
-abbrev pub WantsMemory : Event → Type 0
-WantsMemory (Event.Get r) = ⊥
-WantsMemory Event.Life = ⊥
-WantsMemory _ = Unit {0}
+-- a step that takes memory beside its record: for one transaction more, or for the pairs of a page
+abbrev pub NeedsRoom : MachineStep → Type 0
+NeedsRoom (MachineStep.Begin t) = Unit {0}
+NeedsRoom (Take page) = Unit {0}
+NeedsRoom _ = ⊥
+
+-- an event whose answer is a list
+abbrev pub IsLookUp : Event → Type 0
+IsLookUp (Event.Find key) = Unit {0}
+IsLookUp _ = ⊥
+
+-- whether the step that is due, or the answer where none is, takes memory
+abbrev pub WantsMemory : State → Event → Option MachineStep → Type 0
+WantsMemory s e None = IsLookUp e
+WantsMemory s e (Some step) = (action_of s step ≢ None) ⊎ NeedsRoom step
 
 abbrev pub after_any : State → Option MachineStep → State
 after_any s None = s
@@ -199,6 +209,6 @@ pub data IsAllowed (s : State) (k : Standing) (e : Event) : Reply → Option Mac
   refused_last : (IsOfNone s e → ⊥) → IsProper s e → IsFirst (refusals s k e) None → (reply : Reply) (step : Option MachineStep) → IsDue s k e reply step
       → (error : Error) → IsFirst (refusals_of s k step) (Some error) → IsAllowed s k e (Refused error) None
   no_memory : (IsOfNone s e → ⊥) → IsProper s e → IsFirst (refusals s k e) None → (reply : Reply) (step : Option MachineStep) → IsDue s k e reply step
-      → IsFirst (refusals_of s k step) None → WantsMemory e → IsAllowed s k e (Refused Error.NoMemory) None
+      → IsFirst (refusals_of s k step) None → WantsMemory s e step → IsAllowed s k e (Refused Error.NoMemory) None
   accepted : (IsOfNone s e → ⊥) → IsProper s e → IsFirst (refusals s k e) None → (reply : Reply) (step : Option MachineStep) → IsDue s k e reply step
       → IsFirst (refusals_of s k step) None → IsAllowed s k e reply step

@@ -1,11 +1,12 @@
 -- Lists of events with their replies, and the history that they tell.
 use Rattle.std.specs.FinMap.{len}
 use Rattle.std.specs.Ordering.{nat_cmp}
-use Rattle.std.specs.Prelude.{List, None, Option, Some, [], length, map, true, ℕ, ◌++◌, ◌+◌, ◌<◌, ◌∷◌, ◌≡◌, ◌≢◌, ◌≤◌}
+use Rattle.std.specs.Prelude.{List, None, Option, Some, [], false, length, map, true, ℕ, ◌++◌, ◌+◌, ◌<◌, ◌∷◌, ◌≡◌, ◌≢◌, ◌≤◌}
 use Rattle.records.specs.RecordValue.{RecordValue}
 use Rattle.records.specs.Values.{Place}
 use Rattle.records.specs.declared.number.TheConstants.{LAST_NUMBER}
 use Rattle.records.specs.declared.txn.TheConstants.{TXNS_MAX}
+use Rattle.records.specs.declared.pair.Pair.{Pair}
 use Rattle.records.specs.declared.row.Row.{Row}
 use Rattle.model.specs.History.{Deed, Item}
 use Rattle.model.specs.declared.write.Write.{Write}
@@ -117,11 +118,17 @@ pub record HasCounts (s : State) (k : Standing) : Type 0 where
   pub few : k.active ≤ TXNS_MAX
   pub ended : k.begun ≤ k.made + k.active
 
+-- no page was taken twice: what one gave it did not miss, and one that was not taken did neither
+pub record AreTakenOnce (s : State) : Type 0 where
+  pub given : (p : Pair) → s.given p ≡ true → (s.taken p.rid.page ≡ true) × (s.missed p ≡ false)
+  pub missed : (p : Pair) → s.missed p ≡ true → s.taken p.rid.page ≡ true
+
 -- what the standing says of the state
 pub record HasStanding (s : State) (k : Standing) : Type 0 where
   pub begun : (t : ℕ) (x : Active) → s.txns t ≡ Some x → t ≤ k.begun
   pub in_a_row : k.scanned ≤ s.pages
   pub taken : (n : ℕ) → n < k.scanned → s.taken n ≡ true
+  pub once : AreTakenOnce s
   pub tried : 1 ≤ k.attempts → IsBuilding s.life → s.bound ≢ None
   pub counts : HasCounts s k
   pub within : k.made ≤ LAST_NUMBER

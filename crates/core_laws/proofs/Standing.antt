@@ -33,7 +33,7 @@ module _ (v : CoreValue) (waiting : List RecordValue) (s : State) (k : Standing)
       places = h.places;
       cleaned = h.cleaned;
       bound = h.bound;
-      scan = record { run = h.scan.run; made = h.scan.made; given = h.scan.given; missed = h.scan.missed; taken = h.scan.taken; in_a_row = h.scan.in_a_row };
+      scan = record { run = h.scan.run; made = h.scan.made; given = h.scan.given; missed = h.scan.missed; taken = h.scan.taken; in_a_row = h.scan.in_a_row; untaken = h.scan.untaken };
       made = h.made;
       begun = h.begun;
       active = h.active;

@@ -1,4 +1,4 @@
 pub mod Calls
 pub mod Openings
 pub mod Holds
-pub mod Decided
+pub mod Granted

@@ -16,16 +16,16 @@ ghost use Rattle.core_model.specs.States.{State};
 ghost use Rattle.core_model.specs.Steps.{MachineStep};
 ghost use Rattle.core_model.specs.Histories.{CanOpen, Opened, no_writes};
 ghost use Rattle.core_contracts.specs.Events.{Event, Refused, Reply, Standing};
-ghost use Rattle.core_contracts.specs.Replies.{IsAllowed};
-ghost use Rattle.core_contracts.specs.Served.{items_of};
+ghost use Rattle.core_contracts.specs.Replies.{IsAllowed, WantsMemory};
+ghost use Rattle.core_contracts.specs.Served.{HasStanding, items_of};
 ghost use Rattle.core_loader.specs.Loaded.{holding};
 ghost use Rattle.index_core.specs.Moves.{fresh};
 ghost use Rattle.index_core.specs.Outbox.{HandsOn};
 ghost use Rattle.index_core.specs.View.{CoreValue, Serves};
 ghost use Rattle.core_laws.specs.Calls.{BeginsWith, Calls, HasReplied};
-ghost use Rattle.core_laws.specs.Decided.{IsDecided};
 ghost use Rattle.core_laws.specs.Openings.{empty_after, store_with};
 ghost use Rattle.core_laws.specs.Holds.{HoldsHistory, ShowsRows};
+ghost use Rattle.core_laws.specs.Granted.{IsGranted};
 
 /// A law: a core that was loaded with what fits its store begins with that, and one that was just made with nothing, which is
 /// something to begin with.
@@ -59,8 +59,13 @@ pub fn any_calls()
         → (n : ℕ) → n ≤ length (handed ++ new.outbox) → IsBeginning o.given (items_of no_writes pairs) (o.given.last + n) (given_after o.given (take n (handed ++ new.outbox))) }
 {}
 
-/// A law: in a state an event that the state decides has one reply, made by one step, unless memory is wanted.
+/// A law: in a state an event has one reply, made by one step, unless memory is wanted; only what takes memory may want it; and
+/// no other refusal gives way to it.
 pub fn one_reply()
-    ensures { (s : State) (k : Standing) (e : Event) → IsDecided e → (reply other : Reply) (step next : Option MachineStep) → IsAllowed s k e reply step → IsAllowed s k e other next
+    ensures one { (s : State) (k : Standing) → HasStanding s k → (e : Event) (reply other : Reply) (step next : Option MachineStep) → IsAllowed s k e reply step → IsAllowed s k e other next
         → reply ≢ Refused Error.NoMemory → other ≢ Refused Error.NoMemory → (reply ≡ other) × (step ≡ next) }
+    ensures memory { (s : State) (k : Standing) → HasStanding s k → (e : Event) (reply : Reply) (step none : Option MachineStep) → IsAllowed s k e reply step → reply ≢ Refused Error.NoMemory
+        → IsAllowed s k e (Refused Error.NoMemory) none → WantsMemory s e step }
+    ensures granted { (s : State) (k : Standing) → HasStanding s k → (e : Event) (reply : Reply) (step none : Option MachineStep) → IsAllowed s k e reply step → reply ≢ Refused Error.NoMemory
+        → IsAllowed s k e (Refused Error.NoMemory) none → IsGranted reply }
 {}

@@ -39,6 +39,9 @@ pub record AreRowsLoaded (all left : Table) (old now : CoreValue) : Type 0 where
 pub no_row : (all : Table) (old : CoreValue) → old.heap.rows ≡ empty → AreRowsLoaded all all old old
 no_row all old none = record { done = old.heap.rows; core = refl; moved = none_moved rid_exact all old.heap.rows none }
 
+pub rows_quiet : (all left : Table) (old now : CoreValue) → AreRowsLoaded all left old now → IsQuiet old → IsQuiet now
+rows_quiet all left old now so quiet = subst IsQuiet (sym so.core) quiet
+
 module _ (all left : Table) (old now : CoreValue) (so : AreRowsLoaded all left old now) (rid : Place) (row : Row) (next : get left rid ≡ Some row) where
   pub row_within : IsWithin old.heap.pages all → rid.page < now.heap.pages
   row_within within = subst (λ (v : CoreValue). rid.page < v.heap.pages) (sym so.core) (within rid row (is_its rid_exact all left so.done so.moved rid row next).0)
@@ -151,7 +154,7 @@ module _ (g : GeometryValue) (given : Given) (inside : IsGivenInside g.pages giv
       places = refl;
       cleaned = refl;
       bound = refl;
-      scan = record { run = begun_run (highest_of given.life) g.pages; made = begun_runs (highest_of given.life) g.pages; given = λ p. refl; missed = λ p. refl; taken = λ n. refl; in_a_row = refl };
+      scan = record { run = begun_run (highest_of given.life) g.pages; made = begun_runs (highest_of given.life) g.pages; given = λ p. refl; missed = λ p. refl; taken = λ n. refl; in_a_row = refl; untaken = λ page n wanted le. refl };
       made = refl;
       begun = refl;
       active = refl;

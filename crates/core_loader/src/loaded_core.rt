@@ -19,6 +19,7 @@ use std::alloc::Allocator;
 
 // Loads these rows into a core that has none.
 fn load_rows<A: Allocator + Copy>(core: &mut Core<A>, mut rows: RowMap<A>)
+    requires quiet { IsQuiet (value_of core.old) }
     requires none { (value_of core.old).heap.rows ≡ map.empty }
     requires within { IsWithin (value_of core.old).heap.pages rows }
     ensures { value_of core.new ≡ with_rows (value_of core.old) rows }

@@ -1,5 +1,6 @@
 //! A build over as many rows as a core holds.
 ghost use Rattle.std.specs.Prelude.{◌≡◌};
+ghost use Rattle.index_core.specs.Loading.{IsQuiet};
 ghost use Rattle.index_core.specs.Value.{value_of};
 
 use crate::answers::{checkpointed, created, done, placed, scanned};
@@ -28,7 +29,8 @@ fn pair_of(rt: &impl Abort, number: u32) -> Pair {
 
 // Loads a row in each place.
 fn load(rt: &impl Abort, core: &mut Core<Global>)
-    requires { (value_of core.old).heap.pages ≡ 256 }
+    requires quiet { IsQuiet (value_of core.old) }
+    requires pages { (value_of core.old).heap.pages ≡ 256 }
 {
     let body = Body::new(b"").expect(rt, "a body");
     for number in 0..ROWS {

@@ -66,7 +66,7 @@ module _ (g : GeometryValue) (base : ℕ) (le : base ≤ LAST_NUMBER) where
         places = refl;
         cleaned = refl;
         bound = refl;
-        scan = record { run = begun_run None g.pages; made = run; given = λ p. refl; missed = λ p. refl; taken = λ n. refl; in_a_row = refl };
+        scan = record { run = begun_run None g.pages; made = run; given = λ p. refl; missed = λ p. refl; taken = λ n. refl; in_a_row = refl; untaken = λ page n wanted le. refl };
         made = refl;
         begun = refl;
         active = refl;
@@ -164,7 +164,7 @@ module _ (v : CoreValue) (s : State) (k : Standing) (is : IsState v s k) where
     places = h.places;
     cleaned = h.cleaned;
     bound = h.bound;
-    scan = record { run = h.scan.run; made = h.scan.made; given = h.scan.given; missed = h.scan.missed; taken = h.scan.taken; in_a_row = h.scan.in_a_row };
+    scan = record { run = h.scan.run; made = h.scan.made; given = h.scan.given; missed = h.scan.missed; taken = h.scan.taken; in_a_row = h.scan.in_a_row; untaken = h.scan.untaken };
     made = h.made;
     begun = ap (λ n. n + 1) same_begun;
     active = ap (λ n. n + 1) h.active ∙ sym (length-append v.txns.active ((v.txns.begun + 1, table.fresh_txn) ∷ []));
@@ -185,7 +185,7 @@ module _ (v : CoreValue) (s : State) (k : Standing) (is : IsState v s k) where
         (made v s k h Event.Begin (λ x. x) tt (inr (not_many, refl)) (Txn t) (Begin t) (refl, refl) (λ x. x) (λ n. absurd (n refl)) (with_begun v) begun_shown (sym (append-nil v.outbox)))
 
     begin_wants : Answers v s k Event.Begin (Refused Error.NoMemory) v
-    begin_wants = wants_memory v s k h Event.Begin (λ x. x) tt (inr (not_many, refl)) (Txn t) (Begin t) (refl, refl) (λ x. x) (λ n. absurd (n refl)) tt
+    begin_wants = wants_memory v s k h Event.Begin (λ x. x) tt (inr (not_many, refl)) (Txn t) (Begin t) (refl, refl) (λ x. x) (λ n. absurd (n refl)) (inr tt)
 
 -- as many transactions as a core ever begins have numbers
 numbers_left : (v : CoreValue) (s : State) (k : Standing) → IsState v s k → v.txns.begun < 18446744073709551615
@@ -246,7 +246,7 @@ module _ (v : CoreValue) (r : Place) (o : Option Row) (inside : r.page < v.heap.
             places = h.places;
             cleaned = h.cleaned;
             bound = h.bound;
-            scan = record { run = h.scan.run; made = h.scan.made; given = h.scan.given; missed = h.scan.missed; taken = h.scan.taken; in_a_row = h.scan.in_a_row };
+            scan = record { run = h.scan.run; made = h.scan.made; given = h.scan.given; missed = h.scan.missed; taken = h.scan.taken; in_a_row = h.scan.in_a_row; untaken = h.scan.untaken };
             made = h.made;
             begun = h.begun;
             active = h.active;
@@ -262,7 +262,7 @@ module _ (v : CoreValue) (r : Place) (o : Option Row) (inside : r.page < v.heap.
             inside = record { entries = fit.inside.entries; bound = fit.inside.bound; highest = fit.inside.highest; given = fit.inside.given };
             pledged = fit.pledged;
           };
-          standing = record { begun = safe.is.standing.begun; in_a_row = safe.is.standing.in_a_row; taken = safe.is.standing.taken; tried = safe.is.standing.tried; counts = record { active = safe.is.standing.counts.active; few = safe.is.standing.counts.few; ended = safe.is.standing.counts.ended }; within = safe.is.standing.within };
+          standing = record { begun = safe.is.standing.begun; in_a_row = safe.is.standing.in_a_row; taken = safe.is.standing.taken; once = record { given = safe.is.standing.once.given; missed = safe.is.standing.once.missed }; tried = safe.is.standing.tried; counts = record { active = safe.is.standing.counts.active; few = safe.is.standing.counts.few; ended = safe.is.standing.counts.ended }; within = safe.is.standing.within };
           counted = safe.is.counted;
         };
       }

@@ -155,7 +155,7 @@ module _ (v : CoreValue) (s : State) (k : Standing) (st : IsState v s k) (built 
   -- why a step that is due and makes a record is refused
   unrecorded : (reply : Reply) (step : MachineStep) → IsDue s k Event.Build reply (Some step) → (HasNoPlace s step → ⊥) → action_of s step ≢ None → (error : Error) → IsUnrecorded v error → Answers v s k Event.Build (Refused error) v
   unrecorded reply step due roomy makes error (inl why) = subst (λ e. Answers v s k Event.Build (Refused e) v) (sym why.0) (no_number v s k h Event.Build (λ x. x) tt first reply step due roomy makes why.1)
-  unrecorded reply step due roomy makes error (inr why) = subst (λ e. Answers v s k Event.Build (Refused e) v) (sym why.0) (wants_memory v s k h Event.Build (λ x. x) tt first reply step due roomy (λ n. why.1) tt)
+  unrecorded reply step due roomy makes error (inr why) = subst (λ e. Answers v s k Event.Build (Refused e) v) (sym why.0) (wants_memory v s k h Event.Build (λ x. x) tt first reply step due roomy (λ n. why.1) (inl makes))
 
   ticket_is : v.last + 1 ≡ k.made + 1
   ticket_is = ap (λ n. n + 1) (sym h.made)
@@ -185,7 +185,7 @@ module _ (v : CoreValue) (s : State) (k : Standing) (st : IsState v s k) (built 
       places = h.places;
       cleaned = h.cleaned;
       bound = h.bound;
-      scan = record { run = h.scan.run; made = h.scan.made; given = h.scan.given; missed = h.scan.missed; taken = h.scan.taken; in_a_row = h.scan.in_a_row };
+      scan = record { run = h.scan.run; made = h.scan.made; given = h.scan.given; missed = h.scan.missed; taken = h.scan.taken; in_a_row = h.scan.in_a_row; untaken = h.scan.untaken };
       made = ap (λ n. n + 1) h.made;
       begun = h.begun;
       active = h.active;
@@ -226,7 +226,7 @@ module _ (v : CoreValue) (s : State) (k : Standing) (st : IsState v s k) (built 
         places = h.places;
         cleaned = h.cleaned;
         bound = h.bound;
-        scan = record { run = h.scan.run; made = h.scan.made; given = h.scan.given; missed = h.scan.missed; taken = h.scan.taken; in_a_row = h.scan.in_a_row };
+        scan = record { run = h.scan.run; made = h.scan.made; given = h.scan.given; missed = h.scan.missed; taken = h.scan.taken; in_a_row = h.scan.in_a_row; untaken = h.scan.untaken };
         made = ap (λ n. n + 1) h.made;
         begun = h.begun;
         active = h.active;
@@ -247,10 +247,10 @@ module _ (v : CoreValue) (s : State) (k : Standing) (st : IsState v s k) (built 
       turn = subst (λ o. IfSome o (λ n. (n ≡ taken_in_a_row h.scan.run.steps) × (n < h.scan.run.pages))) wanted h.scan.made.wanted
 
       scanned_due : IsDue s k Event.Build scanned (Some (Take page))
-      scanned_due = (events.Scanned page, (between, turn.0 ∙ sym h.scan.in_a_row, subst (λ n. page < n) (pages_are v s k h) turn.1), refl, refl)
+      scanned_due = (events.Scanned page, (between, turn.0 ∙ sym h.scan.in_a_row, subst (λ n. page < n) (pages_are v s k h) turn.1, h.scan.untaken page page wanted (omega arith)), refl, refl)
 
       pub page_refused : Answers v s k Event.Build (Refused Error.NoMemory) v
-      page_refused = wants_memory v s k h Event.Build (λ x. x) tt first scanned (Take page) scanned_due (λ x. x) (λ n. absurd (n refl)) tt
+      page_refused = wants_memory v s k h Event.Build (λ x. x) tt first scanned (Take page) scanned_due (λ x. x) (λ n. absurd (n refl)) (inr tt)
 
       module _ (w : ScanValue) (pairs : List Pair) (each : (p : Pair) → Contains pairs p ↔ IsPairOnPage v.heap.rows page p) (went : (r : ScanRun) → HasRun v.scan r → HasRun w (with_step r (Took page pairs))) (last : w.last ≡ v.scan.last) (pages : w.pages ≡ v.scan.pages) where
         among : (p : Pair) → is_among p pairs ≡ (nat_eq p.rid.page page && is_pair_of (get s.rows p.rid) p)
@@ -278,6 +278,7 @@ module _ (v : CoreValue) (s : State) (k : Standing) (st : IsState v s k) (built 
                 ∙ ap (λ b. b || is_missed h.scan.run p) (sym (and_not (nat_eq p.rid.page page) (is_pair_of (get s.rows p.rid) p)) ∙ ap (λ b. nat_eq p.rid.page page && not b) (sym (among p)));
             taken = λ n. ap (λ b. b || nat_eq n page) (h.scan.taken n) ∙ or_swapped (is_taken h.scan.run n) (nat_eq n page);
             in_a_row = ap (λ n. n + 1) h.scan.in_a_row;
+            untaken = λ next n later le. none_later next n (next_page next later) le;
           };
           made = h.made;
           begun = h.begun;
@@ -286,6 +287,20 @@ module _ (v : CoreValue) (s : State) (k : Standing) (st : IsState v s k) (built 
           all_attempts = h.all_attempts;
           commits = h.commits;
         }
+          where
+            -- the next page is wanted then
+            next_page : (next : ℕ) → w.wanted ≡ Some next → next ≡ page + 1
+            next_page next later =
+                let then : (next ≡ taken_in_a_row h.scan.run.steps + 1) × (next < h.scan.run.pages) =
+                subst (λ o. IfSome o (λ n. (n ≡ taken_in_a_row h.scan.run.steps + 1) × (n < h.scan.run.pages))) later (went h.scan.run h.scan.made).wanted in
+                then.0 ∙ ap (λ n. n + 1) (sym turn.0)
+
+            other_page : (n : ℕ) → page + 1 ≤ n → nat_eq n page ≡ false
+            other_page n le = elim (eqb_tells n page) [ inl same ↦ absurd (omega (arith, le, same.1)) | inr other ↦ other.0 ]
+
+            none_later : (next n : ℕ) → next ≡ page + 1 → next ≤ n → (s.taken n || nat_eq n page) ≡ false
+            none_later next n is le =
+                rw (h.scan.untaken page n wanted (omega (arith, is, le)), other_page n (omega (arith, is, le))) refl
 
         page_answers : Answers v s k Event.Build scanned (record v { scan = w })
         page_answers = made v s k h Event.Build (λ x. x) tt first scanned (Take page) scanned_due (λ x. x) (λ n. absurd (n refl)) (record v { scan = w }) taken_shown (sym (append-nil v.outbox))
@@ -302,7 +317,7 @@ module _ (v : CoreValue) (s : State) (k : Standing) (st : IsState v s k) (built 
       entry_is = ap (λ m. get m p) h.entries
 
       -- what both attempts show
-      module _ (w : ScanValue) (went : (r : ScanRun) → HasRun v.scan r → HasRun w (with_step r (HandedOut p))) where
+      module _ (w : ScanValue) (went : (r : ScanRun) → HasRun v.scan r → HasRun w (with_step r (HandedOut p))) (wanted : w.wanted ≡ v.scan.wanted) where
         passed_scan : (s' : State) (k' : Standing) → s'.given ≡ s.given → s'.missed ≡ s.missed → s'.taken ≡ s.taken → k'.scanned ≡ 0 → IsScan w s' k'
         passed_scan s' k' g m t z = record {
           run = with_step h.scan.run (HandedOut p);
@@ -311,6 +326,7 @@ module _ (v : CoreValue) (s : State) (k : Standing) (st : IsState v s k) (built 
           missed = λ q. ap (λ f. f q) m ∙ h.scan.missed q;
           taken = λ n. ap (λ f. f n) t ∙ h.scan.taken n;
           in_a_row = z;
+          untaken = λ page n is le. ap (λ f. f n) t ∙ h.scan.untaken page n (sym wanted ∙ is) le;
         }
 
       module _ (there : get v.index.entries p ≢ None) where
@@ -334,8 +350,8 @@ module _ (v : CoreValue) (s : State) (k : Standing) (st : IsState v s k) (built 
         same_entries : set_at s.entries p (after_action BuildPut (get s.entries p)) ≡ v.index.entries
         same_entries = ap (set_at s.entries p) (same_put (get s.entries p) (λ e. there (sym entry_is ∙ e))) ∙ set_at-get pair_exact s.entries p ∙ h.entries
 
-        rejected_shown : (w : ScanValue) (attempts : ℕ) → ((r : ScanRun) → HasRun v.scan r → HasRun w (with_step r (HandedOut p))) → w.last ≡ Some p → w.pages ≡ v.scan.pages → attempts ≡ min (v.attempts + 1) (2 ^ 64 - 1) → Shows (record v { scan = w; tried = v.tried + 1; attempts = attempts }) (after s (Attempt p)) (standing_after k rejected)
-        rejected_shown w attempts went last pages counted = record {
+        rejected_shown : (w : ScanValue) (attempts : ℕ) → ((r : ScanRun) → HasRun v.scan r → HasRun w (with_step r (HandedOut p))) → w.last ≡ Some p → w.pages ≡ v.scan.pages → w.wanted ≡ v.scan.wanted → attempts ≡ min (v.attempts + 1) (2 ^ 64 - 1) → Shows (record v { scan = w; tried = v.tried + 1; attempts = attempts }) (after s (Attempt p)) (standing_after k rejected)
+        rejected_shown w attempts went last pages wanted counted = record {
           rows = h.rows;
           entries = same_entries;
           txns = h.txns;
@@ -348,7 +364,7 @@ module _ (v : CoreValue) (s : State) (k : Standing) (st : IsState v s k) (built 
           places = h.places;
           cleaned = h.cleaned;
           bound = sym last;
-          scan = passed_scan w went (after s (Attempt p)) (standing_after k rejected) refl refl refl refl;
+          scan = passed_scan w went wanted (after s (Attempt p)) (standing_after k rejected) refl refl refl refl;
           made = h.made;
           begun = h.begun;
           active = h.active;
@@ -359,7 +375,7 @@ module _ (v : CoreValue) (s : State) (k : Standing) (st : IsState v s k) (built 
 
         pub rejected_made : (v' : CoreValue) → HasPassed v p v' → Answers v s k Event.Build rejected v'
         rejected_made v' t = subst (Answers v s k Event.Build rejected) (sym t.others)
-            (made v s k h Event.Build (λ x. x) tt first rejected (Attempt p) rejected_due (λ n. there (sym entry_is ∙ n.0)) (λ n. absurd (n none_made)) (record v { scan = v'.scan; tried = v.tried + 1; attempts = v'.attempts }) (rejected_shown v'.scan v'.attempts t.run t.last_pair t.pages t.counted)
+            (made v s k h Event.Build (λ x. x) tt first rejected (Attempt p) rejected_due (λ n. there (sym entry_is ∙ n.0)) (λ n. absurd (n none_made)) (record v { scan = v'.scan; tried = v.tried + 1; attempts = v'.attempts }) (rejected_shown v'.scan v'.attempts t.run t.last_pair t.pages t.wanted t.counted)
             (sym (append-nil v.outbox) ∙ ap (λ o. v.outbox ++ one_record v.last o) (sym none_made)))
 
       module _ (absent : IsAbsent v.index.entries p) where
@@ -391,8 +407,8 @@ module _ (v : CoreValue) (s : State) (k : Standing) (st : IsState v s k) (built 
           pub place_refused : (error : Error) → IsUnrecorded v error → Answers v s k Event.Build (Refused error) v
           place_refused error why = unrecorded put (Attempt p) placed_due has_place makes error why
 
-          placed_shown : (w : ScanValue) (attempts : ℕ) → ((r : ScanRun) → HasRun v.scan r → HasRun w (with_step r (HandedOut p))) → w.last ≡ Some p → w.pages ≡ v.scan.pages → attempts ≡ min (v.attempts + 1) (2 ^ 64 - 1) → Shows (record (placed v p) { scan = w; tried = v.tried + 1; attempts = attempts }) (after s (Attempt p)) (standing_after k put)
-          placed_shown w attempts went last pages counted = record {
+          placed_shown : (w : ScanValue) (attempts : ℕ) → ((r : ScanRun) → HasRun v.scan r → HasRun w (with_step r (HandedOut p))) → w.last ≡ Some p → w.pages ≡ v.scan.pages → w.wanted ≡ v.scan.wanted → attempts ≡ min (v.attempts + 1) (2 ^ 64 - 1) → Shows (record (placed v p) { scan = w; tried = v.tried + 1; attempts = attempts }) (after s (Attempt p)) (standing_after k put)
+          placed_shown w attempts went last pages wanted counted = record {
             rows = h.rows;
             entries = ap (λ m. set_at m p (after_action BuildPut (get m p))) h.entries;
             txns = h.txns;
@@ -405,7 +421,7 @@ module _ (v : CoreValue) (s : State) (k : Standing) (st : IsState v s k) (built 
             places = h.places;
             cleaned = h.cleaned;
             bound = sym last;
-            scan = passed_scan w went (after s (Attempt p)) (standing_after k put) refl refl refl refl;
+            scan = passed_scan w went wanted (after s (Attempt p)) (standing_after k put) refl refl refl refl;
             made = ap (λ n. n + 1) h.made;
             begun = h.begun;
             active = h.active;
@@ -416,7 +432,7 @@ module _ (v : CoreValue) (s : State) (k : Standing) (st : IsState v s k) (built 
 
           pub placed_made : HasNextNumber v → (v' : CoreValue) → HasPassed (placed v p) p v' → Answers v s k Event.Build put v'
           placed_made left v' t = subst (Answers v s k Event.Build put) (sym t.others)
-              (made v s k h Event.Build (λ x. x) tt first put (Attempt p) placed_due has_place (λ n. left) (record (placed v p) { scan = v'.scan; tried = v.tried + 1; attempts = v'.attempts }) (placed_shown v'.scan v'.attempts t.run t.last_pair t.pages t.counted)
+              (made v s k h Event.Build (λ x. x) tt first put (Attempt p) placed_due has_place (λ n. left) (record (placed v p) { scan = v'.scan; tried = v.tried + 1; attempts = v'.attempts }) (placed_shown v'.scan v'.attempts t.run t.last_pair t.pages t.wanted t.counted)
               (ap (λ o. v.outbox ++ one_record v.last o) (sym one_made)))
 
 -- ---- what a safe core knows

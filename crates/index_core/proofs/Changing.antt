@@ -28,7 +28,7 @@ use Rattle.core_model.specs.Records.{action_of, first_action}
 use Rattle.core_model.specs.States.{State}
 use Rattle.core_model.specs.Steps.{IsReady, Start, MachineStep, after, txn_at}
 use Rattle.core_contracts.specs.Events.{Event, Refused, Standing, Stepped}
-use Rattle.core_contracts.specs.Replies.{HasNoMoreChanges, IsDue, IsFirst, IsHeldByOther, IsOfNone, IsProper, WantsMemory, change_of, refusals, refused, refused_last, unknown}
+use Rattle.core_contracts.specs.Replies.{HasNoMoreChanges, IsDue, IsFirst, IsHeldByOther, IsOfNone, IsProper, change_of, refusals, refused, refused_last, unknown}
 use Rattle.index_core.specs.View.{Answers, CoreValue, IsState, Serves, Shows}
 use Rattle.index_core.specs.Moves.{IsAble, IsMine, IsReadyOrNone, IsUnchangeable, IsUnroomy, MayStart, first_made, is_busy, is_full, is_missing, is_unable, is_unknown, is_unroomy, next_change, txn_shown}
 use Rattle.index_core.proofs.Due.{made, no_number, refusal, wants_memory}
@@ -90,13 +90,12 @@ pub record IsChange (e : Event) (t : ℕ) (r : Place) (rows : Row → Rows) : Ty
   pub proper : (s : State) → IsReady (txn_at s t) → IsProper s e
   pub refused : (s : State) (k : Standing) (o : Option Error) → IsFirst ((HasNoMoreChanges s t, TooManyChanges) ∷ (IsHeldByOther s t r, RowBusy) ∷ (get s.rows r ≡ None, NoSuchRow) ∷ []) o → IsFirst (refusals s k e) o
   pub due : (s : State) (k : Standing) (old : Row) → get s.rows r ≡ Some old → IsDue s k e Stepped (Some (Start t (change_of s t r (rows old))))
-  pub wants : WantsMemory e
 
 pub deletes : (t : ℕ) (r : Place) → IsChange (Event.Delete t r) t r Deleted
-deletes t r = record { of_none = λ s h. h; known = λ s h. h; proper = λ s h. h; refused = λ s k o h. h; due = λ s k old h. (old, h, refl, refl); wants = tt }
+deletes t r = record { of_none = λ s h. h; known = λ s h. h; proper = λ s h. h; refused = λ s k o h. h; due = λ s k old h. (old, h, refl, refl) }
 
 pub updates : (t : ℕ) (r : Place) (row : Row) → IsChange (Event.Update t r row) t r (λ old. Updated old row)
-updates t r row = record { of_none = λ s h. h; known = λ s h. h; proper = λ s h. h; refused = λ s k o h. h; due = λ s k old h. (old, h, refl, refl); wants = tt }
+updates t r row = record { of_none = λ s h. h; known = λ s h. h; proper = λ s h. h; refused = λ s k o h. h; due = λ s k old h. (old, h, refl, refl) }
 
 module _ (v : CoreValue) (t : ℕ) (r : Place) (e : Event) (rows : Row → Rows) (is : IsChange e t r rows) (asked : IsReadyOrNone (txn_shown v t)) where
   module _ (s : State) (k : Standing) (st : IsState v s k) where
@@ -135,7 +134,7 @@ module _ (v : CoreValue) (t : ℕ) (r : Place) (e : Event) (rows : Row → Rows)
 
         module _ (may : MayStart v t r) where
           wants_by : Answers v s k e (Refused Error.NoMemory) v
-          wants_by = wants_memory v s k h e there proper first Stepped step (is.due s k old found_is) (has_places v s k h may.fits) (λ n. may.numbered) is.wants
+          wants_by = wants_memory v s k h e there proper first Stepped step (is.due s k old found_is) (has_places v s k h may.fits) (λ n. may.numbered) (inl makes)
 
           abbrev c : ChangeValue
           c = next_change v t r (rows old)

@@ -86,7 +86,7 @@ module _ (v : CoreValue) (s : State) (k : Standing) (st : IsState v s k) (indexe
       places = h.places;
       cleaned = refl;
       bound = h.bound;
-      scan = record { run = h.scan.run; made = h.scan.made; given = h.scan.given; missed = h.scan.missed; taken = h.scan.taken; in_a_row = h.scan.in_a_row };
+      scan = record { run = h.scan.run; made = h.scan.made; given = h.scan.given; missed = h.scan.missed; taken = h.scan.taken; in_a_row = h.scan.in_a_row; untaken = h.scan.untaken };
       made = h.made;
       begun = h.begun;
       active = h.active;
@@ -138,7 +138,7 @@ module _ (v : CoreValue) (s : State) (k : Standing) (st : IsState v s k) (indexe
 
       pub clean_refused : (error : Error) → IsUnrecorded v error → Answers v s k Event.Clean (Refused error) v
       clean_refused error (inl why) = subst (λ e. Answers v s k Event.Clean (Refused e) v) (sym why.0) (no_number v s k h Event.Clean (λ x. x) tt first out (MachineStep.Clean p) out_due (λ x. x) (λ e. not_none refl e) why.1)
-      clean_refused error (inr why) = subst (λ e. Answers v s k Event.Clean (Refused e) v) (sym why.0) (wants_memory v s k h Event.Clean (λ x. x) tt first out (MachineStep.Clean p) out_due (λ x. x) (λ n. why.1) tt)
+      clean_refused error (inr why) = subst (λ e. Answers v s k Event.Clean (Refused e) v) (sym why.0) (wants_memory v s k h Event.Clean (λ x. x) tt first out (MachineStep.Clean p) out_due (λ x. x) (λ n. why.1) (inl (λ e. not_none refl e)))
 
       out_shown : Shows (taken_out v p) (after s (MachineStep.Clean p)) (standing_after k out)
       out_shown = record {
@@ -154,7 +154,7 @@ module _ (v : CoreValue) (s : State) (k : Standing) (st : IsState v s k) (indexe
         places = h.places;
         cleaned = refl;
         bound = h.bound;
-        scan = record { run = h.scan.run; made = h.scan.made; given = h.scan.given; missed = h.scan.missed; taken = h.scan.taken; in_a_row = h.scan.in_a_row };
+        scan = record { run = h.scan.run; made = h.scan.made; given = h.scan.given; missed = h.scan.missed; taken = h.scan.taken; in_a_row = h.scan.in_a_row; untaken = h.scan.untaken };
         made = ap (λ n. n + 1) h.made;
         begun = h.begun;
         active = h.active;
@@ -187,7 +187,7 @@ module _ (v : CoreValue) (s : State) (k : Standing) (st : IsState v s k) (indexe
         places = h.places;
         cleaned = refl;
         bound = h.bound;
-        scan = record { run = h.scan.run; made = h.scan.made; given = h.scan.given; missed = h.scan.missed; taken = h.scan.taken; in_a_row = h.scan.in_a_row };
+        scan = record { run = h.scan.run; made = h.scan.made; given = h.scan.given; missed = h.scan.missed; taken = h.scan.taken; in_a_row = h.scan.in_a_row; untaken = h.scan.untaken };
         made = h.made;
         begun = h.begun;
         active = h.active;

@@ -59,7 +59,7 @@ module _ (v : CoreValue) (s : State) (k : Standing) (st : IsState v s k) where
 
     pub create_refused : (error : Error) → IsUnrecorded v error → Answers v s k Event.Create (Refused error) v
     create_refused error (inl why) = subst (λ e. Answers v s k Event.Create (Refused e) v) (sym why.0) (no_number v s k h Event.Create (λ x. x) tt first reply MachineStep.Create due (λ x. x) (λ e. not_none refl e) why.1)
-    create_refused error (inr why) = subst (λ e. Answers v s k Event.Create (Refused e) v) (sym why.0) (wants_memory v s k h Event.Create (λ x. x) tt first reply MachineStep.Create due (λ x. x) (λ n. why.1) tt)
+    create_refused error (inr why) = subst (λ e. Answers v s k Event.Create (Refused e) v) (sym why.0) (wants_memory v s k h Event.Create (λ x. x) tt first reply MachineStep.Create due (λ x. x) (λ n. why.1) (inl (λ e. not_none refl e)))
 
     module _ (run : HasRun (begun None v.heap.pages) (begun_run None v.heap.pages)) where
       created_shown : Shows (index_created v) (after s MachineStep.Create) (standing_after k reply)
@@ -76,7 +76,7 @@ module _ (v : CoreValue) (s : State) (k : Standing) (st : IsState v s k) where
         places = h.places;
         cleaned = h.cleaned;
         bound = refl;
-        scan = record { run = begun_run None v.heap.pages; made = run; given = λ p. refl; missed = λ p. refl; taken = λ n. refl; in_a_row = refl };
+        scan = record { run = begun_run None v.heap.pages; made = run; given = λ p. refl; missed = λ p. refl; taken = λ n. refl; in_a_row = refl; untaken = λ page n wanted le. refl };
         made = ap (λ n. n + 1) h.made;
         begun = h.begun;
         active = h.active;

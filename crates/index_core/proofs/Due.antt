@@ -7,6 +7,7 @@ use Rattle.core_model.specs.Records.{action_of}
 use Rattle.core_model.specs.States.{State}
 use Rattle.core_model.specs.Steps.{MachineStep, after}
 use Rattle.core_contracts.proofs.Laws.{is_move}
+use Rattle.core_model.proofs.Laws.{not_none}
 use Rattle.core_contracts.specs.Events.{BuildReply, Built, CleanReply, Cleaned, Cleaner, Done, Empty, Ended, Event, Found, Idle, Kept, LifeIs, Placed, Refused, Rejected, Reply, RowIs, Scanned, Skipped, Standing, Stepped, Txn, Undone, Wrapped, standing_after}
 use Rattle.core_contracts.specs.Replies.{HasNoPlace, IsAllowed, IsDue, IsFirst, IsOfNone, IsProper, WantsMemory, accepted, after_any, no_memory, refusals, refusals_of, refused_last}
 use Rattle.core_contracts.specs.Served.{IsMove}
@@ -16,7 +17,7 @@ use Rattle.index_core.specs.View.{Answers, CoreValue, IsSafe, IsState, Serves, S
 
 -- a call that was refused, or that only reads, leaves the core as it was
 pub still : (v : CoreValue) (s : State) (k : Standing) (e : Event) (reply : Reply) → Shows v s k → standing_after k reply ≡ k → IsAllowed s k e reply None → Answers v s k e reply v
-still v s k e reply h same allowed = record { step = None; allowed = allowed; shown = subst (Shows v s) (sym same) h; outbox = sym (append-nil v.outbox) }
+still v s k e reply h same allowed = record { step = None; allowed = allowed; shown = subst (Shows v s) (sym same) h; outbox = sym (append-nil v.outbox); unchanged = λ none. refl }
 
 pub refusal : (v : CoreValue) (s : State) (k : Standing) (e : Event) (error : Error) → Shows v s k → IsAllowed s k e (Refused error) None → Answers v s k e (Refused error) v
 refusal v s k e error h allowed = still v s k e (Refused error) h refl allowed
@@ -39,7 +40,7 @@ module _ (v : CoreValue) (s : State) (k : Standing) (h : Shows v s k) (e : Event
         apart : (n m : ℕ) → n ≡ m → LAST_NUMBER ≤ n → m < LAST_NUMBER → ⊥
         apart n m e l r = omega (arith, e, l, r)
 
-    pub wants_memory : WantsMemory e → Answers v s k e (Refused Error.NoMemory) v
+    pub wants_memory : WantsMemory s e (Some step) → Answers v s k e (Refused Error.NoMemory) v
     wants_memory wants = refusal v s k e Error.NoMemory h (no_memory known proper first reply (Some step) due last_first wants)
 
     pub made : (v' : CoreValue) → Shows v' (after s step) (standing_after k reply) → v'.outbox ≡ v.outbox ++ one_record v.last (action_of s step) → Answers v s k e reply v'
@@ -48,6 +49,7 @@ module _ (v : CoreValue) (s : State) (k : Standing) (h : Shows v s k) (e : Event
       allowed = accepted known proper first reply (Some step) due last_first;
       shown = shown;
       outbox = waits ∙ ap (λ n. v.outbox ++ one_record n (action_of s step)) (sym h.made);
+      unchanged = λ none. absurd (not_none refl none);
     }
 
 -- ---- a core stays one

@@ -185,7 +185,7 @@ module _ (v : CoreValue) (t : ℕ) (row : Row) (asked : IsReadyOrNone (txn_shown
 
         module _ (numbered : v.last < LAST_NUMBER) where
           insert_wants : Answers v s k e (Refused Error.NoMemory) v
-          insert_wants = wants_memory v s k h e there proper first (Reply.Rid r) step due (has_places v s k h fits) (λ n. numbered) tt
+          insert_wants = wants_memory v s k h e there proper first (Reply.Rid r) step due (has_places v s k h fits) (λ n. numbered) (inl makes)
 
           abbrev c : ChangeValue
           c = next_change v t r (Inserted row)

@@ -94,7 +94,7 @@ module _ (v : CoreValue) (s : State) (k : Standing) (h : Shows v s k) (t : ℕ) 
     places = h.places;
     cleaned = h.cleaned;
     bound = h.bound;
-    scan = record { run = h.scan.run; made = h.scan.made; given = h.scan.given; missed = h.scan.missed; taken = h.scan.taken; in_a_row = h.scan.in_a_row };
+    scan = record { run = h.scan.run; made = h.scan.made; given = h.scan.given; missed = h.scan.missed; taken = h.scan.taken; in_a_row = h.scan.in_a_row; untaken = h.scan.untaken };
     made = ap (λ n. n + 1) h.made;
     begun = h.begun;
     active = fewer _ _ _ (shorter t x v.txns.active here) h.active;
@@ -127,13 +127,13 @@ module _ (v : CoreValue) (t : ℕ) where
     end_wants asked error v' e same s k is =
         let x = there v t has.active in
         subst (λ w. Answers v s k (Event.End t) (Refused error) w) (sym same) (subst (λ n. Answers v s k (Event.End t) (Refused n) v) (sym e)
-        (wants_memory v s k is.shown (Event.End t) (known v s k is.shown t x.0 x.1) (unchanged _ (listed v s k is.shown t x.0 x.1 ∙ subst HasNoChange x.1 asked)) refl Ended (MachineStep.End t) (refl, refl) (λ n. n) (λ n. has.numbered) tt))
+        (wants_memory v s k is.shown (Event.End t) (known v s k is.shown t x.0 x.1) (unchanged _ (listed v s k is.shown t x.0 x.1 ∙ subst HasNoChange x.1 asked)) refl Ended (MachineStep.End t) (refl, refl) (λ n. n) (λ n. has.numbered) (inl (λ n. not_none refl n))))
 
     pub commit_wants : IsReadyOrNone (txn_shown v t) → (error : Error) (v' : CoreValue) → error ≡ Error.NoMemory → v' ≡ v → Serves v (Event.Commit t) (Refused error) v'
     commit_wants asked error v' e same s k is =
         let x = there v t has.active in
         subst (λ w. Answers v s k (Event.Commit t) (Refused error) w) (sym same) (subst (λ n. Answers v s k (Event.Commit t) (Refused n) v) (sym e)
-        (wants_memory v s k is.shown (Event.Commit t) (known v s k is.shown t x.0 x.1) (is_ready v s k is.shown t x.0 x.1 (subst IsReadyOrNone x.1 asked)) refl (Reply.Committed (k.made + 1) (k.commits + 1)) (MachineStep.Commit t) (refl, refl) (λ n. n) (λ n. has.numbered) tt))
+        (wants_memory v s k is.shown (Event.Commit t) (known v s k is.shown t x.0 x.1) (is_ready v s k is.shown t x.0 x.1 (subst IsReadyOrNone x.1 asked)) refl (Reply.Committed (k.made + 1) (k.commits + 1)) (MachineStep.Commit t) (refl, refl) (λ n. n) (λ n. has.numbered) (inl (λ n. not_none refl n))))
 
     pub end_served : HasNoChange (txn_shown v t) → IsSound v.txns → (v' : CoreValue) → v' ≡ ended v t TxnAction.End → Serves v (Event.End t) Ended v'
     end_served asked sound v' same s k is =

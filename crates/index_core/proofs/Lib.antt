@@ -18,4 +18,6 @@ mod Waiting
 mod Stepped
 mod Undoing
 mod Skipping
+mod Refusing
+mod Steps
 pub mod Offered

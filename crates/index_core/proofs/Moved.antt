@@ -145,6 +145,7 @@ module _ (v : CoreValue) (s : State) (k : Standing) (h : Shows v s k) (t : ℕ) 
             missed = λ p. ap (λ f. f p) r.same_missed ∙ h.scan.missed p;
             taken = λ n. ap (λ f. f n) r.same_taken ∙ h.scan.taken n;
             in_a_row = ap (λ (n : Standing). n.scanned) did.standing ∙ h.scan.in_a_row;
+            untaken = λ page n wanted le. ap (λ f. f n) r.same_taken ∙ h.scan.untaken page n (ap (λ (w : ScanValue). w.wanted) (sym r.scan) ∙ wanted) le;
           };
           made = ap (λ (n : Standing). n.made) did.standing;
           begun = ap (λ (n : Standing). n.begun) did.standing ∙ h.begun ∙ sym r.begun;

@@ -186,7 +186,7 @@ module _ (v : CoreValue) (s : State) (k : Standing) (st : IsState v s k) (t : �
   spent_answers owes le = no_number v s k h (Event.Step t) (known v s k h t x here) (proper_by owes) refl Stepped (Next t) (refl, refl) (λ n. n) (makes_by owes) le
 
   wants_answers : (x.progress ≡ OwesRow) ⊎ (x.progress ≡ OwesEntry) → v.last < LAST_NUMBER → Answers v s k (Event.Step t) (Refused Error.NoMemory) v
-  wants_answers owes numbered = wants_memory v s k h (Event.Step t) (known v s k h t x here) (proper_by owes) refl Stepped (Next t) (refl, refl) (λ n. n) (λ n. numbered) tt
+  wants_answers owes numbered = wants_memory v s k h (Event.Step t) (known v s k h t x here) (proper_by owes) refl Stepped (Next t) (refl, refl) (λ n. n) (λ n. numbered) (inl (makes_by owes))
 
 -- ---- whatever state the core stands for
 owed_newest : (v : CoreValue) → IsSafe v → (t : ℕ) (x : TxnState) → txn_shown v t ≡ Some x → (x.progress ≡ OwesRow) ⊎ (x.progress ≡ OwesEntry) → (c : ChangeValue) × (last_change x ≡ Some c)

@@ -1,16 +1,16 @@
 -- Events that are to be skipped.
-use Rattle.core_model.specs.Changes.{Unchanged, as_list}
-use Rattle.std.proofs.Common.{None, Option, Some, [], ap, false, inl, inr, refl, subst, sym, true, ℕ, ◌∙◌, ◌≡◌, ◌≢◌}
+use Rattle.core_model.specs.Changes.{as_list}
+use Rattle.std.proofs.Common.{None, Option, Some, [], ap, inl, inr, refl, subst, sym, ℕ, ◌∙◌, ◌≡◌, ◌≢◌}
 use Rattle.records.specs.Values.{Place}
 use Rattle.records.specs.declared.row.Row.{Row}
 use Rattle.txn_table.specs.Table.{TxnState, rolls}
 use Rattle.txn_table.specs.declared.progress.Progress.{Progress}
 use Rattle.txn_table.specs.declared.progress.Progress.TheVariants.{OwesEntry, OwesRow, Ready, Rolling, UndoesEntry, UndoesRow}
-use Rattle.core_model.specs.States.{Active, Made, State}
+use Rattle.core_model.specs.States.{Active, State}
 use Rattle.core_model.specs.Steps.{IsReady, txn_at}
 use Rattle.core_contracts.specs.Events.{Event, Skipped, Standing}
 use Rattle.core_contracts.specs.Replies.{IsOfNone, IsProper, Owes, skipped}
-use Rattle.index_core.specs.View.{Answers, CoreValue, IsProgressOf, IsState, Serves, Shows, ShowsTxn}
+use Rattle.index_core.specs.View.{CoreValue, IsProgressOf, Serves, Shows}
 use Rattle.index_core.specs.Moves.{IsUnready, OwesNone, txn_shown}
 use Rattle.index_core.proofs.Due.{still}
 use Rattle.index_core.proofs.Moved.{at, known, listed, one}

@@ -228,11 +228,14 @@ module _ (v : CoreValue) (s : State) (k : Standing) (st : IsState v s k) (t : �
     makes_by (NewMarked applied) e = not_none refl e
     makes_by OldSet e = not_none refl e
 
+    makes : action_of s (Undo t) ≢ None
+    makes none = makes_by (txn_at s t).phase (sym action_is ∙ none)
+
     spent_answers : LAST_NUMBER ≤ v.last → Answers v s k (Event.Undo t) (Refused Error.Exhausted) v
-    spent_answers le = no_number v s k h (Event.Undo t) (known v s k h t x here) tt refl Undone (Undo t) (inr (changed, refl), refl) (λ n. n) (λ none. makes_by (txn_at s t).phase (sym action_is ∙ none)) le
+    spent_answers le = no_number v s k h (Event.Undo t) (known v s k h t x here) tt refl Undone (Undo t) (inr (changed, refl), refl) (λ n. n) makes le
 
     wants_answers : v.last < LAST_NUMBER → Answers v s k (Event.Undo t) (Refused Error.NoMemory) v
-    wants_answers numbered = wants_memory v s k h (Event.Undo t) (known v s k h t x here) tt refl Undone (Undo t) (inr (changed, refl), refl) (λ n. n) (λ n. numbered) tt
+    wants_answers numbered = wants_memory v s k h (Event.Undo t) (known v s k h t x here) tt refl Undone (Undo t) (inr (changed, refl), refl) (λ n. n) (λ n. numbered) (inl makes)
 
   -- ---- no change is left
   module _ (none : last_change x ≡ None) where

@@ -48,7 +48,7 @@ other_outbox v waiting safe = record { state = safe.state; standing = safe.stand
       places = h.places;
       cleaned = h.cleaned;
       bound = h.bound;
-      scan = record { run = h.scan.run; made = h.scan.made; given = h.scan.given; missed = h.scan.missed; taken = h.scan.taken; in_a_row = h.scan.in_a_row };
+      scan = record { run = h.scan.run; made = h.scan.made; given = h.scan.given; missed = h.scan.missed; taken = h.scan.taken; in_a_row = h.scan.in_a_row; untaken = h.scan.untaken };
       made = h.made;
       begun = h.begun;
       active = h.active;

@@ -51,6 +51,7 @@ pub record HasPassed (v : CoreValue) (p : Pair) (v' : CoreValue) : Type 0 where
   pub run : (r : ScanRun) → HasRun v.scan r → HasRun v'.scan (with_step r (HandedOut p))
   pub last_pair : v'.scan.last ≡ Some p
   pub pages : v'.scan.pages ≡ v.scan.pages
+  pub wanted : v'.scan.wanted ≡ v.scan.wanted
   pub counted : v'.attempts ≡ min (v.attempts + 1) (2 ^ 64 - 1)
   pub others : v' ≡ record v { scan = v'.scan; tried = v.tried + 1; attempts = v'.attempts }
 

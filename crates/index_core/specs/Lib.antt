@@ -10,3 +10,4 @@ pub mod Loading
 pub mod Asked
 pub mod Outbox
 pub mod Undoing
+pub mod Steps

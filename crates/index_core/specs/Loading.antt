@@ -9,7 +9,7 @@ use Rattle.sorted_scan.specs.Scans.{begun}
 use Rattle.core_model.specs.Histories.{highest_of}
 use Rattle.index_core.specs.View.{CoreValue}
 
--- no event was served yet that has begun a transaction
+-- no transaction is active
 abbrev pub IsQuiet : CoreValue → Type 0
 IsQuiet v = v.txns.active ≡ []
 

@@ -2,7 +2,7 @@
 use Rattle.core_model.specs.Changes.{as_list}
 use Rattle.std.specs.FinMap.{get}
 use Rattle.std.specs.Option.{option_map}
-use Rattle.std.specs.Prelude.{◌≤◌, Bool, List, None, Option, Some, length, min, ℕ, ◌++◌, ◌-◌, ◌^◌, ◌≡◌}
+use Rattle.std.specs.Prelude.{◌≤◌, Bool, List, None, Option, Some, false, length, min, ℕ, ◌++◌, ◌-◌, ◌^◌, ◌≡◌}
 use Rattle.records.specs.RecordValue.{RecordValue}
 use Rattle.records.specs.Values.{Place}
 use Rattle.records.specs.declared.pair.Pair.{Pair}
@@ -64,6 +64,8 @@ pub record IsScan (v : ScanValue) (s : State) (k : Standing) : Type 0 where
   pub missed : (p : Pair) → s.missed p ≡ is_missed run p
   pub taken : (n : ℕ) → s.taken n ≡ is_taken run n
   pub in_a_row : k.scanned ≡ taken_in_a_row run.steps
+  -- from the page that is wanted on, none was taken
+  pub untaken : (page n : ℕ) → v.wanted ≡ Some page → page ≤ n → s.taken n ≡ false
 
 -- ---- all of it
 
@@ -109,6 +111,8 @@ pub record Answers (old : CoreValue) (s : State) (k : Standing) (e : Event) (rep
   pub allowed : IsAllowed s k e reply step
   pub shown : Shows new (after_any s step) (standing_after k reply)
   pub outbox : new.outbox ≡ old.outbox ++ records_by s k.made step
+  -- what is refused or skipped, or only reads, makes no step
+  pub unchanged : step ≡ None → new ≡ old
 
 -- whatever state the core stands for
 abbrev pub Serves : CoreValue → Event → Reply → CoreValue → Type 0

@@ -16,7 +16,7 @@ mod step;
 mod store;
 mod undo;
 
-pub use laws::{each_answer, skipped_events};
+pub use laws::{each_answer, each_change, refused_calls, skipped_events};
 pub use parts::Ticket;
 pub use reply::{BuildReply, CleanReply, Owed, Undone};
 pub use store::Core;

@@ -47,9 +47,10 @@ impl<A: Allocator + Copy> Core<A> {
         Ok(Core { parts })
     }
 
-    /// Leaves this row at the place, or none, before the first event. It makes no record.
+    /// Leaves this row at the place, or none, while no transaction is active. It makes no record.
     pub fn load_row(&mut self, rid: Rid, row: Option<Row>)
-        requires { rid.page < (value_of self.old).heap.pages }
+        requires quiet { IsQuiet (value_of self.old) }
+        requires inside { rid.page < (value_of self.old).heap.pages }
         ensures { value_of self.new ≡ record (value_of self.old) {
           heap = record (value_of self.old).heap { rows = set_at (value_of self.old).heap.rows rid row };
         } }
@@ -57,7 +58,7 @@ impl<A: Allocator + Copy> Core<A> {
         self.parts.load_row(rid, row);
     }
 
-    /// Leaves this entry of the pair, or none, before the first event. It makes no record.
+    /// Leaves this entry of the pair, or none, while no transaction is active. It makes no record.
     ///
     /// `IndexFull` where it would add an entry and no place is left, else `NoMemory`, which too comes
     /// only where an entry is to be added. After a refusal the core is as before.
@@ -74,7 +75,7 @@ impl<A: Allocator + Copy> Core<A> {
         self.parts.load_entry(pair, mark)
     }
 
-    /// Leaves the index this far before the first event; a build goes on above the pair checkpointed
+    /// Leaves the index this far while no transaction is active; a build goes on above the pair checkpointed
     /// last. It makes no record.
     pub fn load_life(&mut self, life: Life)
         requires quiet { IsQuiet (value_of self.old) }

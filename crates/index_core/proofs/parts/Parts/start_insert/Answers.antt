@@ -1,3 +1,4 @@
+use Rattle.std.proofs.Common.{rules}
 use Rattle.std.proofs.lemmas.Result.{err_from_is_err_and}
 use Rattle.index_core.specs.Parts.{parts_of}
 use Rattle.index_core.proofs.Inserting.{insert_done, insert_no_memory}
@@ -11,3 +12,9 @@ returns-in_err-set_first g c =
 pub returns : goal.returns
 returns g c =
     insert_done (parts_of c.args.self.now) c.args.txn (record { key = c.args.key; body = c.args.body }) c.requires.asked c.in_ok-rid.rid c.in_ok-rid.ensures.place c.in_ok-rid.ensures.may _ _ c.next_change-change.ensures c.in_ok-set_first.ensures.ok c.in_ok-set_first.ensures.held
+
+pub set_first-requires-clause-safe : goal.set_first-requires-clause-safe
+set_first-requires-clause-safe g c = c.requires.safe
+
+pub returns-in_err-rid : goal.returns-in_err-rid
+returns-in_err-rid g c = search rules

@@ -1,0 +1,8 @@
+-- Replies of events that were neither refused nor skipped.
+use Rattle.core_contracts.specs.Events.{Refused, Reply, Skipped}
+
+-- the event got what it asked for
+abbrev pub IsGranted : Reply → Type 0
+IsGranted (Refused error) = ⊥
+IsGranted Skipped = ⊥
+IsGranted _ = Unit {0}
