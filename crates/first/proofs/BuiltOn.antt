@@ -20,7 +20,7 @@ use Rattle.index_core.specs.View as view
 use Rattle.index_core.specs.View.{Answers, AreOne, CoreValue, IsSafe, IsState}
 use Rattle.index_core.proofs.Offered.{stands}
 use Rattle.sector_device.specs.History.{History}
-use Rattle.first.specs.declared.engine.Engine.{Engine}
+use Rattle.first.specs.declared.parts.Parts.{Parts}
 use Rattle.first.specs.declared.event.Event.TheVariants as event
 use Rattle.first.specs.declared.event.Reply.{Reply}
 use Rattle.first.specs.Building.{AreBuilt, HasCome, IsIndexWhole, builds}
@@ -94,8 +94,8 @@ pub record ComesOn (v v' : CoreValue) : Type 0 where
   pub quiet : v.txns.active ≡ [] → v'.txns.active ≡ []
 
 module _ {D M : Type 0} where
-  pub comes_on : (replies : List (Reply M)) (old new : Engine D M) → AreBuilt replies old new → HasCome (core_of old) → ComesOn (core_of old) (core_of new)
-  comes_on [] old new same come = subst (λ (e : Engine D M). ComesOn (core_of old) (core_of e)) (sym same) (record { come = come; rows = refl; quiet = λ none. none })
+  pub comes_on : (replies : List (Reply M)) (old new : Parts D M) → AreBuilt replies old new → HasCome (core_of old) → ComesOn (core_of old) (core_of new)
+  comes_on [] old new same come = subst (λ (e : Parts D M). ComesOn (core_of old) (core_of e)) (sym same) (record { come = come; rows = refl; quiet = λ none. none })
   comes_on (r ∷ replies) old new built come =
       let serves = built.1.serves in
       let rest : ComesOn (core_of built.0) (core_of new) = comes_on replies built.0 new built.2 (comes (core_of old) (core_of built.0) built.1.reply serves come) in
@@ -105,21 +105,21 @@ module _ {D M : Type 0} where
         quiet = λ none. rest.quiet (none_active (core_of old) (core_of built.0) built.1.reply serves come none);
       }
 
-  pub last_on : (replies : List (Reply M)) (old new : Engine D M) → AreBuilt replies old new → IsSafe (core_of old) → (core_of old).last ≤ (core_of new).last
-  last_on [] old new same safe = omega (arith, ap (λ (e : Engine D M). (core_of e).last) same)
+  pub last_on : (replies : List (Reply M)) (old new : Parts D M) → AreBuilt replies old new → IsSafe (core_of old) → (core_of old).last ≤ (core_of new).last
+  last_on [] old new same safe = omega (arith, ap (λ (e : Parts D M). (core_of e).last) same)
   last_on (r ∷ replies) old new built safe =
       let later : IsSafe (core_of built.0) = stays_safe (core_of old) (core_of built.0) built.1.reply built.1.serves safe in
       omega (arith, last_grows (core_of old) (core_of built.0) core.Build built.1.reply built.1.serves safe, last_on replies built.0 new built.2 later)
 
-  pub mode_on : (replies : List (Reply M)) (old new : Engine D M) → AreBuilt replies old new → is_read_only new ≡ is_read_only old
-  mode_on [] old new same = ap (λ (e : Engine D M). e.read_only) same
-  mode_on (r ∷ replies) old new built = mode_on replies built.0 new built.2 ∙ ap (λ (e : Engine D M). e.read_only) built.1.rest
+  pub mode_on : (replies : List (Reply M)) (old new : Parts D M) → AreBuilt replies old new → is_read_only new ≡ is_read_only old
+  mode_on [] old new same = ap (λ (e : Parts D M). e.read_only) same
+  mode_on (r ∷ replies) old new built = mode_on replies built.0 new built.2 ∙ ap (λ (e : Parts D M). e.read_only) built.1.rest
 
-  pub one_more_built : (replies : List (Reply M)) (r : Reply M) (old mid new : Engine D M) → AreBuilt replies old mid → ServesInCore core.Build r mid new → AreBuilt (replies ++ r ∷ []) old new
-  one_more_built [] r old mid new same serves = (new, subst (λ (e : Engine D M). ServesInCore core.Build r e new) same serves, refl)
+  pub one_more_built : (replies : List (Reply M)) (r : Reply M) (old mid new : Parts D M) → AreBuilt replies old mid → ServesInCore core.Build r mid new → AreBuilt (replies ++ r ∷ []) old new
+  one_more_built [] r old mid new same serves = (new, subst (λ (e : Parts D M). ServesInCore core.Build r e new) same serves, refl)
   one_more_built (x ∷ replies) r old mid new built serves = (built.0, built.1, one_more_built replies r built.0 mid new built.2 serves)
 
-  pub at_built : (history : D → History) (failures : D → ℕ) (replies : List (Reply M)) (old new : Engine D M) → AreBuilt replies old new → (past : Past M) → IsAt history past old → IsAt history (and_then past (builds replies) replies) new
+  pub at_built : (history : D → History) (failures : D → ℕ) (replies : List (Reply M)) (old new : Parts D M) → AreBuilt replies old new → (past : Past M) → IsAt history past old → IsAt history (and_then past (builds replies) replies) new
   at_built history failures [] old new same past is = subst (λ (p : Past M). IsAt history p new) (sym (and_then_none past)) (subst (IsAt history past) (sym same) is)
   at_built history failures (r ∷ replies) old new built past is =
       subst (λ (p : Past M). IsAt history p new) (and_then_both past (event.Build ∷ []) (builds replies) (r ∷ []) replies)

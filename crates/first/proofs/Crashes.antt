@@ -5,7 +5,7 @@ use Rattle.sector_device.specs.Disk.{Image, Disk, IsCrashImage}
 use Rattle.sector_device.specs.History.{History, Between, Spans}
 use Rattle.first.specs.declared.event.Event.{Event}
 use Rattle.first.specs.declared.event.Reply.{Reply}
-use Rattle.first.specs.declared.engine.Engine.{Engine}
+use Rattle.first.specs.declared.parts.Parts.{Parts}
 use Rattle.first.specs.Store.{Past, acknowledged_by, Survives, IsAt, SurvivesAt, GoesOn}
 use Rattle.first.specs.Reopening.{SurvivesAnyCrash}
 use Rattle.first.proofs.Runs.{and_then_none, spans_rise}
@@ -27,7 +27,7 @@ no_borders : (disk_at : ℕ → Disk) (P : ℕ → Image → Type 0) (j from : �
 no_borders disk_at P j from [] to none spans = spans
 no_borders disk_at P j from (next ∷ borders) to none spans = absurd (omega (arith, none))
 
-module _ {D M : Type 0} (history : D → History) (past : Past M) (old new : Engine D M) (is : IsAt history past old) where
+module _ {D M : Type 0} (history : D → History) (past : Past M) (old new : Parts D M) (is : IsAt history past old) where
   crash_within : (events : List Event) (replies : List (Reply M)) → GoesOn history past events replies old new
       → Between (history new.writer.device).disk_at (history old.writer.device).moment (history new.writer.device).moment (λ image. (j : ℕ) × (j ≤ length events) × SurvivesAt past events replies j image)
   crash_within [] [] ran t image low high crash = (0, omega arith, subst (λ (p : Past _). Survives p (acknowledged_by p) image) (sym (and_then_none past)) (crash_now history past old is image (subst (λ (d : Disk). IsCrashImage d image) same crash)))
@@ -42,7 +42,7 @@ module _ {D M : Type 0} (history : D → History) (past : Past M) (old new : Eng
       let it = found (history new.writer.device).disk_at (SurvivesAt past (e ∷ es) rs) 0 (history old.writer.device).moment ran.borders (history new.writer.device).moment t image ran.spans (omega (arith, ran.one_each)) low high crash in
       (it.0, omega (arith, it.1, ran.one_each), it.2)
 
-pub survives_any_crash : {D M : Type 0} (history : D → History) (events : List Event) (replies : List (Reply M)) (old new : Engine D M)
+pub survives_any_crash : {D M : Type 0} (history : D → History) (events : List Event) (replies : List (Reply M)) (old new : Parts D M)
     → ((past : Past M) → IsAt history past old → GoesOn history past events replies old new) → SurvivesAnyCrash history events replies old new
 survives_any_crash history events replies old new ran past is = record {
   later = spans_rise (history new.writer.device).disk_at (SurvivesAt past events replies) 0 (history old.writer.device).moment goes.borders (history new.writer.device).moment goes.spans;

@@ -28,7 +28,7 @@ use Rattle.index_core.specs.declared.parts.Ticket.{Ticket}
 use Rattle.index_core.specs.declared.reply.BuildReply.{BuildReply}
 use Rattle.index_core.specs.declared.reply.BuildReply.TheVariants as build
 use Rattle.sector_device.specs.History.{History}
-use Rattle.first.specs.declared.engine.Engine.{Engine}
+use Rattle.first.specs.declared.parts.Parts.{Parts}
 use Rattle.first.specs.declared.event.Reply.{Reply}
 use Rattle.first.specs.declared.event.Reply.TheVariants as reply
 use Rattle.first.specs.Building.{AreBuilt, BuildsWhole, EndsWith, HasCome, IsBuiltToEnd, IsUnderway}
@@ -61,7 +61,7 @@ module _ (v v' : CoreValue) (s : State) (k : Standing) (is : IsState v s k) (sca
 -- ---- the steps so far
 
 -- the builder has made these steps, none of them the last, and the index is not complete
-pub record HasBuilt {D M : Type 0} (old now : Engine D M) (scanned : ℕ) : Type 0 where
+pub record HasBuilt {D M : Type 0} (old now : Parts D M) (scanned : ℕ) : Type 0 where
   pub replies : List (Reply M)
   pub each : AreBuilt replies old now
   pub underway : All IsUnderway replies
@@ -69,13 +69,13 @@ pub record HasBuilt {D M : Type 0} (old now : Engine D M) (scanned : ℕ) : Type
   pub going : ∥ IsGoing (core_of now) scanned ∥₁
   pub unfinished : (core_of now).life ≢ Complete
 
-pub none_built : {D M : Type 0} (old : Engine D M) → (core_of old).life ≢ Complete → HasBuilt old old 0
+pub none_built : {D M : Type 0} (old : Parts D M) → (core_of old).life ≢ Complete → HasBuilt old old 0
 none_built old unfinished = record { replies = []; each = refl; underway = λ i d below. absurd (omega (arith, below)); began = unfinished; going = ∥∥₁_map old.core.safe (begins (core_of old)); unfinished = unfinished }
   where
     begins : (v : CoreValue) → IsSafe v → IsGoing v 0
     begins v safe = record { state = safe.state; standing = safe.standing; is = safe.is; so_many = omega arith }
 
-module _ {D M : Type 0} (old mid new : Engine D M) (scanned n : ℕ) (so_far : HasBuilt old mid scanned) (r : Reply M) (way : IsUnderway r) (reply : core.Reply) (told : answered r ≡ Some reply) (rest : new ≡ record mid { core = new.core })
+module _ {D M : Type 0} (old mid new : Parts D M) (scanned n : ℕ) (so_far : HasBuilt old mid scanned) (r : Reply M) (way : IsUnderway r) (reply : core.Reply) (told : answered r ≡ Some reply) (rest : new ≡ record mid { core = new.core })
     (serves : view.Serves (core_of mid) core.Build reply (core_of new)) (less : (s : State) (k : Standing) (is : IsState (core_of mid) s k) → scanned ≤ k.scanned → IsLess (core_of mid) (core_of new) scanned n) where
   lessens : IsGoing (core_of mid) scanned → work_of (core_of new) n < work_of (core_of mid) scanned
   lessens at = (less at.state at.standing at.is at.so_many).less
@@ -94,11 +94,11 @@ module _ {D M : Type 0} (old mid new : Engine D M) (scanned n : ℕ) (so_far : H
   }
 
 -- a step that is not the last: less is left, and it is one more of those that were made
-pub record Stepped {D M : Type 0} (old mid new : Engine D M) (scanned n : ℕ) : Type 0 where
+pub record Stepped {D M : Type 0} (old mid new : Parts D M) (scanned n : ℕ) : Type 0 where
   pub falls : work_of (core_of new) n < work_of (core_of mid) scanned
   pub goes : HasBuilt old new n
 
-module _ {D M : Type 0} (old mid new : Engine D M) (scanned : ℕ) (so_far : HasBuilt old mid scanned) (rest : new ≡ record mid { core = new.core }) where
+module _ {D M : Type 0} (old mid new : Parts D M) (scanned : ℕ) (so_far : HasBuilt old mid scanned) (rest : new ≡ record mid { core = new.core }) where
   -- the step that a build made, and how far it is then
   module _ (n : ℕ) (b : BuildReply) (way : IsUnderway {M = M} (reply.Built b)) (serves : view.Serves (core_of mid) core.Build (built b) (core_of new))
       (less : (s : State) (k : Standing) → IsState (core_of mid) s k → scanned ≤ k.scanned → Answers (core_of mid) s k core.Build (built b) (core_of new) → IsLess (core_of mid) (core_of new) scanned n) where
@@ -171,8 +171,8 @@ module _ {D M : Type 0} (old mid new : Engine D M) (scanned : ℕ) (so_far : Has
 
 -- ---- where the index was complete
 
-module _ {D M : Type 0} (history : D → History) (failures : D → ℕ) (old : Engine D M) where
-  pub can_run_built : (replies : List (Reply M)) (new : Engine D M) → AreBuilt replies old new → CanRun history old → CanRun history new
+module _ {D M : Type 0} (history : D → History) (failures : D → ℕ) (old : Parts D M) where
+  pub can_run_built : (replies : List (Reply M)) (new : Parts D M) → AreBuilt replies old new → CanRun history old → CanRun history new
   can_run_built replies new built can = ⊎_elim
       (λ only. inl (record { mode = mode_on replies old new built ∙ only.mode; some = omega (arith, only.some, ∥∥₁_elim old.core.safe le_prop (last_on replies old new built)) }))
       (λ at. inr (_, at_built history failures replies old new built at.0 at.1))
@@ -209,11 +209,3 @@ module _ {D M : Type 0} (history : D → History) (failures : D → ℕ) (old : 
 
 pub last_within : (v : CoreValue) → ∥ IsSafe v ∥₁ → v.last ≤ LAST_NUMBER
 last_within v safe = ∥∥₁_elim safe le_prop (λ at. omega (arith, at.is.standing.within, at.is.shown.made))
-
--- a pair that was attempted was placed or rejected
-pub attempt_stepped : {D M : Type 0} (old mid new : Engine D M) (scanned : ℕ) → HasBuilt old mid scanned → new ≡ record mid { core = new.core } → (b : BuildReply)
-    → ((p : Pair) × b ≡ build.Placed p) ⊎ ((p : Pair) × b ≡ build.Rejected p) → view.Serves (core_of mid) core.Build (built b) (core_of new) → Stepped old mid new scanned 0
-attempt_stepped old mid new scanned so_far rest b which serves = ⊎_elim
-    (λ at. place_stepped old mid new scanned so_far rest at.0 (subst (λ x. view.Serves (core_of mid) core.Build (built x) (core_of new)) at.1 serves))
-    (λ at. reject_stepped old mid new scanned so_far rest at.0 (subst (λ x. view.Serves (core_of mid) core.Build (built x) (core_of new)) at.1 serves))
-    which

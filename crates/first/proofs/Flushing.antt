@@ -1,7 +1,6 @@
 -- A flush leaves the engine where the run says.
-use Rattle.std.proofs.Common.{◌≡◌, ◌≢◌, ℕ, ◌+◌, ◌≤◌, ◌<◌, List, [], ◌∷◌, ◌++◌, length, take, drop, sym, ◌∙◌, ap, subst, arith, append-nil, append_assoc, length-append, length-drop}
+use Rattle.std.proofs.Common.{Bool, None, false, inl, inr, ltb-false, ltb-true, nat_lt, refl, true, ◌≡◌, ◌≢◌, ℕ, ◌+◌, ◌≤◌, ◌<◌, List, [], ◌∷◌, ◌++◌, length, take, drop, sym, ◌∙◌, ap, subst, arith, append-nil, append_assoc, length-append, length-drop}
 use Rattle.std.proofs.lemmas.List.{nil_from_length, take-append-le, drop-append-le, drop-drop}
-use Rattle.std.proofs.Math.Seq.{take-append_seam}
 use Rattle.records.specs.RecordValue.{RecordValue}
 use Rattle.records.specs.declared.number.TheConstants.{LAST_NUMBER}
 use Rattle.core_model.specs.States.{State}
@@ -18,13 +17,16 @@ use Rattle.index_core.specs.Value.{value_of}
 use Rattle.index_core.specs.View.{CoreValue, IsState}
 use Rattle.first.specs.declared.event.Event.TheVariants.{Flush}
 use Rattle.first.specs.declared.event.Reply.{Reply}
-use Rattle.first.specs.declared.engine.Engine.{Engine}
+use Rattle.first.specs.declared.parts.Parts.{Parts}
 use Rattle.first.specs.declared.writer.Writer.{Writer}
-use Rattle.first.specs.History.{acknowledged, core_calls}
+use Rattle.first.specs.History.{IsOfKind, acknowledged, core_calls}
 use Rattle.first.specs.Writer.{HoldsRecords, LeftBy, StandsFor, FillsGroup, IsWriter}
 use Rattle.first.specs.Store.{Past, acknowledged_by, and_then, over, Survives, IsAt, ServesOn}
 use Rattle.first.specs.Parts.{unwritten}
-use Rattle.first.specs.Lawful.{Writes, handed_over}
+use Rattle.first.specs.Lawful.{Writes}
+use Rattle.gate_log.specs.Group.{FitsGroup, spellings}
+use Rattle.gate_log.specs.declared.group.TheConstants.{GROUP_MAX}
+use Rattle.std.proofs.lemmas.Bool.{cases_lt}
 use Rattle.first.proofs.Stories.{survives, at_next}
 use Rattle.first.proofs.Told.{pairs_last}
 
@@ -90,7 +92,7 @@ same_state v kept s k is = record {
   counted = is.counted;
 }
 
-module _ {D M : Type 0} (history : D → History) (old : Engine D M) (new_core : CoreValue) (mid : Writer D M) (hands : HandsOn (value_of old.core) new_core old.writer.waiting.items mid.waiting.items) (same : with_waiting old.writer mid) where
+module _ {D M : Type 0} (history : D → History) (old : Parts D M) (new_core : CoreValue) (mid : Writer D M) (hands : HandsOn (value_of old.core) new_core old.writer.waiting.items mid.waiting.items) (same : with_waiting old.writer mid) where
   module _ (past : Past M) (is : IsAt history past old) where
     abbrev area : Area
     area = log_area past.geometry is.half
@@ -119,7 +121,7 @@ module _ {D M : Type 0} (history : D → History) (old : Engine D M) (new_core :
     pub within : (new : Writer D M) → IsWriter history area is.frame handed_now new → new.base ≡ mid.base → new.base + new.synced ≤ LAST_NUMBER
     within new is_writer base = omega (arith, is_writer.reached, base, ap (λ w. w.base) same, is.base, last_is, numbered, sizes)
 
-  module _ (new : Engine D M) (core_is : value_of new.core ≡ new_core) (reply : Reply M)
+  module _ (new : Parts D M) (core_is : value_of new.core ≡ new_core) (reply : Reply M) (kind : IsOfKind None reply)
       (writer : (area : Area) (frame : Image) (handed : List RecordValue) → IsWriter history area frame handed mid → IsWriter history area frame handed new.writer)
       (images : (area : Area) (frame : Image) (handed : List RecordValue) → IsWriter history area frame handed mid → LeavesOnly (history mid.device) (history new.writer.device) (LeftBy area frame handed mid.synced))
       (grows : mid.synced ≤ new.writer.synced) (base : new.writer.base ≡ mid.base)
@@ -153,7 +155,7 @@ module _ {D M : Type 0} (history : D → History) (old : Engine D M) (new_core :
         shown = subst (λ (v : CoreValue). IsState v is.state is.standing) (sym whole) (same_state (value_of old.core) new_core.outbox is.state is.standing is.shown)
 
         at : IsAt history later new
-        at = at_next history past old new Flush reply is is.made (handed_now past is) is.state is.standing split has shown
+        at = at_next history past old new Flush reply kind is is.made (handed_now past is) is.state is.standing split has shown
             (writer (area past is) is.frame (handed_now past is) in_hand)
             (base ∙ ap (λ w. w.base) same)
             (omega (arith, base_is, safe (acknowledged_by past) (omega (arith, before, grows, base_is)))) mode
@@ -170,33 +172,70 @@ module _ {D M : Type 0} (history : D → History) (old : Engine D M) (new_core :
   unwritten_size : length (unwritten old) ≡ length mid.waiting.items + length new_core.outbox
   unwritten_size = omega (arith, length-append old.writer.waiting.items (value_of old.core).outbox, ap length hands.split, length-append hands.handed new_core.outbox, ap length hands.taken, length-append old.writer.waiting.items hands.handed)
 
-  nothing_waits : unwritten old ≡ [] → mid.waiting.items ≡ []
-  nothing_waits none = nil_from_length mid.waiting.items (omega (arith, unwritten_size, ap length none))
-
   was : unwritten old ≡ mid.waiting.items ++ new_core.outbox
   was = ap (λ (o : List RecordValue). old.writer.waiting.items ++ o) hands.split ∙ sym (append_assoc old.writer.waiting.items hands.handed new_core.outbox) ∙ ap (λ (o : List RecordValue). o ++ new_core.outbox) (sym hands.taken)
 
-  module _ (new : Engine D M) (core_is : value_of new.core ≡ new_core) where
-    outbox_is : (value_of new.core).outbox ≡ new_core.outbox
-    outbox_is = ap (λ (v : CoreValue). v.outbox) core_is
+  -- the last record made is the last of those that are in the log, wait, or are left to the core
+  module _ (past : Past M) (is : IsAt history past old) where
+    pub all_numbered : mid.base + mid.synced + length mid.waiting.items + length new_core.outbox ≡ (value_of old.core).last
+    all_numbered =
+        let in_hand = taken past is in
+        omega (arith, last_is past is, sizes past is, in_hand.reached, ap length in_hand.waits, length-drop mid.synced (handed_now past is), ap (λ w. w.base) same, is.base)
 
-    handed_is : handed_over old new ≡ mid.waiting.items
-    handed_is =
-        ap (λ n. take n (unwritten old)) (omega (arith, unwritten_size, ap length outbox_is)) ∙ ap (take (length mid.waiting.items)) was
-        ∙ take-append_seam mid.waiting.items new_core.outbox
+    -- the numbers of what was handed in are those of records
+    pub handed_within : mid.base + mid.synced + length mid.waiting.items ≤ LAST_NUMBER
+    handed_within = omega (arith, all_numbered, numbered past is)
 
-    -- what fills a group of the records that wait does so of those that were handed over
-    pub fills : (count : ℕ) → FillsGroup mid.waiting.items count → FillsGroup (handed_over old new) count
-    fills count most = subst (λ (rs : List RecordValue). FillsGroup rs count) (sym handed_is) most
+    -- where no more come behind the records that wait, the core has none
+    pub none_left : (more : Bool) → more ≡ nat_lt (mid.base + mid.synced + length mid.waiting.items) (value_of old.core).last → more ≡ false → length new_core.outbox ≡ 0
+    none_left more told none = omega (arith, ltb-false _ _ (sym told ∙ none), all_numbered)
+
+    pub some_left : (more : Bool) → more ≡ nat_lt (mid.base + mid.synced + length mid.waiting.items) (value_of old.core).last → more ≡ true → unwritten old ≢ []
+    some_left more told some none = absurd (omega (arith, ltb-true _ _ (sym told ∙ some), all_numbered, unwritten_size, ap length none))
+
+    -- where more come behind the records that wait, the core has them
+    pub core_has : (more : Bool) → more ≡ nat_lt (mid.base + mid.synced + length mid.waiting.items) (value_of old.core).last → more ≡ true → new_core.outbox ≢ []
+    core_has more told some none = absurd (omega (arith, ltb-true _ _ (sym told ∙ some), all_numbered, ap length none))
+
+  module _ (more : Bool) (all : more ≡ false → length new_core.outbox ≡ 0) (count : ℕ) (rest : more ≡ true → count < length mid.waiting.items) where
+    none_behind : length mid.waiting.items ≤ count → length new_core.outbox ≡ 0
+    none_behind over = by more all rest
+      where
+        by : (b : Bool) → (b ≡ false → length new_core.outbox ≡ 0) → (b ≡ true → count < length mid.waiting.items) → length new_core.outbox ≡ 0
+        by false none within = none refl
+        by true none within = absurd (omega (arith, within refl, over))
+
+    -- what fills a group of the records that wait fills one of all that are not in the log
+    pub fills : count ≤ length mid.waiting.items → FillsGroup mid.waiting.items count → FillsGroup (unwritten old) count
+    fills most_waits group = record {
+      fits = λ some. subst FitsGroup (sym (ap (take count) was ∙ take-append-le count mid.waiting.items new_core.outbox most_waits)) (group.fits some);
+      full = λ below. elim (cases_lt count (length mid.waiting.items)) [
+        | inl within ↦
+            subst (λ (rs : List RecordValue). GROUP_MAX < length (spellings rs)) (sym (ap (take (count + 1)) was ∙ take-append-le (count + 1) mid.waiting.items new_core.outbox (omega (arith, within))))
+            (group.full within)
+        | inr over ↦ absurd (omega (arith, below, over, unwritten_size, none_behind over))
+      ];
+    }
+
+    -- where every record is in the log, none waits
+    pub none_waits : unwritten old ≡ [] → mid.waiting.items ≡ []
+    none_waits none = nil_from_length mid.waiting.items (omega (arith, unwritten_size, ap length none))
+
+    -- where a record is not in the log, one waits
+    pub one_waits : unwritten old ≢ [] → mid.waiting.items ≢ []
+    one_waits some none = some (nil_from_length (unwritten old) (omega (arith, unwritten_size, ap length none, none_behind (omega (arith, ap length none)))))
 
   -- what was written is the first of what was not
-  module _ (new : Engine D M) (core_is : value_of new.core ≡ new_core) (past : Past M) (is : IsAt history past old) (after : IsWriter history (area past is) is.frame (handed_now past is) new.writer) (count : ℕ)
+  module _ (new : Parts D M) (core_is : value_of new.core ≡ new_core) (past : Past M) (is : IsAt history past old) (after : IsWriter history (area past is) is.frame (handed_now past is) new.writer) (count : ℕ)
       (base : new.writer.base ≡ mid.base) (synced : new.writer.synced ≡ mid.synced + count) (mode : new.read_only ≡ old.read_only) (failures : D → ℕ) (rises : failures mid.device ≤ failures new.writer.device) where
     in_hand : IsWriter history (area past is) is.frame (handed_now past is) mid
     in_hand = taken past is
 
-    enough : count ≤ length mid.waiting.items
+    pub enough : count ≤ length mid.waiting.items
     enough = omega (arith, after.reached, synced, ap length in_hand.waits, length-drop mid.synced (handed_now past is))
+
+    outbox_is : (value_of new.core).outbox ≡ new_core.outbox
+    outbox_is = ap (λ (v : CoreValue). v.outbox) core_is
 
     waiting : new.writer.waiting.items ≡ drop count mid.waiting.items
     waiting = after.waits ∙ ap (λ n. drop n (handed_now past is)) synced ∙ sym (ap (drop count) in_hand.waits ∙ drop-drop count mid.synced (handed_now past is) ∙ ap (λ n. drop n (handed_now past is)) (omega arith))
@@ -205,27 +244,11 @@ module _ {D M : Type 0} (history : D → History) (old : Engine D M) (new_core :
     writes = record {
       within = omega (arith, enough, unwritten_size);
       horizon = omega (arith, base, synced, ap (λ w. w.base) same, ap (λ w. w.synced) same);
-      left = ap (λ (o : List RecordValue). new.writer.waiting.items ++ o) (outbox_is new core_is) ∙ ap (λ (o : List RecordValue). o ++ new_core.outbox) waiting ∙ sym (ap (drop count) was ∙ drop-append-le count mid.waiting.items new_core.outbox enough);
-      core = core_is ∙ hands.others ∙ ap (λ (o : List RecordValue). record (value_of old.core) { outbox = o }) (sym (outbox_is new core_is));
+      left = ap (λ (o : List RecordValue). new.writer.waiting.items ++ o) outbox_is ∙ ap (λ (o : List RecordValue). o ++ new_core.outbox) waiting ∙ sym (ap (drop count) was ∙ drop-append-le count mid.waiting.items new_core.outbox enough);
+      core = core_is ∙ hands.others ∙ ap (λ (o : List RecordValue). record (value_of old.core) { outbox = o }) (sym outbox_is);
       mode = mode;
       later = omega (arith, rises, ap (λ w. failures w.device) same);
     }
 
-  pub all_written : (new : Engine D M) (past : Past M) → IsAt history past old → new.writer ≡ mid → mid.waiting.items ≡ [] → (value_of old.core).last ≤ new.writer.base + new.writer.synced → unwritten old ≡ []
-  all_written new past is writer_is none reached = nil_from_length (unwritten old) (omega (arith, unwritten_size, kept_none, ap length none))
-    where
-      in_hand : IsWriter history (area past is) is.frame (handed_now past is) mid
-      in_hand = taken past is
-
-      kept_none : length new_core.outbox ≡ 0
-      kept_none = omega (arith, reached, ap (λ w. w.base) writer_is, ap (λ w. w.synced) writer_is, ap (λ w. w.base) same, is.base, last_is past is, sizes past is, in_hand.reached)
-
   pub some_waits : mid.waiting.items ≢ [] → unwritten old ≢ []
-  some_waits waits none = waits (nothing_waits none)
-
-  -- where a record made is not in the log, something is unwritten
-  pub some_unwritten : (past : Past M) → IsAt history past old → (horizon : ℕ) → horizon ≡ mid.base + mid.synced → horizon < (value_of old.core).last → unwritten old ≢ []
-  some_unwritten past is horizon told below none = absurd (omega (arith, below, told, ap (λ w. w.base) same, ap (λ w. w.synced) same, is.base, last_is past is, ap length is.outbox, length-append is.handed (value_of old.core).outbox, sizes_none, is.writer.reached, ap length is.writer.waits, length-drop old.writer.synced is.handed))
-    where
-      sizes_none : length old.writer.waiting.items + length (value_of old.core).outbox ≡ 0
-      sizes_none = sym (length-append old.writer.waiting.items (value_of old.core).outbox) ∙ ap length none
+  some_waits waits none = waits (nil_from_length mid.waiting.items (omega (arith, unwritten_size, ap length none)))

@@ -24,7 +24,7 @@ use Rattle.gate_log.specs.Area.{Area, Log, InArea, IsAreaInside, HoldsGroups, St
 use Rattle.flip_image.specs.declared.half.Half.{Half}
 use Rattle.store_reader.specs.Contents.{log_area, HoldsLog, IsFound, IsUnreadable}
 use Rattle.store_reader.proofs.Readings.{one_geometry, one_given}
-use Rattle.first.specs.declared.engine.Engine.{Engine}
+use Rattle.first.specs.declared.parts.Parts.{Parts}
 use Rattle.first.specs.Parts.{core_of, device_of, is_read_only}
 use Rattle.first.specs.Writer.{LeftBy, IsWriter}
 use Rattle.first.specs.Store.{Past, over, IsAt, CanRun, Survives}
@@ -74,7 +74,7 @@ no_records : (records : List RecordValue) → (given_after nothing records).last
 no_records [] none = refl
 no_records (r ∷ records) none = absurd (omega (arith, none))
 
-module _ {D M : Type 0} (history : D → History) (image : Image) (g : GeometryValue) (half : Half) (holds : HoldsLog image g half []) (engine : Engine D M)
+module _ {D M : Type 0} (history : D → History) (image : Image) (g : GeometryValue) (half : Half) (holds : HoldsLog image g half []) (engine : Parts D M)
     (area_is : engine.writer.log.area ≡ log_area g half) (inside : IsAreaInside (log_area g half) image) (stands : Stands engine.writer.log image holds.groups) (content : (history (device_of engine)).disk.content ≡ image)
     (synced : IsSynced (history (device_of engine)).disk) where
   abbrev area : Area
@@ -115,6 +115,7 @@ module _ {D M : Type 0} (history : D → History) (image : Image) (g : GeometryV
   pub begun_at : (core_of engine).outbox ≡ [] → IsState (core_of engine) (opened (over g nothing)) (standing_at 0) → engine.writer.base ≡ 0 → engine.writer.synced ≡ 0 → engine.writer.waiting.items ≡ [] → engine.writer.failed ≡ false → engine.read_only ≡ false → IsAt history (opening g) engine
   begun_at outbox shown base reached waits sound serves = record {
     answered = refl;
+    kinds = tt;
     opens = opens_nothing g;
     made = [];
     handed = [];
@@ -154,16 +155,16 @@ loaded_core image now g log given core same found holds shown = record { geometr
 
 -- ---- the engine
 
-can_run_by : {D M : Type 0} (history : D → History) (engine : Engine D M) (g : GeometryValue) (last : ℕ) → is_read_only engine ≡ nat_lt 0 last → (core_of engine).last ≡ last → (last ≡ 0 → IsAt history (opening g) engine) → CanRun history engine
+can_run_by : {D M : Type 0} (history : D → History) (engine : Parts D M) (g : GeometryValue) (last : ℕ) → is_read_only engine ≡ nat_lt 0 last → (core_of engine).last ≡ last → (last ≡ 0 → IsAt history (opening g) engine) → CanRun history engine
 can_run_by history engine g last mode made begins = elim (cases_lt 0 last) [
   | inl some ↦ inl (record { mode = mode ∙ lt-ltb 0 last some; some = omega (arith, some, made) })
   | inr none ↦ inr (opening g, begins (omega (arith, none)))
 ]
 
-pub can_run_opened : {D M : Type 0} (history : D → History) (before : D) (engine : Engine D M) → IsOpened history before engine → CanRun history engine
+pub can_run_opened : {D M : Type 0} (history : D → History) (before : D) (engine : Parts D M) → IsOpened history before engine → CanRun history engine
 can_run_opened history before engine is = can_run_by history engine is.geometry is.given.last is.mode (ap (λ (v : CoreValue). v.last) is.core) is.begins
 
-module _ {D M : Type 0} (history : D → History) (before : D) (engine : Engine D M) (log : Log) (is : IsCoreOf (history before).disk.content log (core_of engine)) where
+module _ {D M : Type 0} (history : D → History) (before : D) (engine : Parts D M) (log : Log) (is : IsCoreOf (history before).disk.content log (core_of engine)) where
   pub opened_recovers : (past : Past M) (floor : ℕ) → Survives past floor (history before).disk.content → Recovers past floor engine
   opened_recovers past floor left = record {
     given = left.given;
@@ -173,7 +174,22 @@ module _ {D M : Type 0} (history : D → History) (before : D) (engine : Engine 
         ∙ ap (λ (x : GeometryValue). holding x is.given) (one_geometry (history before).disk.content is.geometry past.geometry is.given left.given is.found.gives left.gives)
         ∙ ap (holding past.geometry) (one_given (history before).disk.content is.geometry past.geometry is.given left.given is.found.gives left.gives);
     opens = left.opens;
+    come = record {
+      opening = over past.geometry left.given;
+      opens = left.opens;
+      made = [];
+      pairs = [];
+      state = opened (over past.geometry left.given);
+      standing = standing_at left.given.last;
+      served = served_nothing (over past.geometry left.given) shown_now.standing.within;
+      shown = shown_now;
+    };
   }
+    where
+      shown_now : IsState (core_of engine) (opened (over past.geometry left.given)) (standing_at left.given.last)
+      shown_now =
+          subst (λ (x : Given). IsState (core_of engine) (opened (over past.geometry x)) (standing_at x.last)) (one_given (history before).disk.content is.geometry past.geometry is.given left.given is.found.gives left.gives)
+          (subst (λ (x : GeometryValue). IsState (core_of engine) (opened (over x is.given)) (standing_at is.given.last)) (one_geometry (history before).disk.content is.geometry past.geometry is.given left.given is.found.gives left.gives) is.shown)
 
   module _ (inside : IsAreaInside log.area (history before).disk.content) (device : OnlySyncs history before (device_of engine)) (synced : IsSynced (history (device_of engine)).disk)
       (log_is : engine.writer.log ≡ log) (base : engine.writer.base ≡ (core_of engine).last) (waits : engine.writer.waiting.items ≡ []) (reached : engine.writer.synced ≡ 0) (sound : engine.writer.failed ≡ false)

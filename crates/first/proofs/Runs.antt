@@ -7,7 +7,7 @@ use Rattle.sector_device.specs.History.{History, LeavesOnly, Spans}
 use Rattle.sector_device.proofs.Moments.{spans_kept, spans_push}
 use Rattle.first.specs.declared.event.Event.{Event}
 use Rattle.first.specs.declared.event.Reply.{Reply}
-use Rattle.first.specs.declared.engine.Engine.{Engine}
+use Rattle.first.specs.declared.parts.Parts.{Parts}
 use Rattle.first.specs.Lawful.{is_read, IsLawful, AreLawful}
 use Rattle.first.specs.Parts.{is_read_only}
 use Rattle.first.specs.Store.{CanRun, Past, acknowledged_by, and_then, Survives, IsAt, ServesOn, SurvivesAt, GoesOn, AreServed}
@@ -46,7 +46,7 @@ survives_last past es rs event reply j c even last was =
     (subst (λ (p : Past _). Survives p (acknowledged_by (and_then past es rs)) c) (and_then_both past es (event ∷ []) rs (reply ∷ [])) was)))
 
 module _ {D M : Type 0} (history : D → History) (past : Past M) where
-  pub goes_nowhere : (old : Engine D M) → IsAt history past old → GoesOn history past [] [] old old
+  pub goes_nowhere : (old : Parts D M) → IsAt history past old → GoesOn history past [] [] old old
   goes_nowhere old is = record {
     at = subst (λ (p : Past _). IsAt history p old) (sym (and_then_none past)) is;
     kept = λ t le. refl;
@@ -55,7 +55,7 @@ module _ {D M : Type 0} (history : D → History) (past : Past M) where
     spans = refl;
   }
 
-  pub goes_further : (es : List Event) (rs : List (Reply M)) (old mid new : Engine D M) (event : Event) (reply : Reply M) → length rs ≡ length es → GoesOn history past es rs old mid → ServesOn history event reply mid new → GoesOn history past (es ++ event ∷ []) (rs ++ reply ∷ []) old new
+  pub goes_further : (es : List Event) (rs : List (Reply M)) (old mid new : Parts D M) (event : Event) (reply : Reply M) → length rs ≡ length es → GoesOn history past es rs old mid → ServesOn history event reply mid new → GoesOn history past (es ++ event ∷ []) (rs ++ reply ∷ []) old new
   goes_further es rs old mid new event reply even ran serves = record {
     at = subst (λ (p : Past _). IsAt history p new) (and_then_both past es (event ∷ []) rs (reply ∷ [])) served.0;
     kept = λ t le. served.1.kept t (omega (arith, le, spans_rise (history mid.writer.device).disk_at (SurvivesAt past es rs) 0 (history old.writer.device).moment ran.borders (history mid.writer.device).moment ran.spans)) ∙ ran.kept t le;
@@ -76,7 +76,7 @@ module _ {D M : Type 0} (history : D → History) (past : Past M) where
       served = serves (and_then past es rs) ran.at
 
 -- a request that was served leaves an engine that can be run
-pub can_run_after : {D M : Type 0} (history : D → History) (x : Event) (r : Reply M) (old new : Engine D M) → is_read_only old ≡ false → CanRun history old → ServesOn history x r old new → CanRun history new
+pub can_run_after : {D M : Type 0} (history : D → History) (x : Event) (r : Reply M) (old new : Parts D M) → is_read_only old ≡ false → CanRun history old → ServesOn history x r old new → CanRun history new
 can_run_after history x r old new serving can serves = ⊎_elim
     (λ only. absurd (false≢true (sym serving ∙ only.mode)))
     (λ at. inr (and_then at.0 (x ∷ []) (r ∷ []), (serves at.0 at.1).0))
@@ -89,13 +89,13 @@ is_serving only x serves changes = and_true only ∙ sym (ap (λ b. only && not 
     and_true true = refl
     and_true false = refl
 
-pub lawful_last : {D M : Type 0} (failures : D → ℕ) (es : List Event) (rs : List (Reply M)) (event : Event) (reply : Reply M) (old mid new : Engine D M) → AreLawful failures es rs old mid → IsLawful failures event reply mid new → AreLawful failures (es ++ event ∷ []) (rs ++ reply ∷ []) old new
+pub lawful_last : {D M : Type 0} (failures : D → ℕ) (es : List Event) (rs : List (Reply M)) (event : Event) (reply : Reply M) (old mid new : Parts D M) → AreLawful failures es rs old mid → IsLawful failures event reply mid new → AreLawful failures (es ++ event ∷ []) (rs ++ reply ∷ []) old new
 lawful_last failures [] [] event reply old mid new so_far lawful = (new, subst (λ e. IsLawful failures event reply e new) so_far lawful, refl)
 lawful_last failures [] (r ∷ rs) event reply old mid new so_far lawful = absurd so_far
 lawful_last failures (e ∷ es) [] event reply old mid new so_far lawful = absurd so_far
 lawful_last failures (e ∷ es) (r ∷ rs) event reply old mid new so_far lawful = (so_far.0, so_far.1, lawful_last failures es rs event reply so_far.0 mid new so_far.2 lawful)
 
-pub served_last : {D M : Type 0} (history : D → History) (failures : D → ℕ) (past : Past M) (es : List Event) (rs : List (Reply M)) (event : Event) (reply : Reply M) (old mid new : Engine D M) → IsAt history past old
+pub served_last : {D M : Type 0} (history : D → History) (failures : D → ℕ) (past : Past M) (es : List Event) (rs : List (Reply M)) (event : Event) (reply : Reply M) (old mid new : Parts D M) → IsAt history past old
     → AreServed history failures past es rs old mid → IsLawful failures event reply mid new → ServesOn history event reply mid new → AreServed history failures past (es ++ event ∷ []) (rs ++ reply ∷ []) old new
 served_last history failures past [] [] event reply old mid new at so_far lawful serves =
     let first = subst (λ e. ServesOn history event reply e new) so_far serves past at in

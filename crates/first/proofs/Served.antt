@@ -11,8 +11,8 @@ use Rattle.index_core.proofs.Offered.{stands}
 use Rattle.sector_device.specs.History.{History}
 use Rattle.first.specs.declared.event.Event.{Event}
 use Rattle.first.specs.declared.event.Reply.{Reply}
-use Rattle.first.specs.declared.engine.Engine.{Engine}
-use Rattle.first.specs.History.{acknowledged, answered, asked, both, core_calls}
+use Rattle.first.specs.declared.parts.Parts.{Parts}
+use Rattle.first.specs.History.{IsOfKind, acknowledged, answered, asked, both, core_calls}
 use Rattle.first.specs.Lawful.{ServesInCore}
 use Rattle.first.specs.Parts.{core_of}
 use Rattle.first.specs.Store.{over, ServesOn}
@@ -21,13 +21,17 @@ use Rattle.first.proofs.Stories.{served_in_core}
 both_are : (asks : Option core.Event) (answers : Option core.Reply) (e : core.Event) (r : core.Reply) → asks ≡ Some e → answers ≡ Some r → (e, r) ∷ [] ≡ both asks answers
 both_are asks answers e r p q = sym (ap (λ a. both a answers) p ∙ ap (both (Some e)) q)
 
+-- what the core answered is of its request's kind
+of_kind : {M : Type 0} (asks : Option core.Event) (r : Reply M) (e : core.Event) (told : core.Reply) → asks ≡ Some e → answered r ≡ Some told → IsOfKind asks r
+of_kind asks r e told p q = subst (λ o. IsOfKind o r) (sym p) (λ none. cc (q, none))
+
 one_more : (made handed outbox new : List RecordValue) (more : List RecordValue) → made ≡ handed ++ outbox → new ≡ outbox ++ more → made ++ more ≡ handed ++ new
 one_more made handed outbox new more split is = ap (λ (l : List RecordValue). l ++ more) split ∙ append_assoc handed outbox more ∙ ap (λ (l : List RecordValue). handed ++ l) (sym is)
 
-module _ {D M : Type 0} (history : D → History) (x : Event) (e : core.Event) (r : Reply M) (old new : Engine D M) (asks : asked x ≡ Some e) (in_core : ServesInCore e r old new) (quiet : (n : ℕ) → acknowledged n (r ∷ []) ≡ n) where
+module _ {D M : Type 0} (history : D → History) (x : Event) (e : core.Event) (r : Reply M) (old new : Parts D M) (asks : asked x ≡ Some e) (in_core : ServesInCore e r old new) (quiet : (n : ℕ) → acknowledged n (r ∷ []) ≡ n) where
   pub served : ServesOn history x r old new
   served past is =
-      served_in_core history past old new x r is (is.made ++ records_by is.state is.standing.made answer.step) (after_any is.state answer.step) (standing_after is.standing in_core.reply) in_core.rest
+      served_in_core history past old new x r (of_kind (asked x) r e in_core.reply asks in_core.reply_is) is (is.made ++ records_by is.state is.standing.made answer.step) (after_any is.state answer.step) (standing_after is.standing in_core.reply) in_core.rest
       (one_more is.made is.handed (core_of old).outbox (core_of new).outbox (records_by is.state is.standing.made answer.step) is.outbox answer.outbox)
       has
       (stands (core_of old) (core_of new) is.state is.standing e in_core.reply is.shown answer)

@@ -8,7 +8,7 @@ use Rattle.core_contracts.specs.Events.{Standing, after_build, after_clean, stan
 use Rattle.index_core.specs.View as view
 use Rattle.index_core.specs.View.{CoreValue, IsSafe}
 use Rattle.sector_device.specs.History.{History}
-use Rattle.first.specs.declared.engine.Engine.{Engine}
+use Rattle.first.specs.declared.parts.Parts.{Parts}
 use Rattle.first.specs.declared.event.Event.{Event}
 use Rattle.first.specs.declared.event.Event.TheVariants as event
 use Rattle.first.specs.declared.event.Reply.{Reply}
@@ -73,7 +73,7 @@ made_grows k (core.Refused e) = omega arith
 pub last_grows : (v v' : CoreValue) (e : core.Event) (r : core.Reply) → view.Serves v e r v' → IsSafe v → v.last ≤ v'.last
 last_grows v v' e r serves safe = omega (arith, made_grows safe.standing r, safe.is.shown.made, (serves safe.state safe.standing safe.is).shown.made)
 
-module _ {D M : Type 0} (history : D → History) (failures : D → ℕ) (x : Event) (r : Reply M) (old new : Engine D M) where
+module _ {D M : Type 0} (history : D → History) (failures : D → ℕ) (x : Event) (r : Reply M) (old new : Parts D M) where
   by_core : (o : Option core.Event) → asked x ≡ o → IsInCoreBy o r old new → (e : core.Event) × (asked x ≡ Some e) × ServesInCore e r old new
   by_core None is in_core = absurd in_core
   by_core (Some e) is in_core = (e, is, in_core)
@@ -86,7 +86,7 @@ module _ {D M : Type 0} (history : D → History) (failures : D → ℕ) (x : Ev
     answered_by_core = let by = by_core (asked x) refl in_core in subst (λ o. IsAnswerTo failures o r old new) (sym by.1) by.2
 
     same_mode : is_read_only new ≡ is_read_only old
-    same_mode = let by = by_core (asked x) refl in_core in ap (λ (e : Engine D M). e.read_only) by.2.rest
+    same_mode = let by = by_core (asked x) refl in_core in ap (λ (e : Parts D M). e.read_only) by.2.rest
 
     no_fewer : (core_of old).last ≤ (core_of new).last
     no_fewer = let by = by_core (asked x) refl in_core in ∥∥₁_elim old.core.safe le_prop (last_grows (core_of old) (core_of new) by.0 by.2.reply by.2.serves)
@@ -116,7 +116,7 @@ skips_only true x is = (refl, by (is_read x) is)
     by false e = refl
 
 -- a request that the core answers nothing to is a flush
-module _ {D M : Type 0} (history : D → History) (failures : D → ℕ) (x : Event) (r : Reply M) (old mid new : Engine D M) (is : x ≡ event.Flush) (same : mid ≡ old) (serving : (is_read_only old && not (is_read x)) ≡ false) where
+module _ {D M : Type 0} (history : D → History) (failures : D → ℕ) (x : Event) (r : Reply M) (old mid new : Parts D M) (is : x ≡ event.Flush) (same : mid ≡ old) (serving : (is_read_only old && not (is_read x)) ≡ false) where
   not_only : is_read_only old ≡ false
   not_only = is_serving (is_read_only old) x serving (ap is_read is)
 

@@ -23,12 +23,12 @@ use Rattle.store_reader.specs.Contents.{Gives, log_area}
 use Rattle.store_reader.proofs.Readings.{log_gives}
 use Rattle.first.specs.declared.event.Event.{Event}
 use Rattle.first.specs.declared.event.Reply.{Reply}
-use Rattle.first.specs.declared.engine.Engine.{Engine}
-use Rattle.first.specs.History.{acknowledged, answered, asked, both, core_calls}
+use Rattle.first.specs.declared.parts.Parts.{Parts}
+use Rattle.first.specs.History.{IsOfKind, acknowledged, answered, asked, both, core_calls}
 use Rattle.first.specs.Writer.{LeftBy, IsWriter}
 use Rattle.first.specs.Parts.{core_of}
 use Rattle.first.specs.Store.{Past, items_told, acknowledged_by, and_then, over, Survives, IsAt}
-use Rattle.first.proofs.Told.{acknowledged_both, pairs_last}
+use Rattle.first.proofs.Told.{acknowledged_both, kinds_last, pairs_last}
 
 -- an image with a prefix of the records gives a beginning of the history
 pub survives : {M : Type 0} (past : Past M) (half : Half) (frame : Image) (made handed outbox : List RecordValue) (s : State) (k : Standing) (n floor : ℕ) (image : Image)
@@ -60,7 +60,7 @@ survives past half frame made handed outbox s k n floor image can store fresh be
     gives : Gives image past.geometry (given_after nothing read)
     gives = log_gives past.geometry half frame image left.holds.groups read store fresh left.holds.outside left.holds.held (sym left.holds.records_are) following room
 
-module _ {D M : Type 0} (history : D → History) (past : Past M) (old new : Engine D M) (x : Event) (r : Reply M) (is : IsAt history past old) where
+module _ {D M : Type 0} (history : D → History) (past : Past M) (old new : Parts D M) (x : Event) (r : Reply M) (kind : IsOfKind (asked x) r) (is : IsAt history past old) where
   abbrev later : Past M
   later = and_then past (x ∷ []) (r ∷ [])
 
@@ -78,6 +78,7 @@ module _ {D M : Type 0} (history : D → History) (past : Past M) (old new : Eng
       → IsAt history later new
   at_next made handed s k split served shown writer base safe mode = record {
     answered = omega (arith, is.answered, length-append past.replies (r ∷ []), length-append past.events (x ∷ []));
+    kinds = kinds_last past.events past.replies x r is.kinds kind;
     opens = is.opens;
     made = made;
     handed = handed;
@@ -124,7 +125,7 @@ module _ {D M : Type 0} (history : D → History) (past : Past M) (old new : Eng
       images = subst (λ h. LeavesOnly h (history new.writer.device) (Survives later (acknowledged_by past))) (ap (λ w. history w.device) same) (started (history new.writer.device) _ (after_it at reached))
 
 -- what a crash leaves of an engine as it is
-pub crash_now : {D M : Type 0} (history : D → History) (past : Past M) (engine : Engine D M) → IsAt history past engine → (image : Image) → IsCrashImage (history engine.writer.device).disk image
+pub crash_now : {D M : Type 0} (history : D → History) (past : Past M) (engine : Parts D M) → IsAt history past engine → (image : Image) → IsCrashImage (history engine.writer.device).disk image
     → Survives past (acknowledged_by past) image
 crash_now history past engine is image crash =
     survives past is.half is.frame is.made is.handed (core_of engine).outbox is.state is.standing engine.writer.synced (acknowledged_by past) image is.opens is.store is.fresh is.began is.outbox is.served is.safe (is.writer.images image crash)

@@ -4,7 +4,7 @@ use Rattle.core_contracts.specs.Events as core
 use Rattle.first.specs.declared.event.Event.{Event}
 use Rattle.first.specs.declared.event.Reply.{Reply}
 use Rattle.first.specs.declared.event.Reply.TheVariants as reply
-use Rattle.first.specs.History.{acknowledged, answered, asked, both, core_calls}
+use Rattle.first.specs.History.{AreOfKind, IsOfKind, acknowledged, answered, asked, both, core_calls}
 
 pub pairs_last : {M : Type 0} (events : List Event) (replies : List (Reply M)) (e : Event) (r : Reply M) → length replies ≡ length events → core_calls (events ++ e ∷ []) (replies ++ r ∷ []) ≡ core_calls events replies ++ both (asked e) (answered r)
 pairs_last [] [] e r even = append-nil (both (asked e) (answered r))
@@ -13,6 +13,13 @@ pairs_last (x ∷ events) [] e r even = absurd (omega (arith, even))
 pairs_last (x ∷ events) (y ∷ replies) e r even =
     ap (λ (l : List (core.Event × core.Reply)). both (asked x) (answered y) ++ l) (pairs_last events replies e r (omega (arith, even)))
     ∙ sym (append_assoc (both (asked x) (answered y)) (core_calls events replies) (both (asked e) (answered r)))
+
+-- a reply more that is of its request's kind
+pub kinds_last : {M : Type 0} (events : List Event) (replies : List (Reply M)) (e : Event) (r : Reply M) → AreOfKind events replies → IsOfKind (asked e) r → AreOfKind (events ++ e ∷ []) (replies ++ r ∷ [])
+kinds_last [] [] e r so_far is = (is, tt)
+kinds_last [] (x ∷ replies) e r so_far is = absurd so_far
+kinds_last (x ∷ events) [] e r so_far is = absurd so_far
+kinds_last (x ∷ events) (y ∷ replies) e r so_far is = (so_far.0, kinds_last events replies e r so_far.1 is)
 
 pub acknowledged_both : {M : Type 0} (n : ℕ) (replies more : List (Reply M)) → acknowledged n (replies ++ more) ≡ acknowledged (acknowledged n replies) more
 acknowledged_both n [] more = refl

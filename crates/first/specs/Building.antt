@@ -17,7 +17,7 @@ use Rattle.sector_device.specs.History.{History}
 use Rattle.index_core.specs.View.{CoreValue, IsState}
 use Rattle.index_core.specs.declared.parts.Ticket.{Ticket}
 use Rattle.index_core.specs.declared.reply.BuildReply.TheVariants as build
-use Rattle.first.specs.declared.engine.Engine.{Engine}
+use Rattle.first.specs.declared.parts.Parts.{Parts}
 use Rattle.first.specs.declared.event.Event.{Event}
 use Rattle.first.specs.declared.event.Event.TheVariants as event
 use Rattle.first.specs.declared.event.Reply.{Reply}
@@ -34,9 +34,9 @@ builds [] = []
 builds (r ∷ replies) = event.Build ∷ builds replies
 
 -- each of these replies in turn is one that the core could give to a request to build
-abbrev pub AreBuilt : {D M : Type 0} → List (Reply M) → Engine D M → Engine D M → Type 0
+abbrev pub AreBuilt : {D M : Type 0} → List (Reply M) → Parts D M → Parts D M → Type 0
 AreBuilt [] old new = new ≡ old
-AreBuilt {D} {M} (r ∷ replies) old new = (mid : Engine D M) × ServesInCore core.Build r old mid × AreBuilt replies mid new
+AreBuilt {D} {M} (r ∷ replies) old new = (mid : Parts D M) × ServesInCore core.Build r old mid × AreBuilt replies mid new
 
 -- a step that is not the last one: it took a page, attempted a pair, or made a checkpoint
 abbrev pub IsUnderway : {M : Type 0} → Reply M → Type 0
@@ -66,7 +66,7 @@ IsEnd (Err e) replies old = (old.life ≢ Complete) × EndsWith (reply.Refused e
 
 -- The engine went on by steps of the builder alone, to the end that is answered; and where some run had left it, it is
 -- where that run with these requests leaves it.
-pub record IsBuiltToEnd {D M : Type 0} (history : D → History) (result : Result Ticket Error) (old new : Engine D M) : Type 0 where
+pub record IsBuiltToEnd {D M : Type 0} (history : D → History) (result : Result Ticket Error) (old new : Parts D M) : Type 0 where
   pub replies : List (Reply M)
   pub each : AreBuilt replies old new
   pub ends : IsEnd result replies (core_of old)

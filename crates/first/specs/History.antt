@@ -1,5 +1,5 @@
 -- What was asked and answered, in the words of the core.
-use Rattle.std.specs.Prelude.{List, None, Option, Some, [], max, ℕ, ◌++◌, ◌∷◌}
+use Rattle.std.specs.Prelude.{List, None, Option, Some, [], max, ℕ, ◌++◌, ◌∷◌, ◌≢◌}
 use Rattle.core_contracts.specs.Events as core
 use Rattle.index_core.specs.Builds.{built}
 use Rattle.index_core.specs.Cleaning.{cleaner}
@@ -61,3 +61,18 @@ abbrev pub acknowledged : {M : Type 0} → ℕ → List (Reply M) → ℕ
 acknowledged n [] = n
 acknowledged n (reply.Horizon m ∷ replies) = acknowledged (max n m) replies
 acknowledged n (_ ∷ replies) = acknowledged n replies
+
+-- The reply is of the request's kind: what the core can answer, to a request that asks it for something; and to a flush how far
+-- the log is safe, that the log is full, or a refusal.
+abbrev pub IsOfKind : {M : Type 0} → Option core.Event → Reply M → Type 0
+IsOfKind (Some e) r = answered r ≢ None
+IsOfKind None (reply.Horizon n) = Unit {0}
+IsOfKind None reply.LogFull = Unit {0}
+IsOfKind None (reply.Refused e) = Unit {0}
+IsOfKind None _ = ⊥
+
+-- each request has one reply, which is of its kind
+abbrev pub AreOfKind : {M : Type 0} → List Event → List (Reply M) → Type 0
+AreOfKind [] [] = Unit {0}
+AreOfKind (e ∷ events) (r ∷ replies) = IsOfKind (asked e) r × AreOfKind events replies
+AreOfKind events replies = ⊥

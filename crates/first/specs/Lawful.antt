@@ -1,7 +1,6 @@
 -- Which replies a request may have, and what each leaves.
-use Rattle.std.specs.Prelude.{◌≡◌, ◌≢◌, ◌⊎◌, ◌<◌, ◌≤◌, ◌+◌, ◌-◌, ℕ, Bool, true, false, List, [], ◌∷◌, length, take, drop, Option, None, Some}
+use Rattle.std.specs.Prelude.{◌≡◌, ◌≢◌, ◌⊎◌, ◌<◌, ◌≤◌, ◌+◌, ℕ, Bool, true, false, List, [], ◌∷◌, length, drop, Option, None, Some}
 use Rattle.records.specs.declared.error.Error.TheVariants.{NoMemory, DeviceFailed}
-use Rattle.records.specs.RecordValue.{RecordValue}
 use Rattle.sector_device.specs.History.{Rises}
 use Rattle.core_contracts.specs.Events as core
 use Rattle.index_core.specs.View as view
@@ -9,7 +8,7 @@ use Rattle.first.specs.declared.event.Event.{Event}
 use Rattle.first.specs.declared.event.Event.TheVariants as event
 use Rattle.first.specs.declared.event.Reply.{Reply}
 use Rattle.first.specs.declared.event.Reply.TheVariants as reply
-use Rattle.first.specs.declared.engine.Engine.{Engine}
+use Rattle.first.specs.declared.parts.Parts.{Parts}
 use Rattle.first.specs.History.{answered, asked}
 use Rattle.first.specs.Writer.{FillsGroup}
 use Rattle.first.specs.Parts.{core_of, device_of, log_of, unwritten, horizon_of, has_failed, is_read_only}
@@ -34,7 +33,7 @@ is_read event.Life = true
 
 -- So many of the records that were not in the log, the first of them, now are, and synced; the core keeps the rest of its
 -- state, and the device's count of failures doesn't fall.
-pub record Writes {D M : Type 0} (failures : D → ℕ) (old new : Engine D M) (n : ℕ) : Type 0 where
+pub record Writes {D M : Type 0} (failures : D → ℕ) (old new : Parts D M) (n : ℕ) : Type 0 where
   pub within : n ≤ length (unwritten old)
   pub horizon : horizon_of new ≡ horizon_of old + n
   pub left : unwritten new ≡ drop n (unwritten old)
@@ -42,56 +41,60 @@ pub record Writes {D M : Type 0} (failures : D → ℕ) (old new : Engine D M) (
   pub mode : is_read_only new ≡ is_read_only old
   pub later : failures (device_of old) ≤ failures (device_of new)
 
--- the records that were not in the log and that the core keeps no more, in order
-abbrev pub handed_over : {D M : Type 0} → Engine D M → Engine D M → List RecordValue
-handed_over old new = take (length (unwritten old) - length (core_of new).outbox) (unwritten old)
+-- Nothing was written, and the device and the log are as they were; some of the records may wait elsewhere than in the core.
+pub record WritesNothing {D M : Type 0} (failures : D → ℕ) (old new : Parts D M) : Type 0 where
+  pub none : Writes failures old new 0
+  pub device : device_of new ≡ device_of old
+  pub log : log_of new ≡ log_of old
 
 -- what is answered to a flush
-abbrev pub IsFlushAnswer : {D M : Type 0} → (D → ℕ) → Reply M → Engine D M → Engine D M → Type 0
--- A flush that succeeds writes a record at least, where there is one to write, and of those that were handed over as many
--- as fill a group.
+abbrev pub IsFlushAnswer : {D M : Type 0} → (D → ℕ) → Reply M → Parts D M → Parts D M → Type 0
+-- A flush that succeeds writes as many of the records that are not in the log as fill one group, one at least where there is one,
+-- and leaves the device alone where there is none; no call of the device failed.
 IsFlushAnswer failures (reply.Horizon n) old new = (has_failed old ≡ false) × (has_failed new ≡ false) × (n ≡ horizon_of new) × (unwritten old ≢ [] → horizon_of old < n)
-    × ((written : ℕ) × Writes failures old new written × FillsGroup (handed_over old new) written)
-IsFlushAnswer failures reply.LogFull old new = (has_failed old ≡ false) × (has_failed new ≡ false) × ((log_of old).open_slots ≡ (log_of old).area.slots) × (unwritten old ≢ []) × Writes failures old new 0
--- There was no memory for a record that waits; or the device failed, and a writer whose device failed answers so from then on.
+    × ((written : ℕ) × Writes failures old new written × FillsGroup (unwritten old) written)
+    × (unwritten old ≡ [] → WritesNothing failures old new) × (failures (device_of new) ≡ failures (device_of old))
+IsFlushAnswer failures reply.LogFull old new = (has_failed old ≡ false) × (has_failed new ≡ false) × ((log_of old).open_slots ≡ (log_of old).area.slots) × (unwritten old ≢ []) × WritesNothing failures old new
+-- There was no memory for a group of the records that are not in the log, which is not full, or to take them all from the core; or the device failed, and an engine whose device
+-- failed answers so from then on, and leaves it alone.
 IsFlushAnswer failures (reply.Refused e) old new =
-    (((e ≡ NoMemory) × (has_failed old ≡ false) × (has_failed new ≡ false) × (unwritten old ≢ []))
-    ⊎ ((e ≡ DeviceFailed) × (has_failed new ≡ true) × (has_failed old ≡ false → Rises (failures (device_of old)) (failures (device_of new)))))
-    × Writes failures old new 0
+    ((e ≡ NoMemory) × (has_failed old ≡ false) × (has_failed new ≡ false) × (unwritten old ≢ []) × (((log_of old).open_slots ≢ (log_of old).area.slots) ⊎ ((core_of new).outbox ≢ [])) × WritesNothing failures old new)
+    ⊎ ((e ≡ DeviceFailed) × (has_failed new ≡ true) × (has_failed old ≡ false → (unwritten old ≢ []) × Rises (failures (device_of old)) (failures (device_of new)))
+    × (has_failed old ≡ true → WritesNothing failures old new) × Writes failures old new 0)
 IsFlushAnswer failures answer old new = ⊥
 
 -- the core serves it, with a reply that is allowed, and nothing else of the engine changes
-pub record ServesInCore {D M : Type 0} (e : core.Event) (answer : Reply M) (old new : Engine D M) : Type 0 where
+pub record ServesInCore {D M : Type 0} (e : core.Event) (answer : Reply M) (old new : Parts D M) : Type 0 where
   pub reply : core.Reply
   pub reply_is : answered answer ≡ Some reply
   pub serves : view.Serves (core_of old) e reply (core_of new)
   pub rest : new ≡ record old { core = new.core }
 
 -- what is answered to a request that asks the core for something
-abbrev pub IsInCoreBy : {D M : Type 0} → Option core.Event → Reply M → Engine D M → Engine D M → Type 0
+abbrev pub IsInCoreBy : {D M : Type 0} → Option core.Event → Reply M → Parts D M → Parts D M → Type 0
 IsInCoreBy None answer old new = ⊥
 IsInCoreBy (Some e) answer old new = ServesInCore e answer old new
 
-abbrev pub IsInCore : {D M : Type 0} → Event → Reply M → Engine D M → Engine D M → Type 0
+abbrev pub IsInCore : {D M : Type 0} → Event → Reply M → Parts D M → Parts D M → Type 0
 IsInCore request answer old new = IsInCoreBy (asked request) answer old new
 
 -- what is answered where requests of this kind are served
-abbrev pub IsAnswerTo : {D M : Type 0} → (D → ℕ) → Option core.Event → Reply M → Engine D M → Engine D M → Type 0
+abbrev pub IsAnswerTo : {D M : Type 0} → (D → ℕ) → Option core.Event → Reply M → Parts D M → Parts D M → Type 0
 IsAnswerTo failures None answer old new = IsFlushAnswer failures answer old new
 IsAnswerTo failures (Some e) answer old new = ServesInCore e answer old new
 
-abbrev pub IsAnswer : {D M : Type 0} → (D → ℕ) → Event → Reply M → Engine D M → Engine D M → Type 0
+abbrev pub IsAnswer : {D M : Type 0} → (D → ℕ) → Event → Reply M → Parts D M → Parts D M → Type 0
 IsAnswer failures request answer old new = IsAnswerTo failures (asked request) answer old new
 
 -- An engine that only reads skips each request that would change something; any other request is answered.
-abbrev pub IsLawful : {D M : Type 0} → (D → ℕ) → Event → Reply M → Engine D M → Engine D M → Type 0
+abbrev pub IsLawful : {D M : Type 0} → (D → ℕ) → Event → Reply M → Parts D M → Parts D M → Type 0
 IsLawful failures request answer old new =
     ((is_read_only old ≡ true) × (is_read request ≡ false) × (answer ≡ reply.Skipped) × (new ≡ old))
     ⊎ (((is_read_only old ≡ false) ⊎ (is_read request ≡ true)) × IsAnswer failures request answer old new)
 
 -- each request in turn was answered lawfully
-abbrev pub AreLawful : {D M : Type 0} → (D → ℕ) → List Event → List (Reply M) → Engine D M → Engine D M → Type 0
+abbrev pub AreLawful : {D M : Type 0} → (D → ℕ) → List Event → List (Reply M) → Parts D M → Parts D M → Type 0
 AreLawful failures [] [] old new = new ≡ old
-AreLawful {D} {M} failures (request ∷ requests) (answer ∷ answers) old new = (mid : Engine D M) × IsLawful failures request answer old mid × AreLawful failures requests answers mid new
+AreLawful {D} {M} failures (request ∷ requests) (answer ∷ answers) old new = (mid : Parts D M) × IsLawful failures request answer old mid × AreLawful failures requests answers mid new
 AreLawful failures [] (answer ∷ answers) old new = ⊥
 AreLawful failures (request ∷ requests) [] old new = ⊥

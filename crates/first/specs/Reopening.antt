@@ -13,8 +13,9 @@ use Rattle.core_contracts.specs.Events.{standing_at}
 use Rattle.index_core.specs.View.{CoreValue, IsState}
 use Rattle.first.specs.declared.event.Event.{Event}
 use Rattle.first.specs.declared.event.Reply.{Reply}
-use Rattle.first.specs.declared.engine.Engine.{Engine}
+use Rattle.first.specs.declared.parts.Parts.{Parts}
 use Rattle.first.specs.Parts.{core_of, device_of, horizon_of, has_failed, is_read_only}
+use Rattle.first.specs.Building.{HasCome}
 use Rattle.first.specs.Store.{Past, SurvivesAt, acknowledged_by, and_then, items_told, over, Survives, IsAt}
 
 -- the core of what the image gives, whose log this is
@@ -37,7 +38,7 @@ opening geometry = record { geometry = geometry; given = nothing; events = []; r
 
 -- The engine holds what its device gave, and no transaction. It serves every request where there was no record, and else
 -- only reads.
-pub record IsOpened {D M : Type 0} (history : D → History) (before : D) (engine : Engine D M) : Type 0 where
+pub record IsOpened {D M : Type 0} (history : D → History) (before : D) (engine : Parts D M) : Type 0 where
   pub geometry : GeometryValue
   pub given : Given
   pub gives : Gives (history before).disk.content geometry given
@@ -55,15 +56,17 @@ pub record IsNotOpened {D : Type 0} (history : D → History) (failures : D → 
   pub why : Refuses (failures before) (failures after) e ⊎ IsUnreadable (history before).disk.content e
 
 -- The engine holds a beginning of the run's history, which has every item up to the floor, and no transaction; and what it
--- holds is something that a core may begin with: as far as the index is built, it shows the pair of each row, and no other.
-pub record Recovers {D M : Type 0} (past : Past M) (floor : ℕ) (engine : Engine D M) : Type 0 where
+-- holds is something that a core may begin with: as far as the index is built, it shows the pair of each row, and no other. The
+-- core has come to where it is, so that a build that goes on to its end leaves the index whole.
+pub record Recovers {D M : Type 0} (past : Past M) (floor : ℕ) (engine : Parts D M) : Type 0 where
   pub given : Given
   pub beginning : IsBeginning past.given (items_told past) floor given
   pub core : core_of engine ≡ holding past.geometry given
   pub opens : CanOpen (over past.geometry given)
+  pub come : HasCome (core_of engine)
 
 -- Whatever run left the device so, the engine holds a beginning of its history, with all up to the floor.
-abbrev pub RecoversAnyRun : {D M : Type 0} → (D → History) → D → Engine D M → Type 0
+abbrev pub RecoversAnyRun : {D M : Type 0} → (D → History) → D → Parts D M → Type 0
 RecoversAnyRun {D} {M} history before engine = (past : Past M) (floor : ℕ) → Survives past floor (history before).disk.content → Recovers past floor engine
 
 -- What a run left is refused only for want of memory, or where the device failed in the call.
@@ -72,12 +75,12 @@ RefusesNoRun M history failures before after e = (past : Past M) (floor : ℕ) �
 
 -- These requests were answered so, whatever was answered before. A crash at any moment of the call leaves what the run left
 -- up to one of the requests, with all that was acknowledged before that one.
-abbrev pub SurvivesAnyCrash : {D M : Type 0} → (D → History) → List Event → List (Reply M) → Engine D M → Engine D M → Type 0
+abbrev pub SurvivesAnyCrash : {D M : Type 0} → (D → History) → List Event → List (Reply M) → Parts D M → Parts D M → Type 0
 SurvivesAnyCrash {D} {M} history events replies old new = (past : Past M) → IsAt history past old
     → LeavesOnly (history (device_of old)) (history (device_of new)) (λ image. (j : ℕ) × (j ≤ length events) × SurvivesAt past events replies j image)
 
 -- These requests were answered so, whatever was answered before. A crash once the call has ended leaves a
 -- beginning of the whole run, with all that a reply has told to be safe, those of this call too.
-abbrev pub KeepsWholeRun : {D M : Type 0} → (D → History) → List Event → List (Reply M) → Engine D M → Engine D M → Type 0
+abbrev pub KeepsWholeRun : {D M : Type 0} → (D → History) → List Event → List (Reply M) → Parts D M → Parts D M → Type 0
 KeepsWholeRun {D} {M} history events replies old new = (past : Past M) → IsAt history past old → (image : Image) → IsCrashImage (history (device_of new)).disk image
     → Survives (and_then past events replies) (acknowledged_by (and_then past events replies)) image

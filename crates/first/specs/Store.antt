@@ -17,8 +17,8 @@ use Rattle.flip_image.specs.Store.{IsFresh, IsStore}
 use Rattle.store_reader.specs.Contents.{Gives, log_area}
 use Rattle.first.specs.declared.event.Event.{Event}
 use Rattle.first.specs.declared.event.Reply.{Reply}
-use Rattle.first.specs.declared.engine.Engine.{Engine}
-use Rattle.first.specs.History.{acknowledged, core_calls}
+use Rattle.first.specs.declared.parts.Parts.{Parts}
+use Rattle.first.specs.History.{AreOfKind, acknowledged, core_calls}
 use Rattle.first.specs.Writer.{IsWriter}
 use Rattle.first.specs.Lawful.{IsLawful}
 use Rattle.first.specs.Parts.{core_of, device_of, synced_of, is_read_only}
@@ -53,8 +53,9 @@ pub record Survives {M : Type 0} (past : Past M) (floor : ℕ) (image : Image) :
   pub opens : CanOpen (over past.geometry given)
 
 -- The engine is where this run leaves it.
-pub record IsAt {D M : Type 0} (history : D → History) (past : Past M) (engine : Engine D M) : Type 0 where
+pub record IsAt {D M : Type 0} (history : D → History) (past : Past M) (engine : Parts D M) : Type 0 where
   pub answered : length past.replies ≡ length past.events
+  pub kinds : AreOfKind past.events past.replies
   pub opens : CanOpen (over past.geometry past.given)
   -- the records made, what was handed to the writer, and with it what waits in the outbox
   pub made : List RecordValue
@@ -76,21 +77,21 @@ pub record IsAt {D M : Type 0} (history : D → History) (past : Past M) (engine
   pub safe : acknowledged_by past ≤ past.given.last + synced_of engine
   pub serves : is_read_only engine ≡ false
 
-abbrev pub IsSomewhere : {D M : Type 0} → (D → History) → Engine D M → Type 0
+abbrev pub IsSomewhere : {D M : Type 0} → (D → History) → Parts D M → Type 0
 IsSomewhere {D} {M} history engine = (past : Past M) × IsAt history past engine
 
 -- The engine only reads, since there were records as it was opened
-pub record ServesReadsOnly {D M : Type 0} (engine : Engine D M) : Type 0 where
+pub record ServesReadsOnly {D M : Type 0} (engine : Parts D M) : Type 0 where
   pub mode : is_read_only engine ≡ true
   pub some : 0 < (core_of engine).last
 
 -- The engine is where some run leaves it, or only reads.
-abbrev pub CanRun : {D M : Type 0} → (D → History) → Engine D M → Type 0
+abbrev pub CanRun : {D M : Type 0} → (D → History) → Parts D M → Type 0
 CanRun history engine = ServesReadsOnly engine ⊎ IsSomewhere history engine
 
 -- One request was answered so: the engine is where it leaves it, and a crash at any moment of it leaves a prefix of
 -- the history with it, which holds what was acknowledged before.
-abbrev pub ServesOn : {D M : Type 0} → (D → History) → Event → Reply M → Engine D M → Engine D M → Type 0
+abbrev pub ServesOn : {D M : Type 0} → (D → History) → Event → Reply M → Parts D M → Parts D M → Type 0
 ServesOn {D} {M} history event reply old new = (past : Past M) → IsAt history past old
     → IsAt history (and_then past (event ∷ []) (reply ∷ [])) new
     × LeavesOnly (history (device_of old)) (history (device_of new)) (Survives (and_then past (event ∷ []) (reply ∷ [])) (acknowledged_by past))
@@ -101,7 +102,7 @@ SurvivesAt past events replies j = Survives (and_then past (take (j + 1) events)
 
 -- The run went on by these requests: the engine is where they leave it; and there are moments that rise from the
 -- call's start to its end, one at the end of each request, between which each crash leaves such a prefix.
-pub record GoesOn {D M : Type 0} (history : D → History) (past : Past M) (events : List Event) (replies : List (Reply M)) (old new : Engine D M) : Type 0 where
+pub record GoesOn {D M : Type 0} (history : D → History) (past : Past M) (events : List Event) (replies : List (Reply M)) (old new : Parts D M) : Type 0 where
   pub at : IsAt history (and_then past events replies) new
   pub kept : (t : ℕ) → t ≤ (history (device_of old)).moment → (history (device_of new)).disk_at t ≡ (history (device_of old)).disk_at t
   pub borders : List ℕ
@@ -109,10 +110,10 @@ pub record GoesOn {D M : Type 0} (history : D → History) (past : Past M) (even
   pub spans : Spans (history (device_of new)).disk_at (SurvivesAt past events replies) 0 (history (device_of old)).moment borders (history (device_of new)).moment
 
 -- Each request in turn was answered lawfully, from where the run had left the engine to where it leaves it then.
-abbrev pub AreServed : {D M : Type 0} → (D → History) → (D → ℕ) → Past M → List Event → List (Reply M) → Engine D M → Engine D M → Type 0
+abbrev pub AreServed : {D M : Type 0} → (D → History) → (D → ℕ) → Past M → List Event → List (Reply M) → Parts D M → Parts D M → Type 0
 AreServed history failures past [] [] old new = new ≡ old
 AreServed {D} {M} history failures past (event ∷ events) (reply ∷ replies) old new =
-    (mid : Engine D M) × IsLawful failures event reply old mid
+    (mid : Parts D M) × IsLawful failures event reply old mid
     × IsAt history (and_then past (event ∷ []) (reply ∷ [])) mid
     × LeavesOnly (history (device_of old)) (history (device_of mid)) (Survives (and_then past (event ∷ []) (reply ∷ [])) (acknowledged_by past))
     × AreServed history failures (and_then past (event ∷ []) (reply ∷ [])) events replies mid new
@@ -120,12 +121,12 @@ AreServed history failures past [] (reply ∷ replies) old new = ⊥
 AreServed history failures past (event ∷ events) [] old new = ⊥
 
 -- whatever run left the engine so, it went on by these requests
-abbrev pub RunsOn : {D M : Type 0} → (D → History) → List Event → List (Reply M) → Engine D M → Engine D M → Type 0
+abbrev pub RunsOn : {D M : Type 0} → (D → History) → List Event → List (Reply M) → Parts D M → Parts D M → Type 0
 RunsOn {D} {M} history events replies old new = (past : Past M) → IsAt history past old → GoesOn history past events replies old new
 
-abbrev pub RunsLawfully : {D M : Type 0} → (D → History) → (D → ℕ) → List Event → List (Reply M) → Engine D M → Engine D M → Type 0
+abbrev pub RunsLawfully : {D M : Type 0} → (D → History) → (D → ℕ) → List Event → List (Reply M) → Parts D M → Parts D M → Type 0
 RunsLawfully {D} {M} history failures events replies old new = (past : Past M) → IsAt history past old → AreServed history failures past events replies old new
 
 -- whatever run left the engine so, a crash of the device leaves a beginning of it with everything acknowledged
-abbrev pub KeepsRun : {D M : Type 0} → (D → History) → Engine D M → D → Type 0
+abbrev pub KeepsRun : {D M : Type 0} → (D → History) → Parts D M → D → Type 0
 KeepsRun {D} {M} history engine device = (past : Past M) (image : Image) → IsAt history past engine → IsCrashImage (history device).disk image → Survives past (acknowledged_by past) image

@@ -1,16 +1,16 @@
 -- What the writer keeps of the records that were handed to it.
-use Rattle.std.specs.Prelude.{◌≡◌, ◌≢◌, ◌⊎◌, ℕ, ◌+◌, ◌-◌, ◌≤◌, ◌<◌, ◌^◌, true, false, List, [], length, take, drop}
+use Rattle.std.specs.Prelude.{Bool, ◌≡◌, ◌≢◌, ◌⊎◌, ℕ, ◌+◌, ◌-◌, ◌≤◌, ◌<◌, ◌^◌, true, false, List, [], length, take, drop}
 use Rattle.records.specs.RecordValue.{RecordValue}
 use Rattle.sector_device.specs.Disk.{Image, IsCrashImage, IsSynced, SameOutside}
 use Rattle.sector_device.specs.History.{History, Rises}
 use Rattle.records.specs.declared.error.Error.{Error}
 use Rattle.records.specs.declared.error.Error.TheVariants.{NoMemory, DeviceFailed}
 use Rattle.gate_log.specs.Area.{Area, InArea, IsAreaInside, HoldsGroups, Stands, records_of}
-use Rattle.gate_log.specs.Group.{spellings}
+use Rattle.gate_log.specs.Group.{FitsGroup, spellings}
 use Rattle.gate_log.specs.declared.group.TheConstants.{GROUP_MAX}
 use Rattle.first.specs.declared.writer.Writer.{Writer}
 use Rattle.first.specs.declared.writer.Flushed.{Flushed}
-use Rattle.first.specs.declared.writer.Flushed.TheVariants.{Group, Nothing, Full}
+use Rattle.first.specs.declared.writer.Flushed.TheVariants.{Done, Full}
 
 -- an image that is the first one outside the area, and whose area holds these records
 pub record HoldsRecords (area : Area) (frame : Image) (records : List RecordValue) (image : Image) : Type 0 where
@@ -44,18 +44,28 @@ pub record IsWriter {D M : Type 0} (history : D → History) (area : Area) (fram
   pub holds : w.failed ≡ false → StandsFor history frame (take w.synced handed) w
   pub images : (image : Image) → IsCrashImage (history w.device).disk image → LeftBy area frame handed w.synced image
 
--- The first n of the records fill a group: with one more they take too many bytes, or there is no other.
-abbrev pub FillsGroup : List RecordValue → ℕ → Type 0
-FillsGroup records n = n < length records → GROUP_MAX < length (spellings (take (n + 1) records))
+-- The first n of the records fill one group, or are none: they fit it, and with one more they take too many bytes, or there
+-- is no other.
+pub record FillsGroup (records : List RecordValue) (n : ℕ) : Type 0 where
+  pub fits : 0 < n → FitsGroup (take n records)
+  pub full : n < length records → GROUP_MAX < length (spellings (take (n + 1) records))
 
--- what became of a flush: as many more records are synced as fill a group, or none waited, or every slot is open
-abbrev pub IsFlushed : {D M : Type 0} → Flushed → Writer D M → Writer D M → Type 0
-IsFlushed Group old new = (old.synced < new.synced) × (old.waiting.items ≢ []) × FillsGroup old.waiting.items (new.synced - old.synced)
-IsFlushed Nothing old new = (new ≡ old) × (old.waiting.items ≡ [])
-IsFlushed Full old new = (new ≡ old) × (old.log.open_slots ≡ old.log.area.slots) × (old.waiting.items ≢ [])
+-- Of the records that waited so many were written as fill a group, and where none did the device was left alone; and where more
+-- come behind those, one of them at least still waits.
+pub record WritesGroup {D M : Type 0} (more : Bool) (old new : Writer D M) : Type 0 where
+  pub some : old.waiting.items ≢ [] → old.synced < new.synced
+  pub full : FillsGroup old.waiting.items (new.synced - old.synced)
+  pub rest : more ≡ true → new.synced - old.synced < length old.waiting.items
+  pub idle : old.waiting.items ≡ [] → new ≡ old
 
--- why nothing was written: there was no memory for a group that waits, or the device failed, now or earlier
-abbrev pub IsNotFlushed : {D M : Type 0} → (D → ℕ) → Error → Writer D M → Writer D M → Type 0
-IsNotFlushed failures e old new =
-    ((e ≡ NoMemory) × (old.failed ≡ false) × (old.waiting.items ≢ []) × (new ≡ old))
-    ⊎ ((e ≡ DeviceFailed) × (new.failed ≡ true) × (old.failed ≡ false → Rises (failures old.device) (failures new.device)))
+-- what became of a flush: a group was written, or every slot is open
+abbrev pub IsFlushed : {D M : Type 0} → Bool → Flushed → Writer D M → Writer D M → Type 0
+IsFlushed more Done old new = WritesGroup more old new
+IsFlushed more Full old new = (new ≡ old) × (old.log.open_slots ≡ old.log.area.slots) × (old.waiting.items ≢ [])
+
+-- Why nothing was written: there was no memory for a group of the records that wait, though a slot is closed, or of those that come
+-- behind them; or the device failed, now or earlier, and is left alone from then on.
+abbrev pub IsNotFlushed : {D M : Type 0} → (D → ℕ) → Bool → Error → Writer D M → Writer D M → Type 0
+IsNotFlushed failures more e old new =
+    ((e ≡ NoMemory) × (old.failed ≡ false) × (((old.waiting.items ≢ []) × (old.log.open_slots ≢ old.log.area.slots)) ⊎ (more ≡ true)) × (new ≡ old))
+    ⊎ ((e ≡ DeviceFailed) × (new.failed ≡ true) × (old.failed ≡ false → (old.waiting.items ≢ []) × Rises (failures old.device) (failures new.device)) × (old.failed ≡ true → new ≡ old))

@@ -3,13 +3,14 @@ ghost use Rattle.std.specs.Prelude.{◌≡◌, IfSome, IfNone};
 ghost use Rattle.core_contracts.specs.Events as events;
 ghost use Rattle.index_core.specs.Moves.{IsReadyOrNone, IsUnready, OwesNone, OwesOrNone, txn_shown};
 
-use crate::{Engine, Event, Reply};
+use crate::parts::Parts;
+use crate::{Event, Reply};
 use index_core::Undone;
 use records::{Body, Error, Key, Rid, Txn};
 use sector_device::Device;
 use std::alloc::Allocator;
 
-impl<D: Device, A: Allocator + Copy> Engine<D, A> {
+impl<D: Device, A: Allocator + Copy> Parts<D, A> {
     ghost use Rattle.std.specs.Prelude.{IsTrue, false};
     ghost use Rattle.first.specs.Parts.{core_of};
     ghost use Rattle.first.specs.Lawful.{IsInCore, ServesInCore};

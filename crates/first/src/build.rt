@@ -2,28 +2,20 @@
 ghost use Rattle.std.specs.Prelude.{◌≡◌, ◌<◌, ◌≤◌, None, OnOk};
 ghost use Rattle.records.specs.declared.number.TheConstants.{LAST_NUMBER};
 
-use crate::Engine;
+use crate::parts::Parts;
 use index_core::{BuildReply, Ticket};
 use model::Life;
 use records::{Error, RecordNumber};
 use sector_device::Device;
 use std::alloc::Allocator;
 
-impl<D: Device, A: Allocator + Copy> Engine<D, A> {
+impl<D: Device, A: Allocator + Copy> Parts<D, A> {
     ghost use Rattle.first.specs.Building.{IsBuiltToEnd, BuildsWhole};
     ghost use Rattle.first.specs.Parts.{core_of};
     ghost use Rattle.first.specs.Store.{CanRun};
 
-    /// Makes steps of the builder until the index is complete, and answers the record of its end. Where it is complete
-    /// already, the answer is the number of the last record made, and nothing changes.
-    ///
-    /// A refusal is that of the step that met it, and ends the steps; what was built before it stays. `NoIndex`, then
-    /// `IndexFull` where a pair that has no entry meets no free place, `Exhausted` where a record is to be made and no
-    /// number is left, and `NoMemory`.
-    ///
-    /// With no transaction active and the answer `Ok`, the rows are as they were, and the visible entries are just their
-    /// pairs (`whole`). An engine that only reads builds too, in memory alone: nothing of that is ever written.
-    pub fn build_to_end(&mut self) -> Result<Ticket, Error>
+    /// Makes steps of the builder until the index is complete, and answers the record of its end.
+    pub(crate) fn build_to_end(&mut self) -> Result<Ticket, Error>
         requires { CanRun D.history self.old }
         ensures built { IsBuiltToEnd D.history result self.old self.new }
         ensures whole { OnOk result (BuildsWhole (core_of self.old) (core_of self.new)) }
@@ -36,7 +28,8 @@ impl<D: Device, A: Allocator + Copy> Engine<D, A> {
         'steps: loop {
             match self.core.build_step()? {
                 BuildReply::Scanned(page) => scanned = u64::from(page) + 1,
-                BuildReply::Placed(_) | BuildReply::Rejected(_) => scanned = 0,
+                BuildReply::Placed(_) => scanned = 0,
+                BuildReply::Rejected(_) => scanned = 0,
                 BuildReply::Marked(..) => {}
                 BuildReply::Done(ticket) => return Ok(ticket),
                 BuildReply::Idle => unreachable!(),

@@ -1,50 +1,55 @@
-//! The engine: a core, and the writer that owns the device.
-ghost use Rattle.std.specs.Prelude.{◌≡◌, ◌&&◌, not, ◌<◌, ◌≤◌, ◌^◌, OnErr, OnOk, IfOk, IfErr};
+//! The engine: a store that serves requests, whatever was asked of it before.
+ghost use Rattle.std.specs.Prelude.{◌≡◌, OnErr, OnOk, IfOk, IfErr};
 
-use crate::writer::{Flushed, Writer};
+use crate::parts::Parts;
 use crate::{Event, Reply};
-use index_core::Core;
+use index_core::{Core, Ticket};
 use records::Error;
 use sector_device::Device;
 use std::alloc::Allocator;
+use std::marker::Model;
 
 /// A store that serves requests in order. `restart` opens one.
 ///
 /// A store whose log held no record as it was opened serves every request. Any other serves those that only read, and
 /// skips the rest.
+///
+/// Every engine is where some run has left it, or only reads: its type keeps that, and no call asks it of its caller.
 #[derive(Drop)]
-pub struct Engine<D, A: Allocator> {
-    pub(crate) core: Core<A>,
-    pub(crate) writer: Writer<D, A>,
-    pub(crate) alloc: A,
-    // Whether only requests that read are served.
-    pub(crate) read_only: bool,
+pub struct Engine<D: Device, A: Allocator> {
+    pub(crate) parts: Parts<D, A>,
+}
+
+impl<D: Device, A: Allocator> Model for Engine<D, A> {
+    ghost use Rattle.std.specs.Coded.{codes};
+    ghost use Rattle.first.specs.declared.parts.Parts.{Parts};
+    ghost use Rattle.std.specs.FinMap as map;
+    ghost use Rattle.first.specs.Store.{CanRun};
+
+    ghost Value = { Parts D A };
+
+    ghost coded = { Prim.hlevel (codes, map.code) };
+
+    ghost view = { λ engine. engine.parts };
+
+    ghost invariant = { λ engine. CanRun D.history engine.parts };
 }
 
 impl<D: Device, A: Allocator + Copy> Engine<D, A> {
     ghost use Rattle.index_core.specs.Value.{value_of};
-    ghost use Rattle.first.specs.declared.event.Event.TheVariants.{Flush};
-    ghost use Rattle.first.specs.declared.event.Reply.TheVariants.{Horizon, Refused};
-    ghost use Rattle.first.specs.Parts.{core_of, device_of, horizon_of, is_read_only};
-    ghost use Rattle.first.specs.Lawful.{is_read, IsFlushAnswer, IsLawful, AreLawful};
-    ghost use Rattle.first.specs.Store.{CanRun, IsSomewhere, ServesOn, RunsOn, RunsLawfully, KeepsRun};
+    ghost use Rattle.first.specs.Parts.{core_of, device_of};
+    ghost use Rattle.first.specs.Lawful.{IsLawful, AreLawful};
+    ghost use Rattle.first.specs.Store.{ServesOn, RunsOn, RunsLawfully, KeepsRun};
     ghost use Rattle.first.specs.Reopening.{KeepsWholeRun, SurvivesAnyCrash};
+    ghost use Rattle.first.specs.Building.{IsBuiltToEnd, BuildsWhole};
 
     /// Serves one request. A crash at any moment of the call leaves a store that `restart` takes back to what was
     /// told by a prefix of the requests, and nothing that an earlier reply has told to be safe is lost (`serves`).
     pub fn serve(&mut self, event: Event) -> Reply<A>
-        requires { CanRun D.history self.old }
         ensures serves { ServesOn D.history event result self.old self.new }
         ensures lawful { IsLawful D.failures event result self.old self.new }
-        ensures can_run { CanRun D.history self.new }
     {
-        if self.skips(&event) {
-            return Reply::Skipped;
-        }
-        match self.ask_core(event) {
-            Some(reply) => reply,
-            None => self.flush(),
-        }
+        self.parts.serve(event)
     }
 
     /// Serves requests in order, one reply for each. The one error is
@@ -54,7 +59,6 @@ impl<D: Device, A: Allocator + Copy> Engine<D, A> {
     /// A crash at any moment, between the replies or within a request, leaves a store that `restart` takes back to what
     /// was told by a prefix of the requests, and nothing that a reply has told to be safe is lost (`ran`).
     pub fn run(&mut self, events: &[Event]) -> Result<Vec<Reply<A>, A>, Error>
-        requires { CanRun D.history self.old }
         ensures any_crash { IfOk result (λ replies. SurvivesAnyCrash D.history events.now replies.items self.old self.new) }
         ensures at_end { IfOk result (λ replies. KeepsWholeRun D.history events.now replies.items self.old self.new) }
         ensures ran { IfOk result (λ replies. RunsOn D.history events.now replies.items self.old self.new) }
@@ -62,9 +66,8 @@ impl<D: Device, A: Allocator + Copy> Engine<D, A> {
         ensures lawful { IfOk result (λ replies. AreLawful D.failures events.now replies.items self.old self.new) }
         ensures refused { OnErr result (self.new ≡ self.old) }
         ensures no_memory { IfErr result (λ e. e ≡ Error.NoMemory) }
-        ensures can_run { CanRun D.history self.new }
     {
-        let mut replies = Vec::with_capacity(self.alloc, events.len())?;
+        let mut replies = Vec::with_capacity(self.parts.alloc, events.len())?;
         for event in events {
             let reply = self.serve(*event);
             let Ok(()) = replies.push(reply) else {
@@ -74,11 +77,27 @@ impl<D: Device, A: Allocator + Copy> Engine<D, A> {
         Ok(replies)
     }
 
+    /// Makes steps of the builder until the index is complete, and answers the record of its end. Where it is complete
+    /// already, the answer is the number of the last record made, and nothing changes.
+    ///
+    /// A refusal is that of the step that met it, and ends the steps; what was built before it stays. `NoIndex`, then
+    /// `IndexFull` where a pair that has no entry meets no free place, `Exhausted` where a record is to be made and no
+    /// number is left, and `NoMemory`.
+    ///
+    /// With no transaction active and the answer `Ok`, the rows are as they were, and the visible entries are just their
+    /// pairs (`whole`). An engine that only reads builds too, in memory alone: nothing of that is ever written.
+    pub fn build_to_end(&mut self) -> Result<Ticket, Error>
+        ensures built { IsBuiltToEnd D.history result self.old self.new }
+        ensures whole { OnOk result (BuildsWhole (core_of self.old) (core_of self.new)) }
+    {
+        self.parts.build_to_end()
+    }
+
     /// The core: rows, transactions and index as they are now.
     pub fn core(&self) -> &Core<A>
         ensures { value_of result.now ≡ core_of self.now }
     {
-        &self.core
+        &self.parts.core
     }
 
     /// The device as it is now. What was not written to it is lost, and nothing of it was acknowledged: a crash of the
@@ -87,44 +106,6 @@ impl<D: Device, A: Allocator + Copy> Engine<D, A> {
         ensures device { result ≡ device_of self }
         ensures survives { KeepsRun D.history self result }
     {
-        self.writer.into_device()
-    }
-
-    // Whether the request would change something, and only those that read are served.
-    fn skips(&self, event: &Event) -> bool
-        ensures { result ≡ (is_read_only self.now && not (is_read event.now)) }
-    {
-        self.read_only && !event.is_read()
-    }
-
-    // Hands the records over, and writes one group.
-    fn flush(&mut self) -> Reply<A>
-        requires { IsSomewhere D.history self.old }
-        ensures serves { ServesOn D.history Flush result self.old self.new }
-        ensures answer { IsFlushAnswer D.failures result self.old self.new }
-    {
-        let last = self.core.last();
-        self.core.take_outbox(&mut self.writer.waiting);
-        match self.writer.flush_group(self.alloc) {
-            Ok(Flushed::Group) => Reply::Horizon(self.writer.horizon()),
-            Ok(Flushed::Nothing) => self.told_up_to(last),
-            Ok(Flushed::Full) => Reply::LogFull,
-            Err(error) => Reply::Refused(error),
-        }
-    }
-
-    // What is answered where no record waits: those up to the last one made are in the log, unless there was no memory to
-    // hand them over.
-    fn told_up_to(&self, last: u64) -> Reply<A>
-        requires { horizon_of self.now < 2 ^ 64 }
-        ensures all { last ≤ horizon_of self.now → result ≡ Horizon (horizon_of self.now) }
-        ensures some { horizon_of self.now < last → result ≡ Refused Error.NoMemory }
-    {
-        let horizon = self.writer.horizon();
-        if horizon < last {
-            Reply::Refused(Error::NoMemory)
-        } else {
-            Reply::Horizon(horizon)
-        }
+        self.parts.writer.into_device()
     }
 }

@@ -5,6 +5,7 @@ mod asking;
 mod build;
 mod engine;
 mod event;
+mod parts;
 mod reopen;
 mod writer;
 

@@ -6,10 +6,11 @@ ghost use Rattle.model.specs.Given.{Given};
 ghost use Rattle.gate_log.specs.Area.{IsAreaInside, Refuses};
 ghost use Rattle.store_reader.specs.Contents.{Gives, IsUnreadable};
 ghost use Rattle.index_core.specs.Value.{value_of};
-ghost use Rattle.first.specs.Store.{CanRun};
+ghost use Rattle.first.specs.Parts.{device_of};
 ghost use Rattle.first.specs.Reopening.{IsCoreOf, OnlySyncs, IsOpened, IsNotOpened, RecoversAnyRun, RefusesNoRun};
 
 use crate::Engine;
+use crate::parts::Parts;
 use crate::writer::Writer;
 use core_loader::load;
 use gate_log::LogArea;
@@ -30,19 +31,21 @@ pub fn restart<D: Device, A: Allocator + Copy>(
     mut device: D,
 ) -> Result<Engine<D, A>, (Error, D)>
     ensures opened { IfOk result (λ engine. IsOpened D.history device engine) }
-    ensures can_run { IfOk result (λ engine. CanRun D.history engine) }
     ensures refused { IfErr result (λ r. IsNotOpened D.history D.failures device r.1 r.0) }
     ensures recovers { IfOk result (λ engine. RecoversAnyRun D.history device engine) }
     ensures readable { IfErr result (λ r. RefusesNoRun A D.history D.failures device r.1 r.0) }
+    ensures quiet { IfOk result (λ engine. D.failures (device_of engine) ≡ D.failures device) }
 {
     match open_core(alloc, &mut device) {
         Ok((core, log)) => {
             let base = core.last();
             Ok(Engine {
-                core,
-                writer: Writer::new(alloc, device, log, base),
-                alloc,
-                read_only: 0 < base,
+                parts: Parts {
+                    core,
+                    writer: Writer::new(alloc, device, log, base),
+                    alloc,
+                    read_only: 0 < base,
+                },
             })
         }
         Err(error) => Err((error, device)),
@@ -58,6 +61,7 @@ fn open_core<D: Device, A: Allocator + Copy>(
     ensures area { IfOk result (λ r. IsAreaInside r.1.area (D.history device.old).disk.content) }
     ensures synced { OnOk result (IsSynced (D.history device.new).disk) }
     ensures only { OnlySyncs D.history device.old device.new }
+    ensures quiet { OnOk result (D.failures device.new ≡ D.failures device.old) }
     ensures refused { IfErr result (λ e. Refuses (D.failures device.old) (D.failures device.new) e ⊎ IsUnreadable (D.history device.old).disk.content e) }
     ensures accepted { (geometry : GeometryValue) (given : Given) → Gives (D.history device.old).disk.content geometry given
         → IfErr result (Refuses (D.failures device.old) (D.failures device.new)) }

@@ -13,10 +13,8 @@ use std::alloc::Allocator;
 /// What became of a flush.
 #[derive(Clone, Copy, Debug, PartialEq, Eq)]
 pub(crate) enum Flushed {
-    /// The next group is in the log, and synced.
-    Group,
-    /// No record waited.
-    Nothing,
+    /// The next group is in the log, and synced, if a record waited.
+    Done,
     /// Every slot of the log is open.
     Full,
 }
@@ -65,27 +63,32 @@ impl<D: Device, A: Allocator + Copy> Writer<D, A> {
 
     ghost use Rattle.first.specs.Writer.{IsWriter, LeftBy, IsFlushed, IsNotFlushed};
 
-    /// Writes the next group of the records that wait, as many as fit one. A
-    /// writer that failed once answers `DeviceFailed` from then on.
-    pub(crate) fn flush_group(&mut self, alloc: A) -> Result<Flushed, Error>
+    /// Writes the next group of the records that wait, as many as fit one. `more` says whether others come behind them: a
+    /// group that might take one of those isn't written, and the answer is `NoMemory`. A writer that failed once answers
+    /// `DeviceFailed` from then on.
+    pub(crate) fn flush_group(&mut self, alloc: A, more: bool) -> Result<Flushed, Error>
         requires { (area : Area) × (frame : Image) × (handed : List RecordValue) × IsWriter D.history area frame handed self.old }
         ensures writer { (area : Area) (frame : Image) (handed : List RecordValue) → IsWriter D.history area frame handed self.old → IsWriter D.history area frame handed self.new }
         ensures images { (area : Area) (frame : Image) (handed : List RecordValue) → IsWriter D.history area frame handed self.old
             → LeavesOnly (D.history self.old.device) (D.history self.new.device) (LeftBy area frame handed self.old.synced) }
-        ensures flushed { IfOk result (λ flushed. IsFlushed flushed self.old self.new) }
+        ensures flushed { IfOk result (λ flushed. IsFlushed more flushed self.old self.new) }
         ensures sound { OnOk result ((self.old.failed ≡ false) × (self.new.failed ≡ false)) }
         ensures base { self.new.base ≡ self.old.base }
         ensures grows { self.old.synced ≤ self.new.synced }
-        ensures err { IfErr result (λ e. IsNotFlushed D.failures e self.old self.new) }
+        ensures err { IfErr result (λ e. IsNotFlushed D.failures more e self.old self.new) }
         ensures nothing { OnErr result (self.new.synced ≡ self.old.synced) }
+        ensures quiet { OnOk result (D.failures self.new.device ≡ D.failures self.old.device) }
         ensures later { D.failures self.old.device ≤ D.failures self.new.device }
     {
         if self.failed {
             return Err(Error::DeviceFailed);
         }
         let count = group_len(&self.waiting);
+        if more && count == self.waiting.len() {
+            return Err(Error::NoMemory);
+        }
         if count == 0 {
-            return Ok(Flushed::Nothing);
+            return Ok(Flushed::Done);
         }
         match self
             .log
@@ -94,7 +97,7 @@ impl<D: Device, A: Allocator + Copy> Writer<D, A> {
             Ok(Appended::Done) => {
                 self.synced += count as u64;
                 self.waiting.drain(..count);
-                Ok(Flushed::Group)
+                Ok(Flushed::Done)
             }
             Ok(Appended::Full) => Ok(Flushed::Full),
             Err(Error::NoMemory) => Err(Error::NoMemory),
@@ -103,6 +106,14 @@ impl<D: Device, A: Allocator + Copy> Writer<D, A> {
                 Err(error)
             }
         }
+    }
+
+    /// The number of the last record that was handed in.
+    pub(crate) fn last(&self) -> u64
+        requires { self.now.base + self.now.synced + length self.now.waiting.items < 2 ^ 64 }
+        ensures { result ≡ self.now.base + self.now.synced + length self.now.waiting.items }
+    {
+        self.base + self.synced + self.waiting.len() as u64
     }
 
     /// The number of the last record that is in the log, and synced.

@@ -1,13 +1,13 @@
 -- Steps of the builder or of the cleaner, one after another.
 use Rattle.std.specs.Prelude.{◌⊎◌}
-use Rattle.std.proofs.Common.{◌≡◌, ℕ, ◌+◌, ◌<◌, false, List, [], ◌∷◌, length, Option, Result, Ok, Err, refl, sym, subst, inl, inr, arith}
+use Rattle.std.proofs.Common.{◌≡◌, ℕ, ◌+◌, ◌<◌, false, List, [], ◌∷◌, length, Option, Result, Ok, refl, subst, inl, inr, arith}
 use Rattle.std.specs.declared.alloc.Global.{Global}
 use Rattle.first.specs.declared.event.Event.{Event}
 use Rattle.first.specs.declared.event.Reply.{Reply}
 use Rattle.replay_values.specs.Steps.{is_last_step}
 use Rattle.replay_values.specs.declared.answer.Answer.{Answer}
 use Rattle.session.specs.Session.{outcome_of, ServesEvent}
-use Rattle.session.specs.Runs.{Prints, GoesOn, IsLast, PrintsSteps, MakesSteps}
+use Rattle.session.specs.Runs.{Prints, GoesOn, IsLast, MakesSteps}
 use Rattle.session.specs.declared.session.Session.{Session}
 use Rattle.session.specs.declared.session.Stopped.{Stopped}
 use Rattle.session.specs.declared.session.End.{End}

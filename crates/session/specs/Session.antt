@@ -14,7 +14,7 @@ use Rattle.first.specs.Lawful.{IsLawful}
 use Rattle.first.specs.Parts.{core_of, device_of}
 use Rattle.first.specs.Parts as engine
 use Rattle.first.specs.Reopening.{IsOpened, IsNotOpened, RecoversAnyRun, RefusesNoRun}
-use Rattle.first.specs.Store.{CanRun, KeepsRun}
+use Rattle.first.specs.Store.{KeepsRun}
 use Rattle.first.specs.Store as store
 use Rattle.first.specs.declared.engine.Engine.{Engine}
 use Rattle.first.specs.declared.event.Event.{Event}
@@ -28,13 +28,6 @@ use Rattle.session.specs.declared.session.Session.{Session}
 use Rattle.session.specs.declared.session.Stopped.{Stopped}
 use Rattle.session.specs.declared.session.End.{End}
 use Rattle.session.specs.declared.session.End.TheVariants as end
-
--- the engine is where its restart and its runs left it
-pub record IsServing (engine : Engine (FaultDisk (MemDisk Global)) Global) : Type 0 where
-  pub can_run : CanRun disk_history engine
-
-abbrev pub IsOpen : Session → Type 0
-IsOpen session = IsServing session.engine
 
 -- the script has crashed the device
 abbrev pub has_crashed : Session → Bool

@@ -1,7 +1,6 @@
 //! The program over what it reads and writes.
 ghost use Rattle.std.specs.Prelude.{◌≡◌, ◌⊎◌, map, IfOk, IfErr, OnOk};
 ghost use Rattle.script.specs.Grammar.{lines, IsScript};
-ghost use Rattle.session.specs.Session.{IsOpen};
 ghost use Rattle.session.specs.Runs.{Prints, GoesOn, Restarts, MakesSteps, Runs, RunsRequest, RunsCommand, RunsCommands};
 ghost use Rattle.session.specs.Plays.{geometry_of, sectors_asked, Starts, IsNoStart, IsCutAt, StartsFor, IsFault, IsRefused, IsStopped, Ends, Plays, IsWholeInput, PlaysInput, RunsWords};
 
@@ -35,9 +34,7 @@ fn go_on<W: Write>(
     answer: Result<Answer, Stopped>,
     output: &mut W,
 ) -> io::Result<Result<Session, End>>
-    requires { IsOpen session }
-    ensures goes_on { IfOk result (λ next. GoesOn W.contents answer session next output.old output.new) }
-    ensures open { IfOk result (λ next. IfOk next IsOpen) }
+    ensures { IfOk result (λ next. GoesOn W.contents answer session next output.old output.new) }
 {
     match answer {
         Ok(answer) => {
@@ -50,8 +47,7 @@ fn go_on<W: Write>(
 
 // Crashes the device, and prints that the store was opened again.
 fn crash<W: Write>(session: Session, fate: Fate, output: &mut W) -> io::Result<Result<Session, End>>
-    ensures restarts { IfOk result (λ next. Restarts W.contents fate session next output.old output.new) }
-    ensures open { IfOk result (λ next. IfOk next IsOpen) }
+    ensures { IfOk result (λ next. Restarts W.contents fate session next output.old output.new) }
 {
     match session.crash(fate) {
         Ok(session) => {
@@ -69,9 +65,7 @@ fn make_steps<W: Write>(
     count: u32,
     output: &mut W,
 ) -> io::Result<Result<Session, End>>
-    requires { IsOpen session }
-    ensures steps { IfOk result (λ next. MakesSteps W.contents event.now count session next output.old output.new) }
-    ensures open { IfOk result (λ next. IfOk next IsOpen) }
+    ensures { IfOk result (λ next. MakesSteps W.contents event.now count session next output.old output.new) }
 {
     for _ in 0..count {
         match session.serve(*event) {
@@ -93,9 +87,7 @@ fn serve<W: Write>(
     request: Request,
     output: &mut W,
 ) -> io::Result<Result<Session, End>>
-    requires { IsOpen session }
-    ensures runs { IfOk result (λ next. Runs W.contents request session next output.old output.new) }
-    ensures open { IfOk result (λ next. IfOk next IsOpen) }
+    ensures { IfOk result (λ next. Runs W.contents request session next output.old output.new) }
 {
     match request {
         Request::Event(event) => {
@@ -122,9 +114,7 @@ fn run_request<W: Write>(
     request: Request,
     output: &mut W,
 ) -> io::Result<Result<Session, End>>
-    requires { IsOpen session }
-    ensures runs { IfOk result (λ next. RunsRequest W.contents request session next output.old output.new) }
-    ensures open { IfOk result (λ next. IfOk next IsOpen) }
+    ensures { IfOk result (λ next. RunsRequest W.contents request session next output.old output.new) }
 {
     if session.has_crashed() && !request.only_reads() {
         return go_on(session, Ok(Answer::Skipped), output);
@@ -138,9 +128,7 @@ fn run_command<W: Write>(
     command: &Command,
     output: &mut W,
 ) -> io::Result<Result<Session, End>>
-    requires { IsOpen session }
-    ensures runs { IfOk result (λ next. RunsCommand W.contents command.now session next output.old output.new) }
-    ensures open { IfOk result (λ next. IfOk next IsOpen) }
+    ensures { IfOk result (λ next. RunsCommand W.contents command.now session next output.old output.new) }
 {
     match Request::of(command) {
         Ok(request) => run_request(session, request, output),
@@ -154,7 +142,6 @@ fn run_commands<W: Write>(
     commands: &[Command],
     output: &mut W,
 ) -> io::Result<Result<(), End>>
-    requires { IsOpen session }
     ensures { IfOk result (λ last. RunsCommands W.contents commands.now session last output.old output.new) }
 {
     let mut session = session;
@@ -172,7 +159,6 @@ fn run_commands<W: Write>(
 fn start(alloc: Global, sectors: u64, geometry: Geometry, fails_at: u64) -> Result<Session, Error>
     ensures starts { IfOk result (Starts sectors geometry fails_at) }
     ensures refused { IfErr result (IsNoStart sectors geometry) }
-    ensures open { IfOk result IsOpen }
 {
     format_gives_nothing();
     one_answer();
@@ -214,7 +200,6 @@ fn start_for(alloc: Global, arguments: &Arguments, geometry: Geometry) -> Result
     requires { geometry ≡ geometry_of arguments.now }
     ensures starts { IfOk result (StartsFor arguments.now) }
     ensures refused { IfErr result (IsNoStart (sectors_asked arguments.now.sectors geometry) geometry) }
-    ensures open { IfOk result IsOpen }
 {
     let sectors = sectors_for(arguments, geometry);
     let fails_at = cut_at(alloc, sectors, geometry, arguments.stop)?;
@@ -276,7 +261,6 @@ fn prepared(
     ensures script { IfOk result (λ made. IsScript (lines text.now) made.0.items) }
     ensures geometry { IfOk result (λ made. made.1 ≡ geometry_of arguments.now) }
     ensures starts { IfOk result (λ made. StartsFor arguments.now made.2) }
-    ensures open { IfOk result (λ made. IsOpen made.2) }
     ensures fault { IfErr result (IsFault arguments.now text.now) }
 {
     let commands = script::read(alloc, text)?;

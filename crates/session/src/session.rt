@@ -91,7 +91,7 @@ fn dump_entry<W: Write>(pair: Pair, mark: Mark, output: &mut W) -> io::Result<()
 
 impl Session {
     ghost use Rattle.first.specs.declared.event.Reply.{Reply};
-    ghost use Rattle.session.specs.Session.{IsOpen, OpensOn, IsRefusedOn, LeavesItsRun, has_crashed, disk_of, last_made, is_stop, outcome_of, ServesEvent, FlushesOnce, Flushes, calls_to_stop, Reopens, rows_of, entries_of, life_of};
+    ghost use Rattle.session.specs.Session.{OpensOn, IsRefusedOn, LeavesItsRun, has_crashed, disk_of, last_made, is_stop, outcome_of, ServesEvent, FlushesOnce, Flushes, calls_to_stop, Reopens, rows_of, entries_of, life_of};
 
     /// Opens the store on the disk, whose write or sync of this number is cut short, or none at 0.
     /// Where the restart is refused, the disk comes back.
@@ -104,7 +104,6 @@ impl Session {
         ensures opened { MatchResult result
             (OpensOn disk geometry fails_at)
             (λ r. IsRefusedOn disk r.1 r.0) }
-        ensures open { IfOk result IsOpen }
         ensures anew { IfOk result (λ session. has_crashed session ≡ false) }
     {
         let engine = restart(alloc, disk)?;
@@ -129,7 +128,6 @@ impl Session {
         ensures opened { (after : FaultDisk (MemDisk Global)) × LosesPower fate 0 disk after × MatchResult result
             (OpensOn after geometry 0)
             (λ r. IsRefusedOn after r.1 r.0) }
-        ensures open { IfOk result IsOpen }
         ensures anew { IfOk result (λ session. has_crashed session ≡ false) }
     {
         let disk = crashed(disk, fate, 0);
@@ -171,9 +169,7 @@ impl Session {
 
     // One event's reply.
     fn reply_to(&mut self, event: Event) -> Reply<Global>
-        requires { IsOpen self.old }
-        ensures serves { ServesEvent event result self.old self.new }
-        ensures open { IsOpen self.new }
+        ensures { ServesEvent event result self.old self.new }
     {
         self.engine.serve(event)
     }
@@ -190,9 +186,7 @@ impl Session {
 
     /// Serves one event.
     pub fn serve(&mut self, event: Event) -> Result<Answer, Stopped>
-        requires { IsOpen self.old }
-        ensures answer { (reply : Reply Global) × ServesEvent event reply self.old self.new × (result ≡ outcome_of self.new reply) }
-        ensures open { IsOpen self.new }
+        ensures { (reply : Reply Global) × ServesEvent event reply self.old self.new × (result ≡ outcome_of self.new reply) }
     {
         let reply = self.reply_to(event);
         self.outcome_of(reply)
@@ -200,9 +194,7 @@ impl Session {
 
     // Flushes once.
     fn flush_once(&mut self) -> Reply<Global>
-        requires { IsOpen self.old }
-        ensures flushed { FlushesOnce result self.old self.new }
-        ensures open { IsOpen self.new }
+        ensures { FlushesOnce result self.old self.new }
     {
         let reply = self.reply_to(Event::Flush);
         if let Reply::Horizon(number) = reply {
@@ -213,9 +205,7 @@ impl Session {
 
     /// Flushes until every record made is synced, or a flush is refused, or the log is full.
     pub fn flush(&mut self) -> Result<Answer, Stopped>
-        requires { IsOpen self.old }
-        ensures answer { (reply : Reply Global) × Flushes (last_made self.old) reply self.old self.new × (result ≡ outcome_of self.new reply) }
-        ensures open { IsOpen self.new }
+        ensures { (reply : Reply Global) × Flushes (last_made self.old) reply self.old self.new × (result ≡ outcome_of self.new reply) }
     {
         let last = self.engine.core().last();
         loop {
@@ -232,7 +222,6 @@ impl Session {
         ensures survives { LeavesItsRun self }
         ensures crashed { (disk : FaultDisk (MemDisk Global)) × LosesPower fate (calls_to_stop self) (disk_of self) disk
             × Reopens disk self.geometry (calls_to_stop self) result }
-        ensures open { IfOk result IsOpen }
     {
         let alloc = self.alloc;
         let geometry = self.geometry;

@@ -1,11 +1,9 @@
 // A store is stopped at each call of its device in turn, and crashes.
-ghost use Rattle.first.specs.Store.{CanRun};
-
 use crate::disks::formatted_for_long;
 use crate::phases::{Contents, NOTHING, Phase, held_by, worked_run};
 use crate::requests::Answer;
-use crate::store::{Memory, memory_of, reply_to, start};
-use first::{Engine, Event};
+use crate::store::{Memory, memory_of, reply_to};
+use first::{Engine, Event, restart};
 use sector_device::{Device, Fate, FaultDisk, Which};
 use std::alloc::Global;
 use std::process::Abort;
@@ -15,10 +13,7 @@ use std::test::Fail;
 const CALLS: u64 = 1_000;
 
 // Serves a phase, with a flush at its end, and answers how it was answered.
-fn serve_phase<D: Device>(engine: &mut Engine<D, &Memory>, phase: &Phase) -> Answer
-    requires { CanRun D.history engine.old }
-    ensures { CanRun D.history engine.new }
-{
+fn serve_phase<D: Device>(engine: &mut Engine<D, &Memory>, phase: &Phase) -> Answer {
     for (event, _) in &phase.asked {
         reply_to(engine, event);
     }
@@ -26,10 +21,7 @@ fn serve_phase<D: Device>(engine: &mut Engine<D, &Memory>, phase: &Phase) -> Ans
 }
 
 // Serves the phases. The greatest number that a flush has told to be safe.
-fn serve_all<D: Device>(engine: &mut Engine<D, &Memory>, phases: &[Phase]) -> u64
-    requires { CanRun D.history engine.old }
-    ensures { CanRun D.history engine.new }
-{
+fn serve_all<D: Device>(engine: &mut Engine<D, &Memory>, phases: &[Phase]) -> u64 {
     let mut safe: u64 = 0;
     for phase in phases {
         if let Answer::Horizon(number) = serve_phase(engine, phase) {
@@ -51,14 +43,14 @@ struct Stopped {
 fn stop_at(alloc: Global, phases: &[Phase], call: u64, fates: &[Fate]) -> Result<Stopped, Fail> {
     let memory = memory_of(alloc)?;
     let disk = FaultDisk::new(formatted_for_long(alloc)?, Which::WritesAndSyncs, call);
-    let (safe, disk) = match start(&memory, disk) {
+    let (safe, disk) = match restart(&memory, disk) {
         Ok(mut engine) => (serve_all(&mut engine, phases), engine.into_device()),
         Err((_, disk)) => (0, disk),
     };
     let failed = call <= disk.made();
     let mut disk = disk.into_inner();
     disk.crash(fates);
-    let Ok(engine) = start(&memory, disk) else {
+    let Ok(engine) = restart(&memory, disk) else {
         return Err("a store")?;
     };
     let left = held_by(engine.core());

@@ -1,6 +1,4 @@
 // Memory is refused to a store, to each allocation in turn.
-ghost use Rattle.first.specs.Store.{CanRun};
-
 use crate::disks::{FIRST, formatted_for_long};
 use crate::phases::{Phase, held_by, worked_run};
 use crate::requests::Answer;
@@ -41,10 +39,7 @@ fn serve_all<D: Device>(
     engine: &mut Engine<D, &Memory>,
     phases: &[Phase],
     refused: &mut Option<usize>,
-)
-    requires { CanRun D.history engine.old }
-    ensures { CanRun D.history engine.new }
-{
+) {
     for phase in phases {
         let flushed = [(Event::Flush, Answer::Horizon(phase.given.last))];
         serve(rt, memory, engine, &phase.asked, refused);

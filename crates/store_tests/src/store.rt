@@ -1,8 +1,5 @@
 // A store in memory that may be refused. What was refused for want of memory is asked again once there is memory, and then
 // every answer is that of a store to which nothing was refused.
-ghost use Rattle.std.specs.Prelude.{IfOk};
-ghost use Rattle.first.specs.Store.{CanRun};
-
 use crate::requests::{Answer, Asked, answer_of};
 use bumpalo::Bump;
 use first::{Engine, Event, restart};
@@ -28,24 +25,11 @@ fn lift(memory: &Memory, refused: &mut Option<usize>) {
     memory.set_allocation_limit(None);
 }
 
-/// Opens the store.
-pub(crate) fn start<D: Device, A: Allocator + Copy>(
-    alloc: A,
-    device: D,
-) -> Result<Engine<D, A>, (Error, D)>
-    ensures { IfOk result (CanRun D.history) }
-{
-    restart(alloc, device)
-}
-
 /// The answer to a request.
 pub(crate) fn reply_to<D: Device, A: Allocator + Copy>(
     engine: &mut Engine<D, A>,
     event: &Event,
-) -> Answer
-    requires { CanRun D.history engine.old }
-    ensures { CanRun D.history engine.new }
-{
+) -> Answer {
     answer_of(&engine.serve(*event))
 }
 
@@ -54,13 +38,11 @@ pub(crate) fn open<'a, D: Device>(
     memory: &'a Memory,
     device: D,
     refused: &mut Option<usize>,
-) -> Result<Engine<D, &'a Memory>, (Error, D)>
-    ensures { IfOk result (CanRun D.history) }
-{
-    match start(memory, device) {
+) -> Result<Engine<D, &'a Memory>, (Error, D)> {
+    match restart(memory, device) {
         Err((Error::NoMemory, device)) => {
             lift(memory, refused);
-            start(memory, device)
+            restart(memory, device)
         }
         opened => opened,
     }
@@ -72,10 +54,7 @@ fn answer<D: Device>(
     engine: &mut Engine<D, &Memory>,
     event: &Event,
     refused: &mut Option<usize>,
-) -> Answer
-    requires { CanRun D.history engine.old }
-    ensures { CanRun D.history engine.new }
-{
+) -> Answer {
     match reply_to(engine, event) {
         Answer::Refused(Error::NoMemory) => {
             lift(memory, refused);
@@ -92,10 +71,7 @@ pub(crate) fn serve<D: Device>(
     engine: &mut Engine<D, &Memory>,
     asked: &[Asked],
     refused: &mut Option<usize>,
-)
-    requires { CanRun D.history engine.old }
-    ensures { CanRun D.history engine.new }
-{
+) {
     for (event, wanted) in asked {
         let found = answer(memory, engine, event, refused);
         assert_eq!(rt; found, *wanted, "{event:?}");

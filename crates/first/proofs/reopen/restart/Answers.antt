@@ -1,6 +1,6 @@
 use Rattle.std.proofs.Common.{ap, nat_lt, sym, subst, ◌∙◌}
 use Rattle.sector_device.specs.Disk.{IsSynced}
-use Rattle.first.specs.declared.engine.Engine.{Engine}
+use Rattle.first.specs.declared.parts.Parts.{Parts}
 use Rattle.first.specs.Reopening.{OnlySyncs}
 use Rattle.first.proofs.Reopened.{opened_engine, can_run_opened, opened_recovers}
 use Rattle.first.proofs.reopen.restart.Goals as goal
@@ -8,17 +8,17 @@ use Rattle.first.proofs.reopen.restart.Goals as goal
 pub returns-in-Ok-clause-opened : goal.returns-in-Ok-clause-opened
 returns-in-Ok-clause-opened g c =
     let h = g.D.Device.history in
-    let engine : Engine g.row.D.Denot g.row.A.Denot = record { core = c.in-Ok.core; writer = c.new.result; alloc = c.args.alloc; read_only = nat_lt 0 c.last-base.result } in
+    let engine : Parts g.row.D.Denot g.row.A.Denot = record { core = c.in-Ok.core; writer = c.new.result; alloc = c.args.alloc; read_only = nat_lt 0 c.last-base.result } in
     opened_engine h c.args.device engine c.in-Ok.log c.in-Ok.ensures.found c.in-Ok.ensures.area
     (subst (OnlySyncs h c.args.device) (sym c.new.ensures.device) c.in-Ok.ensures.only) (subst (λ d. IsSynced (h d).disk) (sym c.new.ensures.device) c.in-Ok.ensures.synced)
     c.new.ensures.log (c.new.ensures.base ∙ c.last-base.ensures) c.new.ensures.waiting c.new.ensures.synced c.new.ensures.failed (ap (nat_lt 0) c.last-base.ensures)
 
-pub returns-in-Ok-clause-can_run : goal.returns-in-Ok-clause-can_run
-returns-in-Ok-clause-can_run g c = can_run_opened g.D.Device.history c.args.device _ (returns-in-Ok-clause-opened g c)
+pub invariant_of-result : goal.invariant_of-result
+invariant_of-result g c = can_run_opened g.D.Device.history c.args.device _ (returns-in-Ok-clause-opened g c)
 
 pub returns-in-Ok-clause-recovers : goal.returns-in-Ok-clause-recovers
 returns-in-Ok-clause-recovers g c past floor left =
-    let engine : Engine g.row.D.Denot g.row.A.Denot = record { core = c.in-Ok.core; writer = c.new.result; alloc = c.args.alloc; read_only = nat_lt 0 c.last-base.result } in
+    let engine : Parts g.row.D.Denot g.row.A.Denot = record { core = c.in-Ok.core; writer = c.new.result; alloc = c.args.alloc; read_only = nat_lt 0 c.last-base.result } in
     opened_recovers g.D.Device.history c.args.device engine c.in-Ok.log c.in-Ok.ensures.found past floor left
 
 pub returns-in-Err-clause-readable : goal.returns-in-Err-clause-readable

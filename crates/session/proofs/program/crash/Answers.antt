@@ -4,8 +4,8 @@ use Rattle.session.specs.Runs.{Prints}
 use Rattle.replay_values.specs.declared.answer.Answer.TheVariants.{Restart}
 use Rattle.session.proofs.program.crash.Goals as goal
 
-pub returns-in_ok-print-in-Ok-clause-restarts : goal.returns-in_ok-print-in-Ok-clause-restarts
-returns-in_ok-print-in-Ok-clause-restarts g c = (
+pub returns-in_ok-print-in-Ok : goal.returns-in_ok-print-in-Ok
+returns-in_ok-print-in-Ok g c = (
   c.in-Ok.ensures.survives,
   c.in-Ok.ensures.crashed,
   subst (λ (life : Life). Prints g.W.Write.contents (Restart life) c.args.output.now c.print.new.output) c.life.ensures c.in_ok-print-in-Ok.ensures,

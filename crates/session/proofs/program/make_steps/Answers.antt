@@ -1,11 +1,10 @@
-use Rattle.std.proofs.Common.{◌≡◌, ◌-◌, ◌+◌, ◌<◌, ◌≤◌, ℕ, true, false, Result, Ok, Err, refl, sym, ap, subst, ◌∙◌, arith}
+use Rattle.std.proofs.Common.{◌≡◌, ◌-◌, ◌+◌, ◌<◌, ℕ, true, false, Result, Ok, Err, refl, sym, ap, subst, ◌∙◌, arith}
 use Rattle.std.specs.declared.alloc.Global.{Global}
 use Rattle.sector_device.specs.declared.fault.FaultDisk.{FaultDisk}
 use Rattle.sector_device.specs.declared.memory.MemDisk.{MemDisk}
 use Rattle.replay_values.specs.Steps.{is_last_step}
 use Rattle.session.specs.Runs.{MakesSteps}
 use Rattle.session.specs.declared.session.Session.{Session}
-use Rattle.session.specs.declared.session.Stopped.{Stopped}
 use Rattle.session.specs.declared.session.End.{End}
 use Rattle.session.specs.declared.session.End.TheVariants as end
 use Rattle.session.proofs.Made.{no_step, one_step, last_step}
@@ -18,26 +17,22 @@ pub loop-init : goal.loop-init
 loop-init g c =
     let all : c.args.count - 0 ≡ c.args.count = omega arith in
     record {
-      is_open = c.requires;
       runs = λ next after steps. subst (λ (n : ℕ). MakesSteps g.W.Write.contents c.args.event.now n c.args.session next c.args.output.now after) all steps;
     }
 
-pub serve-requires : goal.serve-requires
-serve-requires g c = c.loop.invariant.is_open
-
-pub returns-then-is_last_step-clause-steps : goal.returns-then-is_last_step-clause-steps
-returns-then-is_last_step-clause-steps g c =
-    let answered = c.in-Ok.ensures.answer in
+pub returns-then-is_last_step : goal.returns-then-is_last_step
+returns-then-is_last_step g c =
+    let answered = c.in-Ok.ensures in
     let last : is_last_step c.in-Ok.answer ≡ true = sym c.is_last_step.ensures ∙ c.if-is_last_step.true in
     let some : 0 < c.args.count - c.loop.counter = omega (arith, c.loop-test.true) in
     c.loop.invariant.runs (Ok c.serve.new.self) c.print.new.output
     (last_step g.W.Write.contents c.args.event.now (c.args.count - c.loop.counter) c.loop.session c.serve.new.self (Ok c.serve.new.self) c.loop.output c.print.new.output
     answered.0 (Ok c.in-Ok.answer) some answered.1 answered.2 last (refl, c.in_ok-print-in-Ok.ensures))
 
-pub returns-in-Err-clause-steps : goal.returns-in-Err-clause-steps
+pub returns-in-Err : goal.returns-in-Err
 unfolding stopped_on
-returns-in-Err-clause-steps g c =
-    let answered = c.in-Err.ensures.answer in
+returns-in-Err g c =
+    let answered = c.in-Err.ensures in
     let some : 0 < c.args.count - c.loop.counter = omega (arith, c.loop-test.true) in
     c.loop.invariant.runs (stopped_on c.into_disk.result) c.loop.output
     (last_step g.W.Write.contents c.args.event.now (c.args.count - c.loop.counter) c.loop.session c.serve.new.self (stopped_on c.into_disk.result) c.loop.output c.loop.output
@@ -45,11 +40,10 @@ returns-in-Err-clause-steps g c =
 
 pub loop-preserved : goal.loop-preserved
 loop-preserved g c =
-    let answered = c.in-Ok.ensures.answer in
+    let answered = c.in-Ok.ensures in
     let goes_on : is_last_step c.in-Ok.answer ≡ false = sym c.is_last_step.ensures ∙ c.if-is_last_step.false in
     let left : c.args.count - (c.loop.counter + 1) + 1 ≡ c.args.count - c.loop.counter = omega (arith, c.loop-test.true) in
     record {
-      is_open = c.serve.ensures.open;
       runs = λ next after steps.
           c.loop.invariant.runs next after
           (subst (λ (n : ℕ). MakesSteps g.W.Write.contents c.args.event.now n c.loop.session next c.loop.output after) left
@@ -57,12 +51,9 @@ loop-preserved g c =
           answered.0 c.in-Ok.answer answered.1 (sym answered.2) goes_on c.in_ok-print-in-Ok.ensures steps));
     }
 
-pub returns-clause-steps : goal.returns-clause-steps
-returns-clause-steps g c =
+pub returns : goal.returns
+returns g c =
     let none : 0 ≡ c.args.count - c.loop.counter = omega (arith, c.loop-test.false) in
     c.loop.invariant.runs (Ok c.loop.session) c.loop.output
     (subst (λ (n : ℕ). MakesSteps g.W.Write.contents c.args.event.now n c.loop.session (Ok c.loop.session) c.loop.output c.loop.output) none
     (no_step g.W.Write.contents c.args.event.now c.loop.session c.loop.output))
-
-pub returns-clause-open : goal.returns-clause-open
-returns-clause-open g c = c.loop.invariant.is_open

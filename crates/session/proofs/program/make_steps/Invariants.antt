@@ -1,5 +1,4 @@
 use Rattle.std.proofs.Common.{◌-◌, Result}
-use Rattle.session.specs.Session.{IsOpen}
 use Rattle.session.specs.Runs.{MakesSteps}
 use Rattle.session.specs.declared.session.Session.{Session}
 use Rattle.session.specs.declared.session.End.{End}
@@ -8,7 +7,6 @@ use Rattle.session.proofs.program.make_steps.Given as goal
 -- what the steps from here on do is done by all of them
 abbrev pub invariant-loop : goal.invariant-loop
 invariant-loop g l = record {
-  is_open : IsOpen l.session;
   runs : (next : Result Session End) (after : g.row.W.Denot)
       → MakesSteps g.W.Write.contents l.event (l.count - l.counter) l.session next l.output after
       → MakesSteps g.W.Write.contents l.event l.count l.initial.session next l.initial.output after;

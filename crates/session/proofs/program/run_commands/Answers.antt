@@ -1,4 +1,4 @@
-use Rattle.std.proofs.Common.{◌≡◌, ℕ, ◌+◌, ◌<◌, ◌≤◌, List, ◌∷◌, length, get_or, drop, Result, Ok, Err, refl, sym, subst, arith, rules}
+use Rattle.std.proofs.Common.{◌≡◌, ℕ, ◌+◌, ◌<◌, ◌≤◌, List, ◌∷◌, length, get_or, drop, Result, Ok, Err, refl, sym, subst, arith}
 use Rattle.std.proofs.lemmas.List.{drop_all, drop_more}
 use Rattle.session.specs.Runs.{RunsCommand, RunsCommands}
 use Rattle.script.specs.declared.command.Command.{Command}
@@ -22,7 +22,7 @@ returns-in-Err g c =
     c.loop-command.invariant.runs (Err ends) after
     (from_here (λ (rest : List Command). RunsCommands g.W.Write.contents rest c.loop-command.session (Err ends) c.loop-command.output after)
     commands c.loop-command.command-index c.command-item.result inside c.command-item.is
-    (Err ends, after, subst (λ (next : Result Session End). RunsCommand g.W.Write.contents c.command-item.result c.loop-command.session next c.loop-command.output after) c.in-Err.is c.in_ok-next.ensures.runs, (refl, refl)))
+    (Err ends, after, subst (λ (next : Result Session End). RunsCommand g.W.Write.contents c.command-item.result c.loop-command.session next c.loop-command.output after) c.in-Err.is c.in_ok-next.ensures, (refl, refl)))
 
 pub returns : goal.returns
 returns g c =
@@ -39,10 +39,9 @@ loop-command-preserved g c =
     let commands = c.args.commands.now in
     let inside : c.loop-command.command-index < length commands = omega arith in
     record {
-      is_open = search rules;
       runs = λ last after rest_runs.
           c.loop-command.invariant.runs last after
           (from_here (λ (rest : List Command). RunsCommands g.W.Write.contents rest c.loop-command.session last c.loop-command.output after)
           commands c.loop-command.command-index c.command-item.result inside c.command-item.is
-          (Ok c.in-Ok.next, between, subst (λ (next : Result Session End). RunsCommand g.W.Write.contents c.command-item.result c.loop-command.session next c.loop-command.output between) c.in-Ok.is c.in_ok-next.ensures.runs, rest_runs));
+          (Ok c.in-Ok.next, between, subst (λ (next : Result Session End). RunsCommand g.W.Write.contents c.command-item.result c.loop-command.session next c.loop-command.output between) c.in-Ok.is c.in_ok-next.ensures, rest_runs));
     }

@@ -31,16 +31,16 @@ module _ {W F : Type 0} (contents : W → Option (List ℕ)) (old new : Session)
       (new, answered.0, answered.1, subst (λ (a : Result Answer Stopped). GoesOn contents a new next before after) answered.2 goes)
   flush_runs (Err e) answered goes = goes
 
-pub returns-in-Event-clause-runs : goal.returns-in-Event-clause-runs
-returns-in-Event-clause-runs g c =
+pub returns-in-Event : goal.returns-in-Event
+returns-in-Event g c =
     subst (λ (r : Request). IfOk c.go_on.result (λ (next : Result Session End). Runs g.W.Write.contents r c.args.session next c.args.output.now c.go_on.new.output))
     (sym c.in-Event.is)
     (event_runs g.W.Write.contents c.args.session c.serve-answer.new.self c.args.output.now c.go_on.new.output c.serve-answer.result
-    c.in-Event.event c.go_on.result c.serve-answer.ensures.answer c.go_on.ensures.goes_on)
+    c.in-Event.event c.go_on.result c.serve-answer.ensures c.go_on.ensures)
 
-pub returns-in-Flush-clause-runs : goal.returns-in-Flush-clause-runs
-returns-in-Flush-clause-runs g c =
+pub returns-in-Flush : goal.returns-in-Flush
+returns-in-Flush g c =
     subst (λ (r : Request). IfOk c.go_on-in-Flush.result (λ (next : Result Session End). Runs g.W.Write.contents r c.args.session next c.args.output.now c.go_on-in-Flush.new.output))
     (sym c.in-Flush.is)
     (flush_runs g.W.Write.contents c.args.session c.flush-answer.new.self c.args.output.now c.go_on-in-Flush.new.output c.flush-answer.result
-    c.go_on-in-Flush.result c.flush-answer.ensures.answer c.go_on-in-Flush.ensures.goes_on)
+    c.go_on-in-Flush.result c.flush-answer.ensures c.go_on-in-Flush.ensures)

@@ -14,7 +14,6 @@ loop-event-init g c = record {
   even = ap length c.in_ok-replies.ensures.items;
   room = omega (arith, c.in_ok-replies.ensures.exact);
   lawful = subst (λ (rs : List (Reply _)). AreLawful g.D.Device.failures [] rs c.args.self.now c.args.self.now) (sym c.in_ok-replies.ensures.items) refl;
-  can_run = c.requires;
   served = λ past is. subst (λ (rs : List (Reply _)). AreServed g.D.Device.history g.D.Device.failures past [] rs c.args.self.now c.args.self.now) (sym c.in_ok-replies.ensures.items) refl;
   ran = λ past is. subst (λ (rs : List (Reply _)). GoesOn g.D.Device.history past [] rs c.args.self.now c.args.self.now) (sym c.in_ok-replies.ensures.items) (goes_nowhere g.D.Device.history past c.args.self.now is);
 }
@@ -34,7 +33,6 @@ loop-event-preserved g c =
           subst (λ (es : List Event). AreLawful g.D.Device.failures es c.push.new.self.items c.args.self.now c.serve-reply.new.self) (sym (take_more events i c.event-item.result c.loop-event-test.true))
           (subst (λ (rs : List (Reply _)). AreLawful g.D.Device.failures (take i events ++ get_or events i c.event-item.result ∷ []) rs c.args.self.now c.serve-reply.new.self) (sym c.in-Ok.ensures.items)
           (lawful_last g.D.Device.failures (take i events) c.loop-event.replies.items (get_or events i c.event-item.result) c.serve-reply.result c.args.self.now c.loop-event.self c.serve-reply.new.self inv.lawful (subst (λ e. IsLawful g.D.Device.failures e c.serve-reply.result c.loop-event.self c.serve-reply.new.self) item c.serve-reply.ensures.lawful)));
-      can_run = c.serve-reply.ensures.can_run;
       served = λ past is.
           subst (λ (es : List Event). AreServed history g.D.Device.failures past es c.push.new.self.items c.args.self.now c.serve-reply.new.self) (sym (take_more events i c.event-item.result c.loop-event-test.true))
           (subst (λ (rs : List (Reply _)). AreServed history g.D.Device.failures past (take i events ++ get_or events i c.event-item.result ∷ []) rs c.args.self.now c.serve-reply.new.self) (sym c.in-Ok.ensures.items)
@@ -57,5 +55,4 @@ returns g c =
       lawful = subst (λ (es : List Event). AreLawful g.D.Device.failures es c.loop-event.replies.items c.args.self.now c.loop-event.self) (take_all c.loop-event.event-index c.args.events.now c.loop-event-test.false) c.loop-event.invariant.lawful;
       refused = tt;
       no_memory = tt;
-      can_run = c.loop-event.invariant.can_run;
     }

@@ -1,6 +1,6 @@
 use Rattle.std.proofs.Common.{◌≡◌, ◌≤◌, length, take, vec_capacity}
 use Rattle.first.specs.Lawful.{AreLawful}
-use Rattle.first.specs.Store.{Past, IsAt, CanRun, GoesOn, AreServed}
+use Rattle.first.specs.Store.{Past, IsAt, GoesOn, AreServed}
 use Rattle.first.proofs.engine.Engine.run.Given as goal
 
 abbrev pub invariant-loop-event : goal.invariant-loop-event
@@ -10,7 +10,6 @@ invariant-loop-event g l =
       even : length l.replies.items ≡ l.event-index;
       room : length l.events ≤ vec_capacity l.replies;
       lawful : AreLawful g.D.Device.failures (take l.event-index l.events) l.replies.items l.fn.self l.self;
-      can_run : CanRun history l.self;
       served : (past : Past _) → IsAt history past l.fn.self → AreServed history g.D.Device.failures past (take l.event-index l.events) l.replies.items l.fn.self l.self;
       ran : (past : Past _) → IsAt history past l.fn.self → GoesOn history past (take l.event-index l.events) l.replies.items l.fn.self l.self;
     }

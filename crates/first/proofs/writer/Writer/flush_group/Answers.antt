@@ -1,4 +1,4 @@
-use Rattle.std.proofs.Common.{rules, ⊎_elim, true, ◌≡◌, ◌≤◌, ◌+◌, ◌-◌, List, Ok, refl, sym, ap, subst, ◌∙◌, take, length, length-take, arith, inl}
+use Rattle.std.proofs.Common.{rules, ⊎_elim, true, ◌≡◌, ◌≢◌, ◌≤◌, ◌+◌, ◌<◌, ◌-◌, List, [], Ok, refl, sym, ap, subst, ◌∙◌, take, length, length-take, arith, inl, inr}
 use Rattle.records.specs.RecordValue.{RecordValue}
 use Rattle.sector_device.specs.History.{LeavesOnly}
 use Rattle.sector_device.proofs.Moments.{started}
@@ -9,6 +9,7 @@ use Rattle.std.proofs.lemmas.List.{nil_from_length}
 use Rattle.first.specs.Writer.{LeftBy, FillsGroup}
 use Rattle.first.proofs.Writing.{stood, leaves, appended_one, failed_one}
 use Rattle.first.proofs.writer.Writer.flush_group.Goals as goal
+use Rattle.first.proofs.writer.Writer.flush_group.Goals.{else-more-via-then-more+else-count-len, else-more-via-else-more}
 
 pub returns-in-Ok-Done-clause-images : goal.returns-in-Ok-Done-clause-images
 returns-in-Ok-Done-clause-images g c = λ area frame handed is.
@@ -49,8 +50,18 @@ returns-in-Ok-Done-clause-flushed g c =
     let old = c.args.self.now in
     let length_is : length c.deref.result.now ≡ length old.waiting.items = ap length c.deref.ensures.value in
     let is_count : (old.synced + count) - old.synced ≡ count = omega arith in
-    let most : FillsGroup old.waiting.items count = subst (λ (rs : List RecordValue). FillsGroup rs count) c.deref.ensures.value c.group_len-count.ensures.most in
-    ((omega arith), (λ none. omega (arith, ap length none, c.group_len-count.ensures.within, length_is)), subst (FillsGroup old.waiting.items) (sym is_count) most)
+    let some : 0 < length c.deref.result.now = omega (arith, ⊎_elim (λ s. s) (λ none. absurd (c.if-count-eq0.false (omega (arith, none, c.group_len-count.ensures.within)))) (cases_lt 0 (length c.deref.result.now))) in
+    let filled : FillsGroup c.deref.result.now count = record { fits = λ _. c.group_len-count.ensures.fits some; full = c.group_len-count.ensures.most } in
+    let most : FillsGroup old.waiting.items count = subst (λ (rs : List RecordValue). FillsGroup rs count) c.deref.ensures.value filled in
+    record {
+      some = λ waits. omega arith;
+      full = subst (FillsGroup old.waiting.items) (sym is_count) most;
+      rest = λ yes. elim c.else-more.branch [
+        | else-more-via-then-more+else-count-len w ↦ omega (arith, w.if-count-len.false, w.len.ensures, old.waiting.ok.0, c.group_len-count.ensures.within, length_is)
+        | else-more-via-else-more w ↦ absurd (false≢true (sym w.if-more.false ∙ yes))
+      ];
+      idle = λ none. absurd (omega (arith, some, length_is, ap length none));
+    }
 
 pub append-requires-clause-fits : goal.append-requires-clause-fits
 append-requires-clause-fits g c = search rules
@@ -58,7 +69,15 @@ append-requires-clause-fits g c = search rules
 pub returns-then-count-eq0-clause-flushed : goal.returns-then-count-eq0-clause-flushed
 returns-then-count-eq0-clause-flushed g c =
     let none : length c.deref.result.now ≡ 0 = ⊎_elim (λ some. absurd (omega (arith, (c.group_len-count.ensures.fits some).some, length-take c.group_len-count.result c.deref.result.now, c.if-count-eq0.true))) (λ none. omega (arith, none)) (cases_lt 0 (length c.deref.result.now)) in
-    (refl, nil_from_length c.args.self.now.waiting.items (omega (arith, ap length c.deref.ensures.value, none)))
+    record {
+      some = λ waits. absurd (waits (nil_from_length c.args.self.now.waiting.items (omega (arith, ap length c.deref.ensures.value, none))));
+      full = record { fits = λ some. absurd (omega (arith, some)); full = λ below. absurd (omega (arith, below, ap length c.deref.ensures.value, none)) };
+      rest = λ yes. elim c.else-more.branch [
+        | else-more-via-then-more+else-count-len w ↦ absurd (omega (arith, w.if-count-len.false, w.len.ensures, c.args.self.now.waiting.ok.0, ap length c.deref.ensures.value, none, c.if-count-eq0.true))
+        | else-more-via-else-more w ↦ absurd (false≢true (sym w.if-more.false ∙ yes))
+      ];
+      idle = λ _. refl;
+    }
 
 pub returns-in-Err-clause-err : goal.returns-in-Err-clause-err
 returns-in-Err-clause-err g c = search rules
@@ -69,3 +88,11 @@ returns-in-Ok-Full-clause-images g c = λ area frame handed is.
     let old = c.args.self.now in
     let full : c.append.result ≡ Ok Full = cc (c.in-Ok-Full.is, c.in-Ok-Full.field-0-is) in
     subst (λ d. LeavesOnly (history old.device) (history d) (LeftBy area frame handed old.synced)) (sym (c.append.ensures.unchanged (inl full)).1) (started (history old.device) (LeftBy area frame handed old.synced) is.images)
+
+pub returns-in-Err-NoMemory-clause-err : goal.returns-in-Err-NoMemory-clause-err
+returns-in-Err-NoMemory-clause-err g c =
+    let waits : c.args.self.now.waiting.items ≢ [] = λ none. c.if-count-eq0.false (omega (arith, c.group_len-count.ensures.within, ap length c.deref.ensures.value, ap length none)) in
+    let closed : c.args.self.now.log.open_slots ≢ c.args.self.now.log.area.slots = λ all. cc (c.append.ensures.full.1 all, c.in-Err-NoMemory.is) in
+    let old = c.args.self.now in
+    let same = c.append.ensures.unchanged (inr (cc (c.in-Err-NoMemory.is, c.in-Err-NoMemory.field-0-is))) in
+    inl (refl, c.if-self.false, inl (waits, closed), ap (λ d. record old { device = d; log = c.append.new.self }) same.1 ∙ ap (λ l. record old { log = l }) same.0)

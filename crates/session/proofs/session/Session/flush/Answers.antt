@@ -6,8 +6,8 @@ use Rattle.session.proofs.Flushed.{none_flushed, one_more, is_final, rises}
 use Rattle.session.proofs.session.Session.flush.Goals as goal
 
 -- this reply is the final one
-pub returns-then-not-asks_again-clause-answer : goal.returns-then-not-asks_again-clause-answer
-returns-then-not-asks_again-clause-answer c =
+pub returns-then-not-asks_again : goal.returns-then-not-asks_again
+returns-then-not-asks_again c =
     let reply = c.flush_once-reply.result in
     let mid = c.loop-self.self in
     let new = c.flush_once-reply.new.self in
@@ -15,7 +15,7 @@ returns-then-not-asks_again-clause-answer c =
     let whole : Flushes c.last-last.result reply c.args.self.now new = record {
       mid = mid;
       before = c.loop-self.invariant.goes_on mid (none_flushed _ mid);
-      final_flush = c.flush_once-reply.ensures.flushed;
+      final_flush = c.flush_once-reply.ensures;
       ends = is_final _ mid.horizon reply settled;
     } in
     let last_is : c.last-last.result ≡ last_made c.args.self.now = c.last-last.ensures ∙ ap (λ (s : CoreValue). s.last) c.core.ensures in
@@ -27,9 +27,8 @@ loop-self-preserved c =
     let reply = c.flush_once-reply.result in
     let again : asks_again c.last-last.result c.loop-self.self.horizon reply ≡ true = cc in
     record {
-      is_open = c.flush_once-reply.ensures.open;
       goes_on = λ mid on.
-          c.loop-self.invariant.goes_on mid (one_more _ c.loop-self.self c.flush_once-reply.new.self mid reply again c.flush_once-reply.ensures.flushed on);
+          c.loop-self.invariant.goes_on mid (one_more _ c.loop-self.self c.flush_once-reply.new.self mid reply again c.flush_once-reply.ensures on);
     }
 
 -- the horizon rises, up to the last record
@@ -37,6 +36,6 @@ pub loop-self-smaller : goal.loop-self-smaller
 loop-self-smaller c =
     let reply = c.flush_once-reply.result in
     let again : asks_again c.last-last.result c.loop-self.self.horizon reply ≡ true = cc in
-    let at : c.flush_once-reply.new.self.horizon ≡ horizon_after c.loop-self.self.horizon reply = ap (λ (s : Session). s.horizon) c.flush_once-reply.ensures.flushed.rest in
+    let at : c.flush_once-reply.new.self.horizon ≡ horizon_after c.loop-self.self.horizon reply = ap (λ (s : Session). s.horizon) c.flush_once-reply.ensures.rest in
     let up = rises c.last-last.result c.loop-self.self.horizon reply again in
     first_of (omega (arith, at, up.0, up.1), grind (arith, at, up.0, up.1), search (rules, at, up.0, up.1))

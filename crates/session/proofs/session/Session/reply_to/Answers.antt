@@ -1,5 +1,5 @@
 use Rattle.std.proofs.Common.{refl}
 use Rattle.session.proofs.session.Session.reply_to.Goals as goal
 
-pub returns-clause-serves : goal.returns-clause-serves
-returns-clause-serves c = record { replied = (c.serve.ensures.lawful, c.serve.ensures.serves); rest = refl }
+pub returns : goal.returns
+returns c = record { replied = (c.serve.ensures.lawful, c.serve.ensures.serves); rest = refl }

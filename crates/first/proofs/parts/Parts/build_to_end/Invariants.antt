@@ -1,0 +1,10 @@
+use Rattle.first.proofs.Ended.{HasBuilt}
+use Rattle.first.proofs.ToEnd.{work_of}
+use Rattle.first.specs.Parts.{core_of}
+use Rattle.first.proofs.parts.Parts.build_to_end.Given as goal
+
+abbrev pub invariant-steps : goal.invariant-steps
+invariant-steps g l = HasBuilt l.fn.self l.self l.scanned
+
+abbrev pub decreases-steps : goal.decreases-steps
+decreases-steps g l = work_of (core_of l.self) l.scanned
