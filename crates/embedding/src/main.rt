@@ -2,44 +2,61 @@
 #![tactic(auto)]
 
 use anyhow::{Result, anyhow};
-use first::{Event, restart};
+use first::{Engine, Event, restart};
 use flip_image::Halves;
 use records::{Body, Geometry, Key, Txn};
 use sector_device::{Fate, MemDisk};
+use std::alloc::Global;
 
-fn main(rt: HostRuntime) -> Result<()> {
+type Disk = MemDisk<Global>;
+
+type Store = Engine<Disk, Global>;
+
+fn formatted(alloc: Global) -> Result<Disk> {
     let geometry = Geometry::new(1, 64, 4)?;
-    let mut disk = MemDisk::new(rt.alloc(), geometry.sectors(), 1_000)?;
+    let mut disk = MemDisk::new(alloc, geometry.sectors(), 1_000)?;
     Halves::format(&mut disk, geometry)?;
+    Ok(disk)
+}
 
-    let Ok(mut engine) = restart(rt.alloc(), disk) else {
-        return Err(anyhow!("no store"));
-    };
-    let txn = Txn::new(1).ok_or(anyhow!("no such transaction"))?;
-    let (key, body) = (Key::new(b"ant")?, Body::new(b"x")?);
-    let replies = engine.run(&[
-        Event::Begin,
-        Event::Insert { txn, key, body },
-        Event::Commit { txn },
-        Event::Create,
-        Event::Build,
-        Event::Build,
-        Event::Build,
-        Event::Find { key },
-        Event::Flush,
-    ])?;
-    for reply in &replies {
+fn open(alloc: Global, disk: Disk) -> Result<Store> {
+    match restart(alloc, disk) {
+        Ok(store) => Ok(store),
+        Err((error, _)) => Err(error.into()),
+    }
+}
+
+fn serve(rt: &impl Print, store: &mut Store, events: &[Event]) -> Result<()> {
+    for reply in &store.run(events)? {
         println!(rt; "{reply:?}")?;
     }
+    Ok(())
+}
 
-    let mut disk = engine.into_device();
-    disk.crash(&[Fate::Junk]);
-    let Ok(engine) = restart(rt.alloc(), disk) else {
-        return Err(anyhow!("no store"));
-    };
-    for rid in &engine.core().find(key)? {
-        let row = engine.core().get(*rid);
+fn insert(rt: &impl Print, store: &mut Store, key: Key, body: Body) -> Result<()> {
+    let txn = Txn::new(1).ok_or(anyhow!("no such transaction"))?;
+    let insertion = Event::Insert { txn, key, body };
+    serve(rt, store, &[Event::Begin, insertion, Event::Commit { txn }])
+}
+
+fn find(rt: &impl Print, store: &Store, key: Key) -> Result<()> {
+    for rid in &store.core().find(key)? {
+        let row = store.core().get(*rid);
         println!(rt; "{row:?}")?;
     }
     Ok(())
+}
+
+fn main(rt: HostRuntime) -> Result<()> {
+    let key = Key::new(b"ant")?;
+    let mut store = open(rt.alloc(), formatted(rt.alloc())?)?;
+    insert(&rt, &mut store, key, Body::new(b"x")?)?;
+    serve(&rt, &mut store, &[Event::Create])?;
+    let built = store.build_to_end()?;
+    println!(rt; "{built:?}")?;
+    serve(&rt, &mut store, &[Event::Find { key }, Event::Flush])?;
+
+    let mut disk = store.into_device();
+    disk.crash(&[Fate::Junk]);
+    find(&rt, &open(rt.alloc(), disk)?, key)
 }
