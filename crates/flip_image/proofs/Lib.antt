@@ -2,5 +2,7 @@ mod ZeroRows
 mod Spelled
 mod Formats
 mod Fresh
+mod Nothing
+mod Wider
 pub mod Stores
 pub mod Sides

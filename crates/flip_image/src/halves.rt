@@ -5,6 +5,7 @@ ghost use Rattle.sector_device.specs.History.{OnlyReads, LeavesOnly, CountsFailu
 ghost use Rattle.sector_device.specs.Values.{zero_sector};
 ghost use Rattle.records.specs.GeometryValue.{GeometryValue, IsGeometry, sectors_of};
 ghost use Rattle.image_half.specs.Image.{no_cells};
+ghost use Rattle.image_half.specs.Layout.{image_end};
 ghost use Rattle.image_half.specs.Damage.{IsUnread};
 ghost use Rattle.flip_image.specs.Layout.{other, header_sector, log_first};
 ghost use Rattle.flip_image.specs.Store.{Names, IsFlipping, IsSuperblock, IsStore, IsFresh, HoldsImage, IsFormatted, AreGatesClosed, AreLogGatesZero, IsFormatSector, IsRefused, IsFirstUsed, AreZeros, IsDeviceFailure, IsUntitled, IsSuperblockDamaged};
@@ -180,6 +181,15 @@ impl Halves {
         ensures { result ≡ header_sector self.now.geometry self.now.current }
     {
         self.current.header_sector(self.geometry)
+    }
+
+    /// The sector of the header of the other half's image, which ends within the store.
+    pub(crate) fn idle_first(&self) -> u64
+        ensures value { result ≡ header_sector self.now.geometry (other self.now.current) }
+        ensures inside { image_end self.now.geometry result ≤ sectors_of self.now.geometry }
+        ensures number { image_end self.now.geometry result < 2 ^ 64 }
+    {
+        self.current.other().header_sector(self.geometry())
     }
 
     /// The first sector of the current half's log, which has the geometry's slots and ends within the store.

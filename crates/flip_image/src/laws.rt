@@ -1,14 +1,18 @@
 //! Laws of what a device holds.
 ghost use Rattle.std.specs.Prelude.{◌≡◌, ◌⊎◌, ◌<◌, ◌≤◌, ℕ, length};
-ghost use Rattle.sector_device.specs.Disk.{Image, sector, SameOutside};
+ghost use Rattle.sector_device.specs.Disk.{Image, sector, IsWhole, SameOutside};
 ghost use Rattle.records.specs.declared.error.Error.{Error};
 ghost use Rattle.records.specs.declared.geometry.TheConstants.{FRONT_SECTORS};
-ghost use Rattle.records.specs.GeometryValue.{GeometryValue};
+ghost use Rattle.records.specs.GeometryValue.{GeometryValue, sectors_of};
+ghost use Rattle.model.specs.Cells.{Cells};
+ghost use Rattle.image_half.specs.Image.{no_cells};
 ghost use Rattle.flip_image.specs.declared.half.Half.{Half};
 ghost use Rattle.flip_image.specs.declared.half.Half.TheVariants.{A};
 ghost use Rattle.flip_image.specs.Layout.{other, InHalf, InHalfImage, InLog};
 ghost use Rattle.flip_image.specs.declared.half.TheConstants.{FLIP_SECTOR};
-ghost use Rattle.flip_image.specs.Store.{IsStore, IsFresh, IsFormatted, IsRefused, IsFirstUsed};
+ghost use Rattle.flip_image.specs.Store.{IsStore, IsFresh, HoldsImage, IsFormatted, IsRefused, IsFirstUsed};
+
+use image_half::told_by_its_sectors;
 
 /// A law: an image is of one store at most, with one half that is current, and then no reader refuses it; and it is
 /// refused in one way at most.
@@ -51,3 +55,24 @@ pub fn halves_apart()
     ensures log { (g : GeometryValue) (half : Half) (n : ℕ) → InLog g half n → InHalf g half n }
     ensures parts { (g : GeometryValue) (half : Half) (n : ℕ) → InHalfImage g half n → ¬ InLog g half n }
 {}
+
+/// A law: a half is fresh just where it holds the image of nothing, with base 0.
+pub fn fresh_image()
+    ensures image { (g : GeometryValue) (half : Half) (image : Image) → IsWhole image → sectors_of g ≤ length image → IsFresh g half image → HoldsImage g half image 0 no_cells }
+    ensures fresh { (g : GeometryValue) (half : Half) (image : Image) → IsWhole image → sectors_of g ≤ length image → HoldsImage g half image 0 no_cells → IsFresh g half image }
+{}
+
+/// A law: what image a half holds, the sectors of its image tell. So it stays while the other half is written, or the
+/// flip sector, or its own log.
+pub fn image_told()
+    ensures sectors { (g : GeometryValue) (half : Half) (image changed : Image) (base : ℕ) (cells : Cells) → ((n : ℕ) → InHalfImage g half n → sector changed n ≡ sector image n)
+        → HoldsImage g half image base cells → HoldsImage g half changed base cells }
+    ensures other { (g : GeometryValue) (half : Half) (image changed : Image) (base : ℕ) (cells : Cells) → SameOutside (InHalf g (other half)) image changed
+        → HoldsImage g half image base cells → HoldsImage g half changed base cells }
+    ensures flip { (g : GeometryValue) (half : Half) (image changed : Image) (base : ℕ) (cells : Cells) → SameOutside (λ n. n ≡ FLIP_SECTOR) image changed
+        → HoldsImage g half image base cells → HoldsImage g half changed base cells }
+    ensures log { (g : GeometryValue) (half : Half) (image changed : Image) (base : ℕ) (cells : Cells) → SameOutside (InLog g half) image changed
+        → HoldsImage g half image base cells → HoldsImage g half changed base cells }
+{
+    told_by_its_sectors();
+}

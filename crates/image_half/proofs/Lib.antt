@@ -8,3 +8,8 @@ mod Bytes
 mod Refusing
 mod Heads
 mod Told
+mod Walk
+mod Joined
+mod Kept
+mod Writing
+mod Written

@@ -1,12 +1,12 @@
--- Maps that grow at their end.
-use Rattle.std.proofs.Common.{◌≡◌, ℕ, zero, suc, ◌+◌, Bool, true, false, ◌&&◌, List, [], ◌∷◌, ◌++◌, length, Some, refl, sym, ap, ◌∙◌, subst, arith}
+-- Maps that grow at their end, and what they have at the key of an entry.
+use Rattle.std.proofs.Common.{◌≡◌, ℕ, zero, suc, ◌+◌, Bool, true, false, cond, ◌&&◌, List, [], ◌∷◌, ◌++◌, length, Some, refl, sym, ap, ◌∙◌, subst, arith}
 use Rattle.std.specs.Prelude.{slice_get, T}
 use Rattle.std.specs.declared.cmp.Ordering.{Ordering}
 use Rattle.std.specs.declared.cmp.Ordering.TheVariants.{Less, Equal, Greater}
-use Rattle.std.specs.Ordering.{is_lt, ordering_reverse}
-use Rattle.std.specs.Cmp.{IsTotalOrder}
-use Rattle.std.specs.FinMap.{FinMap, entries, entries_sorted, entries-insert, insert, put, is_sorted}
-use Rattle.std.specs.FinMap.Entries.{by_order}
+use Rattle.std.specs.Ordering.{is_eq, is_lt, ordering_reverse}
+use Rattle.std.specs.Cmp.{IsTotalOrder, tied_itself}
+use Rattle.std.specs.FinMap.{FinMap, entries, entries_sorted, entries-insert, find, get, get-entries, insert, put, is_sorted}
+use Rattle.std.specs.FinMap.Entries.{below_all, by_order}
 use Rattle.std.proofs.lemmas.Option.{none-some, same_Some}
 
 first : (a b : Bool) → T (a && b) → T a
@@ -57,3 +57,20 @@ module _ {K X : Type 0} {R : K → K → Ordering} (o : IsTotalOrder R) where
 
   pub below_next : (m : FinMap R X) (k : K) (n : ℕ) (e : K × X) → length (entries m) ≡ n + 1 → slice_get (entries m) n ≡ Some e → R e.0 k ≡ Less → AreBelow k (entries m)
   below_next m k n e long is above = above_last k (entries m) n e (entries_sorted m) long is above
+
+  -- ---- the value of an entry is what the map has at its key
+
+  below_at : (x : K) (es : List (K × X)) (i : ℕ) (e : K × X) → T (below_all R x es) → slice_get es i ≡ Some e → R x e.0 ≡ Less
+  below_at x [] i e below is = absurd (none-some e is)
+  below_at x (y ∷ es) zero e below is = subst (λ (z : K × X). R x z.0 ≡ Less) (same_Some y e is) (less _ (first _ _ below))
+  below_at x (y ∷ es) (suc i) e below is = below_at x es i e (second _ _ below) is
+
+  find_at : (es : List (K × X)) (i : ℕ) (e : K × X) → T (is_sorted R es) → slice_get es i ≡ Some e → find R e.0 es ≡ Some e.1
+  find_at [] i e sorted is = absurd (none-some e is)
+  find_at (x ∷ es) zero e sorted is = subst (λ (z : K × X). find R z.0 (x ∷ es) ≡ Some z.1) (same_Some x e is) (ap (λ r. cond (is_eq r) (Some x.1) (find R x.0 es)) (tied_itself o x.0))
+  find_at (x ∷ es) (suc i) e sorted is =
+      ap (λ r. cond (is_eq r) (Some x.1) (find R e.0 es)) (o.antisymm e.0 x.0 ∙ ap ordering_reverse (below_at x.0 es i e (first _ _ sorted) is))
+      ∙ find_at es i e (second _ _ sorted) is
+
+  pub get_at : (m : FinMap R X) (i : ℕ) (e : K × X) → slice_get (entries m) i ≡ Some e → get m e.0 ≡ Some e.1
+  get_at m i e is = get-entries m e.0 ∙ find_at (entries m) i e (entries_sorted m) is

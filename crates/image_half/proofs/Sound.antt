@@ -38,7 +38,7 @@ less Less p = refl
 less Equal p = absurd p
 less Greater p = absurd p
 
-neighbours : {K X : Type 0} (R : K → K → Ordering) (es : List (K × X)) (j : ℕ) (d e : K × X) → T (is_sorted R es) → slice_get es j ≡ Some d → slice_get es (suc j) ≡ Some e → R d.0 e.0 ≡ Less
+pub neighbours : {K X : Type 0} (R : K → K → Ordering) (es : List (K × X)) (j : ℕ) (d e : K × X) → T (is_sorted R es) → slice_get es j ≡ Some d → slice_get es (suc j) ≡ Some e → R d.0 e.0 ≡ Less
 neighbours R [] j d e sorted at_d at_e = absurd (none-some d at_d)
 neighbours R (x ∷ []) j d e sorted at_d at_e = absurd (none-some e at_e)
 neighbours {K} {X} R (x ∷ y ∷ es) zero d e sorted at_d at_e =

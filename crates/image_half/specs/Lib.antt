@@ -1,4 +1,5 @@
 pub mod Layout
 pub mod Image
 pub mod Damage
+pub mod Source
 pub mod Steps

@@ -1,7 +1,8 @@
--- Words for the private steps of reading an image. No public clause cites them.
-use Rattle.std.specs.Prelude.{◌≡◌, ◌⊎◌, ℕ, ◌+◌, ◌-◌, ◌<◌, ◌≤◌, List, length, map, Option, Some, None, slice_get}
+-- Words for the private steps of reading and writing an image. No public clause cites them.
+use Rattle.std.specs.Prelude.{◌≡◌, ◌⊎◌, true, ℕ, ◌+◌, ◌-◌, ◌<◌, ◌≤◌, List, length, map, Option, Some, None, slice_get}
 use Rattle.std.specs.FinMap as finite
-use Rattle.sector_device.specs.Disk.{Image}
+use Rattle.sector_device.specs.Disk.{Image, SameOutside}
+use Rattle.sector_device.specs.History.{History, RunsWithin}
 use Rattle.records.specs.Values.{Place}
 use Rattle.records.specs.ChangeValue.{ChangeValue}
 use Rattle.records.specs.GeometryValue.{GeometryValue}
@@ -18,9 +19,10 @@ use Rattle.image_parts.specs.declared.item.UndoItem.{UndoItem}
 use Rattle.image_parts.specs.declared.head.TheConstants.{HEAD_SIZE}
 use Rattle.records.specs.Spelling.{PairFits}
 use Rattle.image_parts.specs.Spelling.{entry, head, item, HeadFits, ItemFits}
-use Rattle.image_half.specs.Layout.{cut}
+use Rattle.image_half.specs.Layout.{undo_at, page_at, entries_at, cut}
 use Rattle.image_half.specs.Image.{HoldsList, IsRow, IsEntry, row_bytes, entry_bytes, head_of}
 use Rattle.image_half.specs.Damage.{AnItem, APage, AnEntry, sector_of, IsSound, IsHindered}
+use Rattle.image_half.specs.Source.{IsNextBehind}
 
 -- the head may stand at index k behind these: each of those before it is used, and the last one has a lesser number
 pub record IsNextHead (heads : List Head) (k : ℕ) (h : Head) : Type 0 where
@@ -93,3 +95,27 @@ ArePagesRefused g first image before now e = IsHindered before now e
 abbrev pub AreEntriesRefused : GeometryValue → ℕ → Image → (count before now : ℕ) → Error → Type 0
 AreEntriesRefused g first image count before now e = IsHindered before now e
     ⊎ ((i : ℕ) × (i < count) × (e ≡ Damaged (sector_of g first (AnEntry i))) × (¬ IsSound g first image (AnEntry i)) × ((j : ℕ) → j < i → IsSound g first image (AnEntry j)))
+
+-- ---- writing
+
+-- behind the entry of this key comes the n-th one, if there are so many
+abbrev pub IsReached : {K X : Type 0} → List (K × X) → ℕ → Option K → Type 0
+IsReached {K} {X} entries n key = (next : Option (K × X)) → IsNextBehind entries key next → next ≡ slice_get entries n
+
+-- the page has these rows in its slots
+pub record ShowsPage (first : ℕ) (image : Image) (page : ℕ) (rows : Table) : Type 0 where
+  pub front : IsRow (row_bytes image first page 0) None
+  pub slots : (slot : ℕ) → slot < SLOTS_PER_PAGE → IsRow (row_bytes image first page (slot + 1)) (finite.get rows (record { page = page; slot = slot }))
+
+-- a sector of the undo items
+abbrev pub InUndo : ℕ → ℕ → Type 0
+InUndo first n = (undo_at first ≤ n) × (n < page_at first 0)
+
+-- a sector of the pages
+abbrev pub InPages : GeometryValue → ℕ → ℕ → Type 0
+InPages g first n = (page_at first 0 ≤ n) × (n < entries_at g first)
+
+-- Only sectors of S were written: a crash at any moment since leaves the others, but for those that were unsynced.
+pub record WritesIn (S : ℕ → Type 0) (old new : History) : Type 0 where
+  pub outside : SameOutside S old.disk.content new.disk.content
+  pub within : RunsWithin (λ n. S n ⊎ (old.disk.unsynced n ≡ true)) old.disk.content old new

@@ -1,5 +1,5 @@
 //! The image of a store in the sectors of a half: life, lists of changes, rows and entries, each in its place. It is read
-//! part by part, and refused at the first sector that says nothing.
+//! part by part, and refused at the first sector that says nothing; and written part by part, or as a whole.
 #![tactic(auto)]
 
 mod laws;
@@ -7,9 +7,13 @@ mod parts;
 mod pieces;
 mod read;
 mod sink;
+mod source;
+mod whole;
 mod write;
 
 pub use laws::{one_damage, one_image, told_by_its_sectors};
 pub use read::read_image;
 pub use sink::CellSink;
+pub use source::CellSource;
+pub use whole::write_image;
 pub use write::{write_entries, write_header, write_heads, write_list, write_page};

@@ -7,7 +7,8 @@ ghost use Rattle.records.specs.declared.row.Row.{Row};
 ghost use Rattle.records.specs.declared.pair.Pair.{Pair};
 ghost use Rattle.records.specs.declared.pair.Mark.{Mark};
 ghost use Rattle.image_parts.specs.declared.head.Head.{Head};
-ghost use Rattle.image_parts.specs.Spelling.{HeaderFits, HeadFits, head};
+ghost use Rattle.records.specs.declared.number.TheConstants.{LAST_NUMBER};
+ghost use Rattle.image_parts.specs.Spelling.{HeadFits, head};
 ghost use Rattle.image_half.specs.Layout.{cut, heads_at, page_at, entries_at, image_end, InPage, InEntries, InList};
 ghost use Rattle.image_half.specs.Image.{IsHeader, AreHeads, HoldsList, IsRow, IsEntry, row_bytes, entry_bytes, item_of};
 ghost use Rattle.image_half.specs.Steps.{IsEntryPiece, IsItemPiece};
@@ -36,7 +37,7 @@ pub fn write_header<D: Device>(
     first: u64,
     header: &Header,
 ) -> Result<(), Failed>
-    requires fits { HeaderFits header.now }
+    requires base { header.now.base ≤ LAST_NUMBER }
     requires room { header.now.entries ≤ geometry.entries }
     requires pages { (p : Pair) → header.now.life ≡ Life.Building (Some p) → p.rid.page < geometry.pages }
     requires inside { first < length (D.history device.old).disk.content }

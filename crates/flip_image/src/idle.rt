@@ -1,0 +1,144 @@
+//! The half that isn't current is written, part by part or as a whole, without a sync. Until a sync, a sector that was
+//! written may hold anything after a crash; the current half and the sectors in front of the halves stay as they are.
+ghost use Rattle.std.specs.Prelude.{◌≡◌, ◌⊎◌, ℕ, ◌+◌, ◌%◌, ◌<◌, ◌≤◌, ◌∷◌, Option, true, length, slice_get, Some, None, OnOk};
+ghost use Rattle.sector_device.specs.Disk.{sector, SameOutside};
+ghost use Rattle.sector_device.specs.History.{RunsWithin, CountsFailure};
+ghost use Rattle.records.specs.GeometryValue.{sectors_of};
+ghost use Rattle.records.specs.ChangeValue.{ChangeValue};
+ghost use Rattle.records.specs.declared.row.Row.{Row as RowValue};
+ghost use Rattle.records.specs.declared.pair.Pair.{Pair as PairValue};
+ghost use Rattle.records.specs.declared.pair.Mark.{Mark as MarkValue};
+ghost use Rattle.records.specs.declared.txn.TheConstants.{TXNS_MAX};
+ghost use Rattle.records.specs.declared.change.TheConstants.{CHANGES_MAX};
+ghost use Rattle.records.specs.declared.number.TheConstants.{LAST_NUMBER};
+ghost use Rattle.records.specs.declared.rid.TheConstants.{SLOTS_PER_PAGE};
+ghost use Rattle.records.specs.declared.geometry.TheConstants.{ENTRIES_PER_SECTOR};
+ghost use Rattle.model.specs.declared.life.Life.TheVariants.{Building};
+ghost use Rattle.image_parts.specs.declared.head.Head.{Head as HeadValue};
+ghost use Rattle.image_parts.specs.Spelling.{HeadFits};
+ghost use Rattle.image_half.specs.Layout.{InPage, InEntries, InList};
+ghost use Rattle.image_half.specs.Image.{IsHeader, AreHeads, HoldsList, IsRow, IsEntry, row_bytes, entry_bytes};
+ghost use Rattle.image_half.specs.Source.{FitsImage};
+ghost use Rattle.flip_image.specs.Layout.{other, header_sector, heads_sector, InHalfImage};
+ghost use Rattle.flip_image.specs.Store.{HoldsImage};
+
+use crate::halves::Halves;
+use image_half::{
+    CellSource, write_entries, write_header, write_heads, write_image, write_list, write_page,
+};
+use image_parts::{Head, Header};
+use records::{Change, Mark, Pair, Row};
+use sector_device::{Device, Failed};
+
+impl Halves {
+    /// Writes the header of the image. It counts the entries that are in the image, so it is written behind them.
+    pub fn write_header<D: Device>(&self, device: &mut D, header: &Header) -> Result<(), Failed>
+        requires inside { sectors_of self.now.geometry ≤ length (D.history device.old).disk.content }
+        requires base { header.now.base ≤ LAST_NUMBER }
+        requires room { header.now.entries ≤ self.now.geometry.entries }
+        requires pages { (p : PairValue) → header.now.life ≡ Building (Some p) → p.rid.page < self.now.geometry.pages }
+        ensures written { OnOk result (IsHeader self.now.geometry (sector (D.history device.new).disk.content (header_sector self.now.geometry (other self.now.current))) header.now) }
+        ensures outside { SameOutside (λ n. n ≡ header_sector self.now.geometry (other self.now.current)) (D.history device.old).disk.content (D.history device.new).disk.content }
+        ensures within { RunsWithin (λ n. InHalfImage self.now.geometry (other self.now.current) n ⊎ ((D.history device.old).disk.unsynced n ≡ true)) (D.history device.old).disk.content (D.history device.old) (D.history device.new) }
+        ensures counts { CountsFailure (D.failures device.old) (D.failures device.new) result }
+    {
+        let first = self.idle_first();
+        write_header(device, self.geometry(), first, header)
+    }
+
+    /// Writes the transaction heads of the image, of transactions in the order of their numbers.
+    pub fn write_heads<D: Device>(&self, device: &mut D, heads: &[Head]) -> Result<(), Failed>
+        requires inside { sectors_of self.now.geometry ≤ length (D.history device.old).disk.content }
+        requires count { length heads.now ≤ TXNS_MAX }
+        requires fits { (k : ℕ) (h : HeadValue) → slice_get heads.now k ≡ Some h → HeadFits h }
+        requires rising { (k : ℕ) (a b : HeadValue) → slice_get heads.now k ≡ Some a → slice_get heads.now (k + 1) ≡ Some b → a.txn < b.txn }
+        ensures written { OnOk result (AreHeads (sector (D.history device.new).disk.content (heads_sector self.now.geometry (other self.now.current))) heads.now) }
+        ensures outside { SameOutside (λ n. n ≡ heads_sector self.now.geometry (other self.now.current)) (D.history device.old).disk.content (D.history device.new).disk.content }
+        ensures within { RunsWithin (λ n. InHalfImage self.now.geometry (other self.now.current) n ⊎ ((D.history device.old).disk.unsynced n ≡ true)) (D.history device.old).disk.content (D.history device.old) (D.history device.new) }
+        ensures counts { CountsFailure (D.failures device.old) (D.failures device.new) result }
+    {
+        let first = self.idle_first();
+        write_heads(device, first, heads)
+    }
+
+    /// Writes the changes of a head, numbered from 0, as undo items of the image. Each sector is written once.
+    pub fn write_list<D: Device>(
+        &self,
+        device: &mut D,
+        h: u64,
+        changes: &[Change],
+    ) -> Result<(), Failed>
+        requires inside { sectors_of self.now.geometry ≤ length (D.history device.old).disk.content }
+        requires head { h < TXNS_MAX }
+        requires count { length changes.now ≤ CHANGES_MAX }
+        requires positions { (p : ℕ) (c : ChangeValue) → slice_get changes.now p ≡ Some c → c.position ≡ p }
+        requires pages { (p : ℕ) (c : ChangeValue) → slice_get changes.now p ≡ Some c → c.rid.page < self.now.geometry.pages }
+        ensures written { OnOk result (HoldsList self.now.geometry (header_sector self.now.geometry (other self.now.current)) (D.history device.new).disk.content h changes.now) }
+        ensures outside { SameOutside (InList (header_sector self.now.geometry (other self.now.current)) h (length changes.now)) (D.history device.old).disk.content (D.history device.new).disk.content }
+        ensures within { RunsWithin (λ n. InHalfImage self.now.geometry (other self.now.current) n ⊎ ((D.history device.old).disk.unsynced n ≡ true)) (D.history device.old).disk.content (D.history device.old) (D.history device.new) }
+        ensures counts { CountsFailure (D.failures device.old) (D.failures device.new) result }
+    {
+        let first = self.idle_first();
+        write_list(device, self.geometry(), first, h, changes)
+    }
+
+    /// Writes a page of the image, with the rows of its slots in order, or none. Each of its eight sectors is written once.
+    pub fn write_page<D: Device>(
+        &self,
+        device: &mut D,
+        page: u32,
+        rows: &[Option<Row>],
+    ) -> Result<(), Failed>
+        requires inside { sectors_of self.now.geometry ≤ length (D.history device.old).disk.content }
+        requires rows { length rows.now ≡ SLOTS_PER_PAGE }
+        requires page { page < self.now.geometry.pages }
+        ensures written { OnOk result ((i : ℕ) (o : Option RowValue) → slice_get (None ∷ rows.now) i ≡ Some o → IsRow (row_bytes (D.history device.new).disk.content (header_sector self.now.geometry (other self.now.current)) page i) o) }
+        ensures outside { SameOutside (InPage (header_sector self.now.geometry (other self.now.current)) page) (D.history device.old).disk.content (D.history device.new).disk.content }
+        ensures within { RunsWithin (λ n. InHalfImage self.now.geometry (other self.now.current) n ⊎ ((D.history device.old).disk.unsynced n ≡ true)) (D.history device.old).disk.content (D.history device.old) (D.history device.new) }
+        ensures counts { CountsFailure (D.failures device.old) (D.failures device.new) result }
+    {
+        let first = self.idle_first();
+        write_page(device, self.geometry(), first, page, rows)
+    }
+
+    /// Writes these entries of the image, from the entry number `start` on, which begins a sector. Each sector is written
+    /// once, and what stood in the last one behind them is lost.
+    pub fn write_entries<D: Device>(
+        &self,
+        device: &mut D,
+        start: u32,
+        entries: &[(Pair, Mark)],
+    ) -> Result<(), Failed>
+        requires inside { sectors_of self.now.geometry ≤ length (D.history device.old).disk.content }
+        requires start { start % ENTRIES_PER_SECTOR ≡ 0 }
+        requires room { start + length entries.now ≤ self.now.geometry.entries }
+        requires pages { (i : ℕ) (e : PairValue × MarkValue) → slice_get entries.now i ≡ Some e → e.0.rid.page < self.now.geometry.pages }
+        ensures written { OnOk result ((i : ℕ) (e : PairValue × MarkValue) → slice_get entries.now i ≡ Some e → IsEntry self.now.geometry (entry_bytes self.now.geometry (D.history device.new).disk.content (header_sector self.now.geometry (other self.now.current)) (start + i)) e) }
+        ensures outside { SameOutside (InEntries self.now.geometry (header_sector self.now.geometry (other self.now.current)) start (length entries.now)) (D.history device.old).disk.content (D.history device.new).disk.content }
+        ensures within { RunsWithin (λ n. InHalfImage self.now.geometry (other self.now.current) n ⊎ ((D.history device.old).disk.unsynced n ≡ true)) (D.history device.old).disk.content (D.history device.old) (D.history device.new) }
+        ensures counts { CountsFailure (D.failures device.old) (D.failures device.new) result }
+    {
+        let first = self.idle_first();
+        write_entries(device, self.geometry(), first, start, entries)
+    }
+
+    /// Writes the image of these cells, which record `base` left: undo items, transaction heads, every page, the entries, and
+    /// the header behind them. Each sector is written once at most.
+    pub fn write_image<D: Device, S: CellSource>(
+        &self,
+        device: &mut D,
+        base: u64,
+        source: &S,
+    ) -> Result<(), Failed>
+        requires inside { sectors_of self.now.geometry ≤ length (D.history device.old).disk.content }
+        requires fits { FitsImage self.now.geometry (S.cells source.now) }
+        requires base { base ≤ LAST_NUMBER }
+        ensures written { OnOk result (HoldsImage self.now.geometry (other self.now.current) (D.history device.new).disk.content base (S.cells source.now)) }
+        ensures outside { SameOutside (InHalfImage self.now.geometry (other self.now.current)) (D.history device.old).disk.content (D.history device.new).disk.content }
+        ensures within { RunsWithin (λ n. InHalfImage self.now.geometry (other self.now.current) n ⊎ ((D.history device.old).disk.unsynced n ≡ true)) (D.history device.old).disk.content (D.history device.old) (D.history device.new) }
+        ensures counts { CountsFailure (D.failures device.old) (D.failures device.new) result }
+    {
+        let first = self.idle_first();
+        write_image(device, self.geometry(), first, base, source)
+    }
+}

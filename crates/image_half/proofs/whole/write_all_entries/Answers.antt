@@ -1,0 +1,66 @@
+use Rattle.std.proofs.Common.{◌≡◌, ⊎_elim, ℕ, ◌+◌, ◌*◌, ◌/◌, ◌%◌, ◌<◌, List, length, Some, sym, ap, ◌∙◌, subst, arith}
+use Rattle.std.specs.Prelude.{slice_get}
+use Rattle.std.specs.FinMap.{entries}
+use Rattle.std.proofs.lemmas.Bool.{cases_lt}
+use Rattle.std.proofs.lemmas.Option.{slice_get_within}
+use Rattle.sector_device.specs.Disk.{Disk, sector, after_write}
+use Rattle.sector_device.proofs.Sectors.{sector_written, sector_other}
+use Rattle.records.specs.GeometryValue.{GeometryValue}
+use Rattle.records.specs.declared.pair.Pair.{Pair}
+use Rattle.records.specs.declared.pair.Mark.{Mark}
+use Rattle.image_half.specs.Layout.{cut, page_at, entries_at, InEntries}
+use Rattle.image_half.specs.Image.{IsEntry}
+use Rattle.image_half.specs.Steps.{IsReached}
+use Rattle.image_half.proofs.Joined.{writes_one}
+use Rattle.image_half.proofs.Writing.{entry_inside}
+use Rattle.image_half.proofs.whole.write_all_entries.Goals as goal
+
+pub returns-in_err-write-clause-part : goal.returns-in_err-write-clause-part
+returns-in_err-write-clause-part g c =
+    let hist = g.D.Device.history in
+    let k = c.loop-k.k in
+    let at_is : c.page_at-at.result ≡ entries_at c.args.geometry c.args.first = c.page_at-at.ensures ∙ ap (page_at c.args.first) (c.from.ensures ∙ ap (λ (x : GeometryValue). x.pages) c.geometry.view_is) in
+    let some : k < (c.args.count + 15) / 16 = omega (arith, c.div_ceil-k-end.ensures, c.from-2.ensures, c.loop-k-test.true) in
+    let at = c.page_at-at.result + k in
+    let inside : InEntries c.args.geometry c.args.first 0 c.args.count at = (omega (arith, at_is), omega (arith, at_is, some)) in
+    writes_one (InEntries c.args.geometry c.args.first 0 c.args.count) (hist c.args.device.now) (hist c.loop-k.device) (hist c.write.new.self) at _ c.write.result inside c.write.ensures.time c.write.ensures.ok c.write.ensures.err c.loop-k.invariant.part
+
+pub loop-k-preserved : goal.loop-k-preserved
+loop-k-preserved g c =
+    let hist = g.D.Device.history in
+    let mid : Disk = (hist c.loop-k.device).disk in
+    let new : Disk = (hist c.write.new.self).disk in
+    let cells = g.S.CellSource.cells c.args.source.now in
+    let all : List (Pair × Mark) = entries cells.entries in
+    let k = c.loop-k.k in
+    let first_entry = entries_at c.args.geometry c.args.first in
+    let at_is : c.page_at-at.result ≡ first_entry = c.page_at-at.ensures ∙ ap (page_at c.args.first) (c.from.ensures ∙ ap (λ (x : GeometryValue). x.pages) c.geometry.view_is) in
+    let some : k < (c.args.count + 15) / 16 = omega (arith, c.div_ceil-k-end.ensures, c.from-2.ensures, c.loop-k-test.true) in
+    let at = c.page_at-at.result + k in
+    let bytes : List ℕ = c.entries_sector-bytes.result in
+    let inside : InEntries c.args.geometry c.args.first 0 c.args.count at = (omega (arith, at_is), omega (arith, at_is, some)) in
+    let so_far = c.loop-k.invariant in
+    let ok : new ≡ after_write mid at bytes = c.in_ok-write.ensures.ok in
+    let room : at < length mid.content = omega (arith, inside.1, c.requires.inside, c.requires.count, c.requires.fits.room, so_far.part.outside.sectors) in
+    record {
+      reached = subst (λ n. IsReached all n c.entries_sector-bytes.new.last) (let e : 16 * k + 16 ≡ 16 * (k + 1) = omega arith in e) (c.entries_sector-bytes.ensures.reached (16 * k) so_far.reached);
+      written = λ i e less at_i. ⊎_elim
+          (λ (lower : i < 16 * k).
+          let n = first_entry + i / 16 in
+          let same : sector new.content n ≡ sector mid.content n = ap (λ (d : Disk). sector d.content n) ok ∙ sector_other mid at n bytes (omega (arith, at_is, lower)) in
+          subst (λ (b : List ℕ). IsEntry c.args.geometry (cut b 32 (i % 16)) e) (sym same) (so_far.written i e lower at_i))
+          (λ higher.
+          let n = first_entry + i / 16 in
+          let which : n ≡ at = omega (arith, at_is, less, higher) in
+          let there : sector new.content n ≡ bytes = ap (λ m. sector new.content m) which ∙ ap (λ (d : Disk). sector d.content at) ok ∙ sector_written mid at bytes room in
+          let nth : i ≡ 16 * k + i % 16 = omega (arith, less, higher) in
+          let piece = c.entries_sector-bytes.ensures.spelled (16 * k) so_far.reached (i % 16) e (omega arith) (subst (λ m. slice_get all m ≡ Some e) nth at_i) in
+          subst (λ (b : List ℕ). IsEntry c.args.geometry (cut b 32 (i % 16)) e) (sym there)
+          (record { spelled = piece.spelled; fits = piece.fits; inside = entry_inside c.args.geometry cells c.requires.fits i e at_i }))
+          (cases_lt i (16 * k));
+      part = writes_one (InEntries c.args.geometry c.args.first 0 c.args.count) (hist c.args.device.now) (hist c.loop-k.device) (hist c.write.new.self) at _ c.write.result inside c.write.ensures.time c.write.ensures.ok c.write.ensures.err so_far.part;
+      failures = c.in_ok-write.ensures.counts.none ∙ so_far.failures;
+    }
+
+pub returns-clause-written : goal.returns-clause-written
+returns-clause-written g c = λ i e at_i. c.loop-k.invariant.written i e (omega (arith, slice_get_within _ i e at_i, c.requires.count, c.div_ceil-k-end.ensures, c.from-2.ensures, c.loop-k-test.false)) at_i

@@ -1,0 +1,18 @@
+use Rattle.std.proofs.Common.{◌≡◌, ℕ, ◌<◌, List, Some}
+use Rattle.std.specs.Prelude.{slice_get}
+use Rattle.std.specs.FinMap.{entries}
+use Rattle.records.specs.ChangeValue.{ChangeValue}
+use Rattle.image_half.specs.Image.{HoldsList}
+use Rattle.image_half.specs.Steps.{IsReached, WritesIn, InUndo}
+use Rattle.image_half.proofs.whole.write_lists.Given as goal
+
+abbrev pub invariant-loop-h : goal.invariant-loop-h
+invariant-loop-h g l =
+    let hist = g.D.Device.history in
+    let lists = entries (g.S.CellSource.cells l.source).pending in
+    record {
+      reached : IsReached lists l.h l.last;
+      written : (k : ℕ) (list : ℕ × List ChangeValue) → k < l.h → slice_get lists k ≡ Some list → HoldsList l.fn.geometry l.fn.first (hist l.device).disk.content k list.1;
+      part : WritesIn (InUndo l.fn.first) (hist l.initial.device) (hist l.device);
+      failures : g.D.Device.failures l.device ≡ g.D.Device.failures l.initial.device;
+    }

@@ -1,0 +1,240 @@
+//! A whole image is written, without a sync.
+ghost use Rattle.std.specs.Prelude.{◌≡◌, ◌⊎◌, ℕ, ◌+◌, ◌*◌, ◌^◌, ◌<◌, ◌≤◌, List, Option, true, length, map, slice_get, slice_index_or, Some, None, OnOk};
+ghost use Rattle.std.specs.Option.{option_map};
+ghost use Rattle.std.specs.FinMap as finite;
+ghost use Rattle.sector_device.specs.Disk.{sector, SameOutside};
+ghost use Rattle.sector_device.specs.History.{RunsWithin, CountsFailure};
+ghost use Rattle.records.specs.ChangeValue.{ChangeValue};
+ghost use Rattle.records.specs.declared.pair.Pair.{Pair};
+ghost use Rattle.records.specs.declared.pair.Mark.{Mark};
+ghost use Rattle.records.specs.declared.number.TheConstants.{LAST_NUMBER};
+ghost use Rattle.image_parts.specs.declared.head.Head.{Head as HeadValue};
+ghost use Rattle.image_half.specs.Layout.{cut, heads_at, page_at, entries_at, image_end, InImage, InEntries};
+ghost use Rattle.image_half.specs.Image.{AreHeads, HoldsList, IsImage, IsEntry, entry_bytes, head_of};
+ghost use Rattle.image_half.specs.Source.{FitsImage};
+ghost use Rattle.image_half.specs.Steps.{IsEntryPiece, IsReached, ShowsPage, WritesIn, InUndo, InPages};
+
+use crate::pieces::put_piece;
+use crate::read::page_at;
+use crate::source::CellSource;
+use crate::write::{write_header, write_list, write_page};
+use image_parts::{ENTRY_SIZE, Head, Header, spell_entry, spell_head};
+use records::{
+    ENTRIES_PER_SECTOR, Geometry, HEADER_SECTORS, Mark, Pair, Rid, Row, SLOTS_PER_PAGE, TXNS_MAX,
+    Txn,
+};
+use sector_device::{Device, Failed, SECTOR_SIZE, zero_sector};
+
+// How many rows a page has.
+const ROWS_PER_PAGE: usize = 63;
+
+// Writes the list of each transaction as the undo items of its head.
+fn write_lists<D: Device, S: CellSource>(
+    device: &mut D,
+    geometry: Geometry,
+    first: u64,
+    source: &S,
+) -> Result<(), Failed>
+    requires fits { FitsImage geometry (S.cells source.now) }
+    requires inside { page_at first 0 ≤ length (D.history device.old).disk.content }
+    requires number { page_at first 0 < 2 ^ 64 }
+    ensures written { OnOk result ((h : ℕ) (list : ℕ × List ChangeValue) → slice_get (finite.entries (S.cells source.now).pending) h ≡ Some list → HoldsList geometry first (D.history device.new).disk.content h list.1) }
+    ensures part { WritesIn (InUndo first) (D.history device.old) (D.history device.new) }
+    ensures counts { CountsFailure (D.failures device.old) (D.failures device.new) result }
+{
+    let mut last = None;
+    for h in 0..TXNS_MAX {
+        let Some(list) = source.list_behind(last) else {
+            return Ok(());
+        };
+        write_list(device, geometry, first, h as u64, list.1)?;
+        last = Some(list.0);
+    }
+    Ok(())
+}
+
+// The head of the transaction that comes behind this one.
+fn head_behind<S: CellSource>(geometry: Geometry, source: &S, txn: Option<Txn>) -> Option<Head>
+    requires fits { FitsImage geometry (S.cells source.now) }
+    requires reached { (n : ℕ) × IsReached (finite.entries (S.cells source.now).pending) n txn }
+    ensures { (n : ℕ) → IsReached (finite.entries (S.cells source.now).pending) n txn → result ≡ option_map head_of (slice_get (finite.entries (S.cells source.now).pending) n) }
+{
+    let Some(list) = source.list_behind(txn) else {
+        return None;
+    };
+    Some(Head {
+        txn: list.0,
+        changes: list.1.len() as u8,
+    })
+}
+
+// Goes on to the transaction of a head, where there is one.
+fn go_on(head: &Option<Head>, last: &mut Option<Txn>)
+    ensures head { (h : HeadValue) → head.now ≡ Some h → last.new ≡ Some h.txn }
+    ensures other { head.now ≡ None → last.new ≡ last.old }
+{
+    if let Some(head) = head {
+        *last = Some(head.txn);
+    }
+}
+
+// The sector of the heads of all lists.
+fn heads_sector<S: CellSource>(geometry: Geometry, source: &S) -> [u8; SECTOR_SIZE]
+    requires { FitsImage geometry (S.cells source.now) }
+    ensures { AreHeads result (map head_of (finite.entries (S.cells source.now).pending)) }
+{
+    let mut bytes = zero_sector();
+    let mut last = None;
+    for k in 0..TXNS_MAX {
+        let found = head_behind(geometry, source, last);
+        let piece = spell_head(&found);
+        put_piece(&mut bytes, k, &piece);
+        go_on(&found, &mut last);
+    }
+    bytes
+}
+
+// Writes the heads of all lists.
+fn write_all_heads<D: Device, S: CellSource>(
+    device: &mut D,
+    geometry: Geometry,
+    first: u64,
+    source: &S,
+) -> Result<(), Failed>
+    requires fits { FitsImage geometry (S.cells source.now) }
+    requires inside { heads_at first < length (D.history device.old).disk.content }
+    requires number { heads_at first < 2 ^ 64 }
+    ensures written { OnOk result (AreHeads (sector (D.history device.new).disk.content (heads_at first)) (map head_of (finite.entries (S.cells source.now).pending))) }
+    ensures part { WritesIn (λ n. n ≡ heads_at first) (D.history device.old) (D.history device.new) }
+    ensures counts { CountsFailure (D.failures device.old) (D.failures device.new) result }
+{
+    let bytes = heads_sector(geometry, source);
+    device.write(first + HEADER_SECTORS, &bytes)
+}
+
+// The rows of a page's slots, in order.
+fn rows_of_page<S: CellSource>(source: &S, page: u32) -> [Option<Row>; ROWS_PER_PAGE]
+    ensures count { length result ≡ SLOTS_PER_PAGE }
+    ensures rows { (slot : ℕ) → slot < SLOTS_PER_PAGE → slice_index_or result slot None ≡ finite.get (S.cells source.now).rows (record { page = page; slot = slot }) }
+{
+    let mut rows = [None; ROWS_PER_PAGE];
+    for slot in 0..SLOTS_PER_PAGE {
+        rows[usize::from(slot)] = source.row(Rid { page, slot });
+    }
+    rows
+}
+
+// Writes every page.
+fn write_pages<D: Device, S: CellSource>(
+    device: &mut D,
+    geometry: Geometry,
+    first: u64,
+    source: &S,
+) -> Result<(), Failed>
+    requires inside { entries_at geometry first ≤ length (D.history device.old).disk.content }
+    requires number { entries_at geometry first < 2 ^ 64 }
+    ensures written { OnOk result ((page : ℕ) → page < geometry.pages → ShowsPage first (D.history device.new).disk.content page (S.cells source.now).rows) }
+    ensures part { WritesIn (InPages geometry first) (D.history device.old) (D.history device.new) }
+    ensures counts { CountsFailure (D.failures device.old) (D.failures device.new) result }
+{
+    for page in 0..geometry.pages {
+        let rows = rows_of_page(source, page);
+        write_page(device, geometry, first, page, &rows)?;
+    }
+    Ok(())
+}
+
+// The spelling of an entry, or zeros.
+fn piece_of_entry(entry: &Option<(Pair, Mark)>) -> [u8; ENTRY_SIZE]
+    ensures { (e : Pair × Mark) → entry.now ≡ Some e → IsEntryPiece result e }
+{
+    match entry {
+        Some(found) => spell_entry(found),
+        None => [0; ENTRY_SIZE],
+    }
+}
+
+// The pair of an entry, or else this one.
+fn pair_of(entry: &Option<(Pair, Mark)>, other: Option<Pair>) -> Option<Pair>
+    ensures entry { (e : Pair × Mark) → entry.now ≡ Some e → result ≡ Some e.0 }
+    ensures other { entry.now ≡ None → result ≡ other }
+{
+    match entry {
+        Some(entry) => Some(entry.0),
+        None => other,
+    }
+}
+
+// The sector of the entries behind that of the last pair, which is then the last one of them.
+fn entries_sector<S: CellSource>(source: &S, last: &mut Option<Pair>) -> [u8; SECTOR_SIZE]
+    ensures spelled { (n : ℕ) → IsReached (finite.entries (S.cells source.now).entries) n last.old
+        → (j : ℕ) (e : Pair × Mark) → j < ENTRIES_PER_SECTOR → slice_get (finite.entries (S.cells source.now).entries) (n + j) ≡ Some e → IsEntryPiece (cut result ENTRY_SIZE j) e }
+    ensures reached { (n : ℕ) → IsReached (finite.entries (S.cells source.now).entries) n last.old → IsReached (finite.entries (S.cells source.now).entries) (n + ENTRIES_PER_SECTOR) last.new }
+{
+    let mut bytes = zero_sector();
+    for j in 0..ENTRIES_PER_SECTOR as usize {
+        let found = source.entry_behind(*last);
+        let piece = piece_of_entry(&found);
+        put_piece(&mut bytes, j, &piece);
+        *last = pair_of(&found, *last);
+    }
+    bytes
+}
+
+// Writes all entries, so many.
+fn write_all_entries<D: Device, S: CellSource>(
+    device: &mut D,
+    geometry: Geometry,
+    first: u64,
+    source: &S,
+    count: u32,
+) -> Result<(), Failed>
+    requires fits { FitsImage geometry (S.cells source.now) }
+    requires count { count ≡ length (finite.entries (S.cells source.now).entries) }
+    requires inside { image_end geometry first ≤ length (D.history device.old).disk.content }
+    requires number { image_end geometry first < 2 ^ 64 }
+    ensures written { OnOk result ((i : ℕ) (e : Pair × Mark) → slice_get (finite.entries (S.cells source.now).entries) i ≡ Some e → IsEntry geometry (entry_bytes geometry (D.history device.new).disk.content first i) e) }
+    ensures part { WritesIn (InEntries geometry first 0 count) (D.history device.old) (D.history device.new) }
+    ensures counts { CountsFailure (D.failures device.old) (D.failures device.new) result }
+{
+    let at = page_at(first, u64::from(geometry.pages));
+    let mut last = None;
+    for k in 0..u64::from(count).div_ceil(ENTRIES_PER_SECTOR) {
+        let bytes = entries_sector(source, &mut last);
+        device.write(at + k, &bytes)?;
+    }
+    Ok(())
+}
+
+/// Writes the image of these cells, which record `base` left, from sector `first` on: undo items, heads, every page, the
+/// entries, and the header behind them. Each of its sectors is written once at most; undo items and entries beyond the last
+/// ones stay as they are.
+pub fn write_image<D: Device, S: CellSource>(
+    device: &mut D,
+    geometry: Geometry,
+    first: u64,
+    base: u64,
+    source: &S,
+) -> Result<(), Failed>
+    requires fits { FitsImage geometry (S.cells source.now) }
+    requires base { base ≤ LAST_NUMBER }
+    requires inside { image_end geometry first ≤ length (D.history device.old).disk.content }
+    requires number { image_end geometry first < 2 ^ 64 }
+    ensures written { OnOk result (IsImage geometry first (D.history device.new).disk.content base (S.cells source.now)) }
+    ensures outside { SameOutside (InImage geometry first) (D.history device.old).disk.content (D.history device.new).disk.content }
+    ensures within { RunsWithin (λ n. InImage geometry first n ⊎ ((D.history device.old).disk.unsynced n ≡ true)) (D.history device.old).disk.content (D.history device.old) (D.history device.new) }
+    ensures counts { CountsFailure (D.failures device.old) (D.failures device.new) result }
+{
+    let life = source.life();
+    let entries = source.entry_count() as u32;
+    write_lists(device, geometry, first, source)?;
+    write_all_heads(device, geometry, first, source)?;
+    write_pages(device, geometry, first, source)?;
+    write_all_entries(device, geometry, first, source, entries)?;
+    let header = Header {
+        life,
+        base,
+        entries,
+    };
+    write_header(device, geometry, first, &header)
+}
