@@ -1,0 +1,104 @@
+-- The commits of all sessions, as one of these changes.
+use Rattle.std.proofs.Common.{◌≡◌, ◌≢◌, ◌+◌, ◌<◌, ℕ, Bool, true, false, cond, eqb, eq-eqb, ne_eqb, List, [], ◌∷◌, ◌++◌, length, Some, inl, inr, refl, sym, ap, ◌∙◌, subst, arith, zero, suc}
+use Rattle.std.proofs.lemmas.Bool.{cases_eq}
+use Rattle.std.proofs.lemmas.List.{length-append}
+use Rattle.std.specs.Prelude.{slice_get, slice_set}
+use Rattle.index_core.specs.declared.parts.Ticket.{Ticket}
+use Rattle.sessions.specs.Values.{CommitValue, SessionValue, rows_of}
+use Rattle.sessions.specs.Steps.{committed}
+use Rattle.register.specs.Register.{AreAllCommits, AreBySeats, AreEmpty, AreNumbered, Commits, made_by}
+
+-- ---- lists
+
+get_set : {A : Type 0} (l : List A) (i : ℕ) (a : A) → i < length l → slice_get (slice_set l i a) i ≡ Some a
+get_set [] i a lt = absurd (omega arith)
+get_set (x ∷ xs) zero a lt = refl
+get_set (x ∷ xs) (suc i) a lt = get_set xs i a (omega arith)
+
+get_set_other : {A : Type 0} (l : List A) (i j : ℕ) (a : A) → j ≢ i → slice_get (slice_set l i a) j ≡ slice_get l j
+get_set_other [] i j a apart = refl
+get_set_other (x ∷ xs) zero zero a apart = absurd (apart refl)
+get_set_other (x ∷ xs) zero (suc j) a apart = refl
+get_set_other (x ∷ xs) (suc i) zero a apart = refl
+get_set_other (x ∷ xs) (suc i) (suc j) a apart = get_set_other xs i j a (λ e. apart (ap suc e))
+
+set_length : {A : Type 0} (l : List A) (i : ℕ) (a : A) → length (slice_set l i a) ≡ length l
+set_length [] i a = refl
+set_length (x ∷ xs) zero a = refl
+set_length (x ∷ xs) (suc i) a = ap suc (set_length xs i a)
+
+get_within : {A : Type 0} (l : List A) (i : ℕ) (a : A) → slice_get l i ≡ Some a → i < length l
+get_within [] i a e = absurd cc
+get_within (x ∷ xs) zero a e = omega arith
+get_within (x ∷ xs) (suc i) a e = let r = get_within xs i a e in omega arith
+
+some_is : {A : Type 0} (a b : A) → Some a ≡ Some b → a ≡ b
+some_is a b e = cc
+
+-- ---- one commit more
+
+made_by_more : (k : ℕ) (commits : Commits) (c : CommitValue) → made_by k (commits ++ (k, c) ∷ []) ≡ made_by k commits ++ c ∷ []
+made_by_more k [] c = ap (λ b. cond b (c ∷ []) []) (eq-eqb k k refl)
+made_by_more k (e ∷ es) c = by (eqb k e.0) (made_by_more k es c)
+  where
+    by : (b : Bool) → made_by k (es ++ (k, c) ∷ []) ≡ made_by k es ++ c ∷ [] → cond b (e.1 ∷ made_by k (es ++ (k, c) ∷ [])) (made_by k (es ++ (k, c) ∷ [])) ≡ cond b (e.1 ∷ made_by k es) (made_by k es) ++ c ∷ []
+    by true rest = ap (λ l. e.1 ∷ l) rest
+    by false rest = rest
+
+made_by_other : (j k : ℕ) (commits : Commits) (c : CommitValue) → j ≢ k → made_by j (commits ++ (k, c) ∷ []) ≡ made_by j commits
+made_by_other j k [] c apart = ap (λ b. cond b (c ∷ []) []) (ne_eqb j k apart)
+made_by_other j k (e ∷ es) c apart = ap (λ l. cond (eqb j e.0) (e.1 ∷ l) l) (made_by_other j k es c apart)
+
+numbered_more : (n m : ℕ) (commits : Commits) (e : ℕ × CommitValue) → AreNumbered n commits → m ≡ n + length commits → e.1.ticket.commit ≡ Some m → AreNumbered n (commits ++ e ∷ [])
+numbered_more n m [] e h is number = let same : m ≡ n = omega (arith, is) in (number ∙ ap (λ (x : ℕ). Some x) same, tt)
+numbered_more n m (x ∷ xs) e h is number = (h.0, numbered_more (n + 1) m xs e h.1 (omega (arith, is)) number)
+
+by_seats_more : (n : ℕ) (commits : Commits) (e : ℕ × CommitValue) → AreBySeats n commits → e.0 < n → AreBySeats n (commits ++ e ∷ [])
+by_seats_more n [] e h lt = (lt, tt)
+by_seats_more n (x ∷ xs) e h lt = (h.0, by_seats_more n xs e h.1 lt)
+
+pub begins : (book : List SessionValue) → AreEmpty book → AreAllCommits book 0
+begins book empty = record { commits = []; numbered = tt; counted = refl; by_seats = tt; in_sessions = λ seat session at. ap (λ (s : SessionValue). s.commits) (empty seat session at) }
+
+module _ (book : List SessionValue) (count : ℕ) (all : AreAllCommits book count) (k : ℕ) (p : SessionValue) (there : slice_get book k ≡ Some p) where
+  within : k < length book
+  within = get_within book k p there
+
+  its : (new session : SessionValue) (j : ℕ) → j ≡ k → slice_get (slice_set book k new) j ≡ Some session → new ≡ session
+  its new session j is at = some_is new session (sym (get_set book k new within) ∙ (ap (slice_get (slice_set book k new)) (sym is) ∙ at))
+
+  stays_in : (new : SessionValue) → new.commits ≡ p.commits → (j : ℕ) (session : SessionValue) → slice_get (slice_set book k new) j ≡ Some session → session.commits ≡ made_by j all.commits
+  stays_in new same j session at = elim (cases_eq j k) [
+    | inl is ↦ ap (λ (x : SessionValue). x.commits) (sym (its new session j is at)) ∙ (same ∙ (all.in_sessions k p there ∙ ap (λ n. made_by n all.commits) (sym is)))
+    | inr not ↦ all.in_sessions j session (sym (get_set_other book k j new not) ∙ at)
+  ]
+
+  commits_in : (new : SessionValue) (c : CommitValue) → new.commits ≡ p.commits ++ c ∷ [] → (j : ℕ) (session : SessionValue) → slice_get (slice_set book k new) j ≡ Some session → session.commits ≡ made_by j (all.commits ++ (k, c) ∷ [])
+  commits_in new c more j session at = elim (cases_eq j k) [
+    | inl is ↦
+        ap (λ (x : SessionValue). x.commits) (sym (its new session j is at))
+        ∙ (more ∙ (ap (λ (l : List CommitValue). l ++ c ∷ []) (all.in_sessions k p there) ∙ (sym (made_by_more k all.commits c) ∙ ap (λ n. made_by n (all.commits ++ (k, c) ∷ [])) (sym is))))
+    | inr not ↦ all.in_sessions j session (sym (get_set_other book k j new not) ∙ at) ∙ sym (made_by_other j k all.commits c not)
+  ]
+
+pub stays : (book : List SessionValue) (count : ℕ) → AreAllCommits book count → (seat : ℕ) (session new : SessionValue) → slice_get book seat ≡ Some session → new.commits ≡ session.commits → AreAllCommits (slice_set book seat new) count
+stays book count all seat session new there same = record {
+  commits = all.commits;
+  numbered = all.numbered;
+  counted = all.counted;
+  by_seats = subst (λ n. AreBySeats n all.commits) (sym (set_length book seat new)) all.by_seats;
+  in_sessions = stays_in book count all seat session there new same;
+}
+
+pub commits : (book : List SessionValue) (count : ℕ) → AreAllCommits book count → (seat : ℕ) (session : SessionValue) → slice_get book seat ≡ Some session → (txn : ℕ) (ticket : Ticket) → ticket.commit ≡ Some (count + 1)
+    → AreAllCommits (slice_set book seat (committed session txn ticket)) (count + 1)
+commits book count all seat session there txn ticket number =
+    let c : CommitValue = record { ticket = ticket; writes = rows_of txn session.active } in
+    let new : SessionValue = committed session txn ticket in
+    record {
+      commits = all.commits ++ (seat, c) ∷ [];
+      numbered = numbered_more 1 (count + 1) all.commits (seat, c) all.numbered (omega (arith, all.counted)) number;
+      counted = omega (arith, all.counted, length-append {A = ℕ × CommitValue} all.commits ((seat, c) ∷ []));
+      by_seats = subst (λ n. AreBySeats n (all.commits ++ (seat, c) ∷ [])) (sym (set_length book seat new)) (by_seats_more (length book) all.commits (seat, c) all.by_seats (get_within book seat session there));
+      in_sessions = commits_in book count all seat session there new c refl;
+    }

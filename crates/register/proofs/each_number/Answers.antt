@@ -1,0 +1,17 @@
+use Rattle.register.proofs.Numbers.{begin, commit, counted, create, others}
+use Rattle.register.proofs.each_number.Goals as goal
+
+pub returns-clause-begin : goal.returns-clause-begin
+returns-clause-begin c = begin
+
+pub returns-clause-commit : goal.returns-clause-commit
+returns-clause-commit c = commit
+
+pub returns-clause-counted : goal.returns-clause-counted
+returns-clause-counted c = counted
+
+pub returns-clause-create : goal.returns-clause-create
+returns-clause-create c = create
+
+pub returns-clause-others : goal.returns-clause-others
+returns-clause-others c = others

@@ -1,0 +1,16 @@
+//! Sessions in two halves. One lies with a seat, and one with what many seats share, under a lock; both show the same
+//! session, so each of the two knows the other's.
+//!
+//! A half is a token without bytes. It can't be copied, and what it shows changes only where both halves of the session
+//! come together, as they do in a step under the lock: they are joined, the session is changed, and they are split.
+#![tactic(auto)]
+
+mod half;
+mod knowledge;
+mod rule;
+mod table;
+#[cfg(test)]
+mod tests;
+
+pub use half::Half;
+pub use table::Registry;

@@ -1,0 +1,74 @@
+-- What becomes of a session in a step of its seat, and how the step is served.
+use Rattle.std.specs.FinMap.{get}
+use Rattle.std.specs.Option.{option_map}
+use Rattle.std.specs.Prelude.{[], List, None, Option, map, option_and_then, true, ℕ, ◌++◌, ◌∷◌, ◌≡◌}
+use Rattle.records.specs.Values.{Place}
+use Rattle.records.specs.declared.error.Error.TheVariants.{NoMemory}
+use Rattle.model.specs.declared.write.Write.{Write}
+use Rattle.core_contracts.specs.Events.{Event, Refused, Reply}
+use Rattle.index_core.specs.Asked.{owed, progress_of}
+use Rattle.index_core.specs.View.{CoreValue, Serves}
+use Rattle.index_core.specs.declared.parts.Ticket.{Ticket}
+use Rattle.sessions.specs.Values.{ActiveValue, SessionValue, new_active, rows_of, with_active, with_write, without}
+
+-- the row that is at a place of the core now
+abbrev pub row_now : CoreValue → Place → Write
+row_now core r = record { rid = r; row = get core.heap.rows r }
+
+-- this change, if the transaction owes a step of it
+abbrev pub unfinished_in : CoreValue → ℕ → Write → Option Write
+unfinished_in core txn change = option_map (λ step. change) (option_and_then owed (progress_of core txn))
+
+-- ---- one transaction
+
+-- the first step of a change is made: its place is held, with the row that is there now
+abbrev pub with_change : CoreValue → Write → ActiveValue → ActiveValue
+with_change core change a = record a { rows = with_write (row_now core change.rid) a.rows; unfinished = unfinished_in core a.txn change }
+
+-- the rows that are now at these places
+abbrev pub rows_now : CoreValue → List Write → List Write
+rows_now core rows = map (λ w. row_now core w.rid) rows
+
+abbrev pub still_unfinished : CoreValue → ℕ → Option Write → Option Write
+still_unfinished core txn change = option_and_then (unfinished_in core txn) change
+
+-- one more step of its unfinished change is made
+abbrev pub carried_on : CoreValue → ActiveValue → ActiveValue
+carried_on core a = record a { rows = rows_now core a.rows; unfinished = still_unfinished core a.txn a.unfinished }
+
+-- a step that takes a change back is made, or none was left: it is rolling back, and has no change to finish
+abbrev pub taken_back : CoreValue → ActiveValue → ActiveValue
+taken_back core a = record a { rows = rows_now core a.rows; unfinished = None; rolling = true }
+
+-- ---- the session
+
+abbrev pub begun : SessionValue → ℕ → SessionValue
+begun s txn = record s { active = s.active ++ new_active txn ∷ [] }
+
+abbrev pub changed : SessionValue → CoreValue → ℕ → Write → SessionValue
+changed s core txn change = record s { active = with_active (with_change core change) txn s.active }
+
+abbrev pub stepped : SessionValue → CoreValue → ℕ → SessionValue
+stepped s core txn = record s { active = with_active (carried_on core) txn s.active }
+
+abbrev pub undone : SessionValue → CoreValue → ℕ → SessionValue
+undone s core txn = record s { active = with_active (taken_back core) txn s.active }
+
+abbrev pub ended : SessionValue → ℕ → SessionValue
+ended s txn = record s { active = without txn s.active }
+
+abbrev pub committed : SessionValue → ℕ → Ticket → SessionValue
+committed s txn ticket = record s {
+  commits = s.commits ++ record { ticket = ticket; writes = rows_of txn s.active } ∷ [];
+  active = without txn s.active;
+}
+
+abbrev pub created : SessionValue → ℕ → SessionValue
+created s number = record s { creations = s.creations ++ number ∷ [] }
+
+-- ---- how a step is served
+
+-- The core served the event so; or the session had no memory for what it keeps of the step, and the core was not asked.
+pub data IsServed (old : CoreValue) (e : Event) (reply : Reply) (new : CoreValue) : Type 0 where
+  served : Serves old e reply new → IsServed old e reply new
+  not_asked : reply ≡ Refused NoMemory → new ≡ old → IsServed old e reply new

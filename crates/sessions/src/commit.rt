@@ -1,0 +1,43 @@
+//! Commits.
+ghost use Rattle.std.specs.Prelude.{◌≡◌};
+
+use index_core::Ticket;
+use model::Write;
+use records::RecordNumber;
+use std::marker::Model;
+
+/// A commit: its ticket, and the row that it left at each place that its transaction held. To a contract it is a
+/// `CommitValue`.
+#[derive(Drop)]
+pub struct Commit {
+    pub(crate) record: RecordNumber,
+    pub(crate) number: Option<u64>,
+    pub(crate) writes: Vec<Write>,
+}
+
+impl Model for Commit {
+    ghost use Rattle.sessions.specs.Values.{CommitValue};
+
+    ghost Value = { CommitValue };
+
+    ghost view = { λ c. record { ticket = record { «record» = c.«record»; commit = c.number }; writes = c.writes.items } };
+}
+
+impl Commit {
+    /// The numbers of its record and of the commit.
+    pub fn ticket(&self) -> Ticket
+        ensures { result ≡ self.now.ticket }
+    {
+        Ticket {
+            record: self.record,
+            commit: self.number,
+        }
+    }
+
+    /// The row that it left at each place that its transaction held.
+    pub fn writes(&self) -> &[Write]
+        ensures { result.now ≡ self.now.writes }
+    {
+        &self.writes
+    }
+}

@@ -1,0 +1,76 @@
+//! A session, and what it tells.
+ghost use Rattle.std.specs.Prelude.{◌≡◌, map};
+ghost use Rattle.sessions.specs.Values.{SessionValue, empty_session, is_ready};
+
+use crate::active::{ActiveTxn, place_of};
+use crate::commit::Commit;
+use records::{RecordNumber, Txn};
+use std::alloc::Global;
+use std::marker::Model;
+
+/// What a seat knows of its own transactions. To a contract it is a `SessionValue`.
+#[derive(Drop)]
+pub struct Session {
+    pub(crate) alloc: Global,
+    pub(crate) commits: Vec<Commit>,
+    pub(crate) creations: Vec<RecordNumber>,
+    pub(crate) active: Vec<ActiveTxn>,
+}
+
+impl Model for Session {
+    ghost use Rattle.std.specs.Prelude.{map};
+    ghost use Rattle.sessions.specs.Values.{SessionValue};
+    ghost use Rattle.sessions.specs.Active.{active_value};
+
+    ghost Value = { SessionValue };
+
+    ghost view = { λ s. record { commits = s.commits.items; creations = s.creations.items; active = map active_value s.active.items } };
+}
+
+impl Session {
+    /// A session without commit, creation or transaction. It takes no memory.
+    pub fn new(alloc: Global) -> Session
+        ensures { result ≡ empty_session }
+    {
+        Session {
+            alloc,
+            commits: Vec::new(alloc),
+            creations: Vec::new(alloc),
+            active: Vec::new(alloc),
+        }
+    }
+
+    /// The commits, in the order in which they were made.
+    pub fn into_commits(self) -> Vec<Commit>
+        ensures { result.items ≡ self.commits }
+    {
+        let Session {
+            alloc: _,
+            commits,
+            creations: _,
+            active: _,
+        } = self;
+        commits
+    }
+
+    /// The numbers of the records of the creations, in the order in which they were made.
+    pub fn creations(&self) -> &[RecordNumber]
+        ensures { result.now ≡ self.now.creations }
+    {
+        &self.creations
+    }
+
+    /// Whether the transaction may begin a change or commit: it is one of the seat's, has no change to finish, and isn't
+    /// rolling back.
+    pub fn ready(&self, txn: Txn) -> bool
+        ensures { result ≡ is_ready self.now txn }
+    {
+        match place_of(&self.active, txn) {
+            Some(i) => {
+                let one = &self.active[i];
+                one.unfinished.is_none() && !one.rolling
+            }
+            None => false,
+        }
+    }
+}

@@ -1,0 +1,116 @@
+//! The queue, and the two ends of it.
+ghost use Rattle.std.specs.Prelude.{◌≡◌, [], ◌∷◌, ◌++◌, IfOk, IfErr, OnOk, OnErr, MatchOption};
+ghost use Rattle.tail.specs.Ends.{Handed};
+
+use crate::rule::{Ends, Pass, Popped, Pushed, Queue};
+use records::Record;
+use std::alloc::{AllocError, Global};
+use std::marker::Model;
+use std::sync::Wait;
+
+/// The queue, which both threads share by a `&`. To a contract it is its identity, which each of its ends names.
+pub struct RecordQueue {
+    queue: Queue,
+}
+
+impl Model for RecordQueue {
+    ghost use Rattle.crossbeam_queue.specs.SegTies.{SegId};
+    ghost use Rattle.std.specs.declared.alloc.Global.{Global};
+
+    ghost Value = { SegId Global };
+
+    ghost view = { λ q. q.queue };
+}
+
+impl Drop for RecordQueue {
+    fn drop(self) {
+        let RecordQueue { queue } = self;
+        queue.destroy();
+    }
+}
+
+/// The end that pushes. To a contract it is its queue, and all that was pushed.
+#[derive(Drop)]
+pub struct Pusher {
+    pub(crate) pass: Pass,
+}
+
+impl Model for Pusher {
+    ghost use Rattle.std.specs.Prelude.{◌≡◌};
+    ghost use Rattle.crossbeam_queue.specs.SegTies.{IsSegPassOf};
+    ghost use Rattle.tail.specs.Ends.{Handed, queue_of};
+    ghost use Rattle.tail.specs.Rule.{push_end};
+
+    ghost Value = { Handed };
+
+    ghost view = { λ s. record { queue = queue_of s.pass; records = s.pass.me.view.client.pushed } };
+
+    ghost invariant = { λ s. IsSegPassOf (queue_of s.pass) s.pass × (s.pass.me.view.client ≡ push_end s.pass.me.view.client.pushed) };
+}
+
+/// The end that pops. To a contract it is its queue, and all that was popped.
+#[derive(Drop)]
+pub struct Popper {
+    pub(crate) pass: Pass,
+}
+
+impl Model for Popper {
+    ghost use Rattle.std.specs.Prelude.{◌≡◌};
+    ghost use Rattle.crossbeam_queue.specs.SegTies.{IsSegPassOf};
+    ghost use Rattle.tail.specs.Ends.{Handed, queue_of};
+    ghost use Rattle.tail.specs.Rule.{pop_end};
+
+    ghost Value = { Handed };
+
+    ghost view = { λ s. record { queue = queue_of s.pass; records = s.pass.me.view.client.popped } };
+
+    ghost invariant = { λ s. IsSegPassOf (queue_of s.pass) s.pass × (s.pass.me.view.client ≡ pop_end s.pass.me.view.client.popped) };
+}
+
+impl RecordQueue {
+    /// An empty queue with its two ends.
+    ///
+    /// The error is that the memory for its first records was refused.
+    pub fn new(alloc: Global) -> Result<(RecordQueue, Pusher, Popper), AllocError>
+        ensures pusher { IfOk result (λ r. r.1 ≡ record { queue = r.0; records = [] }) }
+        ensures popper { IfOk result (λ r. r.2 ≡ record { queue = r.0; records = [] }) }
+    {
+        let (queue, mut pass) = Queue::with_rule(alloc)?;
+        let other = queue.another::<Ends>(&mut pass);
+        Ok((
+            RecordQueue { queue },
+            Pusher { pass },
+            Popper { pass: other },
+        ))
+    }
+
+    pub(crate) fn into_queue(self) -> Queue
+        ensures { result ≡ self }
+    {
+        let RecordQueue { queue } = self;
+        queue
+    }
+}
+
+impl Pusher {
+    /// Pushes a record behind those that were pushed before. Where there is no memory for it, or nearly 2^62 were pushed, it
+    /// comes back, and nothing was pushed.
+    pub fn push<R: Wait>(&mut self, rt: &R, queue: &RecordQueue, item: Record) -> Result<(), Record>
+        requires { self.old.queue ≡ queue.now }
+        ensures ok { OnOk result (self.new ≡ record self.old { records = self.old.records ++ item ∷ [] }) }
+        ensures back { IfErr result (λ back. back ≡ item) }
+        ensures unchanged { OnErr result (self.new ≡ self.old) }
+    {
+        queue.queue.push_as::<Pushed, R>(rt, &mut self.pass, item)
+    }
+}
+
+impl Popper {
+    /// Pops the oldest record that waits, or finds none.
+    pub fn pop<R: Wait>(&mut self, rt: &R, queue: &RecordQueue) -> Option<Record>
+        requires { self.old.queue ≡ queue.now }
+        ensures { MatchOption result (self.new ≡ self.old) (λ item. self.new ≡ record self.old { records = self.old.records ++ item ∷ [] }) }
+    {
+        queue.queue.pop_as::<Popped, R>(rt, &mut self.pass)
+    }
+}
