@@ -5,16 +5,11 @@ mod faults;
 mod room;
 
 use sector_device::Failed;
-use std::process::Abort;
 use std::test::Fail;
-
-fn check_text(rt: &impl Abort, found: &str, wanted: &str) {
-    assert!(rt; found == wanted);
-}
 
 #[test]
 fn a_failure_as_text(rt: HostRuntime) -> Result<(), Fail> {
     let text = format!(in rt.alloc(); "{Failed}")?;
-    check_text(&rt, &text, "the device failed");
+    assert!(rt; text.as_str() == "the device failed");
     Ok(())
 }

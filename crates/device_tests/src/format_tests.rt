@@ -1,6 +1,8 @@
-// A store on a device: what formatting writes, and what opening refuses.
+// A store on a device: what formatting writes, what opening refuses, and how the idle half is written.
 mod damage;
 mod faults;
+mod images;
+mod reads;
 
 use crate::sectors::{check_filled, check_sector, must_fill, must_sync, padded};
 use flip_image::{Half, Halves};
@@ -56,41 +58,26 @@ fn check_refused<D: Device>(rt: &impl Abort, disk: &mut D, name: &str, wanted: E
     assert_eq!(rt; check_fresh(rt, disk), Err(wanted), "{name}");
 }
 
-// What formatting answers.
-fn check_format<D: Device>(rt: &impl Abort, disk: &mut D, wanted: Result<(), Error>) {
-    assert!(rt; format(disk) == wanted);
-}
-
-// A disk of this many sectors of sevens.
-fn used_disk(rt: &impl Abort, alloc: Global, sectors: u64) -> Result<MemDisk<Global>, Fail> {
-    let mut disk = MemDisk::new(alloc, sectors, 4096)?;
-    for n in 0..sectors {
-        must_fill(rt, &mut disk, n, 7);
-    }
-    must_sync(rt, &mut disk);
-    Ok(disk)
-}
-
 // Whether `format` writes the sector.
 fn is_written(n: u64) -> bool {
     n < 4 || (516..524).contains(&n) || [528, 536, 544, 552].contains(&n)
 }
 
-// Checks the superblock of the least store, and every sector behind it.
-fn check_formatted<D: Device>(rt: &impl Abort, disk: &mut D) {
-    let front = padded(b"NSFINDEX\0\0\0\x01\0\0\0\x01\0\0\0\x40\0\0\0\x04");
-    check_sector(rt, disk, 0, &front);
-    for n in 1..SECTORS {
-        let byte = if is_written(n) { 0 } else { 7 };
-        check_filled(rt, disk, n, byte);
-    }
-}
-
+// The superblock of the least store, and every sector behind it, where each was of sevens.
 #[test]
 fn a_used_disk_formatted(rt: HostRuntime) -> Result<(), Fail> {
-    let mut disk = used_disk(&rt, rt.alloc(), SECTORS)?;
+    let mut disk = MemDisk::new(rt.alloc(), SECTORS, 4096)?;
+    for n in 0..SECTORS {
+        must_fill(&rt, &mut disk, n, 7);
+    }
+    must_sync(&rt, &mut disk);
     format(&mut disk)?;
     disk.crash(&[Fate::Junk]);
-    check_formatted(&rt, &mut disk);
+    let front = padded(b"NSFINDEX\0\0\0\x01\0\0\0\x01\0\0\0\x40\0\0\0\x04");
+    check_sector(&rt, &mut disk, 0, &front);
+    for n in 1..SECTORS {
+        let byte = if is_written(n) { 0 } else { 7 };
+        check_filled(&rt, &mut disk, n, byte);
+    }
     check_half(&rt, &mut disk, Half::A, 528)
 }

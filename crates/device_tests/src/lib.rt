@@ -1,4 +1,5 @@
-//! Tests of the crates that lie on a device: `sector_device`, `gate_log` and `flip_image`.
+//! Tests of the crates that lie on a device: `sector_device`, `gate_log`,
+//! `image_half` and `flip_image`.
 #![tactic(auto)]
 
 #[cfg(test)]

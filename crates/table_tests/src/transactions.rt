@@ -1,304 +1,319 @@
 use linked_list_allocator::LocalHeap;
-use records::{Body, CHANGES_MAX, Change, Error, Key, Rid, Row, Rows, TXNS_MAX, Txn};
+use records::{Body, CHANGES_MAX, Change, Error, Key, Rid, Row, Rows, Txn};
 use std::alloc::{Allocator, Global};
 use std::process::Abort;
-use std::test::Fail;
 use txn_table::TxnTable;
+
+// What is done to a table: a transaction begins or ends, makes its change of this position, which
+// inserts a row on this page, or takes its last change back.
+#[derive(Clone, Copy)]
+enum Step {
+    Begin,
+    End(u64),
+    Note(u64, u8, u32),
+    Undo(u64),
+}
+
+use Step::{Begin, End, Note, Undo};
+
+// What it answers: the number of the transaction that began, or the position and the page of the
+// change that was taken back.
+#[derive(Clone, Copy, PartialEq)]
+enum Answer {
+    Begun(u64),
+    Done,
+    Undone(u8, u32),
+    Empty,
+    Refused(Error),
+}
+
+use Answer::{Begun, Done, Empty, Refused, Undone};
 
 fn rid(page: u32) -> Rid {
     Rid { page, slot: 7 }
 }
 
-fn change(rt: &impl Abort, position: u8, rid: Rid) -> Change {
+fn txn(rt: &impl Abort, number: u64) -> Txn {
+    Txn::new(number).expect(rt, "a transaction")
+}
+
+fn change(rt: &impl Abort, position: u8, page: u32) -> Change {
     let key = Key::new(b"ant").expect(rt, "a key");
     let body = Body::new(&[position]).expect(rt, "a body");
     assert!(rt; position < CHANGES_MAX);
     let new = Row { key, body };
     Change {
         position,
-        rid,
+        rid: rid(page),
         rows: Rows::Inserted { new },
     }
 }
 
-// A step that is taken, and what is read of a table. None says anything before it runs.
-
-fn begin(rt: &impl Abort, table: &mut TxnTable<Global>) -> Txn {
-    table.begin().expect(rt, "a transaction")
+fn done(answer: Result<(), Error>) -> Answer {
+    match answer {
+        Ok(()) => Done,
+        Err(error) => Refused(error),
+    }
 }
 
-fn end(rt: &impl Abort, table: &mut TxnTable<Global>, txn: Txn) {
-    table.end(txn).expect(rt, "an end")
+fn undone(rt: &impl Abort, popped: Option<Change>) -> Answer {
+    match popped {
+        Some(popped) => {
+            assert!(rt; popped == change(rt, popped.position, popped.rid.page));
+            Undone(popped.position, popped.rid.page)
+        }
+        None => Empty,
+    }
 }
 
-fn note<A: Allocator + Copy>(
+// Makes a step.
+fn make<A: Allocator + Copy>(rt: &impl Abort, table: &mut TxnTable<A>, step: Step) -> Answer {
+    match step {
+        Begin => match table.begin() {
+            Ok(txn) => Begun(txn.number()),
+            Err(error) => Refused(error),
+        },
+        End(number) => done(table.end(txn(rt, number))),
+        Note(number, position, page) => {
+            done(table.note(txn(rt, number), change(rt, position, page)))
+        }
+        Undo(number) => undone(rt, table.pop_undo(txn(rt, number))),
+    }
+}
+
+// Makes these steps, which have these answers.
+fn make_all<A: Allocator + Copy>(
+    rt: &impl Abort,
     table: &mut TxnTable<A>,
-    txn: Txn,
-    change: Change,
-) -> Result<(), Error> {
-    table.note(txn, change)
+    steps: &[(Step, Answer)],
+) {
+    for (index, (step, wanted)) in steps.iter().enumerate() {
+        assert!(rt; make(rt, table, *step) == *wanted, "step {index}");
+    }
 }
 
-fn pop_undo(table: &mut TxnTable<Global>, txn: Txn) -> Option<Change> {
-    table.pop_undo(txn)
+// What is seen of a table.
+#[derive(Clone, Copy)]
+enum Seen<'a> {
+    // The transactions that are active, in the order in which they began.
+    Active(&'a [u64]),
+    // This one is not.
+    Ended(u64),
+    // The rows that are held.
+    Held(&'a [Rid]),
+    // Who holds the row of this page.
+    Holder(u32, Option<Txn>),
+    // How many changes the transaction may take back, the last, and whether it is rolling back.
+    Changes(u64, usize, Option<Change>, bool),
+    // Whether the transaction may make a further change, and of the row of this page.
+    May(u64, u32, Result<(), Error>, Result<(), Error>),
 }
 
-fn count_of<A: Allocator + Copy>(table: &TxnTable<A>, txn: Txn) -> Option<usize> {
+use Seen::{Active, Changes, Ended, Held, Holder, May};
+
+fn changes_of<A: Allocator + Copy>(table: &TxnTable<A>, txn: Txn) -> usize {
     match table.changes(txn) {
-        Some(changes) => Some(changes.len()),
-        None => None,
+        Some(changes) => changes.len(),
+        None => 0,
     }
 }
 
-fn held_count<A: Allocator + Copy>(table: &TxnTable<A>) -> usize {
-    table.held_rows().len()
-}
-
-// The transaction makes this change of the row of this page.
-fn changes(rt: &impl Abort, table: &mut TxnTable<Global>, txn: Txn, position: u8, page: u32) {
-    let change = change(rt, position, rid(page));
-    note(table, txn, change).expect(rt, "a change");
-}
-
-// The transaction is refused the change of the row of this page.
-fn is_refused(rt: &impl Abort, table: &mut TxnTable<Global>, txn: Txn, page: u32, refusal: Error) {
-    let change = change(rt, 0, rid(page));
-    assert_eq!(rt; note(table, txn, change), Err(refusal));
-}
-
-// Begins as many transactions, each with the next of these numbers, and then no more.
-fn begin_each(rt: &impl Abort, table: &mut TxnTable<Global>, first: u64, last: u64) {
-    for number in first..=last {
-        let txn = begin(rt, table);
-        assert_eq!(rt; txn.number(), number);
-    }
-    assert_eq!(rt; table.begin(), Err(Error::TooManyTxns));
-}
-
-// Ends the transaction of this number, which is the one at this place.
-fn end_at(rt: &impl Abort, table: &mut TxnTable<Global>, number: u64, index: usize) {
-    let txn = table.txn_at(index).expect(rt, "a transaction");
-    assert_eq!(rt; txn.number(), number);
-    end(rt, table, txn);
-    assert!(rt; !table.is_active(txn));
-    assert_eq!(rt; table.end(txn), Err(Error::NoSuchTxn));
-}
-
-// The active transactions are those of these numbers, in this order.
-fn numbers_are(rt: &impl Abort, table: &TxnTable<Global>, numbers: &[u64]) {
+fn check_active<A: Allocator + Copy>(rt: &impl Abort, table: &TxnTable<A>, numbers: &[u64]) {
     for (index, number) in numbers.iter().enumerate() {
-        assert_eq!(rt; table.txn_at(index), Txn::new(*number));
+        assert!(rt; table.txn_at(index) == Txn::new(*number));
+        assert!(rt; table.is_active(txn(rt, *number)));
     }
-    assert_eq!(rt; table.txn_at(numbers.len()), None);
+    assert!(rt; table.txn_at(numbers.len()).is_none());
+    assert!(rt; table.len() == numbers.len());
+    assert!(rt; table.is_empty() == numbers.is_empty());
+}
+
+fn check<A: Allocator + Copy>(rt: &impl Abort, table: &TxnTable<A>, seen: &Seen<'_>) {
+    match seen {
+        Active(numbers) => check_active(rt, table, numbers),
+        Ended(number) => assert!(rt; !table.is_active(txn(rt, *number))),
+        Held(rows) => assert!(rt; table.held_rows() == *rows),
+        Holder(page, holder) => assert!(rt; table.holder(rid(*page)) == *holder),
+        Changes(number, count, last, is_rolling) => {
+            let txn = txn(rt, *number);
+            assert!(rt; changes_of(table, txn) == *count);
+            assert!(rt; table.newest(txn) == *last);
+            assert!(rt; table.is_rolling_back(txn) == *is_rolling);
+        }
+        May(number, page, any, this) => {
+            let txn = txn(rt, *number);
+            assert!(rt; table.check_change(txn) == *any);
+            assert!(rt; table.check_touch(txn, rid(*page)) == *this);
+        }
+    }
+}
+
+// How many transactions are active, how many rows are held, and how many changes the transaction
+// may take back.
+fn counts<A: Allocator + Copy>(
+    rt: &impl Abort,
+    table: &TxnTable<A>,
+    number: u64,
+) -> (usize, usize, usize) {
+    let changes = changes_of(table, txn(rt, number));
+    (table.len(), table.held_rows().len(), changes)
 }
 
 #[test]
 fn sixteen_are_active_and_no_number_comes_again(rt: HostRuntime) {
     let mut table = TxnTable::new(rt.alloc());
-    assert!(rt; table.is_empty());
-    begin_each(&rt, &mut table, 1, 16);
-    assert!(rt; table.len() == TXNS_MAX);
-    for (number, index) in [(16, 15), (1, 0), (3, 1)] {
-        end_at(&rt, &mut table, number, index);
+    check(&rt, &table, &Active(&[]));
+    for number in 1..17 {
+        make_all(&rt, &mut table, &[(Begin, Begun(number))]);
     }
-    begin_each(&rt, &mut table, 17, 19);
+    let none_such = Refused(Error::NoSuchTxn);
+    let steps = [
+        (Begin, Refused(Error::TooManyTxns)),
+        (End(16), Done),
+        (End(16), none_such),
+        (End(1), Done),
+        (End(1), none_such),
+        (End(3), Done),
+        (Begin, Begun(17)),
+        (Begin, Begun(18)),
+        (Begin, Begun(19)),
+        (Begin, Refused(Error::TooManyTxns)),
+    ];
+    make_all(&rt, &mut table, &steps);
     let numbers = [2, 4, 5, 6, 7, 8, 9, 10, 11, 12, 13, 14, 15, 17, 18, 19];
-    numbers_are(&rt, &table, &numbers);
-}
-
-// How many changes the transaction may take back, and how many rows are held.
-fn counts<A: Allocator + Copy>(table: &TxnTable<A>, txn: Txn) -> (Option<usize>, usize) {
-    (count_of(table, txn), held_count(table))
-}
-
-fn counts_are(rt: &impl Abort, table: &TxnTable<Global>, txn: Txn, changes: usize, held: usize) {
-    assert_eq!(rt; counts(table, txn), (Some(changes), held));
-}
-
-fn note_all(rt: &impl Abort, table: &mut TxnTable<Global>, txn: Txn) {
-    for position in 0..CHANGES_MAX {
-        changes(rt, table, txn, position, u32::from(position) / 2);
-    }
-    counts_are(rt, table, txn, 64, 33);
-}
-
-fn undo_is(rt: &impl Abort, table: &mut TxnTable<Global>, txn: Txn, want: Option<Change>) {
-    assert_eq!(rt; pop_undo(table, txn), want);
-}
-
-fn undo_all(rt: &impl Abort, table: &mut TxnTable<Global>, txn: Txn) {
-    for position in (0..CHANGES_MAX).rev() {
-        let want = change(rt, position, rid(u32::from(position) / 2));
-        undo_is(rt, table, txn, Some(want));
-    }
-    undo_is(rt, table, txn, None);
-    counts_are(rt, table, txn, 0, 33);
+    check(&rt, &table, &Active(&numbers));
+    check(&rt, &table, &Ended(3));
 }
 
 #[test]
 fn sixty_four_changes_are_noted_and_taken_back_from_the_last(rt: HostRuntime) {
     let mut table = TxnTable::new(rt.alloc());
-    let txn = begin(&rt, &mut table);
-    let other = begin(&rt, &mut table);
-    changes(&rt, &mut table, other, 0, 100);
-    note_all(&rt, &mut table, txn);
+    let full = Refused(Error::TooManyChanges);
+    let begun = [
+        (Begin, Begun(1)),
+        (Begin, Begun(2)),
+        (Note(2, 0, 100), Done),
+    ];
+    make_all(&rt, &mut table, &begun);
+    for position in 0..CHANGES_MAX {
+        let page = u32::from(position) / 2;
+        make_all(&rt, &mut table, &[(Note(1, position, page), Done)]);
+    }
     // The list is full before the row is busy.
-    is_refused(&rt, &mut table, txn, 100, Error::TooManyChanges);
-    assert!(rt; table.check_change(txn) == Err(Error::TooManyChanges));
-    undo_all(&rt, &mut table, txn);
-    assert!(rt; table.check_change(txn).is_ok());
+    make_all(&rt, &mut table, &[(Note(1, 0, 100), full)]);
+    let refused = Err(Error::TooManyChanges);
+    check(&rt, &table, &May(1, 100, refused, refused));
+    assert!(rt; counts(&rt, &table, 1) == (2, 33, 64));
+    for position in (0..CHANGES_MAX).rev() {
+        let page = u32::from(position) / 2;
+        make_all(&rt, &mut table, &[(Undo(1), Undone(position, page))]);
+    }
+    make_all(&rt, &mut table, &[(Undo(1), Empty)]);
+    assert!(rt; counts(&rt, &table, 1) == (2, 33, 0));
+    check(&rt, &table, &May(1, 0, Ok(()), Ok(())));
 }
 
 // Two transactions: the first has noted two changes of row 3, and the second one of row 4.
-fn held_by_two(rt: &impl Abort, table: &mut TxnTable<Global>) -> (Txn, Txn) {
-    let first = begin(rt, table);
-    let second = begin(rt, table);
-    changes(rt, table, first, 0, 3);
-    changes(rt, table, first, 1, 3);
-    changes(rt, table, second, 0, 4);
-    (first, second)
-}
-
-fn holder_is(rt: &impl Abort, table: &TxnTable<Global>, page: u32, holder: Option<Txn>) {
-    assert_eq!(rt; table.holder(rid(page)), holder);
-}
-
-fn touch_is(
-    rt: &impl Abort,
-    table: &TxnTable<Global>,
-    txn: Txn,
-    page: u32,
-    answer: Result<(), Error>,
-) {
-    assert_eq!(rt; table.check_touch(txn, rid(page)), answer);
-}
-
-fn held_are(rt: &impl Abort, table: &TxnTable<Global>, held: &[Rid]) {
-    assert_eq!(rt; table.held_rows(), held);
+fn held_by_two(rt: &impl Abort, alloc: Global) -> TxnTable<Global> {
+    let mut table = TxnTable::new(alloc);
+    let steps = [
+        (Begin, Begun(1)),
+        (Begin, Begun(2)),
+        (Note(1, 0, 3), Done),
+        (Note(1, 1, 3), Done),
+        (Note(2, 0, 4), Done),
+    ];
+    make_all(rt, &mut table, &steps);
+    check(rt, &table, &Held(&[rid(3), rid(4)]));
+    table
 }
 
 #[test]
 fn a_row_is_held_after_its_changes_were_taken_back(rt: HostRuntime) {
-    let mut table = TxnTable::new(rt.alloc());
-    let (first, second) = held_by_two(&rt, &mut table);
-    held_are(&rt, &table, &[rid(3), rid(4)]);
-    is_refused(&rt, &mut table, second, 3, Error::RowBusy);
-    pop_undo(&mut table, first);
-    pop_undo(&mut table, first);
-    holder_is(&rt, &table, 3, Some(first));
-    touch_is(&rt, &table, second, 3, Err(Error::RowBusy));
-    touch_is(&rt, &table, first, 3, Ok(()));
+    let mut table = held_by_two(&rt, rt.alloc());
+    check(&rt, &table, &Changes(1, 2, Some(change(&rt, 1, 3)), false));
+    let busy = Err(Error::RowBusy);
+    let steps = [
+        (Note(2, 0, 3), Refused(Error::RowBusy)),
+        (Undo(1), Undone(1, 3)),
+        (Undo(1), Undone(0, 3)),
+    ];
+    make_all(&rt, &mut table, &steps);
+    let seen = [
+        Changes(1, 0, None, true),
+        Holder(3, Txn::new(1)),
+        May(2, 3, Ok(()), busy),
+        May(1, 3, Ok(()), Ok(())),
+    ];
+    for seen in &seen {
+        check(&rt, &table, seen);
+    }
 }
 
 #[test]
 fn a_row_is_held_to_the_end_of_its_transaction(rt: HostRuntime) {
-    let mut table = TxnTable::new(rt.alloc());
-    let (first, second) = held_by_two(&rt, &mut table);
-    end(&rt, &mut table, first);
-    held_are(&rt, &table, &[rid(4)]);
-    holder_is(&rt, &table, 3, None);
-    // Unknown comes before busy.
-    is_refused(&rt, &mut table, first, 4, Error::NoSuchTxn);
-    changes(&rt, &mut table, second, 1, 3);
-    holder_is(&rt, &table, 3, Some(second));
+    let mut table = held_by_two(&rt, rt.alloc());
+    make_all(&rt, &mut table, &[(End(1), Done)]);
+    check(&rt, &table, &Held(&[rid(4)]));
+    check(&rt, &table, &Holder(3, None));
+    let steps = [
+        // Unknown comes before busy.
+        (Note(1, 0, 4), Refused(Error::NoSuchTxn)),
+        (Note(2, 1, 3), Done),
+    ];
+    make_all(&rt, &mut table, &steps);
+    check(&rt, &table, &Holder(3, Txn::new(2)));
 }
 
-fn rolls_back(
+// Whether the step was made: memory may be wanting. The table is as before then.
+fn is_made<A: Allocator + Copy>(
     rt: &impl Abort,
-    table: &TxnTable<Global>,
-    txn: Txn,
-    newest: Option<Change>,
-    rolling: bool,
-) {
-    assert_eq!(rt; table.newest(txn), newest);
-    assert_eq!(rt; table.is_rolling_back(txn), rolling);
-}
-
-#[test]
-fn the_first_undo_begins_the_rollback(rt: HostRuntime) {
-    let mut table = TxnTable::new(rt.alloc());
-    let txn = begin(&rt, &mut table);
-    changes(&rt, &mut table, txn, 0, 3);
-    let only = change(&rt, 0, rid(3));
-    rolls_back(&rt, &table, txn, Some(only), false);
-    pop_undo(&mut table, txn);
-    rolls_back(&rt, &table, txn, None, true);
-}
-
-// Begins a transaction, unless memory is wanting. The table is as before then.
-fn begun(rt: &impl Abort, table: &mut TxnTable<&LocalHeap>) -> Option<Txn> {
-    let before = (table.len(), held_count(table));
-    let begun = table.begin();
-    if begun.is_err() {
-        assert!(rt; begun == Err(Error::NoMemory));
-        assert!(rt; (table.len(), held_count(table)) == before);
+    table: &mut TxnTable<A>,
+    number: u64,
+    step: Step,
+) -> bool {
+    let before = counts(rt, table, number);
+    let answer = make(rt, table, step);
+    if answer == Refused(Error::NoMemory) {
+        assert!(rt; counts(rt, table, number) == before);
+        return false;
     }
-    begun.ok()
+    assert!(rt; answer == Done || answer == Begun(number));
+    true
 }
 
-fn row_is_free(rt: &impl Abort, table: &TxnTable<&LocalHeap>, rid: Rid) {
-    assert!(rt; table.holder(rid).is_none());
-}
-
-// Whether the change was noted: memory may be wanting. The table is as before then.
-fn is_noted(rt: &impl Abort, table: &mut TxnTable<&LocalHeap>, txn: Txn, change: Change) -> bool {
-    let before = counts(table, txn);
-    match note(table, txn, change) {
-        Ok(()) => true,
-        Err(error) => {
-            assert!(rt; error == Error::NoMemory && counts(table, txn) == before);
-            row_is_free(rt, table, change.rid);
-            false
+// The step of four transactions of nine changes each for which there is no memory.
+fn refused_step<A: Allocator + Copy>(rt: &impl Abort, alloc: A) -> Option<Step> {
+    let mut table = TxnTable::new(alloc);
+    for number in 1u32..5 {
+        let txn = u64::from(number);
+        if !is_made(rt, &mut table, txn, Begin) {
+            return Some(Begin);
+        }
+        for position in 0u8..9 {
+            let step = Note(txn, position, 9 * number + u32::from(position));
+            if !is_made(rt, &mut table, txn, step) {
+                check(rt, &table, &Holder(9 * number + u32::from(position), None));
+                return Some(step);
+            }
         }
     }
-}
-
-// How many of nine changes of this page's rows are noted.
-fn noted_of_nine(rt: &impl Abort, table: &mut TxnTable<&LocalHeap>, txn: Txn, page: u32) -> u8 {
-    for position in 0u8..9 {
-        let slot = u16::from(position);
-        if !is_noted(rt, table, txn, change(rt, position, Rid { page, slot })) {
-            return position;
-        }
-    }
-    9
-}
-
-#[derive(Clone, Copy, PartialEq, Eq)]
-enum Filled {
-    BeginRefused,
-    NoteRefused,
-    Done,
-}
-
-// Four transactions of nine changes each.
-fn fill(rt: &impl Abort, memory: &LocalHeap) -> Filled {
-    let mut table = TxnTable::new(memory);
-    for page in 0..4 {
-        let Some(txn) = begun(rt, &mut table) else {
-            return Filled::BeginRefused;
-        };
-        if noted_of_nine(rt, &mut table, txn, page) < 9 {
-            return Filled::NoteRefused;
-        }
-    }
-    Filled::Done
+    None
 }
 
 // With memory from none at all to enough.
 #[test]
-fn want_of_memory_leaves_the_table_as_before(rt: HostRuntime) -> Result<(), Fail> {
+fn want_of_memory_leaves_the_table_as_before(rt: HostRuntime) {
     let mut begin_refused = false;
     let mut note_refused = false;
     let mut done = false;
     for step in 0..800 {
-        let memory = LocalHeap::new(rt.alloc(), 32 * step)?;
-        match fill(&rt, &memory) {
-            Filled::BeginRefused => begin_refused = true,
-            Filled::NoteRefused => note_refused = true,
-            Filled::Done => done = true,
+        let memory = LocalHeap::new(rt.alloc(), 32 * step).expect(&rt, "memory");
+        match refused_step(&rt, &memory) {
+            Some(Begin) => begin_refused = true,
+            Some(_) => note_refused = true,
+            None => done = true,
         }
     }
     assert!(rt; begin_refused && note_refused && done);
-    Ok(())
 }

@@ -10,7 +10,7 @@ use std::process::Abort;
 use std::test::Fail;
 
 // Record 1: transaction 1 inserts the row `ant`, `x` at the first place.
-const FIRST_RECORD: &[u8] =
+const FIRST_RECORD: &[u8; 32] =
     b"\0\0\0\0\0\0\0\x01\0\0\0\0\0\0\0\x01\x01\0\0\0\0\0\0\0\0\x01\x03\x61\x6e\x74\x01\x78";
 
 // The record that this was done to the index.
@@ -31,55 +31,37 @@ fn decoded(bytes: &[u8]) -> Option<(Record, usize)> {
     Record::decode(bytes)
 }
 
-// The record has this spelling, which is read back to it.
-fn check_spelling(
-    rt: &impl Abort,
-    alloc: Global,
-    record: Record,
-    spelled: &[u8],
-) -> Result<(), Fail> {
-    let heap = LocalHeap::new(alloc, 1024)?;
-    let mut bytes = Vec::new(&heap);
-    encode(&record, &mut bytes)?;
-    assert!(rt; bytes.as_slice() == spelled);
-    assert!(rt; decoded(spelled) == Some((record, spelled.len())));
+// The vectors of the format document, both ways.
+#[test]
+fn records_byte_by_byte(rt: HostRuntime) -> Result<(), Fail> {
+    let heap = LocalHeap::new(rt.alloc(), 4096)?;
+    let key = Key::new(b"a")?;
+    let pair = Pair { key, rid: FIRST };
+    let records: [(Record, &[u8]); 4] = [
+        (insertion(1, row(b"ant", b"x")?)?, FIRST_RECORD),
+        (commit()?, b"\0\0\0\0\0\0\0\x02\0\0\0\0\0\0\0\x01\x07"),
+        (
+            by_index(1, IndexAction::Create)?,
+            b"\0\0\0\0\0\0\0\x01\0\0\0\0\0\0\0\0\x09",
+        ),
+        (
+            by_index(7, IndexAction::BuildPlace { pair })?,
+            b"\0\0\0\0\0\0\0\x07\0\0\0\0\0\0\0\0\x0a\x01\x61\0\0\0\0\0\0",
+        ),
+    ];
+    for (record, spelled) in records {
+        let mut bytes = Vec::new(&heap);
+        encode(&record, &mut bytes)?;
+        assert!(rt; bytes.as_slice() == spelled);
+        assert!(rt; decoded(spelled) == Some((record, spelled.len())));
+    }
     Ok(())
 }
 
-// The vectors of the format document, both ways.
+// Numbers, kinds, flags and lengths that no record has: the first record's spelling with one byte
+// changed.
 #[test]
-fn records_of_transactions(rt: HostRuntime) -> Result<(), Fail> {
-    let inserted = insertion(1, row(b"ant", b"x")?)?;
-    check_spelling(&rt, rt.alloc(), inserted, FIRST_RECORD)?;
-    let spelled = b"\0\0\0\0\0\0\0\x02\0\0\0\0\0\0\0\x01\x07";
-    check_spelling(&rt, rt.alloc(), commit()?, spelled)
-}
-
-#[test]
-fn records_of_the_index(rt: HostRuntime) -> Result<(), Fail> {
-    let create = by_index(1, IndexAction::Create)?;
-    let spelled = b"\0\0\0\0\0\0\0\x01\0\0\0\0\0\0\0\0\x09";
-    check_spelling(&rt, rt.alloc(), create, spelled)?;
-    let key = Key::new(b"a")?;
-    let pair = Pair { key, rid: FIRST };
-    let place = by_index(7, IndexAction::BuildPlace { pair })?;
-    let spelled = b"\0\0\0\0\0\0\0\x07\0\0\0\0\0\0\0\0\x0a\x01\x61\0\0\0\0\0\0";
-    check_spelling(&rt, rt.alloc(), place, spelled)
-}
-
-// The first record's spelling with one byte changed.
-fn changed(alloc: Global, at: usize, byte: u8) -> Result<Vec<u8>, Fail> {
-    let mut changed = FIRST_RECORD.to_vec(alloc)?;
-    match changed.get_mut(at) {
-        Some(place) => *place = byte,
-        None => return Err("a byte of the record")?,
-    }
-    Ok(changed)
-}
-
-// Numbers, kinds, flags and lengths that no record has.
-#[test]
-fn spellings_of_no_record(rt: HostRuntime) -> Result<(), Fail> {
+fn spellings_of_no_record(rt: HostRuntime) {
     let places: [(usize, u8); 10] = [
         (7, 0),
         (0, 0x40),
@@ -93,10 +75,11 @@ fn spellings_of_no_record(rt: HostRuntime) -> Result<(), Fail> {
         (26, 25),
     ];
     for (at, byte) in places {
-        let changed = changed(rt.alloc(), at, byte)?;
+        let mut changed = *FIRST_RECORD;
+        assert!(rt; at < changed.len());
+        changed[at] = byte;
         assert!(rt; decoded(&changed).is_none(), "byte {at} is {byte}");
     }
-    Ok(())
 }
 
 #[test]
@@ -137,39 +120,45 @@ fn pairs_in_order(rt: HostRuntime) -> Result<(), Fail> {
     Ok(())
 }
 
-fn printed(alloc: Global, error: Error) -> Result<String, Fail> {
-    Ok(format!(in alloc; "{error}")?)
+fn printed(alloc: Global, errors: &[Error]) -> Result<String, Fail> {
+    let mut text = String::new(alloc);
+    for error in errors {
+        text.push_str(&format!(in alloc; "{error}\n")?)?;
+    }
+    Ok(text)
 }
 
 #[test]
 fn refusals_printed(rt: HostRuntime) -> Result<(), Fail> {
-    let texts = [
-        (Error::NoMemory, "1 NoMemory"),
-        (Error::DeviceFailed, "2 DeviceFailed"),
-        (Error::NotFormatted, "3 NotFormatted"),
-        (Error::Damaged { sector: 516 }, "4 Damaged 516"),
-        (Error::DeviceTooSmall, "5 DeviceTooSmall"),
-        (Error::BadGeometry, "6 BadGeometry"),
-        (Error::TooManyTxns, "7 TooManyTxns"),
-        (Error::TooManyChanges, "8 TooManyChanges"),
-        (Error::NoSuchTxn, "9 NoSuchTxn"),
-        (Error::NoSuchRow, "10 NoSuchRow"),
-        (Error::RowBusy, "11 RowBusy"),
-        (Error::HeapFull, "12 HeapFull"),
-        (Error::IndexFull, "13 IndexFull"),
-        (Error::KeyTooLong, "14 KeyTooLong"),
-        (Error::BodyTooLong, "15 BodyTooLong"),
-        (Error::TxnsActive, "16 TxnsActive"),
-        (Error::IndexExists, "17 IndexExists"),
-        (Error::NoIndex, "18 NoIndex"),
-        (Error::NotBuilt, "19 NotBuilt"),
-        (Error::Stopped, "20 Stopped"),
-        (Error::Exhausted, "21 Exhausted"),
-        (Error::BadScript { line: 2 }, "22 BadScript 2"),
+    let errors = [
+        Error::NoMemory,
+        Error::DeviceFailed,
+        Error::NotFormatted,
+        Error::Damaged { sector: 516 },
+        Error::DeviceTooSmall,
+        Error::BadGeometry,
+        Error::TooManyTxns,
+        Error::TooManyChanges,
+        Error::NoSuchTxn,
+        Error::NoSuchRow,
+        Error::RowBusy,
+        Error::HeapFull,
+        Error::IndexFull,
+        Error::KeyTooLong,
+        Error::BodyTooLong,
+        Error::TxnsActive,
+        Error::IndexExists,
+        Error::NoIndex,
+        Error::NotBuilt,
+        Error::Stopped,
+        Error::Exhausted,
+        Error::BadScript { line: 2 },
     ];
-    for (error, text) in texts {
-        assert!(rt; printed(rt.alloc(), error)?.as_str() == text);
-    }
+    let text = "1 NoMemory\n2 DeviceFailed\n3 NotFormatted\n4 Damaged 516\n5 DeviceTooSmall\n\
+        6 BadGeometry\n7 TooManyTxns\n8 TooManyChanges\n9 NoSuchTxn\n10 NoSuchRow\n11 RowBusy\n\
+        12 HeapFull\n13 IndexFull\n14 KeyTooLong\n15 BodyTooLong\n16 TxnsActive\n17 IndexExists\n\
+        18 NoIndex\n19 NotBuilt\n20 Stopped\n21 Exhausted\n22 BadScript 2\n";
+    assert!(rt; printed(rt.alloc(), &errors)?.as_str() == text);
     Ok(())
 }
 

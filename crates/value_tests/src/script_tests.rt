@@ -17,6 +17,35 @@ fn text(alloc: Global, bytes: &[u8]) -> Result<ByteText, Fail> {
     Ok(ByteText::new(Vec::from_slice(alloc, bytes)?))
 }
 
+// A command that gives bytes.
+#[derive(Clone, Copy)]
+enum Given<'a> {
+    Insert(u64, &'a [u8], &'a [u8]),
+    Update(u64, Rid, &'a [u8], &'a [u8]),
+    Find(&'a [u8]),
+}
+
+use Given::{Find, Insert, Update};
+
+fn command_of(alloc: Global, given: &Given<'_>) -> Result<Command, Fail> {
+    Ok(match given {
+        Insert(number, key, body) => Command::Insert {
+            txn: txn(*number)?,
+            key: text(alloc, key)?,
+            body: text(alloc, body)?,
+        },
+        Update(number, rid, key, body) => Command::Update {
+            txn: txn(*number)?,
+            rid: *rid,
+            key: text(alloc, key)?,
+            body: text(alloc, body)?,
+        },
+        Find(key) => Command::Find {
+            key: text(alloc, key)?,
+        },
+    })
+}
+
 // The line is this command.
 fn check_line(rt: &impl Abort, alloc: Global, line: &[u8], command: &Command) -> Result<(), Fail> {
     let commands = read(alloc, line)?;
@@ -25,66 +54,37 @@ fn check_line(rt: &impl Abort, alloc: Global, line: &[u8], command: &Command) ->
     Ok(())
 }
 
-// The line is an insertion.
-fn check_insertion(
-    rt: &impl Abort,
-    alloc: Global,
-    line: &[u8],
-    number: u64,
-    key: &[u8],
-    body: &[u8],
-) -> Result<(), Fail> {
-    let insertion = Command::Insert {
-        txn: txn(number)?,
-        key: text(alloc, key)?,
-        body: text(alloc, body)?,
-    };
-    check_line(rt, alloc, line, &insertion)
-}
-
 #[test]
-fn insertions(rt: HostRuntime) -> Result<(), Fail> {
-    let alloc = rt.alloc();
-    check_insertion(&rt, alloc, b"insert 1 =ant =x", 1, b"ant", b"x")?;
-    check_insertion(&rt, alloc, b"insert 1 = :", 1, b"", b"")?;
-    check_insertion(&rt, alloc, b"insert 7 :616e74 ==:~!", 7, b"ant", b"=:~!")?;
-    check_insertion(&rt, alloc, b"insert 7 :00ff0a20 =", 7, b"\x00\xff\n ", b"")?;
-    check_insertion(
-        &rt,
-        alloc,
-        b"insert 4294967295 =0123456789012345678901234 =01234567890123456789012345678901234567",
-        4_294_967_295,
-        b"0123456789012345678901234",
-        b"01234567890123456789012345678901234567",
-    )
-}
-
-// The line is an update.
-fn check_update(
-    rt: &impl Abort,
-    alloc: Global,
-    line: &[u8],
-    number: u64,
-    rid: Rid,
-    key: &[u8],
-    body: &[u8],
-) -> Result<(), Fail> {
-    let update = Command::Update {
-        txn: txn(number)?,
-        rid,
-        key: text(alloc, key)?,
-        body: text(alloc, body)?,
-    };
-    check_line(rt, alloc, line, &update)
-}
-
-#[test]
-fn updates(rt: HostRuntime) -> Result<(), Fail> {
-    let alloc = rt.alloc();
-    check_update(&rt, alloc, b"update 1 0.0 =ant =x", 1, LOW, b"ant", b"x")?;
-    check_update(&rt, alloc, b"update 1 0.0 : =", 1, LOW, b"", b"")?;
-    let line = b"update 7 4294967295.62 :00ff =7.62";
-    check_update(&rt, alloc, line, 7, HIGH, b"\x00\xff", b"7.62")
+fn commands_with_bytes(rt: HostRuntime) -> Result<(), Fail> {
+    let longer_than_a_key = b"0123456789012345678901234";
+    let longer_than_a_body = b"01234567890123456789012345678901234567";
+    let lines: [(&[u8], Given<'_>); 14] = [
+        (b"insert 1 =ant =x", Insert(1, b"ant", b"x")),
+        (b"insert 1 = :", Insert(1, b"", b"")),
+        (b"insert 7 :616e74 ==:~!", Insert(7, b"ant", b"=:~!")),
+        (b"insert 7 :00ff0a20 =", Insert(7, b"\x00\xff\n ", b"")),
+        (
+            b"insert 4294967295 =0123456789012345678901234 =01234567890123456789012345678901234567",
+            Insert(4_294_967_295, longer_than_a_key, longer_than_a_body),
+        ),
+        (b"update 1 0.0 =ant =x", Update(1, LOW, b"ant", b"x")),
+        (b"update 1 0.0 : =", Update(1, LOW, b"", b"")),
+        (
+            b"update 7 4294967295.62 :00ff =7.62",
+            Update(7, HIGH, b"\x00\xff", b"7.62"),
+        ),
+        (b"find =ant", Find(b"ant")),
+        (b"find :616e74", Find(b"ant")),
+        (b"find =", Find(b"")),
+        (b"find :", Find(b"")),
+        (b"find ==:", Find(b"=:")),
+        (b"find =0123456789012345678901234", Find(longer_than_a_key)),
+    ];
+    for (line, given) in &lines {
+        let command = command_of(rt.alloc(), given)?;
+        check_line(&rt, rt.alloc(), line, &command)?;
+    }
+    Ok(())
 }
 
 #[test]
@@ -107,6 +107,11 @@ fn commands_without_bytes(rt: HostRuntime) -> Result<(), Fail> {
         (b"delete 4294967295 0.0", Command::Delete { txn, rid: LOW }),
         (b"get 0.0", Command::Get { rid: LOW }),
         (b"get 4294967295.62", Command::Get { rid: HIGH }),
+        (b"crash old", Command::Crash { fate: Fate::Old }),
+        (b"crash new", Command::Crash { fate: Fate::New }),
+        (b"crash zero", Command::Crash { fate: Fate::Zero }),
+        (b"crash a5", Command::Crash { fate: Fate::Gate }),
+        (b"crash junk", Command::Crash { fate: Fate::Junk }),
     ];
     for (line, command) in &commands {
         check_line(&rt, rt.alloc(), line, command)?;
@@ -114,166 +119,41 @@ fn commands_without_bytes(rt: HostRuntime) -> Result<(), Fail> {
     Ok(())
 }
 
-#[test]
-fn searches(rt: HostRuntime) -> Result<(), Fail> {
-    let lines = [
-        (b"find =ant".as_slice(), b"ant".as_slice()),
-        (b"find :616e74", b"ant"),
-        (b"find =", b""),
-        (b"find :", b""),
-        (b"find ==:", b"=:"),
-        (
-            b"find =0123456789012345678901234",
-            b"0123456789012345678901234",
-        ),
-    ];
-    for (line, key) in lines {
-        let key = text(rt.alloc(), key)?;
-        check_line(&rt, rt.alloc(), line, &Command::Find { key })?;
-    }
-    Ok(())
-}
-
-#[test]
-fn crashes(rt: HostRuntime) -> Result<(), Fail> {
-    let lines = [
-        (b"crash old".as_slice(), Fate::Old),
-        (b"crash new", Fate::New),
-        (b"crash zero", Fate::Zero),
-        (b"crash a5", Fate::Gate),
-        (b"crash junk", Fate::Junk),
-    ];
-    for (line, fate) in lines {
-        check_line(&rt, rt.alloc(), line, &Command::Crash { fate })?;
-    }
-    Ok(())
-}
-
-// None of the lines is a command, and each is named.
-fn check_bad_lines(rt: &impl Abort, alloc: Global, lines: &[&[u8]]) {
-    for line in lines {
-        let bad = Err(Error::BadScript { line: 1 });
-        assert!(rt; read(alloc, line) == bad, "{line:?}");
-    }
-}
+// Lines that are no command, a line feed between each two.
+const BAD_LINES: [&[u8]; 23] = [
+    b" \n #\n begin\nbegin \nbegin\r\nBegin\nbegin 1\nbegin\tx\nbeginning\n\xff",
+    b"\xef\xbb\xbfbegin",
+    b"create 1\ncreate ",
+    b"build 0\nbuild 01\nbuild 100001\nbuild 4294967297\nbuild 1 1\nbuild \nbuild +1",
+    b"build =1\nbuilds",
+    b"clean 0\nclean 100001\nclean -1\nclean 1 1\nclean ",
+    b"find\nfind \nfind a\nfind 0.0\nfind :6\nfind =a =b\nfind =a ",
+    b"step\nstep 0\nstep 1 1\nstep 1 \nsteps 1",
+    b"undo\nundo 01\nundo 1 1\nundone 1",
+    b"end\nend +1\nend 1 1\nEND 1",
+    b"commit\ncommit 1 \ncommit 4294967296\ncommit 18446744073709551617\ncommit 1a",
+    b"commit -1",
+    b"crash\ncrash OLD\ncrash a5 a5",
+    b"get 0\nget 0.63\nget 0.00\nget 00.0\nget 0.0.0\nget .0\nget 0.\nget 4294967296.0",
+    b"get 0.4294967296\nget 0.65536",
+    b"insert\ninsert 1\ninsert 1 =a\ninsert 1 =a =b =c\ninsert  1 =a =\ninsert 1 =a = ",
+    b"insert 01 =a =\ninsert +1 =a =\ninsert 0 =a =\ninsert 1 :6 =\ninsert 1 :6A =",
+    b"insert 1 :6g =\ninsert 1 a =\ninsert 1 =\x7f =\ninsert 1 =\x80 =",
+    b"delete\ndelete 1\ndelete 0.0\ndelete 0 0.0\ndelete 1 0.63\ndelete 1 0\ndelete 0.0 1",
+    b"delete 1 0.0 =a\ndelete 1 0.0 \nDelete 1 0.0",
+    b"update\nupdate 1\nupdate 1 0.0\nupdate 1 0.0 =a\nupdate 1 =a =\nupdate 1 =a = 0.0",
+    b"update 0.0 1 =a =\nupdate 1 0.0 =a = =b\nupdate 1 0.0 =a = \nupdate 1  0.0 =a =",
+    b"update 0 0.0 =a =\nupdate 1 0.63 =a =\nupdate 1 0.0 a =\nupdate 1 0.0 =a :6",
+];
 
 #[test]
 fn lines_of_no_command(rt: HostRuntime) {
-    let lines = [
-        b" ".as_slice(),
-        b" #",
-        b" begin",
-        b"begin ",
-        b"begin\r",
-        b"Begin",
-        b"begin 1",
-        b"begin\tx",
-        b"beginning",
-        b"\xff",
-        b"\xef\xbb\xbfbegin",
-        b"create 1",
-        b"create ",
-        b"build 0",
-        b"build 01",
-        b"build 100001",
-        b"build 4294967297",
-        b"build 1 1",
-        b"build ",
-        b"build +1",
-        b"build =1",
-        b"builds",
-        b"clean 0",
-        b"clean 100001",
-        b"clean -1",
-        b"clean 1 1",
-        b"clean ",
-        b"find",
-        b"find ",
-        b"find a",
-        b"find 0.0",
-        b"find :6",
-        b"find =a =b",
-        b"find =a ",
-        b"step",
-        b"step 0",
-        b"step 1 1",
-        b"step 1 ",
-        b"steps 1",
-        b"undo",
-        b"undo 01",
-        b"undo 1 1",
-        b"undone 1",
-        b"end",
-        b"end +1",
-        b"end 1 1",
-        b"END 1",
-        b"commit",
-        b"commit 1 ",
-        b"commit 4294967296",
-        b"commit 18446744073709551617",
-        b"commit 1a",
-        b"commit -1",
-        b"crash",
-        b"crash OLD",
-        b"crash a5 a5",
-        b"get 0",
-        b"get 0.63",
-        b"get 0.00",
-        b"get 00.0",
-        b"get 0.0.0",
-        b"get .0",
-        b"get 0.",
-        b"get 4294967296.0",
-        b"get 0.4294967296",
-        b"get 0.65536",
-    ];
-    check_bad_lines(&rt, rt.alloc(), &lines);
-}
-
-#[test]
-fn bad_changes(rt: HostRuntime) {
-    let lines = [
-        b"insert".as_slice(),
-        b"insert 1",
-        b"insert 1 =a",
-        b"insert 1 =a =b =c",
-        b"insert  1 =a =",
-        b"insert 1 =a = ",
-        b"insert 01 =a =",
-        b"insert +1 =a =",
-        b"insert 0 =a =",
-        b"insert 1 :6 =",
-        b"insert 1 :6A =",
-        b"insert 1 :6g =",
-        b"insert 1 a =",
-        b"insert 1 =\x7f =",
-        b"insert 1 =\x80 =",
-        b"delete",
-        b"delete 1",
-        b"delete 0.0",
-        b"delete 0 0.0",
-        b"delete 1 0.63",
-        b"delete 1 0",
-        b"delete 0.0 1",
-        b"delete 1 0.0 =a",
-        b"delete 1 0.0 ",
-        b"Delete 1 0.0",
-        b"update",
-        b"update 1",
-        b"update 1 0.0",
-        b"update 1 0.0 =a",
-        b"update 1 =a =",
-        b"update 1 =a = 0.0",
-        b"update 0.0 1 =a =",
-        b"update 1 0.0 =a = =b",
-        b"update 1 0.0 =a = ",
-        b"update 1  0.0 =a =",
-        b"update 0 0.0 =a =",
-        b"update 1 0.63 =a =",
-        b"update 1 0.0 a =",
-        b"update 1 0.0 =a :6",
-    ];
-    check_bad_lines(&rt, rt.alloc(), &lines);
+    let bad = Err(Error::BadScript { line: 1 });
+    for lines in BAD_LINES {
+        for line in lines.split(|byte| *byte == b'\n') {
+            assert!(rt; read(rt.alloc(), line) == bad, "{line:?}");
+        }
+    }
 }
 
 #[test]

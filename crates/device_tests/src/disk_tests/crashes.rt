@@ -29,15 +29,6 @@ fn is_junk<D: Device>(rt: &impl Abort, disk: &mut D, n: u64) -> Result<bool, Fai
     Ok(bytes[0] == 13 && bytes[1] == 20 && bytes[36] == 9 && bytes[511] == 6)
 }
 
-fn make_steps<D: Device>(rt: &impl Abort, disk: &mut D, steps: &[Step]) {
-    for step in steps {
-        match step {
-            Write(n, byte) => must_fill(rt, disk, *n, *byte),
-            Sync => must_sync(rt, disk),
-        }
-    }
-}
-
 fn check_sectors<D: Device>(
     rt: &impl Abort,
     disk: &mut D,
@@ -63,7 +54,12 @@ fn check(
     wanted: &[Holds; 3],
 ) -> Result<(), Fail> {
     let mut disk = MemDisk::new(alloc, 3, 8)?;
-    make_steps(rt, &mut disk, steps);
+    for step in steps {
+        match step {
+            Write(n, byte) => must_fill(rt, &mut disk, *n, *byte),
+            Sync => must_sync(rt, &mut disk),
+        }
+    }
     disk.crash(fates);
     check_sectors(rt, &mut disk, name, wanted)?;
     // afterwards no sector is unsynced, so that a second crash leaves all as it is
@@ -71,52 +67,40 @@ fn check(
     check_sectors(rt, &mut disk, name, wanted)
 }
 
+// Each fate of one sector, and lists of fates for three.
 #[test]
-fn each_fate(rt: HostRuntime) -> Result<(), Fail> {
-    let synced_then_written = [Write(1, 1), Sync, Write(1, 2)];
-    for (name, fate, wanted) in [
-        ("old", Fate::Old, Byte(1)),
-        ("new", Fate::New, Byte(2)),
-        ("zero", Fate::Zero, Byte(0)),
-        ("gate", Fate::Gate, Byte(0xA5)),
-        ("junk", Fate::Junk, Junk),
-    ] {
-        let wanted = [Byte(0), wanted, Byte(0)];
-        check(
-            &rt,
-            rt.alloc(),
-            name,
-            &synced_then_written,
-            &[fate],
-            &wanted,
-        )?;
-    }
-    Ok(())
-}
-
-#[test]
-fn lists_of_fates(rt: HostRuntime) -> Result<(), Fail> {
-    let cases: [(&str, &[Fate], [Holds; 3]); 4] = [
-        ("none", &[], [Byte(0), Byte(0), Byte(0)]),
+fn fates(rt: HostRuntime) -> Result<(), Fail> {
+    let one: &[Step] = &[Write(1, 1), Sync, Write(1, 2)];
+    let all: &[Step] = &[Write(2, 5), Write(0, 3), Write(1, 4)];
+    let zero = Byte(0);
+    let cases: [(&str, &[Step], &[Fate], [Holds; 3]); 9] = [
+        ("old", one, &[Fate::Old], [zero, Byte(1), zero]),
+        ("new", one, &[Fate::New], [zero, Byte(2), zero]),
+        ("zero", one, &[Fate::Zero], [zero, zero, zero]),
+        ("gate", one, &[Fate::Gate], [zero, Byte(0xA5), zero]),
+        ("junk", one, &[Fate::Junk], [zero, Junk, zero]),
+        ("none", all, &[], [zero, zero, zero]),
         (
             "ascending",
+            all,
             &[Fate::New, Fate::Junk, Fate::Old],
-            [Byte(3), Junk, Byte(0)],
+            [Byte(3), Junk, zero],
         ),
         (
             "again",
+            all,
             &[Fate::Gate, Fate::New],
             [Byte(0xA5), Byte(4), Byte(0xA5)],
         ),
         (
             "longer",
+            all,
             &[Fate::Old, Fate::Old, Fate::New, Fate::Gate],
-            [Byte(0), Byte(0), Byte(5)],
+            [zero, zero, Byte(5)],
         ),
     ];
-    let all_written = [Write(2, 5), Write(0, 3), Write(1, 4)];
-    for (name, fates, wanted) in cases {
-        check(&rt, rt.alloc(), name, &all_written, fates, &wanted)?;
+    for (name, steps, fates, wanted) in cases {
+        check(&rt, rt.alloc(), name, steps, fates, &wanted)?;
     }
     Ok(())
 }

@@ -14,23 +14,8 @@ use std::test::Fail;
 // The most bytes of a group, as the format says.
 const _: () = prove!(GROUP_MAX == 3580);
 
-// The first two sectors of a slot with the format's example, in which are the numbers of records and bytes, an insertion
-// and a commit, and the other sectors.
-fn check_example<D: Device>(rt: &impl Abort, disk: &mut D) {
-    check_sector(rt, disk, 1, &padded(b"\xA5"));
-    let body = b"\0\x02\0\x31\
-        \0\0\0\0\0\0\0\x01\0\0\0\0\0\0\0\x01\x01\0\0\0\0\0\0\0\0\x01\x03\x61\x6e\x74\x01\x78\
-        \0\0\0\0\0\0\0\x02\0\0\0\0\0\0\0\x01\x07";
-    check_sector(rt, disk, 2, &padded(body));
-    for n in 3..9 {
-        check_filled(rt, disk, n, 0);
-    }
-    for n in [0, 9, 16, 33] {
-        check_filled(rt, disk, n, 7);
-    }
-}
-
-// The format's example byte for byte, in the sectors of the first slot, over what was there before.
+// The format's example byte for byte, in the sectors of the first slot, over what was there before: the gate, then the
+// numbers of records and bytes, an insertion and a commit, and zeros. The other sectors are as they were.
 #[test]
 fn the_bytes_of_the_example(rt: HostRuntime) -> Result<(), Fail> {
     let mut disk = blank(rt.alloc())?;
@@ -38,7 +23,15 @@ fn the_bytes_of_the_example(rt: HostRuntime) -> Result<(), Fail> {
         must_fill(&rt, &mut disk, n, 7);
     }
     append_group(&rt, rt.alloc(), &mut disk, &example()?)?;
-    check_example(&rt, &mut disk);
+    check_sector(&rt, &mut disk, 1, &padded(b"\xA5"));
+    let body = b"\0\x02\0\x31\
+        \0\0\0\0\0\0\0\x01\0\0\0\0\0\0\0\x01\x01\0\0\0\0\0\0\0\0\x01\x03\x61\x6e\x74\x01\x78\
+        \0\0\0\0\0\0\0\x02\0\0\0\0\0\0\0\x01\x07";
+    check_sector(&rt, &mut disk, 2, &padded(body));
+    for n in [0, 3, 4, 5, 6, 7, 8, 9, 16, 33] {
+        let byte = if (3..9).contains(&n) { 0 } else { 7 };
+        check_filled(&rt, &mut disk, n, byte);
+    }
     Ok(())
 }
 
@@ -85,39 +78,6 @@ fn the_calls_of_an_append(rt: HostRuntime) -> Result<(), Fail> {
     Ok(())
 }
 
-// The gate of a record, by its index.
-fn check_gate(
-    rt: &impl Abort,
-    alloc: Global,
-    disk: &mut MemDisk<Global>,
-    index: usize,
-    wanted: Option<u64>,
-) -> Result<(), Fail> {
-    let gate = gate_of(rt, alloc, disk, index)?;
-    assert!(rt; gate == wanted, "record {index}");
-    Ok(())
-}
-
-// There is no room for one more group.
-fn check_full(rt: &impl Abort, alloc: Global, disk: &mut MemDisk<Global>) -> Result<(), Fail> {
-    assert!(rt; append(rt, alloc, disk, &example()?)? == Appended::Full);
-    Ok(())
-}
-
-// The format's example, and five commits more.
-fn seven_records() -> Result<[Record; 7], Fail> {
-    let [first, second] = example()?;
-    Ok([
-        first,
-        second,
-        commit(3)?,
-        commit(4)?,
-        commit(5)?,
-        commit(6)?,
-        commit(7)?,
-    ])
-}
-
 // Adds groups of two records, one, three and one.
 fn append_four(
     rt: &impl Abort,
@@ -134,21 +94,29 @@ fn append_four(
     Ok(())
 }
 
-// The gate of each record, and none behind the last.
-fn check_gates(rt: &impl Abort, alloc: Global, disk: &mut MemDisk<Global>) -> Result<(), Fail> {
-    for (index, gate) in [1, 1, 9, 17, 17, 17, 25].iter().enumerate() {
-        check_gate(rt, alloc, disk, index, Some(*gate))?;
-    }
-    check_gate(rt, alloc, disk, 7, None)
-}
-
 // Four groups, and then none: the records in order, and the gate of each.
 #[test]
 fn a_full_area(rt: HostRuntime) -> Result<(), Fail> {
     let mut disk = blank(rt.alloc())?;
-    let records = seven_records()?;
+    let [insertion, end] = example()?;
+    let records = [
+        insertion,
+        end,
+        commit(3)?,
+        commit(4)?,
+        commit(5)?,
+        commit(6)?,
+        commit(7)?,
+    ];
     append_four(&rt, rt.alloc(), &mut disk, &records)?;
-    check_full(&rt, rt.alloc(), &mut disk)?;
+    assert!(rt; append(&rt, rt.alloc(), &mut disk, &records[..2])? == Appended::Full);
     check_log(&rt, rt.alloc(), &mut disk, &records, 4)?;
-    check_gates(&rt, rt.alloc(), &mut disk)
+    for (index, gate) in [1, 1, 9, 17, 17, 17, 25].iter().enumerate() {
+        assert!(rt;
+            gate_of(&rt, rt.alloc(), &mut disk, index)? == Some(*gate),
+            "record {index}"
+        );
+    }
+    assert!(rt; gate_of(&rt, rt.alloc(), &mut disk, 7)? == None);
+    Ok(())
 }

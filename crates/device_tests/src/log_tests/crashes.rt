@@ -7,16 +7,6 @@ use std::alloc::Global;
 use std::process::Abort;
 use std::test::Fail;
 
-// What an append answers whose k-th call fails, and how many calls it makes.
-fn check_added(rt: &impl Abort, k: u64, added: Result<Appended, Error>, made: u64) {
-    let (wanted, calls) = if k == 0 {
-        (Ok(Appended::Done), 11)
-    } else {
-        (Err(Error::DeviceFailed), k)
-    };
-    assert!(rt; added == wanted && made == calls, "call {k}");
-}
-
 // Adds a second group to a log of one, where the k-th write or sync fails, or none at 0. Gives the device back.
 fn failed_append(
     rt: &impl Abort,
@@ -28,7 +18,12 @@ fn failed_append(
     append_group(rt, alloc, &mut disk, &example()?)?;
     let mut disk = FaultDisk::new(disk, Which::WritesAndSyncs, k);
     let added = append(rt, alloc, &mut disk, records);
-    check_added(rt, k, added, disk.made());
+    let (wanted, calls) = if k == 0 {
+        (Ok(Appended::Done), 11)
+    } else {
+        (Err(Error::DeviceFailed), k)
+    };
+    assert!(rt; added == wanted && disk.made() == calls, "call {k}");
     Ok(disk.into_inner())
 }
 

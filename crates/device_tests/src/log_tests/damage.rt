@@ -2,28 +2,12 @@
 use super::{append_group, blank, commit, example, read_all};
 use crate::sectors::set_byte;
 use records::Error;
-use sector_device::MemDisk;
 use std::alloc::Global;
 use std::process::Abort;
 use std::test::Fail;
 
 // A sector, a byte of it, and its new value.
 type Edit = (u64, usize, u8);
-
-// The log is refused, by this sector.
-fn check_damaged(
-    rt: &impl Abort,
-    alloc: Global,
-    disk: &mut MemDisk<Global>,
-    name: &str,
-    damaged: u64,
-) {
-    let refused = read_all(rt, alloc, disk).err();
-    assert!(rt;
-        refused == Some(Error::Damaged { sector: damaged }),
-        "{name}"
-    );
-}
 
 // A log of the format's example and one more group, with some bytes changed, and the sector that is damaged.
 fn check(
@@ -39,7 +23,11 @@ fn check(
     for (n, at, byte) in edits {
         set_byte(rt, &mut disk, *n, *at, *byte)?;
     }
-    check_damaged(rt, alloc, &mut disk, name, damaged);
+    let refused = read_all(rt, alloc, &mut disk).err();
+    assert!(rt;
+        refused == Some(Error::Damaged { sector: damaged }),
+        "{name}"
+    );
     Ok(())
 }
 
