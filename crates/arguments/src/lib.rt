@@ -19,6 +19,21 @@ use std::io::Write;
 /// The most sectors that a disk may be given.
 pub const SECTORS_MAX: u32 = 100_000;
 
+const ABOUT: &str =
+    "Runs a script of commands on a store of a simulated disk, and prints each answer";
+
+const PAGES_HELP: &str = "Pages of the table, 1 to 256 [default: 1]";
+
+const ENTRIES_HELP: &str = "Places for entries of the index, 64 to 65536 [default: 64]";
+
+const SLOTS_HELP: &str = "Slots of each log, 4 to 256 [default: 4]";
+
+const SECTORS_HELP: &str = "Sectors of the disk, 0 to 100000 [default: as many as the store needs]";
+
+const STOP_HELP: &str = "The write or sync, counted from 1, that fails with a crash";
+
+const FATE_HELP: &str = "What becomes of unsynced sectors in that crash [default: old]";
+
 /// Why there are no arguments.
 #[derive(Clone, Copy, Debug, PartialEq, Eq)]
 pub enum NoArguments {
@@ -28,8 +43,14 @@ pub enum NoArguments {
     Told(u8),
 }
 
-// The option `--name`, with one value.
-fn option_named<'a>(alloc: Global, name: &'a str, value: &'a str, takes: ValueParser<'a>) -> Arg<'a>
+// The option `--name`, with one value, and what help says of it.
+fn option_named<'a>(
+    alloc: Global,
+    name: &'a str,
+    value: &'a str,
+    takes: ValueParser<'a>,
+    help: &'a str,
+) -> Arg<'a>
     ensures rule { rule_of result ≡ option_of name.entry.now takes.entry }
     ensures local { result.global ≡ false }
 {
@@ -37,6 +58,7 @@ fn option_named<'a>(alloc: Global, name: &'a str, value: &'a str, takes: ValuePa
         .long(name)
         .value_name(value)
         .value_parser(takes)
+        .help(help)
 }
 
 // The command line, with the ranges of its numbers.
@@ -50,12 +72,14 @@ fn command<'a>(alloc: Global) -> Result<Command<'a>, AllocError>
     let stop = value_parser!(u32).range(1..);
     let fate = ValueParser::from(FATES.as_slice());
     Command::new(alloc, "nsf-replay")
-        .arg(option_named(alloc, "pages", "P", pages))?
-        .arg(option_named(alloc, "entries", "E", entries))?
-        .arg(option_named(alloc, "slots", "S", slots))?
-        .arg(option_named(alloc, "sectors", "N", sectors))?
-        .arg(option_named(alloc, "stop", "K", stop))?
-        .arg(option_named(alloc, "fate", "F", fate))
+        .about(ABOUT)
+        .arg(option_named(alloc, "pages", "P", pages, PAGES_HELP))?
+        .arg(option_named(alloc, "entries", "E", entries, ENTRIES_HELP))?
+        .arg(option_named(alloc, "slots", "S", slots, SLOTS_HELP))?
+        .arg(option_named(alloc, "sectors", "N", sectors, SECTORS_HELP))?
+        .arg(option_named(alloc, "stop", "K", stop, STOP_HELP))?
+        .arg(option_named(alloc, "fate", "F", fate, FATE_HELP))?
+        .bin_name("nsf-replay")
 }
 
 // The fate that was given, where it was.

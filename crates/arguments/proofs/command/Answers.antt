@@ -1,5 +1,6 @@
 use Rattle.std.proofs.Common.{◌≡◌, ◌∙◌, ap, ap₂, codes, rules}
 use Rattle.std.proofs.lemmas.Result.{IfOk-weaker}
+use Rattle.clap.specs.Simple.{app_of_fields}
 use Rattle.clap.specs.Words.{rule_of, with_rule}
 use Rattle.clap.specs.declared.builder.value_parser.ValueParser.TheVariants as parser
 use Rattle.records.specs.declared.geometry.TheConstants.{ENTRIES_MAX, ENTRIES_MIN, LOG_SLOTS_MAX, LOG_SLOTS_MIN, PAGES_MAX}
@@ -20,11 +21,12 @@ returns c =
     let sectors_is : rule_of c.option_named-4.result ≡ option_of (codes "sectors") (numbers 0 SECTORS_MAX) = c.option_named-4.ensures.rule ∙ ap (option_of (codes "sectors")) sectors in
     let stop_is : rule_of c.option_named-5.result ≡ option_of (codes "stop") (numbers 1 4294967295) = c.option_named-5.ensures.rule ∙ ap (option_of (codes "stop")) stop in
     let fate_is : rule_of c.option_named-6.result ≡ option_of (codes "fate") (parser.Names c.as_slice.result) = c.option_named-6.ensures.rule ∙ ap (option_of (codes "fate")) c.from-fate.ensures in
-    let one = c.in_ok-arg.ensures.shape (search rules) ∙ ap₂ with_rule c.new-5.ensures.app pages_is in
+    let one = c.in_ok-arg.ensures.shape (search rules) ∙ ap₂ with_rule (ap app_of_fields c.about.ensures ∙ c.new-5.ensures.app) pages_is in
     let two = c.in_ok-arg-2.ensures.shape (search rules) ∙ ap₂ with_rule one entries_is in
     let three = c.in_ok-arg-3.ensures.shape (search rules) ∙ ap₂ with_rule two slots_is in
     let four = c.in_ok-arg-4.ensures.shape (search rules) ∙ ap₂ with_rule three sectors_is in
     let five = c.in_ok-arg-5.ensures.shape (search rules) ∙ ap₂ with_rule four stop_is in
-    IfOk-weaker c.arg-6.result _ _
-    (λ command added. (c.as_slice.result, search rules, added.shape c.option_named-6.ensures.local ∙ ap₂ with_rule five fate_is))
-    c.arg-6.ensures
+    let six = c.in_ok-arg-6.ensures.shape c.option_named-6.ensures.local ∙ ap₂ with_rule five fate_is in
+    IfOk-weaker c.bin_name.result _ _
+    (λ command named. (c.as_slice.result, rw c.as_slice.ensures, ap app_of_fields named.0 ∙ six))
+    c.bin_name.ensures
