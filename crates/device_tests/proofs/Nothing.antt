@@ -15,7 +15,7 @@ use Rattle.model.specs.Cells.{list_of}
 use Rattle.model.specs.Following.{ArePlaced}
 use Rattle.model.specs.Inside.{AreChangesWithin}
 use Rattle.image_half.specs.Image.{no_cells}
-use Rattle.image_half.specs.Source.{FitsImage, IsNextOf}
+use Rattle.image_half.specs.Source.{FitsImage, IsNextBehind}
 
 pub no_entries : {K : Type 0} (X : Type 0) (R : K → K → Ordering) → length (entries (empty {X = X} {R = R})) ≡ 0
 no_entries {K} X R = sym (len-entries (empty {X = X} {R = R})) ∙ len-empty R X
@@ -23,7 +23,7 @@ no_entries {K} X R = sym (len-entries (empty {X = X} {R = R})) ∙ len-empty R X
 none_at : {A : Type 0} (es : List A) (i : ℕ) → length es ≡ 0 → slice_get es i ≡ None
 none_at es i is = slice_get_past es i (omega (arith, is))
 
-pub no_next : {K X : Type 0} (es : List (K × X)) (start : Option K) → length es ≡ 0 → IsNextOf es start None
+pub no_next : {K X : Type 0} (es : List (K × X)) (start : Option K) → length es ≡ 0 → IsNextBehind es start None
 no_next es None is = sym (none_at es 0 is)
 no_next {K} {X} es (Some key) is = λ i value at. absurd (none-some (key, value) (sym (none_at es i is) ∙ at))
 

@@ -58,6 +58,16 @@ fn check_refused<D: Device>(rt: &impl Abort, disk: &mut D, name: &str, wanted: E
     assert_eq!(rt; check_fresh(rt, disk), Err(wanted), "{name}");
 }
 
+// A disk of this many sectors of sevens.
+fn used_disk(rt: &impl Abort, alloc: Global, sectors: u64) -> Result<MemDisk<Global>, Fail> {
+    let mut disk = MemDisk::new(alloc, sectors, 4096)?;
+    for n in 0..sectors {
+        must_fill(rt, &mut disk, n, 7);
+    }
+    must_sync(rt, &mut disk);
+    Ok(disk)
+}
+
 // Whether `format` writes the sector.
 fn is_written(n: u64) -> bool {
     n < 4 || (516..524).contains(&n) || [528, 536, 544, 552].contains(&n)
@@ -66,11 +76,7 @@ fn is_written(n: u64) -> bool {
 // The superblock of the least store, and every sector behind it, where each was of sevens.
 #[test]
 fn a_used_disk_formatted(rt: HostRuntime) -> Result<(), Fail> {
-    let mut disk = MemDisk::new(rt.alloc(), SECTORS, 4096)?;
-    for n in 0..SECTORS {
-        must_fill(&rt, &mut disk, n, 7);
-    }
-    must_sync(&rt, &mut disk);
+    let mut disk = used_disk(&rt, rt.alloc(), SECTORS)?;
     format(&mut disk)?;
     disk.crash(&[Fate::Junk]);
     let front = padded(b"NSFINDEX\0\0\0\x01\0\0\0\x01\0\0\0\x40\0\0\0\x04");
