@@ -1,10 +1,11 @@
 -- What there is where there are no cells.
-use Rattle.std.proofs.Common.{◌≡◌, ℕ, List, [], length, Option, Some, None, sym, ap, ◌∙◌, subst, arith}
-use Rattle.std.specs.Prelude.{slice_get, unwrap_or}
+use Rattle.std.proofs.Common.{◌≡◌, ℕ, ◌+◌, ◌<◌, List, [], length, Option, Some, None, sym, ap, ◌∙◌, subst, arith}
+use Rattle.std.specs.Prelude.{slice_get, replicate, unwrap_or}
+use Rattle.std.proofs.lemmas.List.{get_or-replicate, length-replicate}
 use Rattle.std.specs.declared.cmp.Ordering.{Ordering}
 use Rattle.std.specs.Ordering.{nat_cmp}
 use Rattle.std.specs.FinMap.{empty, entries, get-empty, len-empty, len-entries}
-use Rattle.std.proofs.lemmas.Option.{none-some, slice_get_past}
+use Rattle.std.proofs.lemmas.Option.{none-some, slice_get-get_or, slice_get_past}
 use Rattle.records.specs.ChangeValue.{ChangeValue}
 use Rattle.records.specs.GeometryValue.{GeometryValue}
 use Rattle.records.specs.Orders.{pair_cmp, rid_cmp}
@@ -26,6 +27,12 @@ none_at es i is = slice_get_past es i (omega (arith, is))
 pub no_next : {K X : Type 0} (es : List (K × X)) (start : Option K) → length es ≡ 0 → IsNextBehind es start None
 no_next es None is = sym (none_at es 0 is)
 no_next {K} {X} es (Some key) is = λ i value at. absurd (none-some (key, value) (sym (none_at es i is) ∙ at))
+
+-- places that have nothing
+pub none_each : {X : Type 0} (es : List X) (blank : Option X) (places n j : ℕ) → blank ≡ None → length es ≡ 0 → j < places → slice_get (replicate places blank) j ≡ Some (slice_get es (n + j))
+none_each {X} es blank places n j empty is below =
+    slice_get-get_or (replicate places blank) j blank (omega (arith, below, length-replicate {A = Option X} places blank))
+    ∙ ap Some (get_or-replicate {A = Option X} places j blank blank below ∙ empty ∙ sym (none_at es (n + j) is))
 
 not_building : (p : Pair) → Absent ≡ Building (Some p) → ⊥
 not_building p is = cc

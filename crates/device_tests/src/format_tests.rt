@@ -1,4 +1,5 @@
 // A store on a device: what formatting writes, what opening refuses, and how the idle half is written.
+mod cells;
 mod damage;
 mod faults;
 mod images;

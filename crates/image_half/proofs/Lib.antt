@@ -13,3 +13,5 @@ mod Joined
 mod Kept
 mod Writing
 mod Written
+pub mod Readings
+mod Fitting

@@ -1,10 +1,23 @@
 //! Laws of images.
-ghost use Rattle.std.specs.Prelude.{◌≡◌, ℕ};
+ghost use Rattle.std.specs.Prelude.{◌≡◌, ℕ, ◌<◌, ◌≤◌, List, length, slice_get, Some};
+ghost use Rattle.std.specs.FinMap as finite;
 ghost use Rattle.sector_device.specs.Disk.{Image, sector};
+ghost use Rattle.records.specs.Values.{Place};
+ghost use Rattle.records.specs.ChangeValue.{ChangeValue};
 ghost use Rattle.records.specs.GeometryValue.{GeometryValue};
-ghost use Rattle.model.specs.Cells.{Cells};
+ghost use Rattle.records.specs.Maps.{set_at};
+ghost use Rattle.records.specs.declared.rid.TheConstants.{SLOTS_PER_PAGE};
+ghost use Rattle.records.specs.declared.change.TheConstants.{CHANGES_MAX};
+ghost use Rattle.records.specs.declared.row.Row.{Row};
+ghost use Rattle.records.specs.declared.pair.Pair.{Pair};
+ghost use Rattle.records.specs.declared.pair.Mark.{Mark};
+ghost use Rattle.model.specs.declared.life.Life.{Life};
+ghost use Rattle.model.specs.Cells.{Cells, with_list};
+ghost use Rattle.model.specs.Following.{ArePlaced, IsAdmitted};
+ghost use Rattle.model.specs.Inside.{IsLifeWithin};
 ghost use Rattle.image_half.specs.Layout.{InImage};
-ghost use Rattle.image_half.specs.Image.{IsImage};
+ghost use Rattle.image_half.specs.Image.{IsImage, no_cells};
+ghost use Rattle.image_half.specs.Source.{FitsImage};
 ghost use Rattle.image_half.specs.Damage.{IsDamagedAt, IsFirstDamaged};
 
 /// A law: one image lies in some sectors at most, with one base.
@@ -23,4 +36,27 @@ pub fn one_damage()
 pub fn told_by_its_sectors()
     ensures { (g : GeometryValue) (first : ℕ) (image other : Image) → ((n : ℕ) → InImage g first n → sector other n ≡ sector image n)
         → (base : ℕ) (cells : Cells) → IsImage g first image base cells → IsImage g first other base cells }
+{}
+
+/// A law: each place that an image names has a slot that a page has: those of rows, entries, changes and the highest pair.
+pub fn slots_inside()
+    ensures rows { (g : GeometryValue) (first : ℕ) (image : Image) (base : ℕ) (cells : Cells) → IsImage g first image base cells
+        → (q : Place) (r : Row) → finite.get cells.rows q ≡ Some r → q.slot < SLOTS_PER_PAGE }
+    ensures entries { (g : GeometryValue) (first : ℕ) (image : Image) (base : ℕ) (cells : Cells) → IsImage g first image base cells
+        → (i : ℕ) (e : Pair × Mark) → slice_get (finite.entries cells.entries) i ≡ Some e → e.0.rid.slot < SLOTS_PER_PAGE }
+    ensures changes { (g : GeometryValue) (first : ℕ) (image : Image) (base : ℕ) (cells : Cells) → IsImage g first image base cells
+        → (h p : ℕ) (list : ℕ × List ChangeValue) (c : ChangeValue) → slice_get (finite.entries cells.pending) h ≡ Some list → slice_get list.1 p ≡ Some c → c.rid.slot < SLOTS_PER_PAGE }
+    ensures highest { (g : GeometryValue) (first : ℕ) (image : Image) (base : ℕ) (cells : Cells) → IsImage g first image base cells
+        → (p : Pair) → cells.life ≡ Life.Building (Some p) → p.rid.slot < SLOTS_PER_PAGE }
+{}
+
+/// A law: there is room for no cells; and then for a life, a row, an entry and a list of the store's pages, as long as there
+/// is a place left for an entry and for a transaction.
+pub fn fitting_cells()
+    ensures none { (g : GeometryValue) → FitsImage g no_cells }
+    ensures life { (g : GeometryValue) (cells : Cells) (life : Life) → FitsImage g cells → IsLifeWithin g.pages life → FitsImage g (record cells { life = life }) }
+    ensures row { (g : GeometryValue) (cells : Cells) (q : Place) (r : Row) → FitsImage g cells → q.page < g.pages → q.slot < SLOTS_PER_PAGE → FitsImage g (record cells { rows = set_at cells.rows q (Some r) }) }
+    ensures entry { (g : GeometryValue) (cells : Cells) (p : Pair) (m : Mark) → FitsImage g cells → p.rid.page < g.pages → length (finite.entries cells.entries) < g.entries → FitsImage g (record cells { entries = set_at cells.entries p (Some m) }) }
+    ensures list { (g : GeometryValue) (cells : Cells) (txn : ℕ) (changes : List ChangeValue) → FitsImage g cells → IsAdmitted cells.pending txn → ArePlaced g.pages 0 changes → length changes ≤ CHANGES_MAX
+        → FitsImage g (record cells { pending = with_list cells.pending txn (Some changes) }) }
 {}

@@ -1,5 +1,5 @@
 //! A whole image is written, without a sync.
-ghost use Rattle.std.specs.Prelude.{◌≡◌, ◌⊎◌, ℕ, ◌+◌, ◌*◌, ◌^◌, ◌<◌, ◌≤◌, List, Option, true, length, map, slice_get, slice_index_or, Some, None, OnOk};
+ghost use Rattle.std.specs.Prelude.{◌≡◌, ◌⊎◌, ℕ, ◌+◌, ◌-◌, ◌*◌, ◌^◌, ◌<◌, ◌≤◌, List, Option, true, length, map, slice_get, slice_index_or, Some, None, OnOk};
 ghost use Rattle.std.specs.Option.{option_map};
 ghost use Rattle.std.specs.FinMap as finite;
 ghost use Rattle.sector_device.specs.Disk.{sector, SameOutside};
@@ -11,12 +11,12 @@ ghost use Rattle.records.specs.declared.number.TheConstants.{LAST_NUMBER};
 ghost use Rattle.image_parts.specs.declared.head.Head.{Head as HeadValue};
 ghost use Rattle.image_half.specs.Layout.{cut, heads_at, page_at, entries_at, image_end, InImage, InEntries};
 ghost use Rattle.image_half.specs.Image.{AreHeads, HoldsList, IsImage, IsEntry, entry_bytes, head_of};
-ghost use Rattle.image_half.specs.Source.{FitsImage};
+ghost use Rattle.image_half.specs.Source.{FitsImage, IsPassed};
 ghost use Rattle.image_half.specs.Steps.{IsEntryPiece, IsReached, ShowsPage, WritesIn, InUndo, InPages};
 
 use crate::pieces::put_piece;
 use crate::read::page_at;
-use crate::source::CellSource;
+use crate::source::{CellSource, SECTOR_ENTRIES};
 use crate::write::{write_header, write_list, write_page};
 use image_parts::{ENTRY_SIZE, Head, Header, spell_entry, spell_head};
 use records::{
@@ -154,29 +154,36 @@ fn piece_of_entry(entry: &Option<(Pair, Mark)>) -> [u8; ENTRY_SIZE]
     }
 }
 
-// The pair of an entry, or else this one.
-fn pair_of(entry: &Option<(Pair, Mark)>, other: Option<Pair>) -> Option<Pair>
-    ensures entry { (e : Pair × Mark) → entry.now ≡ Some e → result ≡ Some e.0 }
-    ensures other { entry.now ≡ None → result ≡ other }
+// The last pair of the entries of a sector, or else this one.
+fn last_pair(entries: &[Option<(Pair, Mark)>; SECTOR_ENTRIES], other: Option<Pair>) -> Option<Pair>
+    ensures { (e : Pair × Mark) → slice_get entries.now (SECTOR_ENTRIES - 1) ≡ Some (Some e) → result ≡ Some e.0 }
 {
-    match entry {
+    match entries[SECTOR_ENTRIES - 1] {
         Some(entry) => Some(entry.0),
         None => other,
     }
 }
 
-// The sector of the entries behind that of the last pair, which is then the last one of them.
+// The sector of the entries behind that of the last pair, which is then the last one of them where the sector is full.
 fn entries_sector<S: CellSource>(source: &S, last: &mut Option<Pair>) -> [u8; SECTOR_SIZE]
-    ensures spelled { (n : ℕ) → IsReached (finite.entries (S.cells source.now).entries) n last.old
+    ensures spelled { (n : ℕ) → IsPassed (finite.entries (S.cells source.now).entries) n last.old
         → (j : ℕ) (e : Pair × Mark) → j < ENTRIES_PER_SECTOR → slice_get (finite.entries (S.cells source.now).entries) (n + j) ≡ Some e → IsEntryPiece (cut result ENTRY_SIZE j) e }
-    ensures reached { (n : ℕ) → IsReached (finite.entries (S.cells source.now).entries) n last.old → IsReached (finite.entries (S.cells source.now).entries) (n + ENTRIES_PER_SECTOR) last.new }
+    ensures passed { (n : ℕ) → IsPassed (finite.entries (S.cells source.now).entries) n last.old → n + ENTRIES_PER_SECTOR ≤ length (finite.entries (S.cells source.now).entries)
+        → IsPassed (finite.entries (S.cells source.now).entries) (n + ENTRIES_PER_SECTOR) last.new }
+{
+    let entries = source.entries_behind(*last);
+    *last = last_pair(&entries, *last);
+    pieces_of(&entries)
+}
+
+// The sector of these entries.
+fn pieces_of(entries: &[Option<(Pair, Mark)>; SECTOR_ENTRIES]) -> [u8; SECTOR_SIZE]
+    ensures { (j : ℕ) (e : Pair × Mark) → slice_get entries.now j ≡ Some (Some e) → IsEntryPiece (cut result ENTRY_SIZE j) e }
 {
     let mut bytes = zero_sector();
-    for j in 0..ENTRIES_PER_SECTOR as usize {
-        let found = source.entry_behind(*last);
-        let piece = piece_of_entry(&found);
+    for j in 0..SECTOR_ENTRIES {
+        let piece = piece_of_entry(&entries[j]);
         put_piece(&mut bytes, j, &piece);
-        *last = pair_of(&found, *last);
     }
     bytes
 }

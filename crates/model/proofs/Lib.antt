@@ -11,3 +11,4 @@ pub mod PlacedLaws
 pub mod ImageLaws
 pub mod GivenLaws
 pub mod InsideLaws
+pub mod AboveLaws

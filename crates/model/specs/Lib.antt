@@ -11,3 +11,4 @@ pub mod Pairs
 pub mod Given
 pub mod Images
 pub mod Inside
+pub mod Above

@@ -1,2 +1,2 @@
-mod Kept
+mod Filled
 mod Records

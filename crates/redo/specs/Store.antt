@@ -1,20 +1,14 @@
 -- What clauses see of the cells of a store.
-use Rattle.std.specs.Prelude.{◌≡◌, ℕ, ◌+◌, Bool, true, false, List, Option, Some, length, ◌⊎◌, refl}
+use Rattle.std.specs.Prelude.{◌≡◌, ℕ, ◌+◌, Bool, true, false, List, Option, length, ◌⊎◌, refl}
 use Rattle.std.proofs.Common.{inl, inr}
 use Rattle.std.specs.Coded.{Coded, code_by, coded×, coded⊎, coded_ℕ, coded_bool, coded_list, coded_option}
 use Rattle.std.specs.FinMap as map
-use Rattle.records.specs.ChangeValue.{ChangeValue}
 use Rattle.records.specs.Codes.{coded_change, coded_mark, coded_pair, coded_rid, coded_row}
 use Rattle.records.specs.GeometryValue.{GeometryValue}
-use Rattle.records.specs.Maps.{set_at}
 use Rattle.records.specs.RecordValue.{RecordValue}
-use Rattle.records.specs.Values.{Place}
-use Rattle.records.specs.declared.pair.Mark.{Mark}
 use Rattle.records.specs.declared.pair.Pair.{Pair}
-use Rattle.records.specs.declared.row.Row.{Row}
 use Rattle.model.specs.declared.life.Life.{Life}
 use Rattle.model.specs.declared.life.Life.TheVariants.{Absent, Building, Complete}
-use Rattle.model.specs.Cells as model_cells
 use Rattle.model.specs.Cells.{Cells, Pending, cells_after, set_by}
 use Rattle.model.specs.Following.{CanFollow}
 use Rattle.model.specs.Table.{Index, Table}
@@ -25,29 +19,15 @@ pub record StoreValue : Type 0 where
   pub cells : Cells
   pub last : ℕ
 
--- ---- one cell
+-- the cells of an image that record `last` left
+abbrev pub store_of : GeometryValue → ℕ → Cells → StoreValue
+store_of geometry last cells = record { geometry = geometry; cells = cells; last = last }
 
-abbrev pub setting_row : StoreValue → Place → Option Row → StoreValue
-setting_row v rid row = record v { cells = record v.cells { rows = set_at v.cells.rows rid row } }
-
-abbrev pub setting_entry : StoreValue → Pair → Option Mark → StoreValue
-setting_entry v pair mark = record v { cells = record v.cells { entries = set_at v.cells.entries pair mark } }
-
-abbrev pub setting_list : StoreValue → ℕ → List ChangeValue → StoreValue
-setting_list v txn changes = record v { cells = record v.cells { pending = model_cells.with_list v.cells.pending txn (Some changes) } }
-
-abbrev pub setting_life : StoreValue → Life → StoreValue
-setting_life v life = record v { cells = record v.cells { life = life } }
+-- no row, no entry and no transaction
+abbrev pub IsBare : Cells → Type 0
+IsBare cells = (cells.rows ≡ map.empty) × (cells.entries ≡ map.empty) × (cells.pending ≡ map.empty)
 
 -- ---- records
-
--- nothing but the number of the last record
-abbrev pub empty_store : GeometryValue → ℕ → StoreValue
-empty_store geometry last = record {
-  geometry = geometry;
-  cells = record { rows = map.empty; entries = map.empty; pending = map.empty; life = Absent };
-  last = last;
-}
 
 -- the record can come next
 abbrev pub CanRedo : StoreValue → RecordValue → Type 0
@@ -83,7 +63,7 @@ life_back Complete = refl
 abbrev coded_life : Coded Life
 coded_life = code_by (Bool ⊎ Option Pair) (coded⊎ coded_bool (coded_option coded_pair)) life_in life_out life_back
 
-abbrev coded_cells : Coded Cells
+abbrev pub coded_cells : Coded Cells
 coded_cells = code_by (Table × (Index × (Pending × Life))) (coded× (map.code coded_rid coded_row) (coded× (map.code coded_pair coded_mark) (coded× (map.code coded_ℕ (coded_list coded_change)) coded_life)))
     (λ c. (c.rows, (c.entries, (c.pending, c.life)))) (λ p. record { rows = p.0; entries = p.1.0; pending = p.1.1.0; life = p.1.1.1 }) (λ _. refl)
 

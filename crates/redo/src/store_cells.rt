@@ -3,14 +3,15 @@ ghost use Rattle.std.specs.Prelude.{◌≡◌, ◌<◌, ◌≤◌, ◌↔◌, �
 ghost use Rattle.records.specs.declared.number.TheConstants.{LAST_NUMBER};
 ghost use Rattle.model.specs.Following.{AreFollowing, IsFirstUnfit};
 ghost use Rattle.model.specs.Given.{recovered};
-ghost use Rattle.model.specs.Inside.{AreChangesWithin, IsLifeWithin};
-ghost use Rattle.redo.specs.Store.{CanRedo, after_record, after_records, empty_store, setting_entry, setting_list, setting_row, setting_life};
+ghost use Rattle.model.specs.Inside.{AreInside};
+ghost use Rattle.redo.specs.Store.{CanRedo, after_record, after_records, store_of};
 ghost use Rattle.redo.specs.Restored.{given_in};
 
+use crate::image_cells::ImageCells;
 use crate::refusal::{Refusal, Stopped};
 use crate::restored::Restored;
-use model::{CellMaps, Life};
-use records::{Change, Geometry, Mark, Pair, Record, Rid, Row, Txn};
+use model::CellMaps;
+use records::{Geometry, Record};
 use std::alloc::{AllocError, Allocator};
 use std::marker::Model;
 
@@ -42,15 +43,17 @@ impl<A: Allocator> Model for StoreCells<A> {
 }
 
 impl<A: Allocator + Copy> StoreCells<A> {
-    /// No row, no entry, no transaction and no index, with `base` as the number of the last record.
-    pub fn new(alloc: A, geometry: Geometry, base: u64) -> Self
-        requires { base ≤ LAST_NUMBER }
-        ensures { result ≡ empty_store geometry base }
+    /// The cells of an image of a store of this geometry, which record `base` left.
+    pub fn over(image: ImageCells<A>, geometry: Geometry, base: u64) -> Self
+        requires inside { AreInside geometry.pages image }
+        requires numbered { base ≤ LAST_NUMBER }
+        ensures { result ≡ store_of geometry base image }
     {
+        let (alloc, maps) = image.into_maps();
         StoreCells {
             alloc,
             geometry,
-            maps: CellMaps::new(alloc),
+            maps,
             last: base,
         }
     }
@@ -60,42 +63,6 @@ impl<A: Allocator + Copy> StoreCells<A> {
         ensures { result ≡ self.now.geometry.pages }
     {
         self.geometry.pages
-    }
-
-    /// Leaves this row at the place, or none, as an image has it.
-    pub fn set_row(&mut self, rid: Rid, row: Option<Row>) -> Result<(), AllocError>
-        requires { rid.page < self.old.geometry.pages }
-        ensures ok { OnOk result (self.new ≡ setting_row self.old rid row) }
-        ensures err { OnErr result (self.new ≡ self.old) }
-    {
-        self.maps.rows.set(rid, row)
-    }
-
-    /// Leaves this entry of the pair, or none, as an image has it.
-    pub fn set_entry(&mut self, pair: &Pair, mark: Option<Mark>) -> Result<(), AllocError>
-        requires { pair.now.rid.page < self.old.geometry.pages }
-        ensures ok { OnOk result (self.new ≡ setting_entry self.old pair.now mark) }
-        ensures err { OnErr result (self.new ≡ self.old) }
-    {
-        self.maps.entries.set(*pair, mark)
-    }
-
-    /// Gives the transaction this list of changes that it may still take back, as an image has it.
-    pub fn set_list(&mut self, txn: Txn, changes: Vec<Change, A>) -> Result<(), AllocError>
-        requires { AreChangesWithin self.old.geometry.pages changes.items }
-        ensures ok { OnOk result (self.new ≡ setting_list self.old txn changes.items) }
-        ensures err { OnErr result (self.new ≡ self.old) }
-    {
-        self.maps.lists.set(txn, changes)?;
-        Ok(())
-    }
-
-    /// Leaves the index this far, as an image has it.
-    pub fn set_life(&mut self, life: Life)
-        requires { IsLifeWithin self.old.geometry.pages life }
-        ensures { self.new ≡ setting_life self.old life }
-    {
-        self.maps.life = life;
     }
 
     /// Sets what the record says. `Unfit` where it can't follow the records before it: its number is not the next one, its

@@ -4,7 +4,7 @@ ghost use Rattle.image_half.specs.Image.{no_cells};
 use super::{SECTORS, check_half, format, formatted, used_disk};
 use crate::sectors::{check_filled, check_sector, padded};
 use flip_image::{Half, Halves};
-use image_half::CellSource;
+use image_half::{CellSource, SECTOR_ENTRIES};
 use model::Life;
 use records::{Change, Error, FRONT_SECTORS, Mark, Pair, Rid, Row, Txn};
 use sector_device::{Device, Fate, FaultDisk, Which};
@@ -29,8 +29,8 @@ impl CellSource for Nothing {
         0
     }
 
-    fn entry_behind(&self, _pair: Option<Pair>) -> Option<(Pair, Mark)> {
-        None
+    fn entries_behind(&self, _pair: Option<Pair>) -> [Option<(Pair, Mark)>; SECTOR_ENTRIES] {
+        [None; SECTOR_ENTRIES]
     }
 
     fn list_behind(&self, _txn: Option<Txn>) -> Option<(Txn, &[Change])> {

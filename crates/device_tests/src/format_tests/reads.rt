@@ -8,18 +8,18 @@ use image_half::CellSink;
 use model::{CellMaps, Life};
 use records::{Change, Error, Mark, Pair, Rid, Row, Txn};
 use sector_device::Device;
-use std::alloc::{AllocError, Global};
+use std::alloc::{AllocError, Allocator};
 use std::process::Abort;
 use std::test::Fail;
 
 // The cells that were read.
 #[derive(Drop)]
-struct Taken {
-    alloc: Global,
-    maps: CellMaps<Global>,
+struct Taken<A: Allocator> {
+    alloc: A,
+    maps: CellMaps<A>,
 }
 
-impl CellSink for Taken {
+impl<A: Allocator + Copy> CellSink for Taken<A> {
     ghost cells = { λ t. cells_of t.maps };
 
     fn set_life(&mut self, life: Life) {
@@ -43,7 +43,11 @@ impl CellSink for Taken {
 }
 
 // The base of the image of the current half, or why it is refused.
-fn read<D: Device>(rt: &impl Abort, alloc: Global, disk: &mut D) -> Result<u64, Error> {
+pub(super) fn read<D: Device, A: Allocator + Copy>(
+    rt: &impl Abort,
+    alloc: A,
+    disk: &mut D,
+) -> Result<u64, Error> {
     let halves = Halves::open(disk)?;
     assert!(rt; halves.geometry().sectors() <= disk.sectors());
     let mut sink = Taken {

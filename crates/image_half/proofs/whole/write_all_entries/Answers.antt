@@ -10,7 +10,7 @@ use Rattle.records.specs.declared.pair.Pair.{Pair}
 use Rattle.records.specs.declared.pair.Mark.{Mark}
 use Rattle.image_half.specs.Layout.{cut, page_at, entries_at, InEntries}
 use Rattle.image_half.specs.Image.{IsEntry}
-use Rattle.image_half.specs.Steps.{IsReached}
+use Rattle.image_half.specs.Source.{IsPassed}
 use Rattle.image_half.proofs.Joined.{writes_one}
 use Rattle.image_half.proofs.Writing.{entry_inside}
 use Rattle.image_half.proofs.whole.write_all_entries.Goals as goal
@@ -40,10 +40,11 @@ loop-k-preserved g c =
     let bytes : List ℕ = c.entries_sector-bytes.result in
     let inside : InEntries c.args.geometry c.args.first 0 c.args.count at = (omega (arith, at_is), omega (arith, at_is, some)) in
     let so_far = c.loop-k.invariant in
+    let passed : IsPassed all (16 * k) c.loop-k.last = so_far.passed (omega (arith, some)) in
     let ok : new ≡ after_write mid at bytes = c.in_ok-write.ensures.ok in
     let room : at < length mid.content = omega (arith, inside.1, c.requires.inside, c.requires.count, c.requires.fits.room, so_far.part.outside.sectors) in
     record {
-      reached = subst (λ n. IsReached all n c.entries_sector-bytes.new.last) (let e : 16 * k + 16 ≡ 16 * (k + 1) = omega arith in e) (c.entries_sector-bytes.ensures.reached (16 * k) so_far.reached);
+      passed = λ more. subst (λ n. IsPassed all n c.entries_sector-bytes.new.last) (let e : 16 * k + 16 ≡ 16 * (k + 1) = omega arith in e) (c.entries_sector-bytes.ensures.passed (16 * k) passed (omega (arith, more, c.requires.count)));
       written = λ i e less at_i. ⊎_elim
           (λ (lower : i < 16 * k).
           let n = first_entry + i / 16 in
@@ -54,7 +55,7 @@ loop-k-preserved g c =
           let which : n ≡ at = omega (arith, at_is, less, higher) in
           let there : sector new.content n ≡ bytes = ap (λ m. sector new.content m) which ∙ ap (λ (d : Disk). sector d.content at) ok ∙ sector_written mid at bytes room in
           let nth : i ≡ 16 * k + i % 16 = omega (arith, less, higher) in
-          let piece = c.entries_sector-bytes.ensures.spelled (16 * k) so_far.reached (i % 16) e (omega arith) (subst (λ m. slice_get all m ≡ Some e) nth at_i) in
+          let piece = c.entries_sector-bytes.ensures.spelled (16 * k) passed (i % 16) e (omega arith) (subst (λ m. slice_get all m ≡ Some e) nth at_i) in
           subst (λ (b : List ℕ). IsEntry c.args.geometry (cut b 32 (i % 16)) e) (sym there)
           (record { spelled = piece.spelled; fits = piece.fits; inside = entry_inside c.args.geometry cells c.requires.fits i e at_i }))
           (cases_lt i (16 * k));
