@@ -1,7 +1,7 @@
 //! A build from its creation to its end.
 use crate::rows::{load, new_core, pairs_of};
 use anyhow::{Result, bail};
-use index_core::{BuildReply, Core};
+use nsf_core::{BuildReply, Core};
 use records::{Mark, Pair, Record};
 use std::alloc::Global;
 

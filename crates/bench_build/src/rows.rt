@@ -1,10 +1,10 @@
 //! Rows with keys in no order.
 ghost use Rattle.std.specs.Prelude.{◌≡◌, IfOk};
-ghost use Rattle.index_core.specs.Loading.{IsQuiet};
-ghost use Rattle.index_core.specs.Value.{value_of};
+ghost use Rattle.nsf_core.specs.Loading.{IsQuiet};
+ghost use Rattle.nsf_core.specs.Value.{value_of};
 
 use anyhow::Result;
-use index_core::Core;
+use nsf_core::Core;
 use records::{Body, Geometry, Key, Pair, Rid, Row, SLOTS_PER_PAGE};
 use std::alloc::Global;
 

@@ -28,8 +28,8 @@ use Rattle.core_model.specs.Steps.{all_reserved}
 use Rattle.core_contracts.proofs.Laws.{served_faithful, served_recovers}
 use Rattle.core_contracts.specs.Events.{Event, Reply, Standing}
 use Rattle.core_contracts.specs.Served.{items_of}
-use Rattle.index_core.specs.View.{AreOne, CoreValue, IsProgressOf, Shows}
-use Rattle.index_core.specs.Moves.{txn_shown}
+use Rattle.nsf_core.specs.View.{AreOne, CoreValue, IsProgressOf, Shows}
+use Rattle.nsf_core.specs.Moves.{txn_shown}
 use Rattle.core_laws.specs.Calls.{HasReplied}
 use Rattle.core_laws.specs.Holds.{HoldsHistory, IsBeingChanged, IsHalfway, ShowsRows, cells_shown, lists_of}
 

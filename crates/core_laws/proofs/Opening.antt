@@ -11,7 +11,7 @@ use Rattle.core_model.proofs.Laws.{not_none}
 use Rattle.core_model.specs.Histories.{CanOpen, FitsStore}
 use Rattle.core_loader.proofs.Laws.{stands_for}
 use Rattle.core_loader.specs.Loaded.{holding}
-use Rattle.index_core.specs.Moves.{fresh}
+use Rattle.nsf_core.specs.Moves.{fresh}
 use Rattle.core_laws.specs.Calls.{BeginsWith}
 use Rattle.core_laws.specs.Openings.{empty_after, store_with}
 

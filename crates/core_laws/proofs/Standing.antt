@@ -8,9 +8,9 @@ use Rattle.core_contracts.proofs.Laws.{served_allowed, served_nothing}
 use Rattle.core_contracts.specs.Events.{Event, Reply, Standing, standing_after, standing_at}
 use Rattle.core_contracts.specs.Replies.{after_any}
 use Rattle.core_contracts.specs.Served.{HasServed, records_by}
-use Rattle.index_core.proofs.Offered.{stands}
-use Rattle.index_core.specs.Outbox.{HandsOn}
-use Rattle.index_core.specs.View.{Answers, CoreValue, IsState, Serves, Shows}
+use Rattle.nsf_core.proofs.Offered.{stands}
+use Rattle.nsf_core.specs.Outbox.{HandsOn}
+use Rattle.nsf_core.specs.View.{Answers, CoreValue, IsState, Serves, Shows}
 use Rattle.core_laws.specs.Calls.{BeginsWith, Calls, HasReplied, no_call, served, taken}
 
 -- whatever waits, the core stands for the same

@@ -5,8 +5,8 @@ use Rattle.core_contracts.specs.Events.{Event, Reply, Standing, standing_at}
 use Rattle.core_contracts.specs.Served.{HasServed}
 use Rattle.core_model.specs.Histories.{Opened, opened}
 use Rattle.core_model.specs.States.{State}
-use Rattle.index_core.specs.Outbox.{HandsOn}
-use Rattle.index_core.specs.View.{CoreValue, IsState, Serves}
+use Rattle.nsf_core.specs.Outbox.{HandsOn}
+use Rattle.nsf_core.specs.View.{CoreValue, IsState, Serves}
 
 -- a core stands for what was opened, with no transaction, and no record waits
 pub record BeginsWith (o : Opened) (v : CoreValue) : Type 0 where

@@ -17,8 +17,8 @@ use Rattle.txn_table.specs.declared.progress.Progress.{Progress}
 use Rattle.txn_table.specs.declared.progress.Progress.TheVariants.{OwesEntry, OwesRow, Ready, Rolling, UndoesEntry, UndoesRow}
 use Rattle.core_model.specs.Changes.{pair_of}
 use Rattle.core_model.specs.Histories.{IsCovered, Opened}
-use Rattle.index_core.specs.View.{CoreValue}
-use Rattle.index_core.specs.Moves.{txn_shown}
+use Rattle.nsf_core.specs.View.{CoreValue}
+use Rattle.nsf_core.specs.Moves.{txn_shown}
 
 -- the changes of each active transaction, under its number
 abbrev pub lists_of : List (ℕ × TxnState) → Pending

@@ -1,6 +1,6 @@
 //! Laws of the core with its index: what holds after any list of calls, of any transactions, the builder and the cleaner.
 //!
-//! They follow from what the methods of `index_core` promise alone, one call after another, and speak of no device.
+//! They follow from what the methods of `nsf_core` promise alone, one call after another, and speak of no device.
 #![tactic(auto)]
 
 ghost use Rattle.std.specs.Prelude.{◌≡◌, ◌≢◌, ◌≤◌, ◌+◌, ◌++◌, [], ◌∷◌, ℕ, List, Option, length, take};
@@ -19,9 +19,9 @@ ghost use Rattle.core_contracts.specs.Events.{Event, Refused, Reply, Standing};
 ghost use Rattle.core_contracts.specs.Replies.{IsAllowed, WantsMemory};
 ghost use Rattle.core_contracts.specs.Served.{HasStanding, items_of};
 ghost use Rattle.core_loader.specs.Loaded.{holding};
-ghost use Rattle.index_core.specs.Moves.{fresh};
-ghost use Rattle.index_core.specs.Outbox.{HandsOn};
-ghost use Rattle.index_core.specs.View.{CoreValue, Serves};
+ghost use Rattle.nsf_core.specs.Moves.{fresh};
+ghost use Rattle.nsf_core.specs.Outbox.{HandsOn};
+ghost use Rattle.nsf_core.specs.View.{CoreValue, Serves};
 ghost use Rattle.core_laws.specs.Calls.{BeginsWith, Calls, HasReplied};
 ghost use Rattle.core_laws.specs.Openings.{empty_after, store_with};
 ghost use Rattle.core_laws.specs.Holds.{HoldsHistory, ShowsRows};

@@ -21,8 +21,8 @@ use Rattle.core_model.proofs.Laws.{none_reserved, opened_fit}
 use Rattle.core_model.specs.Histories.{FitsStore, Opened, highest_of, opened}
 use Rattle.core_contracts.proofs.Laws.{opened_standing}
 use Rattle.core_contracts.specs.Events.{standing_at}
-use Rattle.index_core.specs.Loading.{IsQuiet, entry_loaded}
-use Rattle.index_core.specs.View.{CoreValue, IsState}
+use Rattle.nsf_core.specs.Loading.{IsQuiet, entry_loaded}
+use Rattle.nsf_core.specs.View.{CoreValue, IsState}
 use Rattle.marked_index.specs.Index.{IsFull}
 use Rattle.model.proofs.MapLaws.{len_less}
 use Rattle.core_loader.specs.Loaded.{holding, with_entries, with_rows}

@@ -5,9 +5,9 @@ use Rattle.model.specs.Table.{Index, Table}
 use Rattle.redo.specs.Restored.{given_in}
 use Rattle.redo.specs.declared.restored.Restored.{Restored}
 use Rattle.core_model.specs.Histories.{Opened}
-use Rattle.index_core.specs.Loading.{life_loaded}
-use Rattle.index_core.specs.Moves.{fresh}
-use Rattle.index_core.specs.View.{CoreValue}
+use Rattle.nsf_core.specs.Loading.{life_loaded}
+use Rattle.nsf_core.specs.Moves.{fresh}
+use Rattle.nsf_core.specs.View.{CoreValue}
 
 abbrev pub with_rows : CoreValue → Table → CoreValue
 with_rows v rows = record v { heap = record v.heap { rows = rows } }

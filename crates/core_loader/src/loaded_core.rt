@@ -5,14 +5,14 @@ ghost use Rattle.model.specs.Following.{IsWithin};
 ghost use Rattle.model.specs.Inside.{AreEntriesWithin};
 ghost use Rattle.core_model.specs.Histories.{opened};
 ghost use Rattle.core_contracts.specs.Events.{standing_at};
-ghost use Rattle.index_core.specs.Loading.{IsQuiet};
-ghost use Rattle.index_core.specs.Value.{value_of};
-ghost use Rattle.index_core.specs.View.{IsState};
+ghost use Rattle.nsf_core.specs.Loading.{IsQuiet};
+ghost use Rattle.nsf_core.specs.Value.{value_of};
+ghost use Rattle.nsf_core.specs.View.{IsState};
 ghost use Rattle.core_loader.specs.Loaded.{holding, store_of, with_entries, with_rows};
 ghost use Rattle.redo.specs.Restored.{given_in};
 
-use index_core::Core;
 use model::{EntryMap, RowMap};
+use nsf_core::Core;
 use records::Error;
 use redo::Restored;
 use std::alloc::Allocator;

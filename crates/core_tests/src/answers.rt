@@ -1,7 +1,7 @@
 //! Rows, pairs, and what calls answer.
 use crate::play::{Event, Reply};
-use index_core::{BuildReply, CleanReply, Core, Ticket, Undone};
 use model::Life;
+use nsf_core::{BuildReply, CleanReply, Core, Ticket, Undone};
 use records::{Body, Error, Geometry, Key, Mark, Pair, RecordNumber, Rid, Row, Txn};
 use std::alloc::Allocator;
 use std::process::Abort;

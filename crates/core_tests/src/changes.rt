@@ -4,7 +4,7 @@ use crate::answers::{
 };
 use crate::play::{Event, Reply, play};
 use crate::refusals::{Example, refuse_each};
-use index_core::Core;
+use nsf_core::Core;
 use records::{
     Action, CHANGES_MAX, Error, Geometry, LAST_NUMBER, Part, Record, Rid, SLOTS_PER_PAGE, TxnAction,
 };

@@ -6,8 +6,8 @@ use crate::answers::{
 };
 use crate::play::{Event, Reply, play};
 use crate::refusals::{Example, refuse_each};
-use index_core::BuildReply;
 use model::Life;
+use nsf_core::BuildReply;
 use records::Error;
 use std::alloc::{AllocError, Global};
 use std::process::Abort;

@@ -1,12 +1,12 @@
 //! A build over as many rows as a core holds.
 ghost use Rattle.std.specs.Prelude.{◌≡◌};
-ghost use Rattle.index_core.specs.Loading.{IsQuiet};
-ghost use Rattle.index_core.specs.Value.{value_of};
+ghost use Rattle.nsf_core.specs.Loading.{IsQuiet};
+ghost use Rattle.nsf_core.specs.Value.{value_of};
 
 use crate::answers::{checkpointed, created, done, placed, scanned};
 use crate::play::{Event, Reply, play, serve};
-use index_core::Core;
 use model::Life;
+use nsf_core::Core;
 use records::{Body, Geometry, Key, Pair, Rid, Row};
 use std::alloc::Global;
 use std::process::Abort;

@@ -1,4 +1,4 @@
-//! Tests of the core with its index (`index_core`): worked examples, each a list of events with the
+//! Tests of the core with its index (`nsf_core`): worked examples, each a list of events with the
 //! reply that is wanted; the same with each allocation refused in turn; and a build over every place.
 #![tactic(auto)]
 

@@ -1,10 +1,10 @@
 //! Plays events on a core.
 ghost use Rattle.std.specs.Prelude.{IsTrue};
-ghost use Rattle.index_core.specs.Moves.{HasNoChange, IsReadyOrNone, OwesOrNone, txn_shown};
-ghost use Rattle.index_core.specs.Value.{value_of};
+ghost use Rattle.nsf_core.specs.Moves.{HasNoChange, IsReadyOrNone, OwesOrNone, txn_shown};
+ghost use Rattle.nsf_core.specs.Value.{value_of};
 
-use index_core::{BuildReply, CleanReply, Core, Ticket, Undone};
 use model::Life;
+use nsf_core::{BuildReply, CleanReply, Core, Ticket, Undone};
 use records::{Error, Key, Mark, Pair, Rid, Row, Txn};
 use std::alloc::Allocator;
 use std::process::Abort;

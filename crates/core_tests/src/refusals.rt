@@ -3,7 +3,7 @@
 use crate::answers::core_of;
 use crate::play::{Event, Reply, serve};
 use bumpalo::Bump;
-use index_core::Core;
+use nsf_core::Core;
 use records::Error;
 use std::alloc::{AllocError, Global};
 use std::process::Abort;

@@ -3,9 +3,9 @@ use Rattle.std.proofs.Common.{Bool, Err, IsTrue, None, Ok, Option, Result, Some,
 use Rattle.records.specs.declared.error.Error.{Error}
 use Rattle.core_contracts.specs.Events as core
 use Rattle.txn_table.specs.Table.{TxnState}
-use Rattle.index_core.specs.Moves.{HasNoChange}
-use Rattle.index_core.specs.Replies.{reply_by}
-use Rattle.index_core.specs.View as view
+use Rattle.nsf_core.specs.Moves.{HasNoChange}
+use Rattle.nsf_core.specs.Replies.{reply_by}
+use Rattle.nsf_core.specs.View as view
 use Rattle.first.specs.declared.parts.Parts.{Parts}
 use Rattle.first.specs.declared.event.Event.{Event}
 use Rattle.first.specs.declared.event.Reply.{Reply}

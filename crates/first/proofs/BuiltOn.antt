@@ -15,20 +15,22 @@ use Rattle.core_contracts.specs.Events.{Standing, standing_after}
 use Rattle.core_contracts.specs.Replies.{IsAllowed, accepted, after_any, build_step, no_memory, refused, refused_last, skipped, unknown}
 use Rattle.core_contracts.specs.Served.{records_by}
 use Rattle.core_contracts.proofs.Laws.{served_allowed}
-use Rattle.index_core.specs.Moves.{txn_shown}
-use Rattle.index_core.specs.View as view
-use Rattle.index_core.specs.View.{Answers, AreOne, CoreValue, IsSafe, IsState}
-use Rattle.index_core.proofs.Offered.{stands}
-use Rattle.sector_device.specs.History.{History}
+use Rattle.nsf_core.specs.Moves.{txn_shown}
+use Rattle.nsf_core.specs.View as view
+use Rattle.nsf_core.specs.View.{Answers, AreOne, CoreValue, IsSafe, IsState}
+use Rattle.nsf_core.proofs.Offered.{stands}
+use Rattle.sector_device.specs.History.{History, LeavesOnly}
+use Rattle.sector_device.proofs.Moments.{started}
 use Rattle.first.specs.declared.parts.Parts.{Parts}
 use Rattle.first.specs.declared.event.Event.TheVariants as event
 use Rattle.first.specs.declared.event.Reply.{Reply}
 use Rattle.first.specs.Building.{AreBuilt, HasCome, IsIndexWhole, builds}
 use Rattle.first.specs.Lawful.{ServesInCore}
 use Rattle.first.specs.Parts.{core_of, is_read_only}
-use Rattle.first.specs.Store.{Past, IsAt, and_then}
+use Rattle.first.specs.Store.{Past, IsAt, Survives, acknowledged_by, and_then}
 use Rattle.first.proofs.Runs.{and_then_both, and_then_none}
-use Rattle.first.proofs.Serving.{last_grows, served_by_core}
+use Rattle.first.proofs.Serving.{served_by_core}
+use Rattle.first.proofs.Stories.{crash_since}
 
 -- ---- one request
 
@@ -105,12 +107,6 @@ module _ {D M : Type 0} where
         quiet = λ none. rest.quiet (none_active (core_of old) (core_of built.0) built.1.reply serves come none);
       }
 
-  pub last_on : (replies : List (Reply M)) (old new : Parts D M) → AreBuilt replies old new → IsSafe (core_of old) → (core_of old).last ≤ (core_of new).last
-  last_on [] old new same safe = omega (arith, ap (λ (e : Parts D M). (core_of e).last) same)
-  last_on (r ∷ replies) old new built safe =
-      let later : IsSafe (core_of built.0) = stays_safe (core_of old) (core_of built.0) built.1.reply built.1.serves safe in
-      omega (arith, last_grows (core_of old) (core_of built.0) core.Build built.1.reply built.1.serves safe, last_on replies built.0 new built.2 later)
-
   pub mode_on : (replies : List (Reply M)) (old new : Parts D M) → AreBuilt replies old new → is_read_only new ≡ is_read_only old
   mode_on [] old new same = ap (λ (e : Parts D M). e.read_only) same
   mode_on (r ∷ replies) old new built = mode_on replies built.0 new built.2 ∙ ap (λ (e : Parts D M). e.read_only) built.1.rest
@@ -124,6 +120,18 @@ module _ {D M : Type 0} where
   at_built history failures (r ∷ replies) old new built past is =
       subst (λ (p : Past M). IsAt history p new) (and_then_both past (event.Build ∷ []) (builds replies) (r ∷ []) replies)
       (at_built history failures replies built.0 new built.2 (and_then past (event.Build ∷ []) (r ∷ [])) (served_by_core history failures event.Build r old built.0 built.1 past is).0)
+
+  pub writer_on : (replies : List (Reply M)) (old new : Parts D M) → AreBuilt replies old new → new.writer ≡ old.writer
+  writer_on [] old new same = ap (λ (e : Parts D M). e.writer) same
+  writer_on (r ∷ replies) old new built = writer_on replies built.0 new built.2 ∙ ap (λ (e : Parts D M). e.writer) built.1.rest
+
+  pub survives_built : (history : D → History) (failures : D → ℕ) (replies : List (Reply M)) (old new : Parts D M) → AreBuilt replies old new → (past : Past M) → IsAt history past old
+      → LeavesOnly (history old.writer.device) (history new.writer.device) (Survives (and_then past (builds replies) replies) (acknowledged_by past))
+  survives_built history failures replies old new built past is =
+      let same : new.writer ≡ old.writer = writer_on replies old new built in
+      subst (λ h. LeavesOnly h (history new.writer.device) (Survives (and_then past (builds replies) replies) (acknowledged_by past))) (ap (λ w. history w.device) same)
+      (started (history new.writer.device) (Survives (and_then past (builds replies) replies) (acknowledged_by past))
+      (crash_since history (and_then past (builds replies) replies) new (at_built history failures replies old new built past is) (acknowledged_by past) (omega (arith, is.safe, ap (λ w. w.synced) same))))
 
 -- ---- what is built
 

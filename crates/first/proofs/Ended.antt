@@ -1,41 +1,35 @@
 -- How a build comes to its end.
-use Rattle.std.proofs.Common.{Err, List, None, Ok, Option, Some, [], ap, arith, inl, inr, refl, subst, sym, ℕ, ◌++◌, ◌+◌, ◌<◌, ◌∙◌, ◌∷◌, ◌≡◌, ◌≢◌, ◌≤◌, ◌⊎◌, ⊎_elim}
+use Rattle.std.proofs.Common.{max, Err, List, None, Ok, Option, Some, [], ap, arith, inl, inr, refl, subst, sym, ℕ, ◌++◌, ◌+◌, ◌<◌, ◌∙◌, ◌∷◌, ◌≡◌, ◌≢◌, ◌≤◌, ⊎_elim}
 use Rattle.std.specs.List.{All}
 use Rattle.std.proofs.Math.Bridge.{le_prop}
 use Rattle.std.proofs.Math.Logic.{∥∥₁_elim, ∥∥₁_map}
-use Rattle.std.proofs.lemmas.List.{nil_from_length}
 use Rattle.std.proofs.lemmas.List.Elements.{All-push}
 use mathlib.Core.HLevel.{⊥_prop}
-use Rattle.records.specs.RecordValue.{RecordValue}
 use Rattle.records.specs.declared.error.Error.{Error}
 use Rattle.records.specs.declared.number.TheConstants.{LAST_NUMBER}
 use Rattle.records.specs.declared.pair.Pair.{Pair}
-use Rattle.model.specs.Given.{Given, nothing, opening_cells}
-use Rattle.model.specs.Cells.{cells_after}
-use Rattle.model.specs.declared.life.Life.TheVariants.{Absent, Complete}
-use Rattle.core_model.proofs.Laws.{made_cells}
-use Rattle.core_model.specs.Records.{HasCells}
+use Rattle.model.specs.declared.life.Life.TheVariants.{Complete}
 use Rattle.core_model.specs.States.{State}
 use Rattle.core_model.specs.Steps.{MachineStep}
 use Rattle.core_contracts.specs.Events as core
 use Rattle.core_contracts.specs.Events.{Standing}
 use Rattle.core_contracts.specs.Replies.{IsAllowed, accepted, no_memory, refused, refused_last, skipped, unknown}
-use Rattle.index_core.specs.Builds.{built}
-use Rattle.index_core.specs.Replies.{ticket_by}
-use Rattle.index_core.specs.View as view
-use Rattle.index_core.specs.View.{Answers, CoreValue, IsSafe, IsState}
-use Rattle.index_core.specs.declared.parts.Ticket.{Ticket}
-use Rattle.index_core.specs.declared.reply.BuildReply.{BuildReply}
-use Rattle.index_core.specs.declared.reply.BuildReply.TheVariants as build
+use Rattle.nsf_core.specs.Builds.{built}
+use Rattle.nsf_core.specs.Replies.{ticket_by}
+use Rattle.nsf_core.specs.View as view
+use Rattle.nsf_core.specs.View.{Answers, CoreValue, IsSafe, IsState}
+use Rattle.nsf_core.specs.declared.parts.Ticket.{Ticket}
+use Rattle.nsf_core.specs.declared.reply.BuildReply.{BuildReply}
+use Rattle.nsf_core.specs.declared.reply.BuildReply.TheVariants as build
 use Rattle.sector_device.specs.History.{History}
 use Rattle.first.specs.declared.parts.Parts.{Parts}
 use Rattle.first.specs.declared.event.Reply.{Reply}
 use Rattle.first.specs.declared.event.Reply.TheVariants as reply
-use Rattle.first.specs.Building.{AreBuilt, BuildsWhole, EndsWith, HasCome, IsBuiltToEnd, IsUnderway}
+use Rattle.first.specs.Building.{AreBuilt, BuildsWhole, EndsWith, HasCome, IsBuiltToEnd, IsUnderway, end_of, in_a_row}
 use Rattle.first.specs.History.{answered}
 use Rattle.first.specs.Parts.{core_of}
-use Rattle.first.specs.Store.{CanRun, IsAt, Past, over}
-use Rattle.first.proofs.BuiltOn.{at_built, comes_on, last_on, mode_on, one_more_built, whole_core}
+use Rattle.first.specs.Store.{CanRun}
+use Rattle.first.proofs.BuiltOn.{at_built, comes_on, mode_on, one_more_built, survives_built, whole_core}
 use Rattle.first.proofs.ToEnd.{IsGoing, IsLess, after_mark, after_placed, after_rejected, after_scan, done_completes, not_idle, work_of}
 
 -- ---- a step
@@ -135,6 +129,14 @@ module _ {D M : Type 0} (old mid new : Parts D M) (scanned : ℕ) (so_far : HasB
   pub never_idle : view.Serves (core_of mid) core.Build (built build.Idle) (core_of new) → ⊥
   never_idle serves = ∥∥₁_elim so_far.going ⊥_prop (λ at. not_idle (core_of mid) (core_of new) at.state at.standing at.is scanned at.so_many so_far.unfinished (serves at.state at.standing at.is))
 
+  pub stepped : (b : BuildReply) (n : ℕ) → end_of b ≡ None → n ≡ in_a_row scanned b → view.Serves (core_of mid) core.Build (built b) (core_of new) → Stepped old mid new scanned n
+  stepped (build.Scanned page) n on is serves = scan_stepped page n is serves
+  stepped (build.Placed p) n on is serves = subst (Stepped old mid new scanned) (sym is) (place_stepped p serves)
+  stepped (build.Rejected p) n on is serves = subst (Stepped old mid new scanned) (sym is) (reject_stepped p serves)
+  stepped (build.Marked p ticket) n on is serves = subst (Stepped old mid new scanned) (sym is) (mark_stepped p ticket serves)
+  stepped (build.Done ticket) n on is serves = absurd cc
+  stepped build.Idle n on is serves = absurd (never_idle serves)
+
   -- ---- the last step
 
   module _ (r : Reply M) (told : core.Reply) (is : answered r ≡ Some told) (serves : view.Serves (core_of mid) core.Build told (core_of new)) where
@@ -151,6 +153,7 @@ module _ {D M : Type 0} (old mid new : Parts D M) (scanned : ℕ) (so_far : HasB
       each = all_built (reply.Refused e) (core.Refused e) refl serves;
       ends = (so_far.began, ends_with (reply.Refused e) (core.Refused e) refl serves);
       at = at_built history failures (so_far.replies ++ reply.Refused e ∷ []) old new (all_built (reply.Refused e) (core.Refused e) refl serves);
+      survives = survives_built history failures (so_far.replies ++ reply.Refused e ∷ []) old new (all_built (reply.Refused e) (core.Refused e) refl serves);
     }
 
     pub done_ends : (ticket : Ticket) → view.Serves (core_of mid) core.Build (built (build.Done ticket)) (core_of new) → IsBuiltToEnd history (Ok ticket) old new
@@ -159,6 +162,7 @@ module _ {D M : Type 0} (old mid new : Parts D M) (scanned : ℕ) (so_far : HasB
       each = all_built (reply.Built (build.Done ticket)) (built (build.Done ticket)) refl serves;
       ends = inr (so_far.began, ends_with (reply.Built (build.Done ticket)) (built (build.Done ticket)) refl serves);
       at = at_built history failures (so_far.replies ++ reply.Built (build.Done ticket) ∷ []) old new (all_built (reply.Built (build.Done ticket)) (built (build.Done ticket)) refl serves);
+      survives = survives_built history failures (so_far.replies ++ reply.Built (build.Done ticket) ∷ []) old new (all_built (reply.Built (build.Done ticket)) (built (build.Done ticket)) refl serves);
     }
 
   pub done_whole : (ticket : Ticket) → view.Serves (core_of mid) core.Build (built (build.Done ticket)) (core_of new) → BuildsWhole (core_of old) (core_of new)
@@ -169,40 +173,26 @@ module _ {D M : Type 0} (old mid new : Parts D M) (scanned : ℕ) (so_far : HasB
       let complete : (core_of new).life ≡ Complete = done_by (core_of mid) (core_of new) at.state at.standing at.shown 0 (omega arith) ticket.record ticket.commit (serves at.state at.standing at.shown) in
       record { rows = after.rows; complete = complete; whole = whole_core (core_of new) after.come complete (after.quiet none) }
 
+pub is_done : (b : BuildReply) (ticket : Ticket) → end_of b ≡ Some ticket → b ≡ build.Done ticket
+is_done (build.Scanned page) ticket is = absurd cc
+is_done (build.Placed p) ticket is = absurd cc
+is_done (build.Rejected p) ticket is = absurd cc
+is_done (build.Marked p t) ticket is = absurd cc
+is_done (build.Done t) ticket is = let same : t ≡ ticket = cc in ap build.Done same
+is_done build.Idle ticket is = absurd cc
+
 -- ---- where the index was complete
 
 module _ {D M : Type 0} (history : D → History) (failures : D → ℕ) (old : Parts D M) where
   pub can_run_built : (replies : List (Reply M)) (new : Parts D M) → AreBuilt replies old new → CanRun history old → CanRun history new
   can_run_built replies new built can = ⊎_elim
-      (λ only. inl (record { mode = mode_on replies old new built ∙ only.mode; some = omega (arith, only.some, ∥∥₁_elim old.core.safe le_prop (last_on replies old new built)) }))
+      (λ only. inl (mode_on replies old new built ∙ only))
       (λ at. inr (_, at_built history failures replies old new built at.0 at.1))
       can
 
   module _ (complete : (core_of old).life ≡ Complete) where
-    -- a history of nothing has no index
-    nothing_complete : (past : Past M) → IsAt history past old → (core_of old).last ≡ 0 → ⊥
-    nothing_complete past is none = not_absent (sym complete ∙ sym is.shown.shown.life ∙ sym cells.life ∙ life_is is.made no_record past.given is.began)
-      where
-        cells : HasCells is.state (cells_after (opening_cells past.given) is.made)
-        cells = made_cells (over past.geometry past.given) is.opens is.made _ _ is.state is.served.log
-
-        no_record : is.made ≡ []
-        no_record = nil_from_length is.made (omega (arith, none, is.shown.shown.made, is.served.number))
-
-        life_is : (made : List RecordValue) → made ≡ [] → (given : Given) → given ≡ nothing → (cells_after (opening_cells given) made).life ≡ Absent
-        life_is made e given f = ap (λ (rs : List RecordValue). (cells_after (opening_cells given) rs).life) e ∙ ap (λ (g : Given). g.life) f
-
-        not_absent : Complete ≡ Absent → ⊥
-        not_absent e = cc
-
-    pub complete_numbered : CanRun history old → 0 < (core_of old).last
-    complete_numbered can = ⊎_elim (λ only. only.some) (λ at. at_least_one (nothing_complete at.0 at.1)) can
-      where
-        at_least_one : {n : ℕ} → (n ≡ 0 → ⊥) → 0 < n
-        at_least_one some = omega (arith, some)
-
-    pub complete_ends : (ticket : Ticket) → ticket.record ≡ (core_of old).last → ticket.commit ≡ None → IsBuiltToEnd history (Ok ticket) old old
-    complete_ends ticket number none = record { replies = []; each = refl; ends = inl (record { complete = complete; none = refl; number = number; no_commit = none }); at = at_built history failures [] old old refl }
+    pub complete_ends : (ticket : Ticket) → ticket.record ≡ max (core_of old).last 1 → ticket.commit ≡ None → IsBuiltToEnd history (Ok ticket) old old
+    complete_ends ticket number none = record { replies = []; each = refl; ends = inl (record { complete = complete; none = refl; number = number; no_commit = none }); at = at_built history failures [] old old refl; survives = survives_built history failures [] old old refl }
 
     pub complete_whole : BuildsWhole (core_of old) (core_of old)
     complete_whole come none = record { rows = refl; complete = complete; whole = whole_core (core_of old) come complete none }

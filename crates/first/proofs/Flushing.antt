@@ -12,9 +12,9 @@ use Rattle.sector_device.proofs.Moments.{weaker}
 use Rattle.gate_log.specs.Area.{Area}
 use Rattle.core_contracts.specs.Events as core
 use Rattle.core_contracts.specs.Served.{HasServed}
-use Rattle.index_core.specs.Outbox.{HandsOn}
-use Rattle.index_core.specs.Value.{value_of}
-use Rattle.index_core.specs.View.{CoreValue, IsState}
+use Rattle.nsf_core.specs.Outbox.{HandsOn}
+use Rattle.nsf_core.specs.Value.{value_of}
+use Rattle.nsf_core.specs.View.{CoreValue, IsState}
 use Rattle.first.specs.declared.event.Event.TheVariants.{Flush}
 use Rattle.first.specs.declared.event.Reply.{Reply}
 use Rattle.first.specs.declared.parts.Parts.{Parts}
@@ -163,7 +163,7 @@ module _ {D M : Type 0} (history : D → History) (old : Parts D M) (new_core : 
         leaves : LeavesOnly (history old.writer.device) (history new.writer.device) (Survives later (acknowledged_by past))
         leaves = subst (λ d. LeavesOnly (history d) (history new.writer.device) (Survives later (acknowledged_by past))) (ap (λ w. w.device) same)
             (weaker (history mid.device) (history new.writer.device) (LeftBy (area past is) is.frame (handed_now past is) mid.synced) (Survives later (acknowledged_by past))
-            (λ image left. survives later is.half is.frame is.made (handed_now past is) (value_of new.core).outbox is.state is.standing mid.synced (acknowledged_by past) image is.opens is.store is.fresh is.began split
+            (λ image left. survives later is.half is.frame is.made (handed_now past is) (value_of new.core).outbox is.state is.standing mid.synced (acknowledged_by past) image is.opens is.store is.bare is.began split
             (subst (λ (l : List (core.Event × core.Reply)). HasServed (over past.geometry past.given) is.made l is.state is.standing) (sym (pairs_last past.events past.replies Flush reply is.answered)) has) before left)
             (images (area past is) is.frame (handed_now past is) in_hand))
 

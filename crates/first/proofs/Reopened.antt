@@ -1,19 +1,17 @@
 -- What a restart finds, and where the engine that it makes begins.
-use Rattle.std.proofs.Common.{inl, inr, Option, None, Some, ◌≡◌, ◌⊎◌, ⊎_elim, false, ℕ, ◌<◌, nat_lt, List, [], ◌∷◌, length, drop, take, refl, sym, ◌∙◌, ap, subst, arith}
-use Rattle.std.proofs.lemmas.Bool.{cases_lt, lt-ltb}
+use Rattle.std.proofs.Common.{inl, inr, Option, None, Some, ◌≡◌, ◌⊎◌, ◌↔◌, ⊎_elim, Bool, IsTrue, not, true, false, ℕ, ◌<◌, [], length, drop, take, refl, sym, ◌∙◌, ap, subst, arith}
 use Rattle.std.specs.FinMap as map
 use Rattle.records.specs.GeometryValue.{GeometryValue}
 use Rattle.records.specs.Orders.{pair_cmp, rid_cmp}
 use Rattle.records.specs.declared.pair.Mark.{Mark}
-use Rattle.records.specs.RecordValue.{RecordValue}
 use Rattle.records.specs.declared.error.Error.{Error}
 use Rattle.records.specs.declared.error.Error.TheVariants.{IndexFull, NoMemory}
-use Rattle.model.specs.Given.{Given, given_after, nothing}
+use Rattle.model.specs.Given.{Given, nothing}
 use Rattle.model.proofs.GivenLaws.{given_again}
 use Rattle.core_model.specs.Histories.{CanOpen, opened}
 use Rattle.core_contracts.specs.Events.{standing_at}
 use Rattle.core_contracts.proofs.Laws.{served_nothing}
-use Rattle.index_core.specs.View.{CoreValue, IsState}
+use Rattle.nsf_core.specs.View.{CoreValue, IsState}
 use Rattle.core_loader.specs.Loaded.{holding}
 use Rattle.sector_device.specs.Disk.{Image, Disk, sector, IsCrashImage, IsSynced, SameOutside, after_sync}
 use Rattle.sector_device.specs.History.{History, Elapses, LeavesOnly, OnlyReads}
@@ -21,9 +19,12 @@ use Rattle.sector_device.proofs.Moments.{one_call, joined}
 use Rattle.sector_device.proofs.Sectors.{content_is_image, crash_synced}
 use Rattle.sector_device.proofs.Within.{reads_leave}
 use Rattle.gate_log.specs.Area.{Area, Log, InArea, IsAreaInside, HoldsGroups, Stands, Refuses}
+use Rattle.gate_log.proofs.Readings.{stands_for}
 use Rattle.flip_image.specs.declared.half.Half.{Half}
-use Rattle.store_reader.specs.Contents.{log_area, HoldsLog, IsFound, IsUnreadable}
-use Rattle.store_reader.proofs.Readings.{one_geometry, one_given}
+use Rattle.image_half.specs.Image.{no_cells}
+use Rattle.flip_image.proofs.Stores as stores
+use Rattle.store_reader.specs.Contents.{log_area, HoldsStore, IsFound, IsUnreadable, IsUntouched}
+use Rattle.store_reader.proofs.Readings.{one_geometry, one_given, untouched_gives}
 use Rattle.first.specs.declared.parts.Parts.{Parts}
 use Rattle.first.specs.Parts.{core_of, device_of, is_read_only}
 use Rattle.first.specs.Writer.{LeftBy, IsWriter}
@@ -69,12 +70,7 @@ opens_nothing g = record {
     none_there : {X : Type 0} {o : Option X} {x : X} → o ≡ None → o ≡ Some x → ⊥
     none_there none some = absurd cc
 
--- a log without a record: records of nothing are none
-no_records : (records : List RecordValue) → (given_after nothing records).last ≡ 0 → records ≡ []
-no_records [] none = refl
-no_records (r ∷ records) none = absurd (omega (arith, none))
-
-module _ {D M : Type 0} (history : D → History) (image : Image) (g : GeometryValue) (half : Half) (holds : HoldsLog image g half []) (engine : Parts D M)
+module _ {D M : Type 0} (history : D → History) (image : Image) (g : GeometryValue) (half : Half) (holds : HoldsStore image g half 0 no_cells []) (engine : Parts D M)
     (area_is : engine.writer.log.area ≡ log_area g half) (inside : IsAreaInside (log_area g half) image) (stands : Stands engine.writer.log image holds.groups) (content : (history (device_of engine)).disk.content ≡ image)
     (synced : IsSynced (history (device_of engine)).disk) where
   abbrev area : Area
@@ -127,7 +123,7 @@ module _ {D M : Type 0} (history : D → History) (image : Image) (g : GeometryV
     half = half;
     frame = image;
     store = holds.store;
-    fresh = holds.fresh;
+    bare = holds.imaged;
     began = refl;
     writer = begun_writer base reached waits sound;
     base = base;
@@ -150,25 +146,32 @@ refused_since before at later e count told = subst (λ n. Refuses n later e) cou
 pub load_refuses : (image : Image) (g : GeometryValue) (log : Log) (given : Given) → IsFound image g log given → (e : Error) → (e ≡ IndexFull → g.entries < map.len given.entries) → (e ≡ IndexFull) ⊎ (e ≡ NoMemory) → (before now : ℕ) → Refuses before now e
 load_refuses image g log given found e crowded why before now = ⊎_elim (λ full. absurd (omega (arith, crowded full, found.gives.room))) (λ none. inl none) why
 
-pub loaded_core : (image now : Image) (g : GeometryValue) (log : Log) (given : Given) (core : CoreValue) → now ≡ image → IsFound now g log given → core ≡ holding g given → IsState core (opened (over g given)) (standing_at given.last) → IsCoreOf image log core
-loaded_core image now g log given core same found holds shown = record { geometry = g; given = given; found = subst (λ (i : Image). IsFound i g log given) same found; holds = holds; shown = shown }
+pub loaded_core : (image now : Image) (g : GeometryValue) (log : Log) (given : Given) (core : CoreValue) (untouched : Bool) → now ≡ image → IsFound now g log given → core ≡ holding g given → IsState core (opened (over g given)) (standing_at given.last)
+    → (IsTrue untouched ↔ IsUntouched now g) → IsCoreOf image log core untouched
+loaded_core image now g log given core untouched same found holds shown bare = record {
+  geometry = g;
+  given = given;
+  found = subst (λ (i : Image). IsFound i g log given) same found;
+  holds = holds;
+  shown = shown;
+  bare = subst (λ (i : Image). IsTrue untouched ↔ IsUntouched i g) same bare;
+}
 
 -- ---- the engine
 
-can_run_by : {D M : Type 0} (history : D → History) (engine : Parts D M) (g : GeometryValue) (last : ℕ) → is_read_only engine ≡ nat_lt 0 last → (core_of engine).last ≡ last → (last ≡ 0 → IsAt history (opening g) engine) → CanRun history engine
-can_run_by history engine g last mode made begins = elim (cases_lt 0 last) [
-  | inl some ↦ inl (record { mode = mode ∙ lt-ltb 0 last some; some = omega (arith, some, made) })
-  | inr none ↦ inr (opening g, begins (omega (arith, none)))
-]
-
 pub can_run_opened : {D M : Type 0} (history : D → History) (before : D) (engine : Parts D M) → IsOpened history before engine → CanRun history engine
-can_run_opened history before engine is = can_run_by history engine is.geometry is.given.last is.mode (ap (λ (v : CoreValue). v.last) is.core) is.begins
+can_run_opened {D} {M} history before engine is = by_mode (is_read_only engine) refl
+  where
+    by_mode : (b : Bool) → is_read_only engine ≡ b → CanRun history engine
+    by_mode true only = inl only
+    by_mode false all = inr (opening is.geometry, is.begins (is.mode.0 all))
 
-module _ {D M : Type 0} (history : D → History) (before : D) (engine : Parts D M) (log : Log) (is : IsCoreOf (history before).disk.content log (core_of engine)) where
+module _ {D M : Type 0} (history : D → History) (before : D) (engine : Parts D M) (log : Log) (untouched : Bool) (is : IsCoreOf (history before).disk.content log (core_of engine) untouched) where
   pub opened_recovers : (past : Past M) (floor : ℕ) → Survives past floor (history before).disk.content → Recovers past floor engine
   opened_recovers past floor left = record {
     given = left.given;
     beginning = left.beginning;
+    within = left.within;
     core =
         is.holds
         ∙ ap (λ (x : GeometryValue). holding x is.given) (one_geometry (history before).disk.content is.geometry past.geometry is.given left.given is.found.gives left.gives)
@@ -193,37 +196,41 @@ module _ {D M : Type 0} (history : D → History) (before : D) (engine : Parts D
 
   module _ (inside : IsAreaInside log.area (history before).disk.content) (device : OnlySyncs history before (device_of engine)) (synced : IsSynced (history (device_of engine)).disk)
       (log_is : engine.writer.log ≡ log) (base : engine.writer.base ≡ (core_of engine).last) (waits : engine.writer.waiting.items ≡ []) (reached : engine.writer.synced ≡ 0) (sound : engine.writer.failed ≡ false)
-      (mode : engine.read_only ≡ nat_lt 0 (core_of engine).last) where
+      (mode : engine.read_only ≡ not untouched) where
     abbrev image : Image
     image = (history before).disk.content
 
     last_is : (core_of engine).last ≡ is.given.last
     last_is = ap (λ (v : CoreValue). v.last) is.holds
 
-    module _ (none : is.given.last ≡ 0) where
-      no_record : is.found.gives.records ≡ []
-      no_record = no_records is.found.gives.records (sym (ap (λ (x : Given). x.last) is.found.gives.recovered) ∙ none)
+    mode_told : (b : Bool) → engine.read_only ≡ not b → (engine.read_only ≡ false) ↔ IsTrue b
+    mode_told true is_not = ((λ all. refl), (λ yes. is_not))
+    mode_told false is_not = ((λ all. absurd (both_ways (sym is_not ∙ all))), (λ yes. absurd (both_ways (sym yes))))
+      where
+        both_ways : true ≡ false → ⊥
+        both_ways e = absurd cc
+
+    serves_all : (engine.read_only ≡ false) ↔ IsUntouched image is.geometry
+    serves_all = let told = mode_told untouched mode in ((λ all. is.bare.0 (told.0 all)), (λ none. told.1 (is.bare.1 none)))
+
+    module _ (none : IsUntouched image is.geometry) where
+      area_is : log.area ≡ log_area is.geometry none.0
+      area_is = is.found.area ∙ ap (log_area is.geometry) (stores.one_half is.geometry is.geometry is.found.gives.half none.0 image is.found.gives.holds.store none.1.store)
+
+      stands : Stands log image none.1.groups
+      stands = stands_for log image is.found.gives.holds.groups none.1.groups is.found.stands (subst (λ (a : Area). HoldsGroups a image none.1.groups) (sym area_is) none.1.held)
 
       given_is : is.given ≡ nothing
-      given_is = is.found.gives.recovered ∙ ap (given_after nothing) no_record ∙ given_again nothing
-
-      holds_none : HoldsLog image is.geometry is.found.gives.half []
-      holds_none =
-          let held = is.found.gives.holds in
-          record { store = held.store; fresh = held.fresh; groups = held.groups; held = held.held; all = sym no_record ∙ held.all; following = tt }
+      given_is = one_given image is.geometry is.geometry is.given nothing is.found.gives (untouched_gives image is.geometry (sym (given_again nothing)) none)
 
       begins : IsAt history (opening is.geometry) engine
-      unfolding holds_none
-      begins = begun_at history image is.geometry is.found.gives.half holds_none engine (ap (λ (l : Log). l.area) log_is ∙ is.found.area)
-          (subst (λ (a : Area). IsAreaInside a image) is.found.area inside)
-          (subst (λ (l : Log). Stands l image holds_none.groups) (sym log_is) stands_none)
+      begins = begun_at history image is.geometry none.0 none.1 engine (ap (λ (l : Log). l.area) log_is ∙ area_is)
+          (subst (λ (a : Area). IsAreaInside a image) area_is inside)
+          (subst (λ (l : Log). Stands l image none.1.groups) (sym log_is) stands)
           device.content synced
           (ap (λ (v : CoreValue). v.outbox) is.holds)
           (subst (λ (x : Given). IsState (core_of engine) (opened (over is.geometry x)) (standing_at x.last)) given_is is.shown)
-          (base ∙ last_is ∙ none) reached waits sound (mode ∙ ap (nat_lt 0) (last_is ∙ none))
-        where
-          stands_none : Stands log image holds_none.groups
-          stands_none = is.found.stands
+          (base ∙ last_is ∙ ap (λ (x : Given). x.last) given_is) reached waits sound (serves_all.1 none)
 
     pub opened_engine : IsOpened history before engine
     opened_engine = record {
@@ -232,7 +239,7 @@ module _ {D M : Type 0} (history : D → History) (before : D) (engine : Parts D
       gives = is.found.gives;
       core = is.holds;
       horizon = omega (arith, base, reached, last_is);
-      mode = mode ∙ ap (nat_lt 0) last_is;
+      mode = serves_all;
       sound = sound;
       device = device;
       synced = synced;

@@ -78,7 +78,7 @@ module _ {D M : Type 0} (history : D → History) (past : Past M) where
 -- a request that was served leaves an engine that can be run
 pub can_run_after : {D M : Type 0} (history : D → History) (x : Event) (r : Reply M) (old new : Parts D M) → is_read_only old ≡ false → CanRun history old → ServesOn history x r old new → CanRun history new
 can_run_after history x r old new serving can serves = ⊎_elim
-    (λ only. absurd (false≢true (sym serving ∙ only.mode)))
+    (λ only. absurd (false≢true (sym serving ∙ only)))
     (λ at. inr (and_then at.0 (x ∷ []) (r ∷ []), (serves at.0 at.1).0))
     can
 

@@ -6,8 +6,8 @@ use Rattle.core_contracts.specs.Events.{standing_after}
 use Rattle.core_contracts.specs.Replies.{after_any}
 use Rattle.core_contracts.specs.Served.{HasServed, records_by}
 use Rattle.core_contracts.proofs.Laws.{served_allowed}
-use Rattle.index_core.specs.View.{Answers}
-use Rattle.index_core.proofs.Offered.{stands}
+use Rattle.nsf_core.specs.View.{Answers}
+use Rattle.nsf_core.proofs.Offered.{stands}
 use Rattle.sector_device.specs.History.{History}
 use Rattle.first.specs.declared.event.Event.{Event}
 use Rattle.first.specs.declared.event.Reply.{Reply}

@@ -1,12 +1,7 @@
 -- A request is served by the core, skipped, or a flush.
-use Rattle.std.proofs.Common.{Bool, None, Option, Some, ap, arith, false, inl, inr, not, refl, subst, sym, true, ℕ, ⊎_elim, [], ◌∷◌, ◌&&◌, ◌∙◌, ◌≡◌, ◌≤◌, ◌⊎◌}
+use Rattle.std.proofs.Common.{Bool, None, Option, Some, ap, false, inl, inr, not, refl, subst, sym, true, ℕ, ⊎_elim, [], ◌∷◌, ◌&&◌, ◌∙◌, ◌≡◌, ◌⊎◌}
 use Rattle.std.proofs.lemmas.Bool.{false≢true}
-use Rattle.std.proofs.Math.Bridge.{le_prop}
-use Rattle.std.proofs.Math.Logic.{∥∥₁_elim}
 use Rattle.core_contracts.specs.Events as core
-use Rattle.core_contracts.specs.Events.{Standing, after_build, after_clean, standing_after}
-use Rattle.index_core.specs.View as view
-use Rattle.index_core.specs.View.{CoreValue, IsSafe}
 use Rattle.sector_device.specs.History.{History}
 use Rattle.first.specs.declared.parts.Parts.{Parts}
 use Rattle.first.specs.declared.event.Event.{Event}
@@ -15,7 +10,7 @@ use Rattle.first.specs.declared.event.Reply.{Reply}
 use Rattle.first.specs.declared.event.Reply.TheVariants as reply
 use Rattle.first.specs.History.{acknowledged, answered, asked}
 use Rattle.first.specs.Lawful.{IsAnswer, IsAnswerTo, IsFlushAnswer, IsInCore, IsInCoreBy, IsLawful, ServesInCore, is_read}
-use Rattle.first.specs.Parts.{core_of, is_read_only}
+use Rattle.first.specs.Parts.{is_read_only}
 use Rattle.first.specs.Store.{CanRun, IsSomewhere, ServesOn}
 use Rattle.first.proofs.Runs.{can_run_after, is_serving}
 use Rattle.first.proofs.Served.{served}
@@ -39,40 +34,6 @@ quiet (reply.Life life) x is n = refl
 quiet reply.Skipped x is n = refl
 quiet (reply.Refused e) x is n = refl
 
-made_by_build : (k : Standing) (b : core.BuildReply) → k.made ≤ (after_build k b).made
-made_by_build k (core.Scanned page) = omega arith
-made_by_build k (core.Placed p) = omega arith
-made_by_build k (core.Rejected p) = omega arith
-made_by_build k (core.BuildReply.Marked p n) = omega arith
-made_by_build k (core.Done n) = omega arith
-made_by_build k core.Idle = omega arith
-
-made_by_clean : (k : Standing) (c : core.CleanReply) → k.made ≤ (after_clean k c).made
-made_by_clean k (core.Cleaned p) = omega arith
-made_by_clean k (core.Kept p) = omega arith
-made_by_clean k core.Wrapped = omega arith
-
-made_grows : (k : Standing) (r : core.Reply) → k.made ≤ (standing_after k r).made
-made_grows k (core.Txn t) = omega arith
-made_grows k (core.Rid r) = omega arith
-made_grows k core.Stepped = omega arith
-made_grows k core.Undone = omega arith
-made_grows k core.Empty = omega arith
-made_grows k core.Ended = omega arith
-made_grows k (core.Committed n c) = omega arith
-made_grows k (core.Created n) = omega arith
-made_grows k (core.Built b) = made_by_build k b
-made_grows k (core.Cleaner c) = made_by_clean k c
-made_grows k (core.RowIs row) = omega arith
-made_grows k (core.Found rids) = omega arith
-made_grows k (core.LifeIs life) = omega arith
-made_grows k core.Skipped = omega arith
-made_grows k (core.Refused e) = omega arith
-
--- the number of the last record made never falls
-pub last_grows : (v v' : CoreValue) (e : core.Event) (r : core.Reply) → view.Serves v e r v' → IsSafe v → v.last ≤ v'.last
-last_grows v v' e r serves safe = omega (arith, made_grows safe.standing r, safe.is.shown.made, (serves safe.state safe.standing safe.is).shown.made)
-
 module _ {D M : Type 0} (history : D → History) (failures : D → ℕ) (x : Event) (r : Reply M) (old new : Parts D M) where
   by_core : (o : Option core.Event) → asked x ≡ o → IsInCoreBy o r old new → (e : core.Event) × (asked x ≡ Some e) × ServesInCore e r old new
   by_core None is in_core = absurd in_core
@@ -88,12 +49,9 @@ module _ {D M : Type 0} (history : D → History) (failures : D → ℕ) (x : Ev
     same_mode : is_read_only new ≡ is_read_only old
     same_mode = let by = by_core (asked x) refl in_core in ap (λ (e : Parts D M). e.read_only) by.2.rest
 
-    no_fewer : (core_of old).last ≤ (core_of new).last
-    no_fewer = let by = by_core (asked x) refl in_core in ∥∥₁_elim old.core.safe le_prop (last_grows (core_of old) (core_of new) by.0 by.2.reply by.2.serves)
-
     pub can_run_by_core : CanRun history old → CanRun history new
     can_run_by_core can = ⊎_elim
-        (λ only. inl (record { mode = same_mode ∙ only.mode; some = omega (arith, only.some, no_fewer) }))
+        (λ only. inl (same_mode ∙ only))
         (λ at. inr (let past = at.0 in (_, (served_by_core past at.1).0)))
         can
 
@@ -121,7 +79,7 @@ module _ {D M : Type 0} (history : D → History) (failures : D → ℕ) (x : Ev
   not_only = is_serving (is_read_only old) x serving (ap is_read is)
 
   pub flush_somewhere : CanRun history old → IsSomewhere history mid
-  flush_somewhere can = subst (IsSomewhere history) (sym same) (⊎_elim (λ only. absurd (false≢true (sym not_only ∙ only.mode))) (λ at. at) can)
+  flush_somewhere can = subst (IsSomewhere history) (sym same) (⊎_elim (λ only. absurd (false≢true (sym not_only ∙ only))) (λ at. at) can)
 
   pub flush_serves : ServesOn history event.Flush r mid new → ServesOn history x r old new
   flush_serves serves = subst (λ e. ServesOn history e r old new) (sym is) (subst (λ e. ServesOn history event.Flush r e new) same serves)

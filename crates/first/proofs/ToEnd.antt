@@ -10,8 +10,8 @@ use Rattle.core_contracts.specs.Events.{Standing, standing_after}
 use Rattle.core_contracts.specs.Replies.{IsAllowed, IsBuildDue, accepted, after_any, build_step, no_memory, refused, refused_last, skipped, unknown}
 use Rattle.core_contracts.specs.Served.{IsEnabledAny}
 use Rattle.core_contracts.proofs.Laws.{is_move}
-use Rattle.index_core.specs.View.{Answers, CoreValue, IsState, Shows}
-use Rattle.index_core.proofs.Offered.{stands}
+use Rattle.nsf_core.specs.View.{Answers, CoreValue, IsState, Shows}
+use Rattle.nsf_core.proofs.Offered.{stands}
 use Rattle.first.proofs.Climbing.{attempt_falls, mark_falls, scan_falls, work}
 
 -- a step of the builder that succeeds is the one that is due

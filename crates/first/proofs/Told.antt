@@ -1,10 +1,14 @@
 -- A run goes on by a request and its reply.
 use Rattle.std.proofs.Common.{◌≡◌, ℕ, max, List, [], ◌∷◌, ◌++◌, length, refl, sym, ap, ◌∙◌, append-nil, append_assoc, arith}
 use Rattle.core_contracts.specs.Events as core
+use Rattle.core_contracts.specs.Events.{Standing, standing_after}
+use Rattle.core_contracts.specs.Replies.{after_any}
+use Rattle.core_contracts.specs.Served.{ServesAll, nothing, served}
+use Rattle.core_model.specs.States.{State}
 use Rattle.first.specs.declared.event.Event.{Event}
 use Rattle.first.specs.declared.event.Reply.{Reply}
 use Rattle.first.specs.declared.event.Reply.TheVariants as reply
-use Rattle.first.specs.History.{AreOfKind, IsOfKind, acknowledged, answered, asked, both, core_calls}
+use Rattle.first.specs.History.{AreOfKind, IsOfKind, acknowledged, answered, asked, both, core_calls, standing_over}
 
 pub pairs_last : {M : Type 0} (events : List Event) (replies : List (Reply M)) (e : Event) (r : Reply M) → length replies ≡ length events → core_calls (events ++ e ∷ []) (replies ++ r ∷ []) ≡ core_calls events replies ++ both (asked e) (answered r)
 pairs_last [] [] e r even = append-nil (both (asked e) (answered r))
@@ -39,3 +43,8 @@ acknowledged_both n (reply.Found rids ∷ replies) more = acknowledged_both n re
 acknowledged_both n (reply.Life life ∷ replies) more = acknowledged_both n replies more
 acknowledged_both n (reply.Skipped ∷ replies) more = acknowledged_both n replies more
 acknowledged_both n (reply.Refused e ∷ replies) more = acknowledged_both n replies more
+
+-- the standing is what the replies leave
+pub stands_over : (s : State) (k : Standing) (calls : List (core.Event × core.Reply)) (s' : State) (k' : Standing) → ServesAll s k calls s' k' → k' ≡ standing_over k calls
+stands_over s k calls s' k' nothing = refl
+stands_over s k calls s' k' (served e reply step rest allowed more) = stands_over (after_any s step) (standing_after k reply) rest s' k' more

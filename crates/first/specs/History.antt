@@ -1,9 +1,10 @@
 -- What was asked and answered, in the words of the core.
 use Rattle.std.specs.Prelude.{List, None, Option, Some, [], max, ℕ, ◌++◌, ◌∷◌, ◌≢◌}
 use Rattle.core_contracts.specs.Events as core
-use Rattle.index_core.specs.Builds.{built}
-use Rattle.index_core.specs.Cleaning.{cleaner}
-use Rattle.index_core.specs.Replies.{reply_of_ticket}
+use Rattle.core_contracts.specs.Events.{Standing, standing_after}
+use Rattle.nsf_core.specs.Builds.{built}
+use Rattle.nsf_core.specs.Cleaning.{cleaner}
+use Rattle.nsf_core.specs.Replies.{reply_of_ticket}
 use Rattle.first.specs.declared.event.Event.{Event}
 use Rattle.first.specs.declared.event.Event.TheVariants as event
 use Rattle.first.specs.declared.event.Reply.{Reply}
@@ -55,6 +56,11 @@ both (Some e) (Some r) = (e, r) ∷ []
 abbrev pub core_calls : {M : Type 0} → List Event → List (Reply M) → List (core.Event × core.Reply)
 core_calls (e ∷ events) (r ∷ replies) = both (asked e) (answered r) ++ core_calls events replies
 core_calls events replies = []
+
+-- what the replies, one after another, leave of the standing
+abbrev pub standing_over : Standing → List (core.Event × core.Reply) → Standing
+standing_over k [] = k
+standing_over k (call ∷ calls) = standing_over (standing_after k call.1) calls
 
 -- the greatest record number that a reply has told to be safe, or n
 abbrev pub acknowledged : {M : Type 0} → ℕ → List (Reply M) → ℕ

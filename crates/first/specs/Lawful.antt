@@ -3,7 +3,7 @@ use Rattle.std.specs.Prelude.{◌≡◌, ◌≢◌, ◌⊎◌, ◌<◌, ◌≤�
 use Rattle.records.specs.declared.error.Error.TheVariants.{NoMemory, DeviceFailed}
 use Rattle.sector_device.specs.History.{Rises}
 use Rattle.core_contracts.specs.Events as core
-use Rattle.index_core.specs.View as view
+use Rattle.nsf_core.specs.View as view
 use Rattle.first.specs.declared.event.Event.{Event}
 use Rattle.first.specs.declared.event.Event.TheVariants as event
 use Rattle.first.specs.declared.event.Reply.{Reply}

@@ -2,8 +2,8 @@
 use Rattle.std.specs.Prelude.{◌+◌, ℕ, Bool, List, ◌++◌}
 use Rattle.records.specs.RecordValue.{RecordValue}
 use Rattle.gate_log.specs.Area.{Log}
-use Rattle.index_core.specs.Value.{value_of}
-use Rattle.index_core.specs.View.{CoreValue}
+use Rattle.nsf_core.specs.Value.{value_of}
+use Rattle.nsf_core.specs.View.{CoreValue}
 use Rattle.first.specs.declared.parts.Parts.{Parts}
 
 abbrev pub core_of : {D M : Type 0} → Parts D M → CoreValue

@@ -1,30 +1,31 @@
 -- What a restart makes of what a device holds.
-use Rattle.std.specs.Prelude.{◌≡◌, ◌⊎◌, ℕ, ◌≤◌, nat_lt, false, List, [], length}
+use Rattle.std.specs.Prelude.{◌≡◌, ◌⊎◌, ◌↔◌, ℕ, ◌≤◌, Bool, IsTrue, false, List, [], length}
 use Rattle.records.specs.GeometryValue.{GeometryValue}
 use Rattle.records.specs.declared.error.Error.{Error}
 use Rattle.model.specs.Given.{Given, IsBeginning, nothing}
 use Rattle.sector_device.specs.Disk.{Image, IsSynced, IsCrashImage}
 use Rattle.sector_device.specs.History.{History, LeavesOnly}
 use Rattle.gate_log.specs.Area.{Log, Refuses}
-use Rattle.store_reader.specs.Contents.{Gives, IsFound, IsUnreadable}
+use Rattle.store_reader.specs.Contents.{Gives, IsFound, IsUnreadable, IsUntouched}
 use Rattle.core_loader.specs.Loaded.{holding}
 use Rattle.core_model.specs.Histories.{CanOpen, opened}
 use Rattle.core_contracts.specs.Events.{standing_at}
-use Rattle.index_core.specs.View.{CoreValue, IsState}
+use Rattle.nsf_core.specs.View.{CoreValue, IsState}
 use Rattle.first.specs.declared.event.Event.{Event}
 use Rattle.first.specs.declared.event.Reply.{Reply}
 use Rattle.first.specs.declared.parts.Parts.{Parts}
 use Rattle.first.specs.Parts.{core_of, device_of, horizon_of, has_failed, is_read_only}
 use Rattle.first.specs.Building.{HasCome}
-use Rattle.first.specs.Store.{Past, SurvivesAt, acknowledged_by, and_then, items_told, over, Survives, IsAt}
+use Rattle.first.specs.Store.{Past, SurvivesAt, acknowledged_by, and_then, items_told, last_made, over, Survives, IsAt}
 
--- the core of what the image gives, whose log this is
-pub record IsCoreOf (image : Image) (log : Log) (core : CoreValue) : Type 0 where
+-- the core of what the image gives, whose log this is, and whether the image holds nothing
+pub record IsCoreOf (image : Image) (log : Log) (core : CoreValue) (untouched : Bool) : Type 0 where
   pub geometry : GeometryValue
   pub given : Given
   pub found : IsFound image geometry log given
   pub holds : core ≡ holding geometry given
   pub shown : IsState core (opened (over geometry given)) (standing_at given.last)
+  pub bare : IsTrue untouched ↔ IsUntouched image geometry
 
 -- Nothing was done to the device but to sync it: it holds what it held, and a crash at any moment leaves what a crash
 -- before could.
@@ -36,7 +37,7 @@ pub record OnlySyncs {D : Type 0} (history : D → History) (before after : D) :
 abbrev pub opening : {M : Type 0} → GeometryValue → Past M
 opening geometry = record { geometry = geometry; given = nothing; events = []; replies = [] }
 
--- The engine holds what its device gave, and no transaction. It serves every request where there was no record, and else
+-- The engine holds what its device gave, and no transaction. It serves every request where the store held nothing, and else
 -- only reads.
 pub record IsOpened {D M : Type 0} (history : D → History) (before : D) (engine : Parts D M) : Type 0 where
   pub geometry : GeometryValue
@@ -44,23 +45,24 @@ pub record IsOpened {D M : Type 0} (history : D → History) (before : D) (engin
   pub gives : Gives (history before).disk.content geometry given
   pub core : core_of engine ≡ holding geometry given
   pub horizon : horizon_of engine ≡ given.last
-  pub mode : is_read_only engine ≡ nat_lt 0 given.last
+  pub mode : (is_read_only engine ≡ false) ↔ IsUntouched (history before).disk.content geometry
   pub sound : has_failed engine ≡ false
   pub device : OnlySyncs history before (device_of engine)
   pub synced : IsSynced (history (device_of engine)).disk
-  pub begins : given.last ≡ 0 → IsAt history (opening geometry) engine
+  pub begins : IsUntouched (history before).disk.content geometry → IsAt history (opening geometry) engine
 
 -- Why nothing was opened: there was no memory, the device failed in the call, or it gives nothing.
 pub record IsNotOpened {D : Type 0} (history : D → History) (failures : D → ℕ) (before after : D) (e : Error) : Type 0 where
   pub device : OnlySyncs history before after
   pub why : Refuses (failures before) (failures after) e ⊎ IsUnreadable (history before).disk.content e
 
--- The engine holds a beginning of the run's history, which has every item up to the floor, and no transaction; and what it
--- holds is something that a core may begin with: as far as the index is built, it shows the pair of each row, and no other. The
+-- The engine holds a beginning of the run's history, which has every item up to the floor and no record past the last that
+-- the run made, and no transaction; and what it holds is something that a core may begin with: as far as the index is built, it shows the pair of each row, and no other. The
 -- core has come to where it is, so that a build that goes on to its end leaves the index whole.
 pub record Recovers {D M : Type 0} (past : Past M) (floor : ℕ) (engine : Parts D M) : Type 0 where
   pub given : Given
   pub beginning : IsBeginning past.given (items_told past) floor given
+  pub within : given.last ≤ last_made past
   pub core : core_of engine ≡ holding past.geometry given
   pub opens : CanOpen (over past.geometry given)
   pub come : HasCome (core_of engine)

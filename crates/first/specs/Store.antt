@@ -1,24 +1,25 @@
 -- What the store has done so far, and what a crash of its device leaves.
-use Rattle.std.specs.Prelude.{◌≡◌, ◌⊎◌, ◌≤◌, ◌<◌, ◌+◌, ℕ, true, false, List, [], ◌∷◌, ◌++◌, length, take}
+use Rattle.std.specs.Prelude.{◌≡◌, ◌⊎◌, ◌≤◌, ◌+◌, ℕ, true, false, List, [], ◌∷◌, ◌++◌, length, take}
 use Rattle.records.specs.GeometryValue.{GeometryValue}
 use Rattle.records.specs.RecordValue.{RecordValue}
 use Rattle.model.specs.Given.{Given, IsBeginning, nothing}
 use Rattle.model.specs.History.{Item}
 use Rattle.core_model.specs.Histories.{CanOpen, Opened, no_writes}
 use Rattle.core_model.specs.States.{State}
-use Rattle.core_contracts.specs.Events.{Standing}
+use Rattle.core_contracts.specs.Events.{Standing, standing_at}
 use Rattle.core_contracts.specs.Served as told
 use Rattle.core_contracts.specs.Served.{HasServed}
-use Rattle.index_core.specs.View.{IsState}
+use Rattle.nsf_core.specs.View.{IsState}
 use Rattle.sector_device.specs.Disk.{Image, IsCrashImage}
 use Rattle.sector_device.specs.History.{History, LeavesOnly, Spans}
 use Rattle.flip_image.specs.declared.half.Half.{Half}
-use Rattle.flip_image.specs.Store.{IsFresh, IsStore}
+use Rattle.flip_image.specs.Store.{HoldsImage, IsStore}
+use Rattle.image_half.specs.Image.{no_cells}
 use Rattle.store_reader.specs.Contents.{Gives, log_area}
 use Rattle.first.specs.declared.event.Event.{Event}
 use Rattle.first.specs.declared.event.Reply.{Reply}
 use Rattle.first.specs.declared.parts.Parts.{Parts}
-use Rattle.first.specs.History.{AreOfKind, acknowledged, core_calls}
+use Rattle.first.specs.History.{AreOfKind, acknowledged, core_calls, standing_over}
 use Rattle.first.specs.Writer.{IsWriter}
 use Rattle.first.specs.Lawful.{IsLawful}
 use Rattle.first.specs.Parts.{core_of, device_of, synced_of, is_read_only}
@@ -41,15 +42,21 @@ items_told past = told.items_of no_writes (core_calls past.events past.replies)
 abbrev pub acknowledged_by : {M : Type 0} → Past M → ℕ
 acknowledged_by past = acknowledged past.given.last past.replies
 
+-- the number of the last record made, as the run's replies tell it
+abbrev pub last_made : {M : Type 0} → Past M → ℕ
+last_made past = (standing_over (standing_at past.given.last) (core_calls past.events past.replies)).made
+
 -- the run goes on
 abbrev pub and_then : {M : Type 0} → Past M → List Event → List (Reply M) → Past M
 and_then past events replies = record past { events = past.events ++ events; replies = past.replies ++ replies }
 
--- The image gives a beginning of the run's history, which has every item up to the floor; and a core may begin with it.
+-- The image gives a beginning of the run's history, which has every item up to the floor, and no record past the last that
+-- the run made; and a core may begin with it.
 pub record Survives {M : Type 0} (past : Past M) (floor : ℕ) (image : Image) : Type 0 where
   pub given : Given
   pub gives : Gives image past.geometry given
   pub beginning : IsBeginning past.given (items_told past) floor given
+  pub within : given.last ≤ last_made past
   pub opens : CanOpen (over past.geometry given)
 
 -- The engine is where this run leaves it.
@@ -66,11 +73,11 @@ pub record IsAt {D M : Type 0} (history : D → History) (past : Past M) (engine
   pub standing : Standing
   pub served : HasServed (over past.geometry past.given) made (core_calls past.events past.replies) state standing
   pub shown : IsState (core_of engine) state standing
-  -- the device held nothing but a fresh half as it was opened, and then what the writer wrote to that half's log
+  -- the device held an image of no cells as it was opened, and then what the writer wrote to that half's log
   pub half : Half
   pub frame : Image
   pub store : IsStore past.geometry half frame
-  pub fresh : IsFresh past.geometry half frame
+  pub bare : HoldsImage past.geometry half frame 0 no_cells
   pub began : past.given ≡ nothing
   pub writer : IsWriter history (log_area past.geometry half) frame handed engine.writer
   pub base : engine.writer.base ≡ past.given.last
@@ -80,10 +87,9 @@ pub record IsAt {D M : Type 0} (history : D → History) (past : Past M) (engine
 abbrev pub IsSomewhere : {D M : Type 0} → (D → History) → Parts D M → Type 0
 IsSomewhere {D} {M} history engine = (past : Past M) × IsAt history past engine
 
--- The engine only reads, since there were records as it was opened
-pub record ServesReadsOnly {D M : Type 0} (engine : Parts D M) : Type 0 where
-  pub mode : is_read_only engine ≡ true
-  pub some : 0 < (core_of engine).last
+-- the engine only reads, since the store held something as it was opened
+abbrev pub ServesReadsOnly : {D M : Type 0} → Parts D M → Type 0
+ServesReadsOnly engine = is_read_only engine ≡ true
 
 -- The engine is where some run leaves it, or only reads.
 abbrev pub CanRun : {D M : Type 0} → (D → History) → Parts D M → Type 0

@@ -1,11 +1,11 @@
 //! What the core is asked.
 ghost use Rattle.std.specs.Prelude.{◌≡◌, IfSome, IfNone};
 ghost use Rattle.core_contracts.specs.Events as events;
-ghost use Rattle.index_core.specs.Moves.{IsReadyOrNone, IsUnready, OwesNone, OwesOrNone, txn_shown};
+ghost use Rattle.nsf_core.specs.Moves.{IsReadyOrNone, IsUnready, OwesNone, OwesOrNone, txn_shown};
 
 use crate::parts::Parts;
 use crate::{Event, Reply};
-use index_core::Undone;
+use nsf_core::Undone;
 use records::{Body, Error, Key, Rid, Txn};
 use sector_device::Device;
 use std::alloc::Allocator;

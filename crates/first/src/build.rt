@@ -1,10 +1,11 @@
 //! The index is built to its end.
-ghost use Rattle.std.specs.Prelude.{◌≡◌, ◌<◌, ◌≤◌, None, OnOk};
+ghost use Rattle.std.specs.Prelude.{◌≡◌, ◌≤◌, max, None, OnOk};
 ghost use Rattle.records.specs.declared.number.TheConstants.{LAST_NUMBER};
+ghost use Rattle.first.specs.Building.{end_of, in_a_row};
 
 use crate::parts::Parts;
-use index_core::{BuildReply, Ticket};
 use model::Life;
+use nsf_core::{BuildReply, Ticket};
 use records::{Error, RecordNumber};
 use sector_device::Device;
 use std::alloc::Allocator;
@@ -26,30 +27,51 @@ impl<D: Device, A: Allocator + Copy> Parts<D, A> {
         }
         let mut scanned = 0;
         'steps: loop {
-            match self.core.build_step()? {
-                BuildReply::Scanned(page) => scanned = u64::from(page) + 1,
-                BuildReply::Placed(_) => scanned = 0,
-                BuildReply::Rejected(_) => scanned = 0,
-                BuildReply::Marked(..) => {}
-                BuildReply::Done(ticket) => return Ok(ticket),
-                BuildReply::Idle => unreachable!(),
+            let reply = self.core.build_step()?;
+            match end_of(&reply) {
+                Some(ticket) => return Ok(ticket),
+                None => scanned = in_a_row(scanned, &reply),
             }
         }
     }
 
-    // The ticket of the last record made.
+    // The ticket of the last record made, or of record 1 where there is none.
     fn last_ticket(&self) -> Ticket
-        requires some { 0 < (core_of self.now).last }
-        requires most { (core_of self.now).last ≤ LAST_NUMBER }
-        ensures record { result.record ≡ (core_of self.now).last }
+        requires { (core_of self.now).last ≤ LAST_NUMBER }
+        ensures record { result.record ≡ max (core_of self.now).last 1 }
         ensures no_commit { result.commit ≡ None }
     {
-        match RecordNumber::new(self.core.last()) {
+        match RecordNumber::new(self.core.last().max(1)) {
             Some(record) => Ticket {
                 record,
                 commit: None,
             },
             None => unreachable!(),
         }
+    }
+}
+
+// The ticket of the build's end, where the reply tells of it.
+fn end_of(reply: &BuildReply) -> Option<Ticket>
+    ensures { result ≡ end_of reply.now }
+{
+    match reply {
+        BuildReply::Scanned(_) => None,
+        BuildReply::Placed(_) => None,
+        BuildReply::Rejected(_) => None,
+        BuildReply::Marked(_, _) => None,
+        BuildReply::Done(ticket) => Some(*ticket),
+        BuildReply::Idle => None,
+    }
+}
+
+// How many pages the builder has taken in a row after this step, where it had taken so many before.
+fn in_a_row(scanned: u64, reply: &BuildReply) -> u64
+    ensures { result ≡ in_a_row scanned reply.now }
+{
+    match reply {
+        BuildReply::Scanned(page) => u64::from(*page) + 1,
+        BuildReply::Placed(_) | BuildReply::Rejected(_) => 0,
+        BuildReply::Marked(..) | BuildReply::Done(_) | BuildReply::Idle => scanned,
     }
 }

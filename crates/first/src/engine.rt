@@ -3,7 +3,7 @@ ghost use Rattle.std.specs.Prelude.{◌≡◌, OnErr, OnOk, IfOk, IfErr};
 
 use crate::parts::Parts;
 use crate::{Event, Reply};
-use index_core::{Core, Ticket};
+use nsf_core::{Core, Ticket};
 use records::Error;
 use sector_device::Device;
 use std::alloc::Allocator;
@@ -11,7 +11,7 @@ use std::marker::Model;
 
 /// A store that serves requests in order. `restart` opens one.
 ///
-/// A store whose log held no record as it was opened serves every request. Any other serves those that only read, and
+/// A store that held nothing as it was opened serves every request. Any other serves those that only read, and
 /// skips the rest.
 ///
 /// Every engine is where some run has left it, or only reads: its type keeps that, and no call asks it of its caller.
@@ -36,7 +36,7 @@ impl<D: Device, A: Allocator> Model for Engine<D, A> {
 }
 
 impl<D: Device, A: Allocator + Copy> Engine<D, A> {
-    ghost use Rattle.index_core.specs.Value.{value_of};
+    ghost use Rattle.nsf_core.specs.Value.{value_of};
     ghost use Rattle.first.specs.Parts.{core_of, device_of};
     ghost use Rattle.first.specs.Lawful.{IsLawful, AreLawful};
     ghost use Rattle.first.specs.Store.{ServesOn, RunsOn, RunsLawfully, KeepsRun};
@@ -78,7 +78,7 @@ impl<D: Device, A: Allocator + Copy> Engine<D, A> {
     }
 
     /// Makes steps of the builder until the index is complete, and answers the record of its end. Where it is complete
-    /// already, the answer is the number of the last record made, and nothing changes.
+    /// already, the answer is the number of the last record made, or 1 where there is none, and nothing changes.
     ///
     /// A refusal is that of the step that met it, and ends the steps; what was built before it stays. `NoIndex`, then
     /// `IndexFull` where a pair that has no entry meets no free place, `Exhausted` where a record is to be made and no

@@ -2,8 +2,8 @@
 ghost use Rattle.std.specs.Prelude.{◌≡◌};
 ghost use Rattle.first.specs.Lawful.{is_read};
 
-use index_core::{BuildReply, CleanReply, Ticket};
 use model::Life;
+use nsf_core::{BuildReply, CleanReply, Ticket};
 use records::{Body, Error, Key, Rid, Row, Txn};
 use std::alloc::Allocator;
 

@@ -3,7 +3,7 @@ ghost use Rattle.std.specs.Prelude.{◌≡◌, ◌&&◌, not};
 
 use crate::writer::{Flushed, Writer};
 use crate::{Event, Reply};
-use index_core::Core;
+use nsf_core::Core;
 use sector_device::Device;
 use std::alloc::Allocator;
 

@@ -4,8 +4,8 @@ ghost use Rattle.sector_device.specs.Disk.{IsSynced};
 ghost use Rattle.records.specs.GeometryValue.{GeometryValue};
 ghost use Rattle.model.specs.Given.{Given};
 ghost use Rattle.gate_log.specs.Area.{IsAreaInside, Refuses};
-ghost use Rattle.store_reader.specs.Contents.{Gives, IsUnreadable};
-ghost use Rattle.index_core.specs.Value.{value_of};
+ghost use Rattle.store_reader.specs.Contents.{Gives, IsOfStore, IsUnreadable};
+ghost use Rattle.nsf_core.specs.Value.{value_of};
 ghost use Rattle.first.specs.Parts.{device_of};
 ghost use Rattle.first.specs.Reopening.{IsCoreOf, OnlySyncs, IsOpened, IsNotOpened, RecoversAnyRun, RefusesNoRun};
 
@@ -14,7 +14,7 @@ use crate::parts::Parts;
 use crate::writer::Writer;
 use core_loader::load;
 use gate_log::LogArea;
-use index_core::Core;
+use nsf_core::Core;
 use records::Error;
 use sector_device::Device;
 use std::alloc::Allocator;
@@ -24,8 +24,9 @@ use store_reader::read_store;
 /// ended. Nothing is written. The device is given back with a refusal.
 ///
 /// `DeviceTooSmall`, `NotFormatted` and `Damaged` where the device holds no store, or one that was harmed; none of them
-/// comes after a crash of a device that was formatted and then written by this engine alone (`recovers`). `NoMemory`, and
-/// `DeviceFailed` where the device failed in the call, may come of any.
+/// comes after a crash of a device that was formatted and then written by this engine alone (`recovers`). `NoMemory` comes
+/// only where the device holds a store's superblock and has room for it (`memory`), and `DeviceFailed` where the device failed
+/// in the call.
 pub fn restart<D: Device, A: Allocator + Copy>(
     alloc: A,
     mut device: D,
@@ -34,17 +35,18 @@ pub fn restart<D: Device, A: Allocator + Copy>(
     ensures refused { IfErr result (λ r. IsNotOpened D.history D.failures device r.1 r.0) }
     ensures recovers { IfOk result (λ engine. RecoversAnyRun D.history device engine) }
     ensures readable { IfErr result (λ r. RefusesNoRun A D.history D.failures device r.1 r.0) }
+    ensures memory { IfErr result (λ r. r.0 ≡ Error.NoMemory → IsOfStore (D.history device).disk.content) }
     ensures quiet { IfOk result (λ engine. D.failures (device_of engine) ≡ D.failures device) }
 {
     match open_core(alloc, &mut device) {
-        Ok((core, log)) => {
+        Ok((core, log, untouched)) => {
             let base = core.last();
             Ok(Engine {
                 parts: Parts {
                     core,
                     writer: Writer::new(alloc, device, log, base),
                     alloc,
-                    read_only: 0 < base,
+                    read_only: !untouched,
                 },
             })
         }
@@ -52,12 +54,12 @@ pub fn restart<D: Device, A: Allocator + Copy>(
     }
 }
 
-// Syncs the device, reads the store, and loads what it gives into a core.
+// Syncs the device, reads the store, and loads what it gives into a core; and whether it holds nothing.
 fn open_core<D: Device, A: Allocator + Copy>(
     alloc: A,
     device: &mut D,
-) -> Result<(Core<A>, LogArea), Error>
-    ensures found { IfOk result (λ r. IsCoreOf (D.history device.old).disk.content r.1 (value_of r.0)) }
+) -> Result<(Core<A>, LogArea, bool), Error>
+    ensures found { IfOk result (λ r. IsCoreOf (D.history device.old).disk.content r.1 (value_of r.0) r.2) }
     ensures area { IfOk result (λ r. IsAreaInside r.1.area (D.history device.old).disk.content) }
     ensures synced { OnOk result (IsSynced (D.history device.new).disk) }
     ensures only { OnlySyncs D.history device.old device.new }
@@ -65,11 +67,12 @@ fn open_core<D: Device, A: Allocator + Copy>(
     ensures refused { IfErr result (λ e. Refuses (D.failures device.old) (D.failures device.new) e ⊎ IsUnreadable (D.history device.old).disk.content e) }
     ensures accepted { (geometry : GeometryValue) (given : Given) → Gives (D.history device.old).disk.content geometry given
         → IfErr result (Refuses (D.failures device.old) (D.failures device.new)) }
+    ensures memory { IfErr result (λ e. e ≡ Error.NoMemory → IsOfStore (D.history device.old).disk.content) }
 {
     let Ok(()) = device.sync() else {
         return Err(Error::DeviceFailed);
     };
     let found = read_store(alloc, device)?;
     let core = load(alloc, found.restored)?;
-    Ok((core, found.log))
+    Ok((core, found.log, found.untouched))
 }

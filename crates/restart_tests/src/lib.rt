@@ -1,6 +1,8 @@
-//! Tests of a restart in memory: the cells of a store (`redo`), and a core over what is restored of
-//! them (`core_loader`).
+//! Tests of a restart: a store with an image and a log, written part by part, what a reader finds in it (`store_reader`,
+//! `redo`), and a core over what is restored (`core_loader`).
 #![tactic(auto)]
 
+#[cfg(test)]
+mod parts;
 #[cfg(test)]
 mod restart;

@@ -2,10 +2,10 @@
 use Rattle.std.specs.Prelude.{ℕ, Option, Some, None}
 use Rattle.std.specs.declared.alloc.Global.{Global}
 use Rattle.records.specs.declared.row.Row.{Row}
-use Rattle.index_core.specs.declared.reply.BuildReply.{BuildReply}
-use Rattle.index_core.specs.declared.reply.BuildReply.TheVariants as build
-use Rattle.index_core.specs.declared.reply.CleanReply.{CleanReply}
-use Rattle.index_core.specs.declared.reply.CleanReply.TheVariants as clean
+use Rattle.nsf_core.specs.declared.reply.BuildReply.{BuildReply}
+use Rattle.nsf_core.specs.declared.reply.BuildReply.TheVariants as build
+use Rattle.nsf_core.specs.declared.reply.CleanReply.{CleanReply}
+use Rattle.nsf_core.specs.declared.reply.CleanReply.TheVariants as clean
 use Rattle.first.specs.declared.event.Reply.{Reply}
 use Rattle.first.specs.declared.event.Reply.TheVariants as reply
 use Rattle.replay_values.specs.declared.step.Step.{Step}

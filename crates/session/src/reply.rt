@@ -3,7 +3,7 @@ ghost use Rattle.std.specs.Prelude.{◌≡◌};
 ghost use Rattle.session.specs.Answers.{answer_of, build_step_of, clean_step_of, row_answer};
 
 use first::Reply;
-use index_core::{BuildReply, CleanReply};
+use nsf_core::{BuildReply, CleanReply};
 use records::Row;
 use replay_values::{Answer, Step};
 use std::alloc::Global;

@@ -1,2 +1,3 @@
+mod Inside
 mod Refusals
 pub mod Readings

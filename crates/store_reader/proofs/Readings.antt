@@ -1,5 +1,5 @@
 -- What an image gives, for proofs in the crates above: one answer at most, and then no refusal.
-use Rattle.std.proofs.Common.{◌≡◌, ◌⊎◌, ⊎_elim, inl, inr, ℕ, ◌+◌, ◌<◌, ◌≤◌, List, [], ◌++◌, length, take, take-take, drop, refl, sym, ap, subst, ◌∙◌, arith, length-append}
+use Rattle.std.proofs.Common.{◌≡◌, ◌⊎◌, ◌↔◌, ⊎_elim, inl, inr, Bool, IsTrue, ℕ, ◌+◌, ◌<◌, ◌≤◌, List, [], ◌++◌, length, take, take-take, drop, refl, sym, ap, subst, ◌∙◌, arith, length-append}
 use Rattle.std.proofs.lemmas.Bool.{cases_lt}
 use Rattle.std.proofs.lemmas.List.{take-append-drop}
 use Rattle.std.proofs.lemmas.Grind.{flat_map-append}
@@ -12,57 +12,75 @@ use Rattle.records.specs.declared.error.Error.{Error}
 use Rattle.records.specs.declared.error.Error.TheVariants.{Damaged}
 use Rattle.std.specs.FinMap as map
 use Rattle.std.specs.FinMap.{len}
+use Rattle.model.specs.Cells.{Cells}
 use Rattle.model.specs.Following.{AreFollowing, IsFirstUnfit}
-use Rattle.model.specs.Given.{Given, given_after, nothing, opening_cells, recovered}
-use Rattle.redo.specs.Store as store
+use Rattle.model.specs.Given.{Given, given_after, nothing, recovered}
 use Rattle.redo.specs.Store.{StoreValue, after_records}
 use Rattle.model.proofs.FollowingLaws.{not_following, one_unfit}
 use Rattle.gate_log.specs.Area.{Area, InArea, Log, HoldsGroups, Stands, records_of, IsGateOf, Refuses}
 use Rattle.gate_log.proofs.Readings as log
+use Rattle.image_half.specs.Image.{no_cells}
+use Rattle.image_half.proofs.Readings as images
 use Rattle.flip_image.specs.declared.half.Half.{Half}
 use Rattle.flip_image.specs.declared.half.Half.TheVariants.{A}
-use Rattle.flip_image.specs.Store.{AreGatesClosed, AreZeros, IsFormatted, IsStore, IsFresh, IsFirstUsed}
+use Rattle.flip_image.specs.Layout.{header_sector}
+use Rattle.flip_image.specs.Store.{AreGatesClosed, HoldsImage, IsFormatted, IsStore}
+use Rattle.flip_image.proofs.Sides as sides
 use Rattle.flip_image.proofs.Stores as stores
-use Rattle.store_reader.specs.Contents.{log_area, Gives, HoldsLog, IsFound, IsMisplacedAt, IsOverfull, IsHalfDamaged, IsStoreDamagedAt, IsUnreadable}
+use Rattle.store_reader.specs.Contents.{log_area, given_over, Gives, HoldsStore, IsFound, IsUntouched, IsMisplacedAt, IsOverfull, IsLogDamaged, IsHalfDamaged, IsStoreDamagedAt, IsUnreadable}
 
 -- ---- one answer
 
 pub one_geometry : (image : Image) (g h : GeometryValue) (x y : Given) → Gives image g x → Gives image h y → g ≡ h
 one_geometry image g h x y p q = stores.one_geometry g h p.half q.half image p.holds.store q.holds.store
 
-same_records : (image : Image) (g : GeometryValue) (half : Half) (x y : List RecordValue) → HoldsLog image g half x → HoldsLog image g half y → x ≡ y
-same_records image g half x y p q = p.all ∙ ap records_of (log.one_reading (log_area g half) image p.groups q.groups p.held q.held) ∙ sym q.all
+-- one image, and one list of records behind it
+pub record AreOne (m n : ℕ) (x y : Cells) (rs ss : List RecordValue) : Type 0 where
+  pub base : m ≡ n
+  pub cells : x ≡ y
+  pub records : rs ≡ ss
+
+one_held : (image : Image) (g : GeometryValue) (half : Half) (m n : ℕ) (x y : Cells) (rs ss : List RecordValue) → HoldsStore image g half m x rs → HoldsStore image g half n y ss → AreOne m n x y rs ss
+one_held image g half m n x y rs ss p q = record {
+  base = images.one_base g (header_sector g half) image m n x y p.imaged q.imaged;
+  cells = images.one_image g (header_sector g half) image m n x y p.imaged q.imaged;
+  records = p.all ∙ ap records_of (log.one_reading (log_area g half) image p.groups q.groups p.held q.held) ∙ sym q.all;
+}
 
 -- of whatever geometry and half
-one_log : (image : Image) (g h : GeometryValue) (a b : Half) (x y : List RecordValue) → HoldsLog image g a x → HoldsLog image h b y → x ≡ y
-one_log image g h a b x y p q =
-    same_records image g a x y p
-    (subst (λ (k : GeometryValue). HoldsLog image k a y) (sym (stores.one_geometry g h a b image p.store q.store)) (subst (λ (k : Half). HoldsLog image h k y) (sym (stores.one_half g h a b image p.store q.store)) q))
+pub one_store : (image : Image) (g h : GeometryValue) (a b : Half) (m n : ℕ) (x y : Cells) (rs ss : List RecordValue) → HoldsStore image g a m x rs → HoldsStore image h b n y ss → AreOne m n x y rs ss
+one_store image g h a b m n x y rs ss p q =
+    one_held image g a m n x y rs ss p
+    (subst (λ (k : GeometryValue). HoldsStore image k a n y ss) (sym (stores.one_geometry g h a b image p.store q.store)) (subst (λ (k : Half). HoldsStore image h k n y ss) (sym (stores.one_half g h a b image p.store q.store)) q))
 
 pub one_given : (image : Image) (g h : GeometryValue) (x y : Given) → Gives image g x → Gives image h y → x ≡ y
-one_given image g h x y p q = p.recovered ∙ ap (given_after nothing) (one_log image g h p.half q.half p.records q.records p.holds q.holds) ∙ sym q.recovered
+one_given image g h x y p q =
+    let same = one_store image g h p.half q.half p.base q.base p.cells q.cells p.records q.records p.holds q.holds in
+    p.recovered ∙ (λ i. given_over (same.base i) (same.cells i) (same.records i)) ∙ sym q.recovered
 
-pub holds : (image : Image) (g : GeometryValue) (half : Half) (area : Log) (groups : List (List RecordValue)) (records : List RecordValue)
-    → IsStore g half image → IsFresh g half image → area.area ≡ log_area g half → Stands area image groups → records ≡ records_of groups
-    → AreFollowing g.pages 0 (opening_cells nothing) records → HoldsLog image g half records
-holds image g half area groups records store fresh is stands all following = record {
+pub holds : (image : Image) (g : GeometryValue) (half : Half) (base : ℕ) (cells : Cells) (area : Log) (groups : List (List RecordValue)) (records : List RecordValue)
+    → IsStore g half image → HoldsImage g half image base cells → area.area ≡ log_area g half → Stands area image groups → records ≡ records_of groups
+    → AreFollowing g.pages base cells records → HoldsStore image g half base cells records
+holds image g half base cells area groups records store imaged is stands all following = record {
   store = store;
-  fresh = fresh;
+  imaged = imaged;
   groups = groups;
   held = subst (λ (a : Area). HoldsGroups a image groups) is stands.held;
   all = all;
   following = following;
 }
 
-pub found : (image : Image) (g : GeometryValue) (half : Half) (area : Log) (groups : List (List RecordValue)) (records : List RecordValue) (given : Given)
-    → IsStore g half image → IsFresh g half image → area.area ≡ log_area g half → Stands area image groups → records ≡ records_of groups
-    → AreFollowing g.pages 0 (opening_cells nothing) records → given ≡ given_after nothing records → len given.entries ≤ g.entries → IsFound image g area given
+pub found : (image : Image) (g : GeometryValue) (half : Half) (base : ℕ) (cells : Cells) (area : Log) (groups : List (List RecordValue)) (records : List RecordValue) (given : Given)
+    → IsStore g half image → HoldsImage g half image base cells → area.area ≡ log_area g half → Stands area image groups → records ≡ records_of groups
+    → AreFollowing g.pages base cells records → given ≡ given_over base cells records → len given.entries ≤ g.entries → IsFound image g area given
 unfolding holds
-found image g half area groups records given store fresh is stands all following recovered room = record {
+found image g half base cells area groups records given store imaged is stands all following recovered room = record {
   gives = record {
     half = half;
+    base = base;
+    cells = cells;
     records = records;
-    holds = holds image g half area groups records store fresh is stands all following;
+    holds = holds image g half base cells area groups records store imaged is stands all following;
     recovered = recovered;
     room = room;
   };
@@ -70,22 +88,22 @@ found image g half area groups records given store fresh is stands all following
   stands = stands;
 }
 
--- what is restored of records that were redone over nothing, and for which store
-pub restored : (geometry : GeometryValue) (records : List RecordValue) (begun mid : StoreValue) (given : Given) → begun ≡ store.empty_store geometry 0 → AreFollowing begun.geometry.pages begun.last begun.cells records
+-- what is restored of records that were redone over an image's cells, and for which store
+pub restored : (geometry : GeometryValue) (records : List RecordValue) (begun mid : StoreValue) (given : Given) → begun.geometry ≡ geometry → AreFollowing begun.geometry.pages begun.last begun.cells records
     → mid ≡ after_records begun records → given ≡ recovered mid.cells mid.last
-    → AreFollowing geometry.pages 0 (opening_cells nothing) records × (given ≡ given_after nothing records) × (mid.geometry ≡ geometry)
+    → AreFollowing geometry.pages begun.last begun.cells records × (given ≡ given_over begun.last begun.cells records) × (mid.geometry ≡ geometry)
 restored geometry records begun mid given is following redone given_is = (
-  subst (λ (v : StoreValue). AreFollowing v.geometry.pages v.last v.cells records) is following,
-  given_is ∙ ap (λ (v : StoreValue). recovered v.cells v.last) (redone ∙ ap (λ (v : StoreValue). after_records v records) is),
-  ap (λ (v : StoreValue). v.geometry) (redone ∙ ap (λ (v : StoreValue). after_records v records) is),
+  subst (λ (x : GeometryValue). AreFollowing x.pages begun.last begun.cells records) is following,
+  given_is ∙ ap (λ (v : StoreValue). recovered v.cells v.last) redone,
+  ap (λ (v : StoreValue). v.geometry) redone ∙ is,
 )
 
--- the first record that could not be redone over nothing
-pub first_unfit : (geometry : GeometryValue) (records : List RecordValue) (read : List RecordValue) (begun : StoreValue) (index : ℕ) → begun ≡ store.empty_store geometry 0 → records ≡ read
-    → IsFirstUnfit begun.geometry.pages begun.last begun.cells records index → IsFirstUnfit geometry.pages 0 (opening_cells nothing) read index
+-- the first record that could not be redone over them
+pub first_unfit : (geometry : GeometryValue) (records read : List RecordValue) (begun : StoreValue) (index : ℕ) → begun.geometry ≡ geometry → records ≡ read
+    → IsFirstUnfit begun.geometry.pages begun.last begun.cells records index → IsFirstUnfit geometry.pages begun.last begun.cells read index
 first_unfit geometry records read begun index is same first =
-    subst (λ (l : List RecordValue). IsFirstUnfit geometry.pages 0 (opening_cells nothing) l index) same
-    (subst (λ (v : StoreValue). IsFirstUnfit v.geometry.pages v.last v.cells records index) is first)
+    subst (λ (l : List RecordValue). IsFirstUnfit geometry.pages begun.last begun.cells l index) same
+    (subst (λ (x : GeometryValue). IsFirstUnfit x.pages begun.last begun.cells records index) is first)
 
 -- one log, with as many open slots as there are groups
 pub one_found : (image : Image) (g h : GeometryValue) (a b : Log) (x y : Given) → IsFound image g a x → IsFound image h b y → a ≡ b
@@ -106,15 +124,18 @@ one_found image g h a b x y p q = λ i. record { area = same_area i; open_slots 
     same_count : a.open_slots ≡ b.open_slots
     same_count = p.stands.counted ∙ ap length same_groups ∙ sym q.stands.counted
 
--- while only the log of a fresh half is written
-pub log_gives : (g : GeometryValue) (half : Half) (frame image : Image) (groups : List (List RecordValue)) (records : List RecordValue) → IsStore g half frame → IsFresh g half frame → SameOutside (InArea (log_area g half)) frame image
-    → HoldsGroups (log_area g half) image groups → records ≡ records_of groups → AreFollowing g.pages 0 (opening_cells nothing) records → len (given_after nothing records).entries ≤ g.entries → Gives image g (given_after nothing records)
-log_gives g half frame image groups records store fresh outside held all following room = record {
+-- while only the log of the current half is written
+pub log_gives : (g : GeometryValue) (half : Half) (frame image : Image) (base : ℕ) (cells : Cells) (groups : List (List RecordValue)) (records : List RecordValue) → IsStore g half frame → HoldsImage g half frame base cells
+    → SameOutside (InArea (log_area g half)) frame image → HoldsGroups (log_area g half) image groups → records ≡ records_of groups → AreFollowing g.pages base cells records → len (given_over base cells records).entries ≤ g.entries
+    → Gives image g (given_over base cells records)
+log_gives g half frame image base cells groups records store imaged outside held all following room = record {
   half = half;
+  base = base;
+  cells = cells;
   records = records;
   holds = record {
     store = stores.store_apart g half frame image outside store;
-    fresh = stores.fresh_apart g half frame image outside fresh;
+    imaged = images.told_by_its_sectors g (header_sector g half) frame image (λ n inside. outside.same n (sides.parts_apart g half n inside)) base cells imaged;
     groups = groups;
     held = held;
     all = all;
@@ -124,14 +145,52 @@ log_gives g half frame image groups records store fresh outside held all followi
   room = room;
 }
 
--- what is formatted holds no group; that no record makes nothing of nothing is a law of what is given
-pub formatted_gives : (g : GeometryValue) (image : Image) → IsFormatted g image → AreGatesClosed g A image → nothing ≡ given_after nothing [] → Gives image g nothing
-formatted_gives g image formatted closed again = record {
-  half = A;
+-- ---- a store that holds nothing
+
+-- over the image of no cells whose base is 0, a log with no record
+untouched : (image : Image) (g : GeometryValue) (half : Half) (base : ℕ) (cells : Cells) (records : List RecordValue) → HoldsStore image g half base cells records → base ≡ 0 → cells ≡ no_cells → records ≡ [] → IsUntouched image g
+untouched image g half base cells records is zero bare none = (
+  half,
+  record {
+    store = is.store;
+    imaged = subst (λ n. HoldsImage g half image n no_cells) zero (subst (HoldsImage g half image base) bare is.imaged);
+    groups = is.groups;
+    held = is.held;
+    all = sym none ∙ is.all;
+    following = tt;
+  },
+)
+
+-- which is the only way to hold nothing
+touched_so : (image : Image) (g : GeometryValue) (half : Half) (base : ℕ) (cells : Cells) (records : List RecordValue) → HoldsStore image g half base cells records → IsUntouched image g → AreOne base 0 cells no_cells records []
+touched_so image g half base cells records is none = one_store image g g half none.0 base 0 cells no_cells records [] is none.1
+
+-- so a reader tells it by the image and the records that it found
+pub told_untouched : (image : Image) (g : GeometryValue) (half : Half) (base : ℕ) (cells : Cells) (records : List RecordValue) (bare result : Bool) → HoldsStore image g half base cells records
+    → (IsTrue bare ↔ (base ≡ 0) × (cells ≡ no_cells)) → (IsTrue result ↔ IsTrue bare × (records ≡ [])) → IsTrue result ↔ IsUntouched image g
+told_untouched image g half base cells records bare result is bare_is result_is = (
+  (λ yes. let both = result_is.0 yes in let none = bare_is.0 both.0 in untouched image g half base cells records is none.0 none.1 both.1),
+  (λ none. let one = touched_so image g half base cells records is none in result_is.1 (bare_is.1 (one.base, one.cells), one.records)),
+)
+
+pub untouched_gives : (image : Image) (g : GeometryValue) → nothing ≡ given_after nothing [] → IsUntouched image g → Gives image g nothing
+untouched_gives image g again (half, is) = record {
+  half = half;
+  base = 0;
+  cells = no_cells;
   records = [];
-  holds = record {
+  holds = is;
+  recovered = again;
+  room = omega (arith, map.len-empty pair_cmp Mark);
+}
+
+-- what is formatted holds no group
+pub formatted_untouched : (g : GeometryValue) (image : Image) → HoldsImage g A image 0 no_cells → IsFormatted g image → AreGatesClosed g A image → IsUntouched image g
+formatted_untouched g image bare formatted closed = (
+  A,
+  record {
     store = formatted.store;
-    fresh = formatted.fresh;
+    imaged = bare;
     groups = [];
     held = record {
       room = omega arith;
@@ -140,28 +199,36 @@ formatted_gives g image formatted closed again = record {
     };
     all = refl;
     following = tt;
-  };
-  recovered = again;
-  room = omega (arith, map.len-empty pair_cmp Mark);
-}
+  },
+)
 
 -- ---- no refusal
 
--- a fresh half has no part that was used
-not_used : (g : GeometryValue) (half : Half) (image : Image) (n : ℕ) → IsFresh g half image → ¬ IsFirstUsed g half image n
-not_used g half image n fresh (inl (is, used)) = used (subst (λ (k : ℕ). AreZeros image k 1) (sym is) fresh.header)
-not_used g half image n fresh (inr (inl (is, used, before))) = used (subst (λ (k : ℕ). AreZeros image k 1) (sym is) fresh.heads)
-not_used g half image n fresh (inr (inr (page, below, is, used, header, heads, before))) = used (subst (λ (k : ℕ). AreZeros image k 8) (sym is) (fresh.pages page below))
+not_damaged : (image : Image) (g : GeometryValue) (half : Half) (base : ℕ) (cells : Cells) (records : List RecordValue) (sector : ℕ) → HoldsStore image g half base cells records → len (given_over base cells records).entries ≤ g.entries → ¬ IsHalfDamaged g half image sector
+not_damaged image g half base cells records sector holds room (inl damaged) = images.not_damaged g (header_sector g half) image base cells sector damaged holds.imaged
+not_damaged image g half base cells records sector holds room (inr at) = ⊎_elim
+    (λ slot. log.not_damaged (log_area g half) image sector holds.groups slot holds.held)
+    (λ later. ⊎_elim misplaced overfull later)
+    at.first
+  where
+    same_base : at.base ≡ base
+    same_base = images.one_base g (header_sector g half) image at.base base at.cells cells at.imaged holds.imaged
 
-not_damaged : (image : Image) (g : GeometryValue) (half : Half) (records : List RecordValue) (sector : ℕ) → HoldsLog image g half records → len (given_after nothing records).entries ≤ g.entries → ¬ IsHalfDamaged g half image sector
-not_damaged image g half records sector holds room (inl used) = not_used g half image sector holds.fresh used
-not_damaged image g half records sector holds room (inr (fresh, (inl damaged))) = log.not_damaged (log_area g half) image sector holds.groups damaged holds.held
-not_damaged image g half records sector holds room (inr (fresh, (inr (inl at)))) =
-    let same : records_of at.groups ≡ records = ap records_of (log.one_reading (log_area g half) image at.groups holds.groups at.held holds.held) ∙ sym holds.all in
-    not_following g.pages 0 (opening_cells nothing) records at.index (subst (λ (l : List RecordValue). IsFirstUnfit g.pages 0 (opening_cells nothing) l at.index) same at.first) holds.following
-not_damaged image g half records sector holds room (inr (fresh, (inr (inr over)))) =
-    let crowded : g.entries < len (given_after nothing records).entries = subst (λ (l : List RecordValue). g.entries < len (given_after nothing l).entries) (same_records image g half over.records records over.holds holds) over.crowded in
-    omega (arith, room, crowded)
+    same_cells : at.cells ≡ cells
+    same_cells = images.one_image g (header_sector g half) image at.base base at.cells cells at.imaged holds.imaged
+
+    misplaced : ¬ IsMisplacedAt g half image at.base at.cells sector
+    misplaced there =
+        let same : records_of there.groups ≡ records = ap records_of (log.one_reading (log_area g half) image there.groups holds.groups there.held holds.held) ∙ sym holds.all in
+        let first : IsFirstUnfit g.pages at.base at.cells records there.index = subst (λ (l : List RecordValue). IsFirstUnfit g.pages at.base at.cells l there.index) same there.first in
+        not_following g.pages base cells records there.index (subst (λ n. IsFirstUnfit g.pages n cells records there.index) same_base (subst (λ (c : Cells). IsFirstUnfit g.pages at.base c records there.index) same_cells first)) holds.following
+
+    overfull : ¬ IsOverfull g half image at.base at.cells sector
+    overfull over =
+        let same = one_held image g half at.base base at.cells cells over.records records over.holds holds in
+        let given : given_over at.base at.cells over.records ≡ given_over base cells records = λ i. given_over (same.base i) (same.cells i) (same.records i) in
+        let crowded : g.entries < len (given_over base cells records).entries = subst (λ (x : Given). g.entries < len x.entries) given over.crowded in
+        omega (arith, room, crowded)
 
 pub readable : (image : Image) (g : GeometryValue) (given : Given) (e : Error) → Gives image g given → ¬ IsUnreadable image e
 readable image g given e gives (inl refused) = stores.accepted g gives.half image e gives.holds.store refused
@@ -169,7 +236,7 @@ readable image g given e gives (inr (sector, is, damaged)) =
     let same_geometry = stores.one_geometry damaged.geometry g damaged.half gives.half image damaged.store gives.holds.store in
     let same_half = stores.one_half damaged.geometry g damaged.half gives.half image damaged.store gives.holds.store in
     let here = subst (λ (k : Half). IsHalfDamaged g k image sector) same_half (subst (λ (k : GeometryValue). IsHalfDamaged k damaged.half image sector) same_geometry damaged.damaged) in
-    not_damaged image g gives.half gives.records sector gives.holds (subst (λ (x : Given). len x.entries ≤ g.entries) gives.recovered gives.room) here
+    not_damaged image g gives.half gives.base gives.cells gives.records sector gives.holds (subst (λ (x : Given). len x.entries ≤ g.entries) gives.recovered gives.room) here
 
 -- so a reader of an image that gives something can only want for memory, or fail with the device
 pub accepted_one : (image : Image) (g : GeometryValue) (given : Given) (before now : ℕ) (e : Error) → Gives image g given
@@ -194,49 +261,64 @@ one_gate area groups index m n p q =
     apart : (i j : ℕ) → i < j → index < length (records_of (take (i + 1) groups)) → ¬ (length (records_of (take j groups)) ≤ index)
     apart i j less before behind = omega (arith, before, behind, records_rise groups (i + 1) j (omega arith))
 
--- one sector at most is the first that is damaged, where one part at most is the first that was used
-module _ (one_part : (g : GeometryValue) (half : Half) (image : Image) (m n : ℕ) → IsFirstUsed g half image m → IsFirstUsed g half image n → m ≡ n) where
-  one_misplacement : (g : GeometryValue) (half : Half) (image : Image) (m n : ℕ) → IsMisplacedAt g half image m → IsMisplacedAt g half image n → m ≡ n
-  one_misplacement g half image m n p q =
+-- what is damaged behind an image
+abbrev Behind : GeometryValue → Half → Image → ℕ → Cells → ℕ → Type 0
+Behind g half image base cells n = IsMisplacedAt g half image base cells n ⊎ IsOverfull g half image base cells n
+
+module _ (g : GeometryValue) (half : Half) (image : Image) (base : ℕ) (cells : Cells) where
+  one_misplacement : (m n : ℕ) → IsMisplacedAt g half image base cells m → IsMisplacedAt g half image base cells n → m ≡ n
+  one_misplacement m n p q =
       let same = log.one_reading (log_area g half) image q.groups p.groups q.held p.held in
-      let first = subst (λ (l : List (List RecordValue)). IsFirstUnfit g.pages 0 (opening_cells nothing) (records_of l) q.index) same q.first in
+      let first = subst (λ (l : List (List RecordValue)). IsFirstUnfit g.pages base cells (records_of l) q.index) same q.first in
       let gate = subst (λ (l : List (List RecordValue)). IsGateOf (log_area g half) l q.index n) same q.gate-is in
-      one_gate (log_area g half) p.groups p.index m n p.gate-is (subst (λ i. IsGateOf (log_area g half) p.groups i n) (sym (one_unfit g.pages 0 (opening_cells nothing) (records_of p.groups) p.index q.index p.first first)) gate)
+      one_gate (log_area g half) p.groups p.index m n p.gate-is (subst (λ i. IsGateOf (log_area g half) p.groups i n) (sym (one_unfit g.pages base cells (records_of p.groups) p.index q.index p.first first)) gate)
 
   -- a record that can't follow, and records that all can, aren't in one log
-  apart : (g : GeometryValue) (half : Half) (image : Image) (m n : ℕ) → IsMisplacedAt g half image m → ¬ IsOverfull g half image n
-  apart g half image m n p q =
+  apart : (m n : ℕ) → IsMisplacedAt g half image base cells m → ¬ IsOverfull g half image base cells n
+  apart m n p q =
       let same : records_of p.groups ≡ q.records = ap records_of (log.one_reading (log_area g half) image p.groups q.holds.groups p.held q.holds.held) ∙ sym q.holds.all in
-      not_following g.pages 0 (opening_cells nothing) q.records p.index (subst (λ (l : List RecordValue). IsFirstUnfit g.pages 0 (opening_cells nothing) l p.index) same p.first) q.holds.following
+      not_following g.pages base cells q.records p.index (subst (λ (l : List RecordValue). IsFirstUnfit g.pages base cells l p.index) same p.first) q.holds.following
 
-  one_of_records : (g : GeometryValue) (half : Half) (image : Image) (m n : ℕ) → IsMisplacedAt g half image m ⊎ IsOverfull g half image m → IsMisplacedAt g half image n ⊎ IsOverfull g half image n → m ≡ n
-  one_of_records g half image m n (inl p) (inl q) = one_misplacement g half image m n p q
-  one_of_records g half image m n (inl p) (inr q) = absurd (apart g half image m n p q)
-  one_of_records g half image m n (inr p) (inl q) = absurd (apart g half image n m q p)
-  one_of_records g half image m n (inr p) (inr q) = p.sector-is ∙ sym q.sector-is
+  one_behind : (m n : ℕ) → Behind g half image base cells m → Behind g half image base cells n → m ≡ n
+  one_behind m n (inl p) (inl q) = one_misplacement m n p q
+  one_behind m n (inl p) (inr q) = absurd (apart m n p q)
+  one_behind m n (inr p) (inl q) = absurd (apart n m q p)
+  one_behind m n (inr p) (inr q) = p.sector-is ∙ sym q.sector-is
 
-  held_of : (g : GeometryValue) (half : Half) (image : Image) (n : ℕ) → IsMisplacedAt g half image n ⊎ IsOverfull g half image n → (groups : List (List RecordValue)) × HoldsGroups (log_area g half) image groups
-  held_of g half image n (inl p) = (p.groups, p.held)
-  held_of g half image n (inr p) = (p.holds.groups, p.holds.held)
+  held_of : (n : ℕ) → Behind g half image base cells n → (groups : List (List RecordValue)) × HoldsGroups (log_area g half) image groups
+  held_of n (inl p) = (p.groups, p.held)
+  held_of n (inr p) = (p.holds.groups, p.holds.held)
 
-  one_half_damage : (g : GeometryValue) (half : Half) (image : Image) (m n : ℕ) → IsHalfDamaged g half image m → IsHalfDamaged g half image n → m ≡ n
-  one_half_damage g half image m n (inl p) (inl q) = one_part g half image m n p q
-  one_half_damage g half image m n (inl p) (inr q) = absurd (not_used g half image m q.0 p)
-  one_half_damage g half image m n (inr p) (inl q) = absurd (not_used g half image n p.0 q)
-  one_half_damage g half image m n (inr (fresh, (inl p))) (inr (fresh', (inl q))) = log.one_damage (log_area g half) image m n p q
-  one_half_damage g half image m n (inr (fresh, (inl p))) (inr (fresh', (inr q))) = let held = held_of g half image n q in absurd (log.not_damaged (log_area g half) image m held.0 p held.1)
-  one_half_damage g half image m n (inr (fresh, (inr p))) (inr (fresh', (inl q))) = let held = held_of g half image m p in absurd (log.not_damaged (log_area g half) image n held.0 q held.1)
-  one_half_damage g half image m n (inr (fresh, (inr p))) (inr (fresh', (inr q))) = one_of_records g half image m n p q
+one_log_damage : (g : GeometryValue) (half : Half) (image : Image) (m n : ℕ) → IsLogDamaged g half image m → IsLogDamaged g half image n → m ≡ n
+one_log_damage g half image m n p q = ⊎_elim
+    (λ slot. ⊎_elim (λ other. log.one_damage (log_area g half) image m n slot other) (λ behind. let held = held_of g half image q.base q.cells n behind in absurd (log.not_damaged (log_area g half) image m held.0 slot held.1)) q.first)
+    (λ behind. ⊎_elim (λ slot. let held = held_of g half image p.base p.cells m behind in absurd (log.not_damaged (log_area g half) image n held.0 slot held.1)) (λ other. one_behind g half image p.base p.cells m n behind (here other)) q.first)
+    p.first
+  where
+    same_base : p.base ≡ q.base
+    same_base = images.one_base g (header_sector g half) image p.base q.base p.cells q.cells p.imaged q.imaged
 
-  one_damage : (image : Image) (m n : ℕ) → IsStoreDamagedAt image m → IsStoreDamagedAt image n → m ≡ n
-  one_damage image m n p q =
-      let same_geometry = stores.one_geometry q.geometry p.geometry q.half p.half image q.store p.store in
-      let same_half = stores.one_half q.geometry p.geometry q.half p.half image q.store p.store in
-      one_half_damage p.geometry p.half image m n p.damaged
-      (subst (λ (k : Half). IsHalfDamaged p.geometry k image n) same_half (subst (λ (k : GeometryValue). IsHalfDamaged k q.half image n) same_geometry q.damaged))
+    same_cells : p.cells ≡ q.cells
+    same_cells = images.one_image g (header_sector g half) image p.base q.base p.cells q.cells p.imaged q.imaged
 
-  pub one_refusal : (image : Image) (d e : Error) → IsUnreadable image d → IsUnreadable image e → d ≡ e
-  one_refusal image d e (inl p) (inl q) = stores.one_refusal image d e p q
-  one_refusal image d e (inl p) (inr (sector, is, damaged)) = absurd (stores.accepted damaged.geometry damaged.half image d damaged.store p)
-  one_refusal image d e (inr (sector, is, damaged)) (inl q) = absurd (stores.accepted damaged.geometry damaged.half image e damaged.store q)
-  one_refusal image d e (inr (m, is, p)) (inr (n, are, q)) = is ∙ ap Damaged (one_damage image m n p q) ∙ sym are
+    here : Behind g half image q.base q.cells n → Behind g half image p.base p.cells n
+    here other = subst (λ k. Behind g half image k p.cells n) (sym same_base) (subst (λ (c : Cells). Behind g half image q.base c n) (sym same_cells) other)
+
+one_half_damage : (g : GeometryValue) (half : Half) (image : Image) (m n : ℕ) → IsHalfDamaged g half image m → IsHalfDamaged g half image n → m ≡ n
+one_half_damage g half image m n (inl p) (inl q) = images.one_damage g (header_sector g half) image m n p q
+one_half_damage g half image m n (inl p) (inr q) = absurd (images.not_damaged g (header_sector g half) image q.base q.cells m p q.imaged)
+one_half_damage g half image m n (inr p) (inl q) = absurd (images.not_damaged g (header_sector g half) image p.base p.cells n q p.imaged)
+one_half_damage g half image m n (inr p) (inr q) = one_log_damage g half image m n p q
+
+one_damage : (image : Image) (m n : ℕ) → IsStoreDamagedAt image m → IsStoreDamagedAt image n → m ≡ n
+one_damage image m n p q =
+    let same_geometry = stores.one_geometry q.geometry p.geometry q.half p.half image q.store p.store in
+    let same_half = stores.one_half q.geometry p.geometry q.half p.half image q.store p.store in
+    one_half_damage p.geometry p.half image m n p.damaged
+    (subst (λ (k : Half). IsHalfDamaged p.geometry k image n) same_half (subst (λ (k : GeometryValue). IsHalfDamaged k q.half image n) same_geometry q.damaged))
+
+pub one_refusal : (image : Image) (d e : Error) → IsUnreadable image d → IsUnreadable image e → d ≡ e
+one_refusal image d e (inl p) (inl q) = stores.one_refusal image d e p q
+one_refusal image d e (inl p) (inr (sector, is, damaged)) = absurd (stores.accepted damaged.geometry damaged.half image d damaged.store p)
+one_refusal image d e (inr (sector, is, damaged)) (inl q) = absurd (stores.accepted damaged.geometry damaged.half image e damaged.store q)
+one_refusal image d e (inr (m, is, p)) (inr (n, are, q)) = is ∙ ap Damaged (one_damage image m n p q) ∙ sym are

@@ -7,12 +7,14 @@ use Rattle.records.specs.GeometryValue.{GeometryValue}
 use Rattle.records.specs.declared.error.Error.{Error}
 use Rattle.records.specs.declared.error.Error.TheVariants.{Damaged}
 use Rattle.gate_log.specs.Area.{Area, Log, HoldsGroups, Stands, records_of, IsGateOf, IsFirstDamagedSlot, Refuses}
+use Rattle.image_half.specs.Damage.{IsFirstDamaged, IsUnread}
 use Rattle.flip_image.specs.declared.half.Half.{Half}
 use Rattle.flip_image.specs.Layout.{header_sector, log_first}
-use Rattle.flip_image.specs.Store.{IsStore, IsFresh, IsFirstUsed, IsDeviceFailure}
+use Rattle.flip_image.specs.Store.{HoldsImage, IsStore}
+use Rattle.model.specs.Cells.{Cells}
 use Rattle.model.specs.Following.{IsFirstUnfit}
-use Rattle.model.specs.Given.{Given, given_after, nothing, opening_cells}
-use Rattle.store_reader.specs.Contents.{log_area, Gives, HoldsLog, IsMisplacedAt, IsUnreadable}
+use Rattle.model.specs.Given.{Given}
+use Rattle.store_reader.specs.Contents.{log_area, given_over, Gives, HoldsStore, IsHalfDamaged, IsMisplacedAt, IsUnreadable}
 use Rattle.store_reader.proofs.Readings as readings
 
 -- the refusals of a reader of this image
@@ -27,45 +29,41 @@ accepted (Err e) image g given before now gives why = readings.accepted_one imag
 refused_later : (a b c : ℕ) (e : Error) → b ≡ a → Refuses b c e → Refuses a c e
 refused_later a b c e same refused = subst (λ n. Refuses n c e) same refused
 
-module _ (image now : Image) (g : GeometryValue) (half : Half) (a b c : ℕ) (e : Error) (store : IsStore g half image) (same : now ≡ image) (quiet : b ≡ a) where
-  pub part_used : IsDeviceFailure b c e ⊎ ((n : ℕ) × (e ≡ Damaged n) × IsFirstUsed g half now n) → Why image a c e
-  part_used (inl failed) = inl (refused_later a b c e quiet (inr failed))
-  part_used (inr (n, is, used)) =
-      inr (inr (n, is, record { geometry = g; half = half; store = store; damaged = inl (subst (λ (i : Image). IsFirstUsed g half i n) same used) }))
+module _ (image : Image) (g : GeometryValue) (half : Half) (a c : ℕ) (store : IsStore g half image) where
+  damaged_at : (e : Error) (n : ℕ) → e ≡ Damaged n → IsHalfDamaged g half image n → Why image a c e
+  damaged_at e n is damaged = inr (inr (n, is, record { geometry = g; half = half; store = store; damaged = damaged }))
 
-  module _ (fresh : IsFresh g half image) where
-    pub slot_damaged : (area : Area) → area ≡ log_area g half → Refuses b c e ⊎ ((n : ℕ) × (e ≡ Damaged n) × IsFirstDamagedSlot area now n) → Why image a c e
-    slot_damaged area is (inl refused) = inl (refused_later a b c e quiet refused)
-    slot_damaged area is (inr (n, named, damaged)) =
-        let first = subst (λ (i : Image). IsFirstDamagedSlot (log_area g half) i n) same (subst (λ (x : Area). IsFirstDamagedSlot x now n) is damaged) in
-        inr (inr (n, named, record { geometry = g; half = half; store = store; damaged = inr (fresh, inl first) }))
+  module _ (now : Image) (b : ℕ) (e : Error) (same : now ≡ image) (quiet : b ≡ a) where
+    pub image_unread : IsUnread g (header_sector g half) now b c e → Why image a c e
+    image_unread (inl hindered) = inl (refused_later a b c e quiet hindered)
+    image_unread (inr (n, is, damaged)) = damaged_at e n is (inl (subst (λ (i : Image). IsFirstDamaged g (header_sector g half) i n) same damaged))
 
-    pub record_misplaced : (log : Log) (groups : List (List RecordValue)) (index : ℕ) → log.area ≡ log_area g half → Stands log now groups → IsFirstUnfit g.pages 0 (opening_cells nothing) (records_of groups) index
-        → Refuses b c e ⊎ ((n : ℕ) × (e ≡ Damaged n) × ((held : List (List RecordValue)) → Stands log now held → IsGateOf log.area held index n)) → Why image a c e
-    record_misplaced log groups index is stands first (inl refused) = inl (refused_later a b c e quiet refused)
-    record_misplaced log groups index is stands first (inr (n, named, at)) =
-        let misplaced : IsMisplacedAt g half image n = record {
-          groups = groups;
-          held = subst (λ (i : Image). HoldsGroups (log_area g half) i groups) same (subst (λ (x : Area). HoldsGroups x now groups) is stands.held);
-          index = index;
-          first = first;
-          gate-is = subst (λ (x : Area). IsGateOf x groups index n) is (at groups stands);
-        } in
-        inr (inr (n, named, record { geometry = g; half = half; store = store; damaged = inr (fresh, inr (inl misplaced)) }))
+    module _ (base : ℕ) (cells : Cells) (imaged : HoldsImage g half image base cells) where
+      pub slot_damaged : (area : Area) → area ≡ log_area g half → Refuses b c e ⊎ ((n : ℕ) × (e ≡ Damaged n) × IsFirstDamagedSlot area now n) → Why image a c e
+      slot_damaged area is (inl refused) = inl (refused_later a b c e quiet refused)
+      slot_damaged area is (inr (n, named, damaged)) =
+          let first = subst (λ (i : Image). IsFirstDamagedSlot (log_area g half) i n) same (subst (λ (x : Area). IsFirstDamagedSlot x now n) is damaged) in
+          damaged_at e n named (inr (record { base = base; cells = cells; imaged = imaged; first = inl first }))
+
+      pub record_misplaced : (log : Log) (groups : List (List RecordValue)) (index : ℕ) → log.area ≡ log_area g half → Stands log now groups → IsFirstUnfit g.pages base cells (records_of groups) index
+          → Refuses b c e ⊎ ((n : ℕ) × (e ≡ Damaged n) × ((held : List (List RecordValue)) → Stands log now held → IsGateOf log.area held index n)) → Why image a c e
+      record_misplaced log groups index is stands first (inl refused) = inl (refused_later a b c e quiet refused)
+      record_misplaced log groups index is stands first (inr (n, named, at)) =
+          let misplaced : IsMisplacedAt g half image base cells n = record {
+            groups = groups;
+            held = subst (λ (i : Image). HoldsGroups (log_area g half) i groups) same (subst (λ (x : Area). HoldsGroups x now groups) is stands.held);
+            index = index;
+            first = first;
+            gate-is = subst (λ (x : Area). IsGateOf x groups index n) is (at groups stands);
+          } in
+          damaged_at e n named (inr (record { base = base; cells = cells; imaged = imaged; first = inr (inl misplaced) }))
 
 -- the records of a log leave too many entries
-pub overfull : (image : Image) (g : GeometryValue) (half : Half) (records : List RecordValue) (sector a c : ℕ) → HoldsLog image g half records → g.entries < len (given_after nothing records).entries → sector ≡ header_sector g half → Why image a c (Damaged sector)
-overfull image g half records sector a c holds crowded is =
-    inr (inr (
-      sector,
-      refl,
-      record {
-        geometry = g;
-        half = half;
-        store = holds.store;
-        damaged = inr (holds.fresh, inr (inr (record { records = records; holds = holds; crowded = crowded; sector-is = is })));
-      },
-    ))
+pub overfull : (image : Image) (g : GeometryValue) (half : Half) (base : ℕ) (cells : Cells) (records : List RecordValue) (sector a c : ℕ) → HoldsStore image g half base cells records → g.entries < len (given_over base cells records).entries
+    → sector ≡ header_sector g half → Why image a c (Damaged sector)
+overfull image g half base cells records sector a c holds crowded is =
+    damaged_at image g half a c holds.store (Damaged sector) sector refl
+    (inr (record { base = base; cells = cells; imaged = holds.imaged; first = inr (inr (record { records = records; holds = holds; crowded = crowded; sector-is = is })) }))
 
 pub area_is : (first slots : ℕ) (g : GeometryValue) (half : Half) → first ≡ log_first g half → slots ≡ g.slots → record { first = first; slots = slots } ≡ log_area g half
 area_is first slots g half p q = ap (λ (n : ℕ). let area : Area = record { first = n; slots = slots } in area) p ∙ ap (λ (n : ℕ). let area : Area = record { first = log_first g half; slots = n } in area) q

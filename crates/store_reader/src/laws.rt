@@ -1,19 +1,25 @@
 //! Laws of what an image gives.
-ghost use Rattle.std.specs.Prelude.{◌≡◌, ◌≤◌, List};
-ghost use Rattle.std.specs.FinMap.{len};
-ghost use Rattle.sector_device.specs.Disk.{Image, SameOutside};
+ghost use Rattle.std.specs.Prelude.{◌≡◌, ◌≤◌, ℕ, List, length};
+ghost use Rattle.std.specs.FinMap.{entries, len};
+ghost use Rattle.sector_device.specs.Disk.{Image, IsWhole, SameOutside};
 ghost use Rattle.records.specs.RecordValue.{RecordValue};
 ghost use Rattle.records.specs.GeometryValue.{GeometryValue};
+ghost use Rattle.records.specs.declared.change.TheConstants.{CHANGES_MAX};
 ghost use Rattle.records.specs.declared.error.Error.{Error};
-ghost use Rattle.model.specs.Following.{AreFollowing};
+ghost use Rattle.records.specs.declared.number.TheConstants.{LAST_NUMBER};
+ghost use Rattle.records.specs.declared.txn.TheConstants.{TXNS_MAX};
+ghost use Rattle.model.specs.Cells.{Cells, list_of};
+ghost use Rattle.model.specs.Following.{AreFollowing, ArePlaced};
 ghost use Rattle.model.specs.Given.{Given, given_after, nothing, opening_cells};
+ghost use Rattle.model.specs.Inside.{AreInside};
 ghost use Rattle.gate_log.specs.Area.{InArea, Log, HoldsGroups, records_of};
+ghost use Rattle.image_half.specs.Image.{no_cells};
 ghost use Rattle.flip_image.specs.declared.half.Half.{Half};
 ghost use Rattle.flip_image.specs.declared.half.Half.TheVariants.{A};
-ghost use Rattle.flip_image.specs.Store.{IsStore, IsFresh, IsFormatted, AreGatesClosed};
-ghost use Rattle.store_reader.specs.Contents.{log_area, Gives, IsFound, IsUnreadable};
+ghost use Rattle.flip_image.specs.Store.{IsStore, IsFormatted, AreGatesClosed, HoldsImage};
+ghost use Rattle.store_reader.specs.Contents.{log_area, given_over, Gives, IsFound, IsUnreadable, IsUntouched};
 
-use flip_image::{log_apart, one_used_part};
+use flip_image::fresh_image;
 use model::beginnings;
 
 /// A law: an image is of one geometry and gives one thing at most, of one log, and then no reader refuses it; and it is
@@ -24,23 +30,37 @@ pub fn one_answer()
     ensures log { (image : Image) (g h : GeometryValue) (a b : Log) (x y : Given) → IsFound image g a x → IsFound image h b y → a ≡ b }
     ensures readable { (image : Image) (g : GeometryValue) (given : Given) (e : Error) → Gives image g given → ¬ IsUnreadable image e }
     ensures refusal { (image : Image) (d e : Error) → IsUnreadable image d → IsUnreadable image e → d ≡ e }
-{
-    one_used_part();
-}
+{}
 
-/// A law: what `format` leaves gives nothing.
+/// A law: what `format` leaves gives nothing, and is told to be untouched.
 pub fn format_gives_nothing()
-    ensures { (g : GeometryValue) (image : Image) → IsFormatted g image → AreGatesClosed g A image → Gives image g nothing }
+    ensures gives { (g : GeometryValue) (image : Image) → IsWhole image → IsFormatted g image → AreGatesClosed g A image → Gives image g nothing }
+    ensures untouched { (g : GeometryValue) (image : Image) → IsWhole image → IsFormatted g image → AreGatesClosed g A image → IsUntouched image g }
 {
     beginnings();
+    fresh_image();
 }
 
-/// A law: which store an image is of, and that its current half is fresh, the log of that half doesn't touch. So where
-/// only that log is written, the groups that it holds say what the image gives.
+/// A law: over the image of no cells with base 0, which a fresh half holds, records leave what they leave of nothing.
+pub fn over_no_cells()
+    ensures given { (records : List RecordValue) → given_over 0 no_cells records ≡ given_after nothing records }
+    ensures following { (pages : ℕ) (records : List RecordValue) → AreFollowing pages 0 (opening_cells nothing) records → AreFollowing pages 0 no_cells records }
+{}
+
+/// A law: which store an image is of, and the image in its current half, the log of that half doesn't touch. So where only
+/// that log is written, the groups that it holds say what the image gives.
 pub fn log_alone()
-    ensures { (g : GeometryValue) (half : Half) (frame image : Image) (groups : List (List RecordValue)) → IsStore g half frame → IsFresh g half frame → SameOutside (InArea (log_area g half)) frame image
-        → HoldsGroups (log_area g half) image groups → AreFollowing g.pages 0 (opening_cells nothing) (records_of groups) → len (given_after nothing (records_of groups)).entries ≤ g.entries
-        → Gives image g (given_after nothing (records_of groups)) }
-{
-    log_apart();
-}
+    ensures { (g : GeometryValue) (half : Half) (frame image : Image) (base : ℕ) (cells : Cells) (groups : List (List RecordValue)) → IsStore g half frame → HoldsImage g half frame base cells → SameOutside (InArea (log_area g half)) frame image
+        → HoldsGroups (log_area g half) image groups → AreFollowing g.pages base cells (records_of groups) → len (given_over base cells (records_of groups)).entries ≤ g.entries
+        → Gives image g (given_over base cells (records_of groups)) }
+{}
+
+/// A law: what the image of a half holds lies in the store's pages, and its base is the number of a record or 0; there are no
+/// more unfinished transactions than may be, with no more changes each than may be, which have their positions.
+pub fn image_inside()
+    ensures inside { (g : GeometryValue) (half : Half) (image : Image) (base : ℕ) (cells : Cells) → HoldsImage g half image base cells → AreInside g.pages cells }
+    ensures numbered { (g : GeometryValue) (half : Half) (image : Image) (base : ℕ) (cells : Cells) → HoldsImage g half image base cells → base ≤ LAST_NUMBER }
+    ensures few { (g : GeometryValue) (half : Half) (image : Image) (base : ℕ) (cells : Cells) → HoldsImage g half image base cells → length (entries cells.pending) ≤ TXNS_MAX }
+    ensures short { (g : GeometryValue) (half : Half) (image : Image) (base : ℕ) (cells : Cells) → HoldsImage g half image base cells → (txn : ℕ) → length (list_of cells.pending txn) ≤ CHANGES_MAX }
+    ensures placed { (g : GeometryValue) (half : Half) (image : Image) (base : ℕ) (cells : Cells) → HoldsImage g half image base cells → (txn : ℕ) → ArePlaced g.pages 0 (list_of cells.pending txn) }
+{}

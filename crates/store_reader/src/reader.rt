@@ -1,5 +1,5 @@
 //! A store is read.
-ghost use Rattle.std.specs.Prelude.{◌≡◌, ◌⊎◌, ◌<◌, ◌≤◌, ℕ, List, length, OnOk, IfOk, IfErr};
+ghost use Rattle.std.specs.Prelude.{◌≡◌, ◌⊎◌, ◌↔◌, ◌<◌, ◌≤◌, ℕ, List, [], length, IsTrue, OnOk, IfOk, IfErr};
 ghost use Rattle.sector_device.specs.History.{OnlyReads};
 ghost use Rattle.records.specs.RecordValue.{RecordValue};
 ghost use Rattle.records.specs.GeometryValue.{GeometryValue};
@@ -7,14 +7,16 @@ ghost use Rattle.records.specs.declared.number.TheConstants.{LAST_NUMBER};
 ghost use Rattle.model.specs.Given.{Given};
 ghost use Rattle.redo.specs.Restored.{given_in};
 ghost use Rattle.gate_log.specs.Area.{IsAreaInside, Stands, records_of, IsGateOf, Refuses};
-ghost use Rattle.flip_image.specs.declared.half.Half.{Half};
-ghost use Rattle.flip_image.specs.Store.{IsStore, IsFresh};
-ghost use Rattle.store_reader.specs.Contents.{Gives, IsFound, IsUnreadable};
+ghost use Rattle.image_half.specs.Image.{no_cells};
+ghost use Rattle.image_half.specs.Damage.{IsUnread};
+ghost use Rattle.flip_image.specs.Layout.{header_sector};
+ghost use Rattle.flip_image.specs.Store.{IsStore, HoldsImage};
+ghost use Rattle.store_reader.specs.Contents.{Gives, IsFound, IsOfStore, IsUnreadable, IsUntouched};
 
 use flip_image::Halves;
 use gate_log::LogArea;
 use records::{Error, Record};
-use redo::{Refusal, Restored, StoreCells};
+use redo::{ImageCells, Refusal, Restored, StoreCells};
 use sector_device::Device;
 use std::alloc::Allocator;
 
@@ -23,22 +25,58 @@ use std::alloc::Allocator;
 pub struct Found<A: Allocator> {
     /// The log of its current half, with as many open slots as there are groups in it.
     pub log: LogArea,
-    /// What the log's records make of nothing, with every unfinished transaction taken back.
+    /// What the log's records make of the cells of its current half's image, with every unfinished transaction taken back.
     pub restored: Restored<A>,
+    /// Whether it holds nothing: no record, and an image of no cells whose base is 0, as `format` leaves it.
+    pub untouched: bool,
 }
 
-// The halves of the store, of which the current one is as `format` leaves it, but for its log.
-fn open_fresh<D: Device>(device: &mut D) -> Result<Halves, Error>
-    ensures opened { IfOk result (λ halves. IsStore halves.geometry halves.current (D.history device.old).disk.content) }
-    ensures fresh { IfOk result (λ halves. IsFresh halves.geometry halves.current (D.history device.old).disk.content) }
+// The cells of the image of the current half, and whether there are none, with base 0.
+fn read_cells<D: Device, A: Allocator + Copy>(
+    alloc: A,
+    device: &mut D,
+    halves: &Halves,
+) -> Result<(StoreCells<A>, bool), Error>
+    requires { IsStore halves.now.geometry halves.now.current (D.history device.old).disk.content }
+    ensures geometry { IfOk result (λ r. r.0.geometry ≡ halves.now.geometry) }
+    ensures imaged { IfOk result (λ r. HoldsImage halves.now.geometry halves.now.current (D.history device.old).disk.content r.0.last r.0.cells) }
+    ensures bare { IfOk result (λ r. IsTrue r.1 ↔ (r.0.last ≡ 0) × (r.0.cells ≡ no_cells)) }
+    ensures refused { IfErr result (IsUnread halves.now.geometry (header_sector halves.now.geometry halves.now.current) (D.history device.old).disk.content (D.failures device.old) (D.failures device.new)) }
+    ensures reads { OnlyReads (D.history device.old) (D.history device.new) }
+    ensures quiet { OnOk result (D.failures device.new ≡ D.failures device.old) }
+    ensures later { D.failures device.old ≤ D.failures device.new }
+{
+    let mut image = ImageCells::new(alloc);
+    let base = halves.read_image(alloc, device, &mut image)?;
+    let bare = base == 0 && image.is_empty();
+    Ok((StoreCells::over(image, halves.geometry(), base), bare))
+}
+
+// The halves of the store, the cells of the current one's image, and whether there are none, with base 0.
+fn open_store<D: Device, A: Allocator + Copy>(
+    alloc: A,
+    device: &mut D,
+) -> Result<(Halves, StoreCells<A>, bool), Error>
+    ensures opened { IfOk result (λ r. IsStore r.0.geometry r.0.current (D.history device.old).disk.content) }
+    ensures geometry { IfOk result (λ r. r.1.geometry ≡ r.0.geometry) }
+    ensures imaged { IfOk result (λ r. HoldsImage r.0.geometry r.0.current (D.history device.old).disk.content r.1.last r.1.cells) }
+    ensures bare { IfOk result (λ r. IsTrue r.2 ↔ (r.1.last ≡ 0) × (r.1.cells ≡ no_cells)) }
     ensures refused { IfErr result (λ e. Refuses (D.failures device.old) (D.failures device.new) e ⊎ IsUnreadable (D.history device.old).disk.content e) }
+    ensures memory { IfErr result (λ e. e ≡ Error.NoMemory → IsOfStore (D.history device.old).disk.content) }
     ensures reads { OnlyReads (D.history device.old) (D.history device.new) }
     ensures quiet { OnOk result (D.failures device.new ≡ D.failures device.old) }
     ensures later { D.failures device.old ≤ D.failures device.new }
 {
     let halves = Halves::open(device)?;
-    halves.check_fresh(device)?;
-    Ok(halves)
+    let (cells, bare) = read_cells(alloc, device, &halves)?;
+    Ok((halves, cells, bare))
+}
+
+// Whether there are no cells, with base 0, and no records behind them.
+fn is_untouched(bare: bool, records: &[Record]) -> bool
+    ensures { IsTrue result ↔ IsTrue bare × (records.now ≡ []) }
+{
+    bare && records.is_empty()
 }
 
 // Names the gate of the group of a record that is misplaced.
@@ -62,34 +100,37 @@ fn misplaced<D: Device, A: Allocator + Copy>(
     }
 }
 
-/// Reads the store on the device, as it is: its superblock, its flip sector, and the current half. That half's header,
-/// transaction heads and pages are as `format` leaves them, and the records of its log are redone over nothing, and
-/// what is unfinished then is taken back. Nothing is written, and the caller has synced.
+/// Reads the store on the device, as it is: its superblock, its flip sector, and the current half. The records of that
+/// half's log are redone over its image, and what is unfinished then is taken back. Nothing is written, and the caller has
+/// synced. Each sector is read once at most, but for those of the log's groups where a record can't follow, whose gate is
+/// then looked for.
 ///
 /// The refusals, the first that fits: `DeviceTooSmall`, `NotFormatted` and `Damaged` with the superblock's sector, as
-/// `Halves::open` answers them; `Damaged` with the sector of the header, of the transaction heads or of the first page
-/// that was used; `Damaged` with the gate of the log's first slot that can't be; `Damaged` with the gate of the group
-/// of the first record that can't follow the ones before it; `Damaged` with the header's sector where there are more
-/// entries in the end than the geometry has places. `NoMemory` and `DeviceFailed` come at any of these.
+/// `Halves::open` answers them; `Damaged` with the first sector of the image that says nothing, as `Halves::read_image`
+/// names it; `Damaged` with the gate of the log's first slot that can't be; `Damaged` with the gate of the group of the
+/// first record that can't follow the ones before it; `Damaged` with the header's sector where there are more entries in the
+/// end than the geometry has places. `DeviceFailed` comes at any of these, and `NoMemory` behind those of `Halves::open` alone:
+/// of a device that holds no store it is never answered (`memory`).
 pub fn read_store<D: Device, A: Allocator + Copy>(
     alloc: A,
     device: &mut D,
 ) -> Result<Found<A>, Error>
     ensures found { IfOk result (λ found. IsFound (D.history device.old).disk.content found.restored.geometry found.log (given_in found.restored)) }
+    ensures untouched { IfOk result (λ found. IsTrue found.untouched ↔ IsUntouched (D.history device.old).disk.content found.restored.geometry) }
     ensures area { IfOk result (λ found. IsAreaInside found.log.area (D.history device.old).disk.content) }
     ensures numbered { IfOk result (λ found. found.restored.last ≤ LAST_NUMBER) }
     ensures accepted { (geometry : GeometryValue) (given : Given) → Gives (D.history device.old).disk.content geometry given
         → IfErr result (Refuses (D.failures device.old) (D.failures device.new)) }
     ensures refused { IfErr result (λ e. Refuses (D.failures device.old) (D.failures device.new) e ⊎ IsUnreadable (D.history device.old).disk.content e) }
+    ensures memory { IfErr result (λ e. e ≡ Error.NoMemory → IsOfStore (D.history device.old).disk.content) }
     ensures reads { OnlyReads (D.history device.old) (D.history device.new) }
     ensures quiet { OnOk result (D.failures device.new ≡ D.failures device.old) }
     ensures later { D.failures device.old ≤ D.failures device.new }
 {
-    let halves = open_fresh(device)?;
+    let (halves, mut cells, bare) = open_store(alloc, device)?;
     let geometry = halves.geometry();
     let mut log = LogArea::new(halves.log_first(), u64::from(geometry.slots));
     let records = log.read_all(alloc, device)?;
-    let mut cells = StoreCells::new(alloc, geometry, 0);
     match cells.redo_all(&records) {
         Ok(()) => {
             let restored = cells.restore()?;
@@ -98,7 +139,11 @@ pub fn read_store<D: Device, A: Allocator + Copy>(
                     sector: halves.header_sector(),
                 });
             }
-            Ok(Found { log, restored })
+            Ok(Found {
+                log,
+                restored,
+                untouched: is_untouched(bare, &records),
+            })
         }
         Err(stopped) => match stopped.why {
             Refusal::Unfit => Err(misplaced(alloc, device, &log, stopped.index)),

@@ -202,7 +202,7 @@ fn check_damaged(
 fn damaged_stores(rt: HostRuntime) -> Result<(), Fail> {
     let cases: [(&str, &[Edit], u64); 8] = [
         ("version 2", &[(0, 11, 2)], 0),
-        ("a used header", &[(2, 0, 1)], 2),
+        ("a header of no life", &[(2, 0, 3)], 2),
         ("used heads", &[(3, 511, 1)], 3),
         ("a used page", &[(516, 64, 2)], 516),
         ("the last byte of a page", &[(523, 511, 2)], 516),

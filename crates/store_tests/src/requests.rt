@@ -1,8 +1,8 @@
 // Requests and answers for the tests.
 use crate::values::record_number;
 use first::{Event, Reply};
-use index_core::{BuildReply, CleanReply, Ticket};
 use model::Life;
+use nsf_core::{BuildReply, CleanReply, Ticket};
 use records::{Error, Rid, Row, Txn};
 use std::alloc::Allocator;
 use std::test::Fail;

@@ -1,6 +1,6 @@
 use Rattle.std.proofs.Common.{◌≡◌}
-use Rattle.index_core.specs.Loading.{IsQuiet}
-use Rattle.index_core.specs.Value.{value_of}
+use Rattle.nsf_core.specs.Loading.{IsQuiet}
+use Rattle.nsf_core.specs.Value.{value_of}
 use Rattle.bench_build.proofs.rows.load.Given as goal
 
 -- the core keeps its pages, and no transaction is active

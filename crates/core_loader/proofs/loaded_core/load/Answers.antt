@@ -5,10 +5,10 @@ use Rattle.model.specs.Following.{IsWithin}
 use Rattle.redo.specs.Restored.{given_in}
 use Rattle.core_model.specs.Histories.{opened}
 use Rattle.core_contracts.specs.Events.{standing_at}
-use Rattle.index_core.specs.Loading.{IsLifeInside, life_loaded}
-use Rattle.index_core.specs.Moves.{fresh}
-use Rattle.index_core.specs.Value.{value_of}
-use Rattle.index_core.specs.View.{CoreValue, IsState}
+use Rattle.nsf_core.specs.Loading.{IsLifeInside, life_loaded}
+use Rattle.nsf_core.specs.Moves.{fresh}
+use Rattle.nsf_core.specs.Value.{value_of}
+use Rattle.nsf_core.specs.View.{CoreValue, IsState}
 use Rattle.core_loader.specs.Loaded.{store_of, with_entries, with_rows}
 use Rattle.core_loader.proofs.Loading.{stands_for}
 use Rattle.core_loader.proofs.loaded_core.load.Goals as goal

@@ -1,4 +1,4 @@
-use Rattle.index_core.specs.Value.{value_of}
+use Rattle.nsf_core.specs.Value.{value_of}
 use Rattle.core_loader.proofs.Loading.{all_entries, no_entry, one_entry}
 use Rattle.core_loader.proofs.loaded_core.load_entries.Goals as goal
 

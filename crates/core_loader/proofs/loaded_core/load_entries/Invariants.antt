@@ -1,5 +1,5 @@
 use Rattle.std.specs.FinMap as map
-use Rattle.index_core.specs.Value.{value_of}
+use Rattle.nsf_core.specs.Value.{value_of}
 use Rattle.core_loader.proofs.Loading.{AreEntriesLoaded}
 use Rattle.core_loader.proofs.loaded_core.load_entries.Given as goal
 

@@ -1,4 +1,4 @@
-use Rattle.index_core.specs.Value.{value_of}
+use Rattle.nsf_core.specs.Value.{value_of}
 use Rattle.core_loader.proofs.Loading.{all_rows, no_row, one_row, row_within, rows_quiet}
 use Rattle.core_loader.proofs.loaded_core.load_rows.Goals as goal
 

@@ -1,5 +1,5 @@
 use Rattle.std.specs.FinMap as map
-use Rattle.index_core.specs.Value.{value_of}
+use Rattle.nsf_core.specs.Value.{value_of}
 use Rattle.core_loader.proofs.Loading.{AreRowsLoaded}
 use Rattle.core_loader.proofs.loaded_core.load_rows.Given as goal
 

@@ -4,7 +4,7 @@ use Rattle.sector_device.specs.Disk.{Image, Disk}
 use Rattle.gate_log.specs.Area.{IsAreaInside, Refuses}
 use Rattle.store_reader.specs.Contents.{Gives, IsUnreadable}
 use Rattle.redo.specs.Restored.{given_in}
-use Rattle.index_core.specs.Value.{value_of}
+use Rattle.nsf_core.specs.Value.{value_of}
 use Rattle.first.proofs.Reopened.{loaded_core, then_reads, told_since, refused_since}
 use Rattle.first.proofs.reopen.open_core.Goals as goal
 
@@ -49,4 +49,7 @@ pub returns-clause-found : goal.returns-clause-found
 returns-clause-found g c =
     let h = g.D.Device.history in
     let found = c.in_ok-found.found in
-    loaded_core (h c.args.device.now).disk.content (h c.sync.new.self).disk.content found.restored.geometry found.log (given_in found.restored) (value_of c.in_ok-core.core) (ap (λ (d : Disk). d.content) c.in-Ok.ensures.ok) c.in_ok-found.ensures.found c.in_ok-core.ensures.made c.in_ok-core.ensures.opened
+    loaded_core (h c.args.device.now).disk.content (h c.sync.new.self).disk.content found.restored.geometry found.log (given_in found.restored) (value_of c.in_ok-core.core) found.untouched (ap (λ (d : Disk). d.content) c.in-Ok.ensures.ok) c.in_ok-found.ensures.found c.in_ok-core.ensures.made c.in_ok-core.ensures.opened c.in_ok-found.ensures.untouched
+
+pub returns-in_default-clause-memory : goal.returns-in_default-clause-memory
+returns-in_default-clause-memory g c is = absurd cc

@@ -32,7 +32,7 @@ returns-clause-refused c =
     let image = (disk_history c.new-disk.result).disk.content in
     let formatted = subst (λ (d : MemDisk Global). IsFormatted g (history_of d).disk.content) (sym c.new-disk.ensures.device) c.in_ok-format.ensures.formatted in
     let closed = subst (λ (d : MemDisk Global). AreGatesClosed g A (history_of d).disk.content) (sym c.new-disk.ensures.device) c.in_ok-format.ensures.closed in
-    let gives = c.format_gives_nothing.ensures g image formatted closed in
+    let gives = c.format_gives_nothing.ensures.gives g image (disk_history c.new-disk.result).whole formatted closed in
     inr (⊎_elim
     (⊎_elim (λ none. inr none) (λ failed. inl failed.0))
     (λ unreadable. absurd (c.one_answer.ensures.readable image g nothing c.in-Err.error gives unreadable))

@@ -1,7 +1,11 @@
 use Rattle.std.proofs.Common.{sym}
+use Rattle.flip_image.specs.declared.half.Half.TheVariants.{A}
 use Rattle.model.specs.Given.{nothing}
-use Rattle.store_reader.proofs.Readings.{formatted_gives}
+use Rattle.store_reader.proofs.Readings.{formatted_untouched, untouched_gives}
 use Rattle.store_reader.proofs.laws.format_gives_nothing.Goals as goal
 
-pub returns : goal.returns
-returns c g image formatted closed = formatted_gives g image formatted closed (sym (c.beginnings.ensures.again nothing))
+pub returns-clause-untouched : goal.returns-clause-untouched
+returns-clause-untouched c g image whole formatted closed = formatted_untouched g image (c.fresh_image.ensures.image g A image whole formatted.store.room formatted.fresh) formatted closed
+
+pub returns-clause-gives : goal.returns-clause-gives
+returns-clause-gives c g image whole formatted closed = untouched_gives image g (sym (c.beginnings.ensures.again nothing)) (returns-clause-untouched c g image whole formatted closed)

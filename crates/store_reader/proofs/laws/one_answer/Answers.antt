@@ -14,4 +14,4 @@ pub returns-clause-readable : goal.returns-clause-readable
 returns-clause-readable c = readable
 
 pub returns-clause-refusal : goal.returns-clause-refusal
-returns-clause-refusal c = one_refusal c.one_used_part.ensures.sector
+returns-clause-refusal c = one_refusal

@@ -1,14 +1,14 @@
-use Rattle.std.proofs.Common.{◌≡◌, ◌<◌, ◌≤◌, ◌∙◌, arith, sym, ap, subst}
+use Rattle.std.proofs.Common.{◌≡◌, ◌↔◌, ◌<◌, ◌≤◌, ◌∙◌, IsTrue, List, [], arith, sym, ap, subst}
 use Rattle.std.proofs.lemmas.Result.{err_from_is_err_and}
 use Rattle.std.specs.FinMap.{len}
 use Rattle.sector_device.specs.Disk.{Disk, Image}
 use Rattle.records.specs.GeometryValue.{GeometryValue}
+use Rattle.records.specs.RecordValue.{RecordValue}
 use Rattle.gate_log.specs.Area.{Stands, records_of}
 use Rattle.model.specs.Given.{Given}
 use Rattle.redo.specs.Restored.{given_in}
-use Rattle.redo.specs.Store as store
-use Rattle.store_reader.specs.Contents.{log_area, IsFound}
-use Rattle.store_reader.proofs.Readings.{accepted_one, first_unfit, found, holds, restored}
+use Rattle.store_reader.specs.Contents.{log_area, IsFound, IsUntouched}
+use Rattle.store_reader.proofs.Readings.{accepted_one, first_unfit, found, holds, restored, told_untouched}
 use Rattle.store_reader.proofs.Refusals.{Why, accepted, area_is, overfull, slot_damaged, record_misplaced}
 use Rattle.store_reader.proofs.reader.read_store.Goals as goal
 
@@ -21,12 +21,12 @@ returns-in_err-halves-clause-accepted g c x given gives =
 pub returns-in_err-records-clause-refused : goal.returns-in_err-records-clause-refused
 returns-in_err-records-clause-refused g c =
     let image : Image = (g.D.Device.history c.args.device.now).disk.content in
-    let same = ap (λ (d : Disk). d.content) c.open_fresh.ensures.reads.disk in
-    let area : c.new-log.result.area ≡ log_area c.in_ok-halves.halves.geometry c.in_ok-halves.halves.current =
+    let same = ap (λ (d : Disk). d.content) c.open_store.ensures.reads.disk in
+    let at = c.in_ok-halves in
+    let area : c.new-log.result.area ≡ log_area at.halves.geometry at.halves.current =
     c.new-log.ensures.area
     ∙ area_is c.log_first.result c.from.result _ _ c.log_first.ensures.value (c.from.ensures ∙ ap (λ (x : GeometryValue). x.slots) (c.geometry.view_is ∙ c.geometry-geometry.ensures)) in
-    let told = slot_damaged image _ c.in_ok-halves.halves.geometry c.in_ok-halves.halves.current _ _ _ _ c.in_ok-halves.ensures.opened same c.in_ok-halves.ensures.quiet c.in_ok-halves.ensures.fresh
-    c.new-log.result.area area c.in_err-records.ensures.refused in
+    let told = slot_damaged image at.halves.geometry at.halves.current _ _ at.ensures.opened _ _ _ same at.ensures.quiet at.cells.last at.cells.cells at.ensures.imaged c.new-log.result.area area c.in_err-records.ensures.refused in
     let p = err_from_is_err_and c.from_residual-in_err-records.result c.from_residual-in_err-records.ensures.1 in
     rw p.1 (subst (Why image _ _) (sym p.2) told)
 
@@ -38,41 +38,61 @@ pub returns-in-Ok-clause-found : goal.returns-in-Ok-clause-found
 returns-in-Ok-clause-found g c =
     let h = g.D.Device.history in
     let image : Image = (h c.args.device.now).disk.content in
-    let geometry = c.in_ok-halves.halves.geometry in
-    let half = c.in_ok-halves.halves.current in
+    let at = c.in_ok-halves in
+    let geometry = at.halves.geometry in
+    let half = at.halves.current in
     let log = c.read_all.new.self in
     let area : log.area ≡ log_area geometry half =
     c.read_all.ensures.area ∙ c.new-log.ensures.area
     ∙ area_is c.log_first.result c.from.result geometry half c.log_first.ensures.value (c.from.ensures ∙ ap (λ (x : GeometryValue). x.slots) (c.geometry.view_is ∙ c.geometry-geometry.ensures)) in
     let read = c.in_ok-records.ensures.read in
-    let stands = subst (λ (d : Disk). Stands log d.content read.0) c.in_ok-halves.ensures.reads.disk read.1 in
+    let stands = subst (λ (d : Disk). Stands log d.content read.0) at.ensures.reads.disk read.1 in
     let given = given_in c.in_ok-restored-in-Ok.restored in
-    let made = restored geometry c.deref.result.now c.new-cells.result c.redo_all.new.self given
-    (c.new-cells.ensures ∙ ap (λ (x : GeometryValue). store.empty_store x 0) c.geometry-geometry.ensures) c.in-Ok.ensures.following c.in-Ok.ensures.ok c.in_ok-restored-in-Ok.ensures.given in
+    let made = restored geometry c.deref.result.now at.cells c.redo_all.new.self given at.ensures.geometry c.in-Ok.ensures.following c.in-Ok.ensures.ok c.in_ok-restored-in-Ok.ensures.given in
     let room : len given.entries ≤ geometry.entries =
-    omega (arith, c.if-len-geometry.false, c.len.ensures, ap (λ (x : GeometryValue). x.entries) (c.geometry-2.view_is ∙ c.geometry-geometry.ensures)) in
+    omega (arith, c.if-len-geometry.false, c.len.ensures, ap (λ (x : GeometryValue). x.entries) (c.geometry.view_is ∙ c.geometry-geometry.ensures)) in
     subst (λ (x : GeometryValue). IsFound image x log given) (sym (c.in_ok-restored-in-Ok.ensures.geometry ∙ made.2))
-    (found image geometry half log read.0 c.deref.result.now given c.in_ok-halves.ensures.opened c.in_ok-halves.ensures.fresh area stands (c.deref.ensures.value ∙ read.2) made.0 made.1 room)
+    (found image geometry half at.cells.last at.cells.cells log read.0 c.deref.result.now given at.ensures.opened at.ensures.imaged area stands (c.deref.ensures.value ∙ read.2) made.0 made.1 room)
+
+pub returns-in-Ok-clause-untouched : goal.returns-in-Ok-clause-untouched
+returns-in-Ok-clause-untouched g c =
+    let h = g.D.Device.history in
+    let image : Image = (h c.args.device.now).disk.content in
+    let at = c.in_ok-halves in
+    let geometry = at.halves.geometry in
+    let half = at.halves.current in
+    let log = c.read_all.new.self in
+    let area : log.area ≡ log_area geometry half =
+    c.read_all.ensures.area ∙ c.new-log.ensures.area
+    ∙ area_is c.log_first.result c.from.result geometry half c.log_first.ensures.value (c.from.ensures ∙ ap (λ (x : GeometryValue). x.slots) (c.geometry.view_is ∙ c.geometry-geometry.ensures)) in
+    let read = c.in_ok-records.ensures.read in
+    let stands = subst (λ (d : Disk). Stands log d.content read.0) at.ensures.reads.disk read.1 in
+    let made = restored geometry c.deref.result.now at.cells c.redo_all.new.self (given_in c.in_ok-restored-in-Ok.restored) at.ensures.geometry c.in-Ok.ensures.following c.in-Ok.ensures.ok c.in_ok-restored-in-Ok.ensures.given in
+    let told : IsTrue c.is_untouched.result ↔ IsTrue at.bare × (c.deref.result.now ≡ []) =
+    subst (λ (l : List RecordValue). IsTrue c.is_untouched.result ↔ IsTrue at.bare × (l ≡ [])) (c.deref-in-Ok.ensures.value ∙ sym c.deref.ensures.value) c.is_untouched.ensures in
+    subst (λ (x : GeometryValue). IsTrue c.is_untouched.result ↔ IsUntouched image x) (sym (c.in_ok-restored-in-Ok.ensures.geometry ∙ made.2))
+    (told_untouched image geometry half at.cells.last at.cells.cells c.deref.result.now at.bare c.is_untouched.result
+    (holds image geometry half at.cells.last at.cells.cells log read.0 c.deref.result.now at.ensures.opened at.ensures.imaged area stands (c.deref.ensures.value ∙ read.2) made.0) at.ensures.bare told)
 
 pub returns-then-len-geometry-clause-refused : goal.returns-then-len-geometry-clause-refused
 returns-then-len-geometry-clause-refused g c =
     let h = g.D.Device.history in
     let image : Image = (h c.args.device.now).disk.content in
-    let geometry = c.in_ok-halves.halves.geometry in
-    let half = c.in_ok-halves.halves.current in
+    let at = c.in_ok-halves in
+    let geometry = at.halves.geometry in
+    let half = at.halves.current in
     let log = c.read_all.new.self in
     let area : log.area ≡ log_area geometry half =
     c.read_all.ensures.area ∙ c.new-log.ensures.area
     ∙ area_is c.log_first.result c.from.result geometry half c.log_first.ensures.value (c.from.ensures ∙ ap (λ (x : GeometryValue). x.slots) (c.geometry.view_is ∙ c.geometry-geometry.ensures)) in
     let read = c.in_ok-records.ensures.read in
-    let stands = subst (λ (d : Disk). Stands log d.content read.0) c.in_ok-halves.ensures.reads.disk read.1 in
+    let stands = subst (λ (d : Disk). Stands log d.content read.0) at.ensures.reads.disk read.1 in
     let given = given_in c.in_ok-restored-in-Ok.restored in
-    let made = restored geometry c.deref.result.now c.new-cells.result c.redo_all.new.self given
-    (c.new-cells.ensures ∙ ap (λ (x : GeometryValue). store.empty_store x 0) c.geometry-geometry.ensures) c.in-Ok.ensures.following c.in-Ok.ensures.ok c.in_ok-restored-in-Ok.ensures.given in
+    let made = restored geometry c.deref.result.now at.cells c.redo_all.new.self given at.ensures.geometry c.in-Ok.ensures.following c.in-Ok.ensures.ok c.in_ok-restored-in-Ok.ensures.given in
     let crowded : geometry.entries < len given.entries =
-    omega (arith, c.if-len-geometry.true, c.len.ensures, ap (λ (x : GeometryValue). x.entries) (c.geometry-2.view_is ∙ c.geometry-geometry.ensures)) in
-    overfull image geometry half c.deref.result.now c.header_sector.result _ _
-    (holds image geometry half log read.0 c.deref.result.now c.in_ok-halves.ensures.opened c.in_ok-halves.ensures.fresh area stands (c.deref.ensures.value ∙ read.2) made.0)
+    omega (arith, c.if-len-geometry.true, c.len.ensures, ap (λ (x : GeometryValue). x.entries) (c.geometry.view_is ∙ c.geometry-geometry.ensures)) in
+    overfull image geometry half at.cells.last at.cells.cells c.deref.result.now c.header_sector.result _ _
+    (holds image geometry half at.cells.last at.cells.cells log read.0 c.deref.result.now at.ensures.opened at.ensures.imaged area stands (c.deref.ensures.value ∙ read.2) made.0)
     (subst (λ (x : Given). geometry.entries < len x.entries) made.1 crowded) c.header_sector.ensures
 
 pub returns-then-len-geometry-clause-accepted : goal.returns-then-len-geometry-clause-accepted
@@ -84,19 +104,19 @@ returns-in-Unfit-clause-refused g c =
     let h = g.D.Device.history in
     let image : Image = (h c.args.device.now).disk.content in
     let now : Image = (h c.read_all.new.device).disk.content in
-    let geometry = c.in_ok-halves.halves.geometry in
-    let half = c.in_ok-halves.halves.current in
+    let at = c.in_ok-halves in
+    let geometry = at.halves.geometry in
+    let half = at.halves.current in
     let log = c.read_all.new.self in
-    let same = ap (λ (d : Disk). d.content) (c.in_ok-records.ensures.reads.disk ∙ c.in_ok-halves.ensures.reads.disk) in
+    let same = ap (λ (d : Disk). d.content) (c.in_ok-records.ensures.reads.disk ∙ at.ensures.reads.disk) in
     let area : log.area ≡ log_area geometry half =
     c.read_all.ensures.area ∙ c.new-log.ensures.area
     ∙ area_is c.log_first.result c.from.result geometry half c.log_first.ensures.value (c.from.ensures ∙ ap (λ (x : GeometryValue). x.slots) (c.geometry.view_is ∙ c.geometry-geometry.ensures)) in
     let read = c.in_ok-records.ensures.read in
     let stands = subst (λ (d : Disk). Stands log d.content read.0) (sym c.in_ok-records.ensures.reads.disk) read.1 in
     let index = c.in-Err.stopped.index in
-    let first = first_unfit geometry c.deref.result.now (records_of read.0) c.new-cells.result index
-    (c.new-cells.ensures ∙ ap (λ (x : GeometryValue). store.empty_store x 0) c.geometry-geometry.ensures) (c.deref.ensures.value ∙ read.2) (c.in-Err.ensures.unfit c.in-Unfit.is) in
-    record_misplaced image now geometry half _ _ _ _ c.in_ok-halves.ensures.opened same (c.in_ok-records.ensures.quiet ∙ c.in_ok-halves.ensures.quiet) c.in_ok-halves.ensures.fresh
+    let first = first_unfit geometry c.deref.result.now (records_of read.0) at.cells index at.ensures.geometry (c.deref.ensures.value ∙ read.2) (c.in-Err.ensures.unfit c.in-Unfit.is) in
+    record_misplaced image geometry half _ _ at.ensures.opened now _ _ same (c.in_ok-records.ensures.quiet ∙ at.ensures.quiet) at.cells.last at.cells.cells at.ensures.imaged
     log read.0 index area stands first c.misplaced.ensures.told
 
 pub returns-in-Unfit-clause-accepted : goal.returns-in-Unfit-clause-accepted

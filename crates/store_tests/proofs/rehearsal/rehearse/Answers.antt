@@ -1,5 +1,5 @@
 use Rattle.std.proofs.Common.{arith, sym, subst}
-use Rattle.sector_device.specs.Disk.{Image, Disk, IsCrashImage}
+use Rattle.sector_device.specs.Disk.{Image, Disk, IsCrashImage, IsWhole}
 use Rattle.sector_device.specs.History.{History}
 use Rattle.sector_device.specs.MemDisk.{history_of, failures_of}
 use Rattle.model.specs.Given.{nothing}
@@ -15,15 +15,17 @@ returns-in-Err-clause-refused c =
     let g = c.args.geometry in
     let disk = c.format.new.device in
     let image : Image = (history_of disk).disk.content in
-    let gives : Gives image g nothing = c.format_gives_nothing.ensures g image c.in_ok-format.ensures.formatted c.in_ok-format.ensures.closed in
+    let gives : Gives image g nothing = c.format_gives_nothing.ensures.gives g image (history_of disk).whole c.in_ok-format.ensures.formatted c.in_ok-format.ensures.closed in
     not_opened_so history_of failures_of disk c.in-Err.field-0-1 c.in-Err.error
     (λ e. c.one_answer.ensures.readable image g nothing e gives) c.in-Err.ensures.refused
 
 begun : (c : goal.In-Ok-restart) → IsAt history_of (opening c.args.geometry) c.in-Ok.engine
 begun c =
     let image : Image = (history_of c.format.new.device).disk.content in
+    let whole : IsWhole image = (history_of c.format.new.device).whole in
     begun_formatted history_of c.format.new.device c.args.geometry
-    (c.format_gives_nothing.ensures c.args.geometry image c.in_ok-format.ensures.formatted c.in_ok-format.ensures.closed) c.in-Ok.engine c.in-Ok.ensures.opened
+    (c.format_gives_nothing.ensures.gives c.args.geometry image whole c.in_ok-format.ensures.formatted c.in_ok-format.ensures.closed)
+    (c.format_gives_nothing.ensures.untouched c.args.geometry image whole c.in_ok-format.ensures.formatted c.in_ok-format.ensures.closed) c.in-Ok.engine c.in-Ok.ensures.opened
 
 went : (c : goal.In-Ok-restart) → GoesOn history_of (opening c.args.geometry) c.args.events.now c.in_ok-replies.replies.items c.in-Ok.engine c.run.new.self
 went c = c.in_ok-replies.ensures.ran (opening c.args.geometry) (begun c)
@@ -48,10 +50,13 @@ pub returns-in-Err-restart-clause-refused : goal.returns-in-Err-restart-clause-r
 returns-in-Err-restart-clause-refused c =
     let replies = c.in_ok-replies.replies.items in
     let past = and_then (opening c.args.geometry) c.args.events.now replies in
+    let image : Image = (history_of c.format.new.device).disk.content in
+    let whole : IsWhole image = (history_of c.format.new.device).whole in
     let at : IsAt history_of past c.run.new.self =
     (c.in_ok-replies.ensures.ran (opening c.args.geometry)
     (begun_formatted history_of c.format.new.device c.args.geometry
-    (c.format_gives_nothing.ensures c.args.geometry (history_of c.format.new.device).disk.content c.in_ok-format.ensures.formatted c.in_ok-format.ensures.closed) c.in-Ok.engine c.in-Ok.ensures.opened)).at in
+    (c.format_gives_nothing.ensures.gives c.args.geometry image whole c.in_ok-format.ensures.formatted c.in_ok-format.ensures.closed)
+    (c.format_gives_nothing.ensures.untouched c.args.geometry image whole c.in_ok-format.ensures.formatted c.in_ok-format.ensures.closed) c.in-Ok.engine c.in-Ok.ensures.opened)).at in
     refuses_so (failures_of c.crash.new.self) (failures_of c.in-Err-restart.field-0-1) c.in-Err-restart.error
     (c.in-Err-restart.ensures.readable past (acknowledged 0 replies)
     (c.into_device-disk.ensures.survives past (history_of c.crash.new.self).disk.content at c.crash.ensures.crash))

@@ -1,9 +1,9 @@
 use Rattle.std.proofs.Common.{refl}
 use Rattle.core_contracts.specs.Events as core
-use Rattle.index_core.specs.Replies.{reply_of_ticket}
+use Rattle.nsf_core.specs.Replies.{reply_of_ticket}
 use Rattle.first.specs.declared.parts.Parts.{Parts}
 use Rattle.first.specs.declared.event.Reply.TheVariants as reply
-use Rattle.index_core.proofs.Offered.{skips_commit}
+use Rattle.nsf_core.proofs.Offered.{skips_commit}
 use Rattle.first.specs.Parts.{core_of}
 use Rattle.first.proofs.Answered.{answered_err, answered_ok, answered_still}
 use Rattle.first.proofs.parts.Parts.commit.Goals as goal
@@ -17,10 +17,10 @@ pub returns-in-Ok : goal.returns-in-Ok
 returns-in-Ok g c =
     let old = c.args.self.now in
     let new : Parts g.row.D.Denot g.row.A.Denot = record old { core = c.commit.new.self } in
-    answered_ok (core.Commit c.args.txn) reply_of_ticket _ old new c.commit.ensures refl c.in-Ok.ticket (reply.Ticket c.in-Ok.ticket) c.in-Ok.is refl
+    answered_ok (core.Commit c.args.txn) reply_of_ticket _ old new c.commit.ensures.serves refl c.in-Ok.ticket (reply.Ticket c.in-Ok.ticket) c.in-Ok.is refl
 
 pub returns-in-Err : goal.returns-in-Err
 returns-in-Err g c =
     let old = c.args.self.now in
     let new : Parts g.row.D.Denot g.row.A.Denot = record old { core = c.commit.new.self } in
-    answered_err (core.Commit c.args.txn) reply_of_ticket _ old new c.commit.ensures refl c.in-Err.error c.in-Err.is
+    answered_err (core.Commit c.args.txn) reply_of_ticket _ old new c.commit.ensures.serves refl c.in-Err.error c.in-Err.is

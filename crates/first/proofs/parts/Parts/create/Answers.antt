@@ -1,6 +1,6 @@
 use Rattle.std.proofs.Common.{refl}
 use Rattle.core_contracts.specs.Events as core
-use Rattle.index_core.specs.Replies.{reply_of_ticket}
+use Rattle.nsf_core.specs.Replies.{reply_of_ticket}
 use Rattle.first.specs.declared.parts.Parts.{Parts}
 use Rattle.first.specs.declared.event.Reply.TheVariants as reply
 use Rattle.first.proofs.Answered.{answered_err, answered_ok}

@@ -1,7 +1,7 @@
 use Rattle.std.proofs.Common.{refl}
 use Rattle.core_contracts.specs.Events as core
-use Rattle.index_core.specs.Moves.{txn_shown}
-use Rattle.index_core.proofs.Offered.{skips_end}
+use Rattle.nsf_core.specs.Moves.{txn_shown}
+use Rattle.nsf_core.proofs.Offered.{skips_end}
 use Rattle.first.specs.declared.parts.Parts.{Parts}
 use Rattle.first.specs.declared.event.Reply.TheVariants as reply
 use Rattle.first.specs.Parts.{core_of}

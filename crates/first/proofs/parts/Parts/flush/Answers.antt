@@ -6,7 +6,7 @@ use Rattle.first.specs.declared.writer.Flushed.TheVariants.{Done}
 use Rattle.store_reader.specs.Contents.{log_area}
 use Rattle.first.specs.Writer.{IsFlushed}
 use Rattle.first.proofs.Flushing.{core_has, enough, fills, handed_within, none_left, none_waits, one_waits, served_flush, some_left, some_waits, taken, within, writes}
-use Rattle.index_core.specs.Value.{value_of}
+use Rattle.nsf_core.specs.Value.{value_of}
 use Rattle.first.proofs.parts.Parts.flush.Goals as goal
 
 pub last-requires : goal.last-requires

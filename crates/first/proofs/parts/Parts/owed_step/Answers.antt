@@ -2,7 +2,7 @@ use Rattle.std.proofs.Common.{refl}
 use Rattle.core_contracts.specs.Events as core
 use Rattle.first.specs.declared.parts.Parts.{Parts}
 use Rattle.first.specs.declared.event.Reply.TheVariants as reply
-use Rattle.index_core.proofs.Offered.{skips_step}
+use Rattle.nsf_core.proofs.Offered.{skips_step}
 use Rattle.first.specs.Parts.{core_of}
 use Rattle.first.proofs.Answered.{answered_err, answered_ok, answered_still}
 use Rattle.first.proofs.parts.Parts.owed_step.Goals as goal

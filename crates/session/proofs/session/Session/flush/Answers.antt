@@ -1,5 +1,5 @@
 use Rattle.std.proofs.Common.{◌≡◌, ℕ, true, false, subst, ap, ◌∙◌, arith, rules}
-use Rattle.index_core.specs.View.{CoreValue}
+use Rattle.nsf_core.specs.View.{CoreValue}
 use Rattle.session.specs.Session.{horizon_after, last_made, asks_again, Flushes}
 use Rattle.session.specs.declared.session.Session.{Session}
 use Rattle.session.proofs.Flushed.{none_flushed, one_more, is_final, rises}

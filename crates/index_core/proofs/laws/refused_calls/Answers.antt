@@ -1,5 +1,0 @@
-use Rattle.index_core.proofs.Refusing.{refused_unchanged}
-use Rattle.index_core.proofs.laws.refused_calls.Goals as goal
-
-pub returns : goal.returns
-returns c = refused_unchanged

@@ -1,6 +1,0 @@
-use Rattle.index_core.specs.Value.{value_of}
-use Rattle.index_core.proofs.Beginning.{tells_life}
-use Rattle.index_core.proofs.store.Core.life.Goals as goal
-
-pub returns-clause-serves : goal.returns-clause-serves
-returns-clause-serves g c = tells_life (value_of c.args.self.now)

@@ -1,5 +1,0 @@
-use Rattle.std.proofs.Math.Logic.{∥∥₁_map}
-use Rattle.index_core.proofs.store.Core.load_entry.Goals as goal
-
-pub invariant_of-self : goal.invariant_of-self
-invariant_of-self g c = record { safe = ∥∥₁_map c.args.self.now.safe c.load_entry.ensures.safe }

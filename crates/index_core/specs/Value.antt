@@ -1,7 +1,0 @@
--- What contracts see of a core.
-use Rattle.index_core.specs.View.{CoreValue}
-use Rattle.index_core.specs.Parts.{parts_of}
-use Rattle.index_core.specs.declared.store.Core.{Core}
-
-abbrev pub value_of : {A : Type 0} → Core A → CoreValue
-value_of c = parts_of c.parts

@@ -1,0 +1,24 @@
+mod Moved
+mod Pairs
+mod Places
+mod Newest
+mod Due
+mod Started
+mod Inserting
+mod Changing
+mod Beginning
+mod Leaving
+mod Next
+mod Building
+mod Cleaning
+mod Creating
+mod Loading
+mod Finding
+mod Waiting
+mod Stepped
+mod Undoing
+mod Skipping
+mod Refusing
+mod Checking
+mod Steps
+pub mod Offered

@@ -1,0 +1,5 @@
+use Rattle.nsf_core.proofs.Due.{stands}
+use Rattle.nsf_core.proofs.laws.each_answer.Goals as goal
+
+pub returns : goal.returns
+returns c = stands

@@ -1,0 +1,18 @@
+-- The core as a value.
+use Rattle.nsf_core.specs.View.{CoreValue}
+use Rattle.nsf_core.specs.declared.parts.Parts.{Parts}
+
+abbrev pub parts_of : {A : Type 0} → Parts A → CoreValue
+parts_of c = record {
+  heap = c.heap;
+  txns = c.txns;
+  index = c.index;
+  life = c.life;
+  scan = c.scan;
+  cleaned = c.cleaned;
+  last = c.last;
+  tried = c.tried;
+  attempts = c.attempts;
+  commits = c.commits;
+  outbox = c.outbox.items;
+}

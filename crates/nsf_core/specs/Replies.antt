@@ -1,0 +1,21 @@
+-- The replies of the calls.
+use Rattle.std.specs.Prelude.{Err, None, Ok, Option, Result, Some, ℕ}
+use Rattle.records.specs.declared.error.Error.{Error}
+use Rattle.core_contracts.specs.Events.{Refused, Reply}
+use Rattle.nsf_core.specs.declared.parts.Ticket.{Ticket}
+
+abbrev pub reply_by : {T : Type 0} → (T → Reply) → Result T Error → Reply
+reply_by f (Ok x) = f x
+reply_by f (Err e) = Refused e
+
+abbrev pub ticket_by : (ℕ → Reply) → ℕ → Option ℕ → Reply
+ticket_by other number None = other number
+ticket_by other number (Some commit) = Reply.Committed number commit
+
+-- a ticket with the number of a commit is that of a commit, and one without tells of another step
+abbrev pub ticketed : (ℕ → Reply) → Ticket → Reply
+ticketed other ticket = ticket_by other ticket.record ticket.commit
+
+-- and without, here, of a creation
+abbrev pub reply_of_ticket : Ticket → Reply
+reply_of_ticket ticket = ticketed Reply.Created ticket

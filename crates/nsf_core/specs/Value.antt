@@ -1,0 +1,7 @@
+-- What contracts see of a core.
+use Rattle.nsf_core.specs.View.{CoreValue}
+use Rattle.nsf_core.specs.Parts.{parts_of}
+use Rattle.nsf_core.specs.declared.store.Core.{Core}
+
+abbrev pub value_of : {A : Type 0} → Core A → CoreValue
+value_of c = parts_of c.parts

@@ -1,0 +1,229 @@
+//! The steps of the builder.
+ghost use Rattle.std.specs.Prelude.{◌≡◌, ◌≢◌, ◌≤◌, ◌<◌, ◌+◌, ◌++◌, ◌∷◌, ◌⊎◌, [], None, Some, IfOk, IfErr, IfSome, IfNone, OnOk, OnErr};
+ghost use Rattle.std.specs.FinMap as map;
+ghost use Rattle.records.specs.declared.number.TheConstants.{LAST_NUMBER};
+ghost use Rattle.records.specs.declared.pair.Pair.{Pair};
+ghost use Rattle.records.specs.declared.record.IndexAction.TheVariants as action;
+ghost use Rattle.model.specs.Following.{IsBuilding};
+ghost use Rattle.model.specs.declared.life.Life.TheVariants as life;
+ghost use Rattle.marked_index.specs.Index.{IsAbsent, IsFull};
+ghost use Rattle.sorted_scan.specs.Scans.{next_of};
+ghost use Rattle.core_contracts.specs.Events.{Event};
+ghost use Rattle.nsf_core.specs.View.{IsSafe, Serves};
+ghost use Rattle.nsf_core.specs.Moves.{with_record};
+ghost use Rattle.nsf_core.specs.Replies.{reply_by};
+ghost use Rattle.nsf_core.specs.Parts.{parts_of};
+ghost use Rattle.nsf_core.specs.Builds.{built, HasAttempted, HasPassed, HasTaken, HasNextNumber, IsUnplaced, IsUnrecorded, checkpointed, completed, placed};
+
+use crate::parts::{Parts, Ticket};
+use crate::reply::BuildReply;
+use model::Life;
+use records::{ATTEMPTS_PER_CHECKPOINT, Action, Error, IndexAction, Pair, Record, RecordNumber};
+use std::alloc::Allocator;
+
+fn checkpoint_at(pair: &Pair) -> IndexAction
+    ensures { result ≡ action.BuildCheckpoint pair.now }
+{
+    IndexAction::BuildCheckpoint { pair: *pair }
+}
+
+// The life of an index that is being built and whose last checkpoint is this pair.
+fn building_from(pair: &Pair) -> Life
+    ensures { result ≡ life.Building (Some pair.now) }
+{
+    Life::Building {
+        highest: Some(*pair),
+    }
+}
+
+fn ticket_of(number: RecordNumber) -> Ticket
+    ensures record { result.record ≡ number }
+    ensures no_commit { result.commit ≡ None }
+{
+    Ticket {
+        record: number,
+        commit: None,
+    }
+}
+
+impl<A: Allocator + Copy> Parts<A> {
+    /// Puts a record of the index into the outbox. `NoMemory` leaves all as before.
+    pub(crate) fn record_index(
+        &mut self,
+        number: RecordNumber,
+        action: IndexAction,
+    ) -> Result<(), Error>
+        requires number { number ≡ (parts_of self.old).last + 1 }
+        requires left { HasNextNumber (parts_of self.old) }
+        ensures ok { OnOk result (parts_of self.new ≡ with_record (parts_of self.old) (Action.OfIndex action)) }
+        ensures unchanged { OnErr result (parts_of self.new ≡ parts_of self.old) }
+        ensures no_memory { IfErr result (λ e. e ≡ Error.NoMemory) }
+    {
+        let action = Action::OfIndex { action };
+        self.outbox.push_back(Record { number, action })?;
+        self.last += 1;
+        Ok(())
+    }
+
+    // The page that the scan wants.
+    fn wanted_page(&self) -> Option<u32>
+        requires { ∥ IsSafe (parts_of self.now) ∥₁ }
+        ensures page { result ≡ (parts_of self.now).scan.wanted }
+        ensures inside { IfSome result (λ n. n < (parts_of self.now).heap.pages) }
+    {
+        self.scan.wants_page()
+    }
+
+    fn take_page(&mut self, page: u32) -> Result<(), Error>
+        requires wanted { (parts_of self.old).scan.wanted ≡ Some page }
+        requires inside { page < (parts_of self.old).heap.pages }
+        ensures taken { OnOk result (HasTaken (parts_of self.old) page (parts_of self.new)) }
+        ensures unchanged { OnErr result (parts_of self.new ≡ parts_of self.old) }
+        ensures no_memory { IfErr result (λ e. e ≡ Error.NoMemory) }
+    {
+        let pairs = self.heap.page_pairs(page)?;
+        self.scan.take_page(page, &pairs)
+    }
+
+    // Goes on behind the pair that was attempted.
+    fn pass(&mut self, pair: Pair)
+        requires next { next_of (parts_of self.old).scan ≡ Some pair }
+        requires few { (parts_of self.old).tried < ATTEMPTS_PER_CHECKPOINT }
+        ensures { HasPassed (parts_of self.old) pair (parts_of self.new) }
+    {
+        let _handed = self.scan.hand_out();
+        self.tried += 1;
+        self.attempts = self.attempts.saturating_add(1);
+    }
+
+    // Why an attempt of a pair that has no entry is refused, but for want of memory, or the number
+    // of its record.
+    fn may_place(&self) -> Result<RecordNumber, Error>
+        ensures number { IfOk result (λ n. n ≡ (parts_of self.now).last + 1) }
+        ensures roomy { OnOk result (IsFull (parts_of self.now).index → ⊥) }
+        ensures left { OnOk result (HasNextNumber (parts_of self.now)) }
+        ensures refused { IfErr result (λ e. ((e ≡ Error.IndexFull) × IsFull (parts_of self.now).index)
+            ⊎ ((IsFull (parts_of self.now).index → ⊥) × (e ≡ Error.Exhausted) × (LAST_NUMBER ≤ (parts_of self.now).last))) }
+    {
+        if self.index.is_full() {
+            return Err(Error::IndexFull);
+        }
+        self.next_number()
+    }
+
+    // Gives the pair an entry, with its record.
+    fn place(&mut self, number: RecordNumber, pair: Pair) -> Result<(), Error>
+        requires number { number ≡ (parts_of self.old).last + 1 }
+        requires left { HasNextNumber (parts_of self.old) }
+        requires absent { IsAbsent (parts_of self.old).index.entries pair }
+        requires roomy { IsFull (parts_of self.old).index → ⊥ }
+        ensures ok { OnOk result (parts_of self.new ≡ placed (parts_of self.old) pair) }
+        ensures unchanged { OnErr result (parts_of self.new ≡ parts_of self.old) }
+        ensures no_memory { IfErr result (λ e. e ≡ Error.NoMemory) }
+    {
+        let action = Action::OfIndex {
+            action: IndexAction::BuildPlace { pair },
+        };
+        self.outbox.push_back(Record { number, action })?;
+        if let Err(error) = self.index.build_put(&pair) {
+            self.outbox.pop_back();
+            return Err(error);
+        }
+        self.last += 1;
+        Ok(())
+    }
+
+    // Attempts the pair that the scan has next.
+    fn attempt(&mut self, pair: Pair) -> Result<BuildReply, Error>
+        requires next { next_of (parts_of self.old).scan ≡ Some pair }
+        requires few { (parts_of self.old).tried < ATTEMPTS_PER_CHECKPOINT }
+        ensures attempted { IfOk result (λ answer. HasAttempted (parts_of self.old) pair answer (parts_of self.new)) }
+        ensures refused { IfErr result (IsUnplaced (parts_of self.old) pair) }
+        ensures unchanged { OnErr result (parts_of self.new ≡ parts_of self.old) }
+    {
+        if self.index.get(&pair).is_some() {
+            self.pass(pair);
+            return Ok(BuildReply::Rejected(pair));
+        }
+        let number = self.may_place()?;
+        self.place(number, pair)?;
+        self.pass(pair);
+        Ok(BuildReply::Placed(pair))
+    }
+
+    // The index's life is this now, as the record says.
+    pub(crate) fn turn(&mut self, action: IndexAction, life: Life) -> Result<Ticket, Error>
+        ensures ok { OnOk result (parts_of self.new ≡ with_record (record (parts_of self.old) { life = life }) (Action.OfIndex action)) }
+        ensures left { OnOk result (HasNextNumber (parts_of self.old)) }
+        ensures ticket { IfOk result (λ t. t.record ≡ (parts_of self.old).last + 1) }
+        ensures no_commit { IfOk result (λ t. t.commit ≡ None) }
+        ensures refused { IfErr result (IsUnrecorded (parts_of self.old)) }
+        ensures unchanged { OnErr result (parts_of self.new ≡ parts_of self.old) }
+    {
+        let number = self.next_number()?;
+        self.record_index(number, action)?;
+        self.life = life;
+        Ok(ticket_of(number))
+    }
+
+    // Makes a checkpoint of the pair attempted last.
+    fn checkpoint(&mut self, pair: &Pair) -> Result<Ticket, Error>
+        ensures ok { OnOk result (parts_of self.new ≡ checkpointed (parts_of self.old) pair.now) }
+        ensures left { OnOk result (HasNextNumber (parts_of self.old)) }
+        ensures ticket { IfOk result (λ t. t.record ≡ (parts_of self.old).last + 1) }
+        ensures no_commit { IfOk result (λ t. t.commit ≡ None) }
+        ensures refused { IfErr result (IsUnrecorded (parts_of self.old)) }
+        ensures unchanged { OnErr result (parts_of self.new ≡ parts_of self.old) }
+    {
+        let ticket = self.turn(checkpoint_at(pair), building_from(pair))?;
+        self.tried = 0;
+        Ok(ticket)
+    }
+
+    // The pair attempted last.
+    fn last_attempted(&self) -> Pair
+        requires safe { ∥ IsSafe (parts_of self.now) ∥₁ }
+        requires building { IsBuilding (parts_of self.now).life }
+        requires tried { 1 ≤ (parts_of self.now).tried }
+        ensures { (parts_of self.now).scan.last ≡ Some result }
+    {
+        match self.scan.last() {
+            Some(pair) => pair,
+            None => unreachable!(),
+        }
+    }
+
+    // A step of the builder of an index that is being built.
+    fn build_on(&mut self) -> Result<BuildReply, Error>
+        requires safe { ∥ IsSafe (parts_of self.old) ∥₁ }
+        requires building { IsBuilding (parts_of self.old).life }
+        ensures { Serves (parts_of self.old) Event.Build (reply_by built result) (parts_of self.new) }
+    {
+        if self.tried >= u64::from(ATTEMPTS_PER_CHECKPOINT) {
+            let pair = self.last_attempted();
+            let ticket = self.checkpoint(&pair)?;
+            return Ok(BuildReply::Marked(pair, ticket));
+        }
+        if let Some(page) = self.wanted_page() {
+            self.take_page(page)?;
+            return Ok(BuildReply::Scanned(page));
+        }
+        if let Some(pair) = self.scan.next() {
+            return self.attempt(pair);
+        }
+        let ticket = self.turn(IndexAction::BuildDone, Life::Complete)?;
+        Ok(BuildReply::Done(ticket))
+    }
+
+    /// A step of the builder.
+    pub(crate) fn build_step(&mut self) -> Result<BuildReply, Error>
+        requires safe { ∥ IsSafe (parts_of self.old) ∥₁ }
+        ensures { Serves (parts_of self.old) Event.Build (reply_by built result) (parts_of self.new) }
+    {
+        match self.life {
+            Life::Absent => Err(Error::NoIndex),
+            Life::Complete => Ok(BuildReply::Idle),
+            Life::Building { .. } => self.build_on(),
+        }
+    }
+}

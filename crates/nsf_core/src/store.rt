@@ -1,0 +1,391 @@
+//! The core.
+ghost use Rattle.std.specs.Prelude.{◌≡◌, ◌<◌, ◌≤◌, ◌+◌, ◌-◌, ◌⊎◌, ◌↔◌, Err, Some, is_some, length, option_and_then, IsSome, IsTrue, IfOk, IfErr, OnOk, OnErr};
+ghost use Rattle.std.specs.FinMap as map;
+ghost use Rattle.std.specs.Option.{option_copied};
+ghost use Rattle.records.specs.Maps.{set_at};
+ghost use Rattle.records.specs.declared.row.Row.{Row};
+ghost use Rattle.btree_node.specs.Above.{IsLeastAbove};
+ghost use Rattle.core_contracts.specs.Events.{Event, Reply};
+ghost use Rattle.nsf_core.specs.View.{IsSafe, Serves};
+ghost use Rattle.nsf_core.specs.Moves.{OwesOrNone, HasNoChange, IsReadyOrNone, fresh, txn_shown};
+ghost use Rattle.nsf_core.specs.Replies.{reply_by, reply_of_ticket};
+ghost use Rattle.nsf_core.specs.Parts.{parts_of};
+ghost use Rattle.nsf_core.specs.Loading.{IsLifeInside, IsQuiet, IsPairInside, entry_loaded, life_loaded};
+ghost use Rattle.marked_index.specs.Index.{IsAbsent, IsFull};
+ghost use Rattle.nsf_core.specs.Asked.{IsFine, IsRefused, owed, progress_of};
+ghost use Rattle.nsf_core.specs.Outbox.{HandsOn};
+ghost use Rattle.nsf_core.specs.Builds.{built};
+ghost use Rattle.nsf_core.specs.Cleaning.{cleaner};
+ghost use Rattle.nsf_core.specs.Undoing.{undone_reply};
+ghost use Rattle.txn_table.specs.Sound.{IsSound};
+
+use crate::parts::{Parts, Ticket};
+use crate::reply::{BuildReply, CleanReply, Owed, Undone};
+use model::Life;
+use records::{Body, Error, Geometry, Key, LAST_NUMBER, Mark, Pair, Rid, Row, Sink, Txn};
+use std::alloc::Allocator;
+use txn_table::Progress;
+
+/// The rows, the active transactions, the index with its builder and cleaner, and the records that
+/// wait.
+#[derive(Drop)]
+pub struct Core<A: Allocator> {
+    parts: Parts<A>,
+    ghost safe: { ∥ IsSafe (parts_of parts) ∥₁ },
+}
+
+impl<A: Allocator + Copy> Core<A> {
+    ghost use Rattle.nsf_core.specs.Value.{value_of};
+
+    /// A core without row, entry, transaction or index; the next record has the number after `base`.
+    ///
+    /// The memory of all pages is taken here; the one error is `NoMemory`.
+    pub fn new(alloc: A, geometry: Geometry, base: u64) -> Result<Self, Error>
+        requires { base ≤ LAST_NUMBER }
+        ensures made { IfOk result (λ core. value_of core ≡ fresh geometry base) }
+        ensures no_memory { IfErr result (λ e. e ≡ Error.NoMemory) }
+    {
+        let parts = Parts::new(alloc, geometry, base)?;
+        Ok(Core { parts })
+    }
+
+    /// Leaves this row at the place, or none, while no transaction is active. It makes no record.
+    pub fn load_row(&mut self, rid: Rid, row: Option<Row>)
+        requires quiet { IsQuiet (value_of self.old) }
+        requires inside { rid.page < (value_of self.old).heap.pages }
+        ensures { value_of self.new ≡ record (value_of self.old) {
+          heap = record (value_of self.old).heap { rows = set_at (value_of self.old).heap.rows rid row };
+        } }
+    {
+        self.parts.load_row(rid, row);
+    }
+
+    /// Leaves this entry of the pair, or none, while no transaction is active. It makes no record.
+    ///
+    /// `IndexFull` where it would add an entry and no place is left, else `NoMemory`, which too comes
+    /// only where an entry is to be added. After a refusal the core is as before.
+    pub fn load_entry(&mut self, pair: &Pair, mark: Option<Mark>) -> Result<(), Error>
+        requires quiet { IsQuiet (value_of self.old) }
+        requires inside { IsPairInside (value_of self.old) pair.now }
+        ensures ok { OnOk result (value_of self.new ≡ entry_loaded (value_of self.old) pair.now mark) }
+        ensures full { (result ≡ Err Error.IndexFull) ↔
+            (IsSome mark × IsAbsent (value_of self.old).index.entries pair.now × IsFull (value_of self.old).index) }
+        ensures refused { IfErr result (λ e. IsSome mark × IsAbsent (value_of self.old).index.entries pair.now
+            × ((e ≡ Error.IndexFull) ⊎ (e ≡ Error.NoMemory))) }
+        ensures unchanged { OnErr result (value_of self.new ≡ value_of self.old) }
+    {
+        self.parts.load_entry(pair, mark)
+    }
+
+    /// Leaves the index this far while no transaction is active; a build goes on above the pair checkpointed
+    /// last. It makes no record.
+    pub fn load_life(&mut self, life: Life)
+        requires quiet { IsQuiet (value_of self.old) }
+        requires inside { IsLifeInside (value_of self.old) life }
+        ensures { value_of self.new ≡ life_loaded (value_of self.old) life }
+    {
+        self.parts.load_life(life);
+    }
+
+    /// The row at the place, as it is now, also before its transaction's commit.
+    pub fn get(&self, rid: Rid) -> Option<Row>
+        ensures row { result ≡ map.get (value_of self.now).heap.rows rid }
+        ensures serves { Serves (value_of self.now) (Event.Get rid) (Reply.RowIs result) (value_of self.now) }
+    {
+        self.parts.heap.get(rid)
+    }
+
+    /// How far the index is.
+    pub fn life(&self) -> Life
+        ensures life { result ≡ (value_of self.now).life }
+        ensures serves { Serves (value_of self.now) Event.Life (Reply.LifeIs result) (value_of self.now) }
+    {
+        self.parts.life
+    }
+
+    /// The number of the last record made, or of the last one before the core was made.
+    pub fn last(&self) -> u64
+        ensures { result ≡ (value_of self.now).last }
+    {
+        self.parts.last
+    }
+
+    /// How many attempts the builder has made since the core was made: each that was placed or
+    /// rejected, and no refused one. It never falls, and stays at 2^64 - 1.
+    pub fn attempts(&self) -> u64
+        ensures { result ≡ (value_of self.now).attempts }
+    {
+        self.parts.attempts
+    }
+
+    /// The places of the live entries of a key, ascending: those of the rows with this key, committed
+    /// or not.
+    ///
+    /// `NoIndex`, then `NotBuilt` while the index is built, and `NoMemory`.
+    pub fn find(&self, key: Key) -> Result<Vec<Rid, A>, Error>
+        ensures { Serves (value_of self.now) (Event.Find key) (reply_by (λ rids. Reply.Found rids.items) result) (value_of self.now) }
+    {
+        self.parts.find(key)
+    }
+
+    /// The least entry whose pair comes after the given one, or the least of all.
+    pub fn above(&self, pair: Option<&Pair>) -> Option<(Pair, Mark)>
+        ensures { IsLeastAbove (value_of self.now).index.entries (option_copied pair.entry) result }
+    {
+        self.parts.index.above(pair)
+    }
+
+    /// Whether the transaction has begun, and neither committed nor ended.
+    pub fn is_active(&self, txn: Txn) -> bool
+        ensures { result ≡ is_some (txn_shown (value_of self.now) txn) }
+    {
+        self.parts.txns.is_active(txn)
+    }
+
+    /// Whether the transaction may begin a change or commit: it is active, owes no step, and isn't
+    /// rolling back.
+    pub fn ready(&self, txn: Txn) -> bool
+        ensures { IsTrue result ↔ (progress_of (value_of self.now) txn ≡ Some Progress.Ready) }
+    {
+        self.parts.txns.progress(txn) == Some(Progress::Ready)
+    }
+
+    /// The step of its newest change that the transaction owes; none where it owes none, is rolling
+    /// back, or isn't active.
+    pub fn owes(&self, txn: Txn) -> Option<Owed>
+        ensures { result ≡ option_and_then owed (progress_of (value_of self.now) txn) }
+    {
+        match self.parts.txns.progress(txn)? {
+            Progress::OwesRow => Some(Owed::RowSet),
+            Progress::OwesEntry => Some(Owed::KeyPut),
+            Progress::Ready | Progress::Rolling | Progress::UndoesRow | Progress::UndoesEntry =>
+                None,
+        }
+    }
+
+    /// Whether no change of the transaction is left to take back.
+    pub fn may_end(&self, txn: Txn) -> bool
+        ensures { IsTrue result ↔ HasNoChange (txn_shown (value_of self.now) txn) }
+    {
+        match self.parts.txns.changes(txn) {
+            Some(changes) => changes.is_empty(),
+            None => true,
+        }
+    }
+
+    /// Why `begin` would be refused, but for want of memory: `TooManyTxns`.
+    pub fn check_begin(&self) -> Result<(), Error>
+        ensures refused { IfErr result (IsRefused (value_of self.now) Event.Begin) }
+        ensures fine { OnOk result (IsFine (value_of self.now) Event.Begin) }
+    {
+        self.parts.may_begin()?;
+        Ok(())
+    }
+
+    /// Why `start_insert` would be refused, but for want of memory; the row doesn't matter.
+    ///
+    /// The errors are those of `start_insert`, in that order, but `NoMemory`.
+    pub fn check_insert(&self, txn: Txn) -> Result<(), Error>
+        requires { IsReadyOrNone (txn_shown (value_of self.now) txn) }
+        ensures refused { IfErr result (λ e. (row : Row) → IsRefused (value_of self.now) (Event.Insert txn row) e) }
+        ensures fine { OnOk result ((row : Row) → IsFine (value_of self.now) (Event.Insert txn row)) }
+    {
+        let _place = self.parts.place_for(txn)?;
+        Ok(())
+    }
+
+    /// Why `start_delete` and `start_update` of the row at the place would be refused, but for want of
+    /// memory; the new row doesn't matter.
+    ///
+    /// The errors are those of `start_delete`, in that order, but `NoMemory`.
+    pub fn check_change(&self, txn: Txn, rid: Rid) -> Result<(), Error>
+        requires { IsReadyOrNone (txn_shown (value_of self.now) txn) }
+        ensures refused_delete { IfErr result (IsRefused (value_of self.now) (Event.Delete txn rid)) }
+        ensures refused_update { IfErr result (λ e. (row : Row) → IsRefused (value_of self.now) (Event.Update txn rid row) e) }
+        ensures fine_delete { OnOk result (IsFine (value_of self.now) (Event.Delete txn rid)) }
+        ensures fine_update { OnOk result ((row : Row) → IsFine (value_of self.now) (Event.Update txn rid row)) }
+    {
+        let _found = self.parts.row_for(txn, rid)?;
+        Ok(())
+    }
+
+    /// Why `commit` would be refused, but for want of memory: `NoSuchTxn`, then `Exhausted`.
+    pub fn check_commit(&self, txn: Txn) -> Result<(), Error>
+        requires { IsReadyOrNone (txn_shown (value_of self.now) txn) }
+        ensures refused { IfErr result (IsRefused (value_of self.now) (Event.Commit txn)) }
+        ensures fine { OnOk result (IsFine (value_of self.now) (Event.Commit txn)) }
+    {
+        let _number = self.parts.number_for(txn)?;
+        Ok(())
+    }
+
+    /// Why `create_index` would be refused, but for want of memory: `IndexExists`, then `TxnsActive`,
+    /// and `Exhausted`.
+    pub fn check_create(&self) -> Result<(), Error>
+        ensures refused { IfErr result (IsRefused (value_of self.now) Event.Create) }
+        ensures fine { OnOk result (IsFine (value_of self.now) Event.Create) }
+    {
+        self.parts.check_create()
+    }
+
+    /// How many transactions are active.
+    pub fn active_txns(&self) -> usize
+        ensures number { result ≡ length (value_of self.now).txns.active }
+        ensures sound { IsSound (value_of self.now).txns }
+    {
+        self.parts.txns.len()
+    }
+
+    /// How many records wait to be handed on.
+    pub fn waiting(&self) -> usize
+        ensures { result ≡ length (value_of self.now).outbox }
+    {
+        self.parts.outbox.len()
+    }
+
+    /// Begins a transaction, which makes no record. Their numbers rise from 1.
+    ///
+    /// `TooManyTxns` where 16 are active, then `NoMemory`. After a refusal the core is as before.
+    pub fn begin(&mut self) -> Result<Txn, Error>
+        ensures { Serves (value_of self.old) Event.Begin (reply_by Reply.Txn result) (value_of self.new) }
+    {
+        self.parts.begin()
+    }
+
+    /// Inserts a row at the least place that is empty and held by nobody, and answers the place: the
+    /// first step, which sets the row. While there is an index, the row's entry is owed.
+    ///
+    /// `NoSuchTxn`, then `TooManyChanges` where 64 are on its list, `HeapFull` where there is no such
+    /// place, `IndexFull` where the places of one more change can't be reserved, `Exhausted` where no
+    /// number is left for a record, and `NoMemory`. After a refusal the core is as before.
+    pub fn start_insert(&mut self, txn: Txn, key: Key, body: Body) -> Result<Rid, Error>
+        requires { IsReadyOrNone (txn_shown (value_of self.old) txn) }
+        ensures { Serves (value_of self.old) (Event.Insert txn (record { key = key; body = body })) (reply_by Reply.Rid result) (value_of self.new) }
+    {
+        self.parts.start_insert(txn, key, body)
+    }
+
+    /// Deletes the row at the place: the first step, which marks the row's entry, and without an index
+    /// takes the row out. While there is an index, the row is owed.
+    ///
+    /// `NoSuchTxn`, then `TooManyChanges` where 64 are on its list, `RowBusy` where another active
+    /// transaction holds the row, `NoSuchRow` where there is none, `IndexFull` where the places of one
+    /// more change can't be reserved, `Exhausted` where no number is left for a record, and
+    /// `NoMemory`. After a refusal the core is as before.
+    pub fn start_delete(&mut self, txn: Txn, rid: Rid) -> Result<(), Error>
+        requires { IsReadyOrNone (txn_shown (value_of self.old) txn) }
+        ensures { Serves (value_of self.old) (Event.Delete txn rid) (reply_by (λ _. Reply.Stepped) result) (value_of self.new) }
+    {
+        self.parts.start_delete(txn, rid)
+    }
+
+    /// Puts another row in place of the row at the place: the first step. With an index and another
+    /// key it marks the old row's entry, and the row is owed, and then the new row's entry; else it
+    /// sets the row.
+    ///
+    /// The refusals are those of `start_delete`.
+    pub fn start_update(&mut self, txn: Txn, rid: Rid, key: Key, body: Body) -> Result<(), Error>
+        requires { IsReadyOrNone (txn_shown (value_of self.old) txn) }
+        ensures { Serves (value_of self.old) (Event.Update txn rid (record { key = key; body = body })) (reply_by (λ _. Reply.Stepped) result) (value_of self.new) }
+    {
+        self.parts.start_update(txn, rid, key, body)
+    }
+
+    /// Makes the step that the transaction owes: it sets the row, or puts the new row's entry.
+    ///
+    /// The refusals are those of `end`.
+    pub fn next_step(&mut self, txn: Txn) -> Result<(), Error>
+        requires { OwesOrNone (txn_shown (value_of self.old) txn) }
+        ensures { Serves (value_of self.old) (Event.Step txn) (reply_by (λ _. Reply.Stepped) result) (value_of self.new) }
+    {
+        self.parts.next_step(txn)
+    }
+
+    /// Makes the next step that takes the transaction's newest change back, or answers that no change
+    /// is left. With an index such a step marks the entry of the new row, sets the row as it was
+    /// before, and makes the entry of the old row live again, as far as the change has them; with the
+    /// last step the change is off the list. The row stays held, and the places stay reserved. From the
+    /// first call on the transaction is rolling back: it makes no other step and doesn't commit.
+    ///
+    /// `NoSuchTxn`, and where a change is left `Exhausted`, where no number is left for a record, and
+    /// `NoMemory`; never for want of room. After a refusal the core is as before.
+    pub fn undo_step(&mut self, txn: Txn) -> Result<Undone, Error>
+        ensures { Serves (value_of self.old) (Event.Undo txn) (reply_by undone_reply result) (value_of self.new) }
+    {
+        self.parts.undo_step(txn)
+    }
+
+    /// Ends a transaction that has no change left, which is then no longer active, and holds no row.
+    ///
+    /// `NoSuchTxn`, then `Exhausted` where no number is left for a record, and `NoMemory`. After a
+    /// refusal the core is as before.
+    pub fn end(&mut self, txn: Txn) -> Result<(), Error>
+        requires { HasNoChange (txn_shown (value_of self.old) txn) }
+        ensures { Serves (value_of self.old) (Event.End txn) (reply_by (λ _. Reply.Ended) result) (value_of self.new) }
+    {
+        self.parts.end(txn)
+    }
+
+    /// Commits the transaction, which is then no longer active, and holds no row. The ticket has the
+    /// number of the record, and the commit's since the core was made, from 1.
+    ///
+    /// The refusals are those of `end`.
+    pub fn commit(&mut self, txn: Txn) -> Result<Ticket, Error>
+        requires { IsReadyOrNone (txn_shown (value_of self.old) txn) }
+        ensures serves { Serves (value_of self.old) (Event.Commit txn) (reply_by reply_of_ticket result) (value_of self.new) }
+        ensures record_number { IfOk result (λ t. t.record ≡ (value_of self.old).last + 1) }
+        ensures commit_number { IfOk result (λ t. t.commit ≡ Some ((value_of self.old).commits + 1)) }
+    {
+        self.parts.commit(txn)
+    }
+
+    /// Creates the index, of which nothing is there yet: it is to be built.
+    ///
+    /// `IndexExists`, then `TxnsActive` where a transaction is active, `Exhausted` where no number is
+    /// left for a record, and `NoMemory`. After a refusal the core is as before.
+    pub fn create_index(&mut self) -> Result<Ticket, Error>
+        ensures { Serves (value_of self.old) Event.Create (reply_by reply_of_ticket result) (value_of self.new) }
+    {
+        self.parts.create_index()
+    }
+
+    /// Makes a step of the builder, the first of these that applies. Where the index is complete:
+    /// `Idle`. Where 64 attempts were made since the last checkpoint, the creation or the start: a
+    /// checkpoint of the pair attempted last, `Marked`. Where the scan has a page to take: the next one,
+    /// `Scanned`. Where it has a pair: an attempt of the least, which is placed where it has no entry,
+    /// and else rejected. Else the index is complete, `Done`.
+    ///
+    /// `NoIndex`, then `IndexFull` where a pair that has no entry meets no free place, `Exhausted` where
+    /// a record is to be made and no number is left, and `NoMemory`. After a refusal the core is as
+    /// before, and the pair comes again.
+    pub fn build_step(&mut self) -> Result<BuildReply, Error>
+        ensures { Serves (value_of self.old) Event.Build (reply_by built result) (value_of self.new) }
+    {
+        self.parts.build_step()
+    }
+
+    /// Makes a step of the cleaner, which looks at the least entry above its place. Where there is none,
+    /// it begins anew, `Wrapped`. Else its place becomes that pair. An entry that is marked, whose row
+    /// nobody holds and which, while the index is built, lies up to the last checkpoint's pair, is taken
+    /// out, `Cleaned`; any other is left, `Kept`.
+    ///
+    /// `NoIndex`, then `Exhausted` where an entry is to be taken out and no number is left for its
+    /// record, and `NoMemory`. After a refusal the core is as before.
+    pub fn clean_step(&mut self) -> Result<CleanReply, Error>
+        ensures { Serves (value_of self.old) Event.Clean (reply_by cleaner result) (value_of self.new) }
+    {
+        self.parts.clean_step()
+    }
+
+    /// Hands the records that wait on to the sink, in the order of their making. One that the sink
+    /// refuses stays, and so do those behind it. Nothing else changes.
+    ///
+    /// `most`: no more stay than those for which the sink had no room.
+    pub fn take_outbox<S: Sink>(&mut self, sink: &mut S)
+        ensures handed { HandsOn (value_of self.old) (value_of self.new) (S.taken sink.old) (S.taken sink.new) }
+        ensures most { length (value_of self.new).outbox ≤ length (value_of self.old).outbox - S.room sink.old }
+        ensures place { S.place sink.new ≡ S.place sink.old }
+    {
+        self.parts.take_outbox(sink);
+    }
+}
