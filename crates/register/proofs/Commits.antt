@@ -1,39 +1,13 @@
 -- The commits of all sessions, as one of these changes.
-use Rattle.std.proofs.Common.{◌≡◌, ◌≢◌, ◌+◌, ◌<◌, ℕ, Bool, true, false, cond, eqb, eq-eqb, ne_eqb, List, [], ◌∷◌, ◌++◌, length, Some, inl, inr, refl, sym, ap, ◌∙◌, subst, arith, zero, suc}
+use Rattle.std.proofs.Common.{◌≡◌, ◌≢◌, ◌+◌, ◌<◌, ℕ, Bool, true, false, cond, eqb, eq-eqb, ne_eqb, List, [], ◌∷◌, ◌++◌, length, Some, inl, inr, refl, sym, ap, ◌∙◌, subst, arith}
 use Rattle.std.proofs.lemmas.Bool.{cases_eq}
 use Rattle.std.proofs.lemmas.List.{length-append}
 use Rattle.std.specs.Prelude.{slice_get, slice_set}
-use Rattle.index_core.specs.declared.parts.Ticket.{Ticket}
+use Rattle.nsf_core.specs.declared.parts.Ticket.{Ticket}
 use Rattle.sessions.specs.Values.{CommitValue, SessionValue, rows_of}
 use Rattle.sessions.specs.Steps.{committed}
+use Rattle.register.proofs.Lookups.{get_set, get_set_other, get_within, set_length, some_is}
 use Rattle.register.specs.Register.{AreAllCommits, AreBySeats, AreEmpty, AreNumbered, Commits, made_by}
-
--- ---- lists
-
-get_set : {A : Type 0} (l : List A) (i : ℕ) (a : A) → i < length l → slice_get (slice_set l i a) i ≡ Some a
-get_set [] i a lt = absurd (omega arith)
-get_set (x ∷ xs) zero a lt = refl
-get_set (x ∷ xs) (suc i) a lt = get_set xs i a (omega arith)
-
-get_set_other : {A : Type 0} (l : List A) (i j : ℕ) (a : A) → j ≢ i → slice_get (slice_set l i a) j ≡ slice_get l j
-get_set_other [] i j a apart = refl
-get_set_other (x ∷ xs) zero zero a apart = absurd (apart refl)
-get_set_other (x ∷ xs) zero (suc j) a apart = refl
-get_set_other (x ∷ xs) (suc i) zero a apart = refl
-get_set_other (x ∷ xs) (suc i) (suc j) a apart = get_set_other xs i j a (λ e. apart (ap suc e))
-
-set_length : {A : Type 0} (l : List A) (i : ℕ) (a : A) → length (slice_set l i a) ≡ length l
-set_length [] i a = refl
-set_length (x ∷ xs) zero a = refl
-set_length (x ∷ xs) (suc i) a = ap suc (set_length xs i a)
-
-get_within : {A : Type 0} (l : List A) (i : ℕ) (a : A) → slice_get l i ≡ Some a → i < length l
-get_within [] i a e = absurd cc
-get_within (x ∷ xs) zero a e = omega arith
-get_within (x ∷ xs) (suc i) a e = let r = get_within xs i a e in omega arith
-
-some_is : {A : Type 0} (a b : A) → Some a ≡ Some b → a ≡ b
-some_is a b e = cc
 
 -- ---- one commit more
 

@@ -6,19 +6,19 @@ use Rattle.core_model.specs.States.{State}
 use Rattle.core_model.specs.Steps.{MachineStep}
 use Rattle.core_contracts.specs.Events.{after_build, after_clean, BuildReply, CleanReply, Cleaned, Done, Event, Idle, Kept, Placed, Refused, Rejected, Reply, Scanned, Skipped, Standing, standing_after, Wrapped}
 use Rattle.core_contracts.specs.Replies.{IsAllowed, IsDue, accepted, no_memory, refused, refused_last, skipped, unknown}
-use Rattle.index_core.specs.Replies.{reply_of_ticket, ticket_by}
-use Rattle.index_core.specs.View.{Answers, CoreValue, Serves}
-use Rattle.index_core.specs.declared.parts.Ticket.{Ticket}
+use Rattle.nsf_core.specs.Replies.{reply_of_ticket, ticket_by}
+use Rattle.nsf_core.specs.View.{Answers, CoreValue, Serves}
+use Rattle.nsf_core.specs.declared.parts.Ticket.{Ticket}
 use Rattle.sessions.specs.Steps.{IsServed, not_asked, served}
 use Rattle.register.specs.Register.{IsKept, IsNoCommit}
 
 -- neither a refusal nor left out
-abbrev IsAnswer : Reply → Type 0
+abbrev pub IsAnswer : Reply → Type 0
 IsAnswer Skipped = ⊥
 IsAnswer (Refused error) = ⊥
 IsAnswer _ = Unit {0}
 
-due : (s : State) (k : Standing) (e : Event) (reply : Reply) (step : Option MachineStep) → IsAllowed s k e reply step → IsAnswer reply → IsDue s k e reply step
+pub due : (s : State) (k : Standing) (e : Event) (reply : Reply) (step : Option MachineStep) → IsAllowed s k e reply step → IsAnswer reply → IsDue s k e reply step
 due s k e reply step (unknown a) answer = absurd answer
 due s k e reply step (skipped a b) answer = absurd answer
 due s k e reply step (refused a b error f) answer = absurd answer
@@ -70,11 +70,11 @@ allowed_same s k e reply step (accepted a b f r t d g) other = due_same s k e re
 
 -- ---- what answers tell
 
-asked : (core : CoreValue) (e : Event) (reply : Reply) (new : CoreValue) → IsServed core e reply new → IsAnswer reply → Serves core e reply new
+pub asked : (core : CoreValue) (e : Event) (reply : Reply) (new : CoreValue) → IsServed core e reply new → IsAnswer reply → Serves core e reply new
 asked core e reply new (served s) answer = s
 asked core e reply new (not_asked is same) answer = absurd (subst IsAnswer is answer)
 
-ticket_answers : (number : ℕ) (commit : Option ℕ) → IsAnswer (ticket_by Reply.Created number commit)
+pub ticket_answers : (number : ℕ) (commit : Option ℕ) → IsAnswer (ticket_by Reply.Created number commit)
 ticket_answers number None = tt
 ticket_answers number (Some c) = tt
 
@@ -86,7 +86,7 @@ is_creation : (number : ℕ) (commit : Option ℕ) (n : ℕ) → ticket_by Reply
 is_creation number None n e = (cc, λ i. None)
 is_creation number (Some d) n e = absurd cc
 
-is_txn : (t n : ℕ) → Reply.Txn t ≡ Reply.Txn n → t ≡ n
+pub is_txn : (t n : ℕ) → Reply.Txn t ≡ Reply.Txn n → t ≡ n
 is_txn t n e = cc
 
 module _ (o : Opened) (pushed : List RecordValue) (core : CoreValue) (kept : IsKept o pushed core) where

@@ -3,7 +3,7 @@ use Rattle.std.specs.Prelude.{[], if◌then◌else◌, length, List, slice_get, 
 use Rattle.records.specs.RecordValue.{RecordValue}
 use Rattle.core_model.specs.Histories.{Opened}
 use Rattle.core_contracts.specs.Events.{Event, Reply}
-use Rattle.index_core.specs.View.{CoreValue}
+use Rattle.nsf_core.specs.View.{CoreValue}
 use Rattle.core_laws.specs.Calls.{HasReplied}
 use Rattle.sessions.specs.Values.{CommitValue, SessionValue, empty_session}
 

@@ -3,17 +3,26 @@
 //! They follow from what a session's steps, the core and the laws of its calls promise, and speak of no lock.
 #![tactic(auto)]
 
-ghost use Rattle.std.specs.Prelude.{◌≡◌, ◌+◌, [], List, None, Some, slice_get, slice_set, ℕ};
+ghost use Rattle.std.specs.Prelude.{◌≡◌, ◌+◌, [], List, None, Option, Some, slice_get, slice_set, true, ℕ};
+ghost use Rattle.std.specs.FinMap.{get};
 ghost use Rattle.records.specs.RecordValue.{RecordValue};
+ghost use Rattle.records.specs.Values.{Place};
+ghost use Rattle.records.specs.declared.error.Error.{Error};
+ghost use Rattle.records.specs.declared.row.Row.{Row};
 ghost use Rattle.core_model.specs.Histories.{CanOpen, Opened};
-ghost use Rattle.core_contracts.specs.Events.{Event, Reply};
+ghost use Rattle.core_contracts.specs.Events.{Event, Refused, Reply};
 ghost use Rattle.core_laws.specs.Calls.{BeginsWith};
-ghost use Rattle.index_core.specs.Outbox.{HandsOn};
-ghost use Rattle.index_core.specs.Replies.{reply_of_ticket};
-ghost use Rattle.index_core.specs.View.{CoreValue};
-ghost use Rattle.index_core.specs.declared.parts.Ticket.{Ticket};
-ghost use Rattle.sessions.specs.Values.{SessionValue};
-ghost use Rattle.sessions.specs.Steps.{committed, IsServed};
+ghost use Rattle.nsf_core.specs.Moves.{IsReadyOrNone, OwesOrNone, txn_shown};
+ghost use Rattle.nsf_core.specs.Outbox.{HandsOn};
+ghost use Rattle.nsf_core.specs.Replies.{reply_of_ticket};
+ghost use Rattle.nsf_core.specs.Undoing.{undone_reply};
+ghost use Rattle.nsf_core.specs.View.{CoreValue, Serves};
+ghost use Rattle.nsf_core.specs.declared.parts.Ticket.{Ticket};
+ghost use Rattle.nsf_core.specs.declared.reply.Undone.{Undone};
+ghost use Rattle.sessions.specs.Values.{active_of, ActiveValue, is_active, is_ready, SessionValue};
+ghost use Rattle.model.specs.declared.write.Write.{Write};
+ghost use Rattle.sessions.specs.Steps.{begun, changed, committed, ended, IsServed, rolling_back, stepped, with_creation};
+ghost use Rattle.register.specs.Agreement.{IsOfNoSeat, IsRegister, row_at};
 ghost use Rattle.register.specs.Register.{AreAllCommits, AreEmpty, IsKept, IsNoCommit};
 
 use core_laws::each_call;
@@ -51,4 +60,50 @@ pub fn each_commit()
     ensures commits { (book : List SessionValue) (count : ℕ) → AreAllCommits book count → (seat : ℕ) (session : SessionValue) → slice_get book seat ≡ Some session → (txn : ℕ) (ticket : Ticket) → ticket.commit ≡ Some (count + 1)
         → AreAllCommits (slice_set book seat (committed session txn ticket)) (count + 1) }
     ensures stays { (book : List SessionValue) (count : ℕ) → AreAllCommits book count → (seat : ℕ) (session new : SessionValue) → slice_get book seat ≡ Some session → new.commits ≡ session.commits → AreAllCommits (slice_set book seat new) count }
+{}
+
+/// A law: what the sessions of the seats have of the active transactions is what the core has, from the opening on, whatever
+/// call is served: each transaction is in the session of one seat, with just the places that it holds and the rows that are there
+/// now, the change of which it owes a step, and whether it is rolling back. A call that is refused, and one of the builder, of
+/// the cleaner or of a reader, leaves the sessions as they are; and so does a push of records.
+pub fn each_agreement()
+    ensures opens { (o : Opened) (core : CoreValue) → BeginsWith o core → (book : List SessionValue) → AreEmpty book → IsRegister o [] core book }
+    ensures pushed { (o : Opened) (pushed : List RecordValue) (core : CoreValue) (book : List SessionValue) → IsRegister o pushed core book → (new : CoreValue) (after : List RecordValue) → HandsOn core new pushed after → IsRegister o after new book }
+    ensures others { (o : Opened) → CanOpen o → (pushed : List RecordValue) (core : CoreValue) (book : List SessionValue) → IsRegister o pushed core book
+        → (e : Event) (reply : Reply) (new : CoreValue) → IsOfNoSeat e → IsServed core e reply new → IsRegister o pushed new book }
+    ensures refused { (o : Opened) → CanOpen o → (pushed : List RecordValue) (core : CoreValue) (book : List SessionValue) → IsRegister o pushed core book
+        → (e : Event) (error : Error) (new : CoreValue) → IsServed core e (Refused error) new → IsRegister o pushed new book }
+    ensures begin { (o : Opened) → CanOpen o → (pushed : List RecordValue) (core : CoreValue) (book : List SessionValue) → IsRegister o pushed core book → (seat : ℕ) (session : SessionValue) → slice_get book seat ≡ Some session
+        → (txn : ℕ) (new : CoreValue) → IsServed core Event.Begin (Reply.Txn txn) new → IsRegister o pushed new (slice_set book seat (begun session txn)) }
+    ensures create { (o : Opened) → CanOpen o → (pushed : List RecordValue) (core : CoreValue) (book : List SessionValue) → IsRegister o pushed core book → (seat : ℕ) (session : SessionValue) → slice_get book seat ≡ Some session
+        → (ticket : Ticket) (new : CoreValue) → IsServed core Event.Create (reply_of_ticket ticket) new → IsRegister o pushed new (slice_set book seat (with_creation session ticket.«record»)) }
+{}
+
+/// A law: so it is after each step of a transaction of a seat.
+pub fn each_agreement_of_a_transaction()
+    ensures insert { (o : Opened) → CanOpen o → (pushed : List RecordValue) (core : CoreValue) (book : List SessionValue) → IsRegister o pushed core book → (seat : ℕ) (session : SessionValue) → slice_get book seat ≡ Some session → (txn : ℕ) → is_active session txn ≡ true
+        → (row : Row) (rid : Place) (new : CoreValue) → IsServed core (Event.Insert txn row) (Reply.Rid rid) new → IsRegister o pushed new (slice_set book seat (changed session new txn (record { rid = rid; row = Some row }))) }
+    ensures delete { (o : Opened) → CanOpen o → (pushed : List RecordValue) (core : CoreValue) (book : List SessionValue) → IsRegister o pushed core book → (seat : ℕ) (session : SessionValue) → slice_get book seat ≡ Some session → (txn : ℕ) → is_active session txn ≡ true
+        → (rid : Place) (new : CoreValue) → IsServed core (Event.Delete txn rid) Reply.Stepped new → IsRegister o pushed new (slice_set book seat (changed session new txn (record { rid = rid; row = None }))) }
+    ensures update { (o : Opened) → CanOpen o → (pushed : List RecordValue) (core : CoreValue) (book : List SessionValue) → IsRegister o pushed core book → (seat : ℕ) (session : SessionValue) → slice_get book seat ≡ Some session → (txn : ℕ) → is_active session txn ≡ true
+        → (rid : Place) (row : Row) (new : CoreValue) → IsServed core (Event.Update txn rid row) Reply.Stepped new → IsRegister o pushed new (slice_set book seat (changed session new txn (record { rid = rid; row = Some row }))) }
+    ensures next_step { (o : Opened) → CanOpen o → (pushed : List RecordValue) (core : CoreValue) (book : List SessionValue) → IsRegister o pushed core book → (seat : ℕ) (session : SessionValue) → slice_get book seat ≡ Some session → (txn : ℕ) → is_active session txn ≡ true
+        → (new : CoreValue) → Serves core (Event.Step txn) Reply.Stepped new → IsRegister o pushed new (slice_set book seat (stepped session new txn)) }
+    ensures undo_step { (o : Opened) → CanOpen o → (pushed : List RecordValue) (core : CoreValue) (book : List SessionValue) → IsRegister o pushed core book → (seat : ℕ) (session : SessionValue) → slice_get book seat ≡ Some session → (txn : ℕ) → is_active session txn ≡ true
+        → (answer : Undone) (new : CoreValue) → Serves core (Event.Undo txn) (undone_reply answer) new → IsRegister o pushed new (slice_set book seat (rolling_back session new txn)) }
+    ensures end { (o : Opened) → CanOpen o → (pushed : List RecordValue) (core : CoreValue) (book : List SessionValue) → IsRegister o pushed core book → (seat : ℕ) (session : SessionValue) → slice_get book seat ≡ Some session → (txn : ℕ) → is_active session txn ≡ true
+        → (new : CoreValue) → Serves core (Event.End txn) Reply.Ended new → IsRegister o pushed new (slice_set book seat (ended session txn)) }
+    ensures commit { (o : Opened) → CanOpen o → (pushed : List RecordValue) (core : CoreValue) (book : List SessionValue) → IsRegister o pushed core book → (seat : ℕ) (session : SessionValue) → slice_get book seat ≡ Some session → (txn : ℕ) → is_active session txn ≡ true
+        → (ticket : Ticket) (new : CoreValue) → IsServed core (Event.Commit txn) (reply_of_ticket ticket) new → IsRegister o pushed new (slice_set book seat (committed session txn ticket)) }
+{}
+
+/// A law: what a seat's session says of the core. A transaction that is ready there may begin a change or commit; one with a
+/// change to finish owes a step of it; and the row that it has for a place is the one that is there.
+pub fn each_sight()
+    ensures ready { (o : Opened) → CanOpen o → (pushed : List RecordValue) (core : CoreValue) (book : List SessionValue) → IsRegister o pushed core book → (seat : ℕ) (session : SessionValue) → slice_get book seat ≡ Some session → (txn : ℕ)
+        → is_ready session txn ≡ true → IsReadyOrNone (txn_shown core txn) }
+    ensures unfinished { (o : Opened) → CanOpen o → (pushed : List RecordValue) (core : CoreValue) (book : List SessionValue) → IsRegister o pushed core book → (seat : ℕ) (session : SessionValue) → slice_get book seat ≡ Some session
+        → (txn : ℕ) (a : ActiveValue) (change : Write) → active_of txn session.active ≡ Some a → a.unfinished ≡ Some change → OwesOrNone (txn_shown core txn) }
+    ensures rows { (o : Opened) → CanOpen o → (pushed : List RecordValue) (core : CoreValue) (book : List SessionValue) → IsRegister o pushed core book → (seat : ℕ) (session : SessionValue) → slice_get book seat ≡ Some session
+        → (txn : ℕ) (a : ActiveValue) (rid : Place) (row : Option Row) → active_of txn session.active ≡ Some a → row_at rid a.rows ≡ Some row → get core.heap.rows rid ≡ row }
 {}

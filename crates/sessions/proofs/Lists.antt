@@ -5,7 +5,7 @@ use Rattle.sessions.specs.declared.active.ActiveTxn.{ActiveTxn}
 use Rattle.std.specs.Option.{option_map}
 use Rattle.model.specs.declared.write.Write.{Write}
 use Rattle.sessions.specs.Values.{ActiveValue, active_of, with_active, can_go_on, without, rows_of}
-use Rattle.index_core.specs.View.{CoreValue}
+use Rattle.nsf_core.specs.View.{CoreValue}
 use Rattle.sessions.specs.Steps.{row_now, rows_now}
 use Rattle.sessions.specs.Active.{active_value, place_from, HasRoom, HasRoomAt, changed_at, IsPlace}
 

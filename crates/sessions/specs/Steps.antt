@@ -6,9 +6,9 @@ use Rattle.records.specs.Values.{Place}
 use Rattle.records.specs.declared.error.Error.TheVariants.{NoMemory}
 use Rattle.model.specs.declared.write.Write.{Write}
 use Rattle.core_contracts.specs.Events.{Event, Refused, Reply}
-use Rattle.index_core.specs.Asked.{owed, progress_of}
-use Rattle.index_core.specs.View.{CoreValue, Serves}
-use Rattle.index_core.specs.declared.parts.Ticket.{Ticket}
+use Rattle.nsf_core.specs.Asked.{owed, progress_of}
+use Rattle.nsf_core.specs.View.{CoreValue, Serves}
+use Rattle.nsf_core.specs.declared.parts.Ticket.{Ticket}
 use Rattle.sessions.specs.Values.{ActiveValue, SessionValue, new_active, rows_of, with_active, with_write, without}
 
 -- the row that is at a place of the core now
@@ -22,8 +22,8 @@ unfinished_in core txn change = option_map (λ step. change) (option_and_then ow
 -- ---- one transaction
 
 -- the first step of a change is made: its place is held, with the row that is there now
-abbrev pub with_change : CoreValue → Write → ActiveValue → ActiveValue
-with_change core change a = record a { rows = with_write (row_now core change.rid) a.rows; unfinished = unfinished_in core a.txn change }
+abbrev pub change_seen : CoreValue → Write → ActiveValue → ActiveValue
+change_seen core change a = record a { rows = with_write (row_now core change.rid) a.rows; unfinished = unfinished_in core a.txn change }
 
 -- the rows that are now at these places
 abbrev pub rows_now : CoreValue → List Write → List Write
@@ -33,8 +33,8 @@ abbrev pub still_unfinished : CoreValue → ℕ → Option Write → Option Writ
 still_unfinished core txn change = option_and_then (unfinished_in core txn) change
 
 -- one more step of its unfinished change is made
-abbrev pub carried_on : CoreValue → ActiveValue → ActiveValue
-carried_on core a = record a { rows = rows_now core a.rows; unfinished = still_unfinished core a.txn a.unfinished }
+abbrev pub step_seen : CoreValue → ActiveValue → ActiveValue
+step_seen core a = record a { rows = rows_now core a.rows; unfinished = still_unfinished core a.txn a.unfinished }
 
 -- a step that takes a change back is made, or none was left: it is rolling back, and has no change to finish
 abbrev pub taken_back : CoreValue → ActiveValue → ActiveValue
@@ -46,13 +46,13 @@ abbrev pub begun : SessionValue → ℕ → SessionValue
 begun s txn = record s { active = s.active ++ new_active txn ∷ [] }
 
 abbrev pub changed : SessionValue → CoreValue → ℕ → Write → SessionValue
-changed s core txn change = record s { active = with_active (with_change core change) txn s.active }
+changed s core txn change = record s { active = with_active (change_seen core change) txn s.active }
 
 abbrev pub stepped : SessionValue → CoreValue → ℕ → SessionValue
-stepped s core txn = record s { active = with_active (carried_on core) txn s.active }
+stepped s core txn = record s { active = with_active (step_seen core) txn s.active }
 
-abbrev pub undone : SessionValue → CoreValue → ℕ → SessionValue
-undone s core txn = record s { active = with_active (taken_back core) txn s.active }
+abbrev pub rolling_back : SessionValue → CoreValue → ℕ → SessionValue
+rolling_back s core txn = record s { active = with_active (taken_back core) txn s.active }
 
 abbrev pub ended : SessionValue → ℕ → SessionValue
 ended s txn = record s { active = without txn s.active }
@@ -63,8 +63,8 @@ committed s txn ticket = record s {
   active = without txn s.active;
 }
 
-abbrev pub created : SessionValue → ℕ → SessionValue
-created s number = record s { creations = s.creations ++ number ∷ [] }
+abbrev pub with_creation : SessionValue → ℕ → SessionValue
+with_creation s number = record s { creations = s.creations ++ number ∷ [] }
 
 -- ---- how a step is served
 

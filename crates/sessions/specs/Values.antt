@@ -3,7 +3,7 @@ use Rattle.std.specs.Prelude.{ℕ, Bool, false, List, [], ◌∷◌, ◌++◌, O
 use Rattle.std.specs.Option.{option_map}
 use Rattle.records.specs.Values.{Place}
 use Rattle.model.specs.declared.write.Write.{Write}
-use Rattle.index_core.specs.declared.parts.Ticket.{Ticket}
+use Rattle.nsf_core.specs.declared.parts.Ticket.{Ticket}
 
 -- a commit: its ticket, and the row that it left at each place that its transaction held
 pub record CommitValue : Type 0 where

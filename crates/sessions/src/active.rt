@@ -1,13 +1,13 @@
 //! The active transactions of a session.
 ghost use Rattle.std.specs.Prelude.{◌≡◌, ◌<◌, ◌≤◌, None, Some, IfSome, IfErr, MatchOption, OnOk, vec_len, vec_capacity, length, map};
 ghost use Rattle.records.specs.declared.error.Error.TheVariants.{NoMemory};
-ghost use Rattle.index_core.specs.Value.{value_of};
+ghost use Rattle.nsf_core.specs.Value.{value_of};
 ghost use Rattle.sessions.specs.Values.{with_write, active_of, rows_of, without};
 ghost use Rattle.sessions.specs.Active.{active_value, place_from, IsPlace, HasRoomAt, changed_at};
-ghost use Rattle.sessions.specs.Steps.{row_now, rows_now, unfinished_in, still_unfinished, with_change, carried_on, taken_back};
+ghost use Rattle.sessions.specs.Steps.{row_now, rows_now, unfinished_in, still_unfinished, change_seen, step_seen, taken_back};
 
-use index_core::Core;
 use model::Write;
+use nsf_core::Core;
 use records::{Error, Rid, Txn};
 use std::alloc::Global;
 
@@ -100,7 +100,7 @@ fn read_again(core: &Core<Global>, rows: &mut Vec<Write>)
 // The transaction at this place has begun a change.
 pub(crate) fn note_change(active: &mut Vec<ActiveTxn>, i: usize, core: &Core<Global>, change: Write)
     requires { HasRoomAt i active.old.items }
-    ensures { map active_value active.new.items ≡ changed_at (with_change (value_of core.now) change) i (map active_value active.old.items) }
+    ensures { map active_value active.new.items ≡ changed_at (change_seen (value_of core.now) change) i (map active_value active.old.items) }
 {
     let write = row_now(core, change.rid);
     let one = &mut active[i];
@@ -111,7 +111,7 @@ pub(crate) fn note_change(active: &mut Vec<ActiveTxn>, i: usize, core: &Core<Glo
 // The transaction at this place has made one more step of its change.
 pub(crate) fn note_step(active: &mut Vec<ActiveTxn>, i: usize, core: &Core<Global>)
     requires { i < vec_len active.old }
-    ensures { map active_value active.new.items ≡ changed_at (carried_on (value_of core.now)) i (map active_value active.old.items) }
+    ensures { map active_value active.new.items ≡ changed_at (step_seen (value_of core.now)) i (map active_value active.old.items) }
 {
     let one = &mut active[i];
     read_again(core, &mut one.rows);

@@ -1,8 +1,8 @@
 //! Commits.
 ghost use Rattle.std.specs.Prelude.{◌≡◌};
 
-use index_core::Ticket;
 use model::Write;
+use nsf_core::Ticket;
 use records::RecordNumber;
 use std::marker::Model;
 

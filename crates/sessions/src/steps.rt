@@ -2,21 +2,21 @@
 ghost use Rattle.std.specs.Prelude.{◌≡◌, true, false, None, Some, Err, OnOk, OnErr, IfOk};
 ghost use Rattle.records.specs.declared.error.Error.TheVariants.{NoSuchTxn};
 ghost use Rattle.core_contracts.specs.Events.{Event, Reply};
-ghost use Rattle.index_core.specs.Value.{value_of};
-ghost use Rattle.index_core.specs.View.{Serves};
-ghost use Rattle.index_core.specs.Moves.{HasNoChange, IsReadyOrNone, OwesOrNone, txn_shown};
-ghost use Rattle.index_core.specs.Replies.{reply_by, reply_of_ticket};
-ghost use Rattle.index_core.specs.Undoing.{undone_reply};
+ghost use Rattle.nsf_core.specs.Value.{value_of};
+ghost use Rattle.nsf_core.specs.View.{Serves};
+ghost use Rattle.nsf_core.specs.Moves.{HasNoChange, IsReadyOrNone, OwesOrNone, txn_shown};
+ghost use Rattle.nsf_core.specs.Replies.{reply_by, reply_of_ticket};
+ghost use Rattle.nsf_core.specs.Undoing.{undone_reply};
 ghost use Rattle.sessions.specs.Values.{is_active};
-ghost use Rattle.sessions.specs.Steps.{begun, changed, committed, created, ended, stepped, undone, IsServed};
+ghost use Rattle.sessions.specs.Steps.{begun, changed, committed, with_creation, ended, stepped, rolling_back, IsServed};
 
 use crate::active::{
     ActiveTxn, note_change, note_step, note_undo, place_of, reserve_row, take_out,
 };
 use crate::commit::Commit;
 use crate::session::Session;
-use index_core::{Core, Ticket, Undone};
 use model::Write;
+use nsf_core::{Core, Ticket, Undone};
 use records::{Body, Error, Key, Rid, Row, Txn};
 use std::alloc::Global;
 
@@ -143,7 +143,7 @@ impl Session {
     pub fn undo_step(&mut self, core: &mut Core<Global>, txn: Txn) -> Result<Undone, Error>
         ensures foreign { is_active self.old txn ≡ false → (result ≡ Err NoSuchTxn) × (value_of core.new ≡ value_of core.old) }
         ensures served { is_active self.old txn ≡ true → Serves (value_of core.old) (Event.Undo txn) (reply_by undone_reply result) (value_of core.new) }
-        ensures ok { OnOk result (self.new ≡ undone self.old (value_of core.new) txn) }
+        ensures ok { OnOk result (self.new ≡ rolling_back self.old (value_of core.new) txn) }
         ensures unchanged { OnErr result (self.new ≡ self.old) }
     {
         let Some(i) = place_of(&self.active, txn) else {
@@ -206,7 +206,7 @@ impl Session {
     /// part, and the core was then not asked. After a refusal both are as before.
     pub fn create_index(&mut self, core: &mut Core<Global>) -> Result<Ticket, Error>
         ensures served { IsServed (value_of core.old) Event.Create (reply_by reply_of_ticket result) (value_of core.new) }
-        ensures ok { IfOk result (λ ticket. self.new ≡ created self.old ticket.«record») }
+        ensures ok { IfOk result (λ ticket. self.new ≡ with_creation self.old ticket.«record») }
         ensures unchanged { OnErr result (self.new ≡ self.old) }
     {
         self.creations.reserve(1)?;

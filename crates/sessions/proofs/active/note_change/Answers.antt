@@ -1,8 +1,8 @@
 use Rattle.std.proofs.Common.{ap, ◌∙◌}
 use Rattle.model.specs.declared.write.Write.{Write}
-use Rattle.index_core.specs.Value.{value_of}
+use Rattle.nsf_core.specs.Value.{value_of}
 use Rattle.sessions.specs.Values.{with_write}
-use Rattle.sessions.specs.Steps.{with_change}
+use Rattle.sessions.specs.Steps.{change_seen}
 use Rattle.sessions.proofs.Lists.{one_changed}
 use Rattle.sessions.proofs.active.note_change.Goals as goal
 
@@ -10,5 +10,5 @@ pub returns : goal.returns
 returns c =
     let one = c.index_mut-one.result.now in
     let rows = c.set_write.ensures ∙ ap (λ (w : Write). with_write w one.rows.items) c.row_now-write.ensures in
-    one_changed c.args.active.now.items c.args.i one c.index_mut-one.ensures.value (with_change (value_of c.args.core.now) c.args.change) _
+    one_changed c.args.active.now.items c.args.i one c.index_mut-one.ensures.value (change_seen (value_of c.args.core.now) c.args.change) _
     (λ j. record { txn = one.txn; rows = rows j; unfinished = c.unfinished-one.ensures j; rolling = one.rolling })

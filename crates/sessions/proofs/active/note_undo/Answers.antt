@@ -1,5 +1,5 @@
 use Rattle.std.proofs.Common.{None, true}
-use Rattle.index_core.specs.Value.{value_of}
+use Rattle.nsf_core.specs.Value.{value_of}
 use Rattle.sessions.specs.Steps.{taken_back}
 use Rattle.sessions.proofs.Lists.{one_changed}
 use Rattle.sessions.proofs.active.note_undo.Goals as goal

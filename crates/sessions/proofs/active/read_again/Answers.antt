@@ -1,6 +1,6 @@
 use Rattle.std.proofs.Common.{ap, ◌∙◌, refl, sym}
 use Rattle.model.specs.declared.write.Write.{Write}
-use Rattle.index_core.specs.Value.{value_of}
+use Rattle.nsf_core.specs.Value.{value_of}
 use Rattle.sessions.specs.Steps.{row_now}
 use Rattle.sessions.proofs.Lists.{row_read, rows_read}
 use Rattle.sessions.proofs.active.read_again.Goals as goal

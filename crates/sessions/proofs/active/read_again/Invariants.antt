@@ -1,5 +1,5 @@
 use Rattle.std.proofs.Common.{◌≡◌, take}
-use Rattle.index_core.specs.Value.{value_of}
+use Rattle.nsf_core.specs.Value.{value_of}
 use Rattle.sessions.specs.Steps.{rows_now}
 use Rattle.sessions.proofs.active.read_again.Given as goal
 

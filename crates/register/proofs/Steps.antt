@@ -1,0 +1,271 @@
+-- The register after each call of a seat, of the builder and of the cleaner.
+use Rattle.std.proofs.Common.{◌≡◌, ℕ, ◌+◌, Bool, true, false, cond, List, Option, Some, None, is_some, inr, refl, sym, ap, ◌∙◌, subst, ⊎_elim}
+use Rattle.std.specs.FinMap.{get}
+use Rattle.std.specs.Option.{option_map}
+use Rattle.std.specs.Prelude.{option_and_then, slice_get, slice_set}
+use Rattle.records.specs.ChangeValue.{ChangeValue}
+use Rattle.records.specs.RecordValue.{RecordValue}
+use Rattle.records.specs.Values.{Place}
+use Rattle.records.specs.declared.error.Error.{Error}
+use Rattle.records.specs.declared.change.Rows.{Rows}
+use Rattle.records.specs.declared.change.Rows.TheVariants.{Deleted, Inserted, Updated}
+use Rattle.records.specs.declared.row.Row.{Row}
+use Rattle.model.specs.declared.write.Write.{Write}
+use Rattle.core_model.proofs.Laws.{made_holds, txn_apart}
+use Rattle.core_model.specs.Changes.{Changes, Unchanged, ◌▹◌}
+use Rattle.core_model.specs.Histories.{CanOpen, Opened, write_of}
+use Rattle.core_model.specs.States.{Active, State}
+use Rattle.core_model.specs.Steps.{CanStart, IsActive, MachineStep, Start, after, new_txn, txn_at}
+use Rattle.core_contracts.specs.Events.{BuildReply, CleanReply, Cleaned, Done, Event, Idle, Kept, Placed, Refused, Rejected, Reply, Scanned, Standing, Wrapped, standing_after}
+use Rattle.core_contracts.specs.Replies.{IsAllowed, IsDue, IsProper, Owes, accepted, after_any, build_step, change_of, clean_step, no_memory, refused, refused_last, skipped, unknown}
+use Rattle.core_contracts.specs.Served.{IsEnabledAny}
+use Rattle.nsf_core.specs.Replies.{reply_of_ticket}
+use Rattle.nsf_core.specs.Undoing.{undone_reply}
+use Rattle.nsf_core.specs.View.{CoreValue, Serves}
+use Rattle.nsf_core.specs.declared.parts.Ticket.{Ticket}
+use Rattle.nsf_core.specs.declared.reply.Undone.{Undone}
+use Rattle.nsf_core.specs.declared.reply.Undone.TheVariants.{Empty, Step}
+use Rattle.sessions.specs.Steps.{begun, step_seen, changed, committed, with_creation, ended, IsServed, not_asked, served, stepped, still_unfinished, taken_back, rolling_back, unfinished_in, change_seen}
+use Rattle.sessions.specs.Values.{active_of, SessionValue, without}
+use Rattle.register.proofs.Lookups.{new_other, new_own, number_is, with_other, with_own, without_other, without_own}
+use Rattle.register.proofs.Moved.{begin_own, leave_apart, leave_others, leave_own, next_apart, next_others, next_own, start_apart, start_others, start_own, undo_apart, undo_others, undo_own}
+use Rattle.register.proofs.Numbers.{IsAnswer, asked, due, is_txn, ticket_answers}
+use Rattle.register.proofs.Owned.{owned_kept, owners_kept}
+use Rattle.register.proofs.Seen.{agree_none}
+use Rattle.register.proofs.Served.{answer, enabled, k, mine, none_here, owned_beside, owners_beside, s, same_txns, seen, shown_by, so, txn_stepped, unfinished_is}
+use Rattle.register.specs.Agreement.{Agree, is_owed, IsRegister, IsOfNoSeat, newest_write, owed_write, row_held}
+
+proper : (s : State) (k : Standing) (e : Event) (reply : Reply) (step : Option MachineStep) → IsAllowed s k e reply step → IsAnswer reply → IsProper s e
+proper s k e reply step (unknown a) not_answered = absurd not_answered
+proper s k e reply step (skipped a b) not_answered = absurd not_answered
+proper s k e reply step (refused a b error f) not_answered = absurd not_answered
+proper s k e reply step (refused_last a b f r t d error g) not_answered = absurd not_answered
+proper s k e reply step (no_memory a b f r t d g w) not_answered = absurd not_answered
+proper s k e reply step (accepted a b f r t d g) answered = b
+
+-- the change that was to be finished, after one more step
+still_is : (core : CoreValue) (n : ℕ) (b : Bool) → ((w : Write) → unfinished_in core n w ≡ cond b (Some w) None) → (cs : Changes) → option_and_then (unfinished_in core n) (newest_write cs) ≡ cond b (newest_write cs) None
+still_is core n b h Unchanged = by b None refl
+  where
+    by : (b : Bool) (x : Option Write) → x ≡ None → None ≡ cond b x None
+    by true x e = sym e
+    by false x e = refl
+still_is core n b h (older ▹ c) = h (write_of c)
+
+owes_one : (x : Active) → Owes x → owed_write x ≡ newest_write x.changes
+owes_one x owes = ap (λ b. cond b (newest_write x.changes) None) (⊎_elim (λ e. (λ i. is_owed (e i) (owes.1 i))) (λ e. (λ i. is_owed (e i) (owes.1 i))) owes.0)
+
+-- ---- steps that are no transaction's
+
+-- no transaction, and no row that one holds, is another
+record IsStill (s new : State) : Type 0 where
+  pub txns : (u : ℕ) → new.txns u ≡ s.txns u
+  pub held : (u : ℕ) (q : Place) → row_held u (new.holder q) (get new.rows q) ≡ row_held u (s.holder q) (get s.rows q)
+
+build_still : (s : State) (b : BuildReply) → IsStill s (after_any s (build_step b))
+build_still s (Scanned page) = record { txns = λ u. refl; held = λ u q. refl }
+build_still s (Placed p) = record { txns = λ u. refl; held = λ u q. refl }
+build_still s (Rejected p) = record { txns = λ u. refl; held = λ u q. refl }
+build_still s (BuildReply.Marked p n) = record { txns = λ u. refl; held = λ u q. refl }
+build_still s (Done n) = record { txns = λ u. refl; held = λ u q. refl }
+build_still s Idle = record { txns = λ u. refl; held = λ u q. refl }
+
+clean_still : (s : State) (c : CleanReply) → IsStill s (after_any s (Some (clean_step c)))
+clean_still s (Cleaned p) = record { txns = λ u. refl; held = λ u q. refl }
+clean_still s (Kept p) = record { txns = λ u. refl; held = λ u q. refl }
+clean_still s Wrapped = record { txns = λ u. refl; held = λ u q. refl }
+
+nothing_still : (s : State) → IsStill s s
+nothing_still s = record { txns = λ u. refl; held = λ u q. refl }
+
+due_still : (s : State) (k : Standing) (e : Event) (reply : Reply) (step : Option MachineStep) → IsOfNoSeat e → IsDue s k e reply step → IsStill s (after_any s step)
+due_still s k Event.Begin reply step of d = absurd of
+due_still s k (Event.Insert t row) reply step of d = absurd of
+due_still s k (Event.Delete t r) reply step of d = absurd of
+due_still s k (Event.Update t r row) reply step of d = absurd of
+due_still s k (Event.Step t) reply step of d = absurd of
+due_still s k (Event.Undo t) reply step of d = absurd of
+due_still s k (Event.End t) reply step of d = absurd of
+due_still s k (Event.Commit t) reply step of d = absurd of
+due_still s k Event.Create reply step of d = absurd of
+due_still s k Event.Build reply step of d = subst (λ x. IsStill s (after_any s x)) (sym d.3) (build_still s d.0)
+due_still s k Event.Clean reply step of d = subst (λ x. IsStill s (after_any s x)) (sym d.3) (clean_still s d.0)
+due_still s k (Event.Get r) reply step of d = subst (λ x. IsStill s (after_any s x)) (sym d.1) (nothing_still s)
+due_still s k (Event.Find key) reply step of d = subst (λ x. IsStill s (after_any s x)) (sym d.3) (nothing_still s)
+due_still s k Event.Life reply step of d = subst (λ x. IsStill s (after_any s x)) (sym d.1) (nothing_still s)
+
+allowed_still : (s : State) (k : Standing) (e : Event) (reply : Reply) (step : Option MachineStep) → IsOfNoSeat e → IsAllowed s k e reply step → IsStill s (after_any s step)
+allowed_still s k e reply step of (unknown a) = nothing_still s
+allowed_still s k e reply step of (skipped a b) = nothing_still s
+allowed_still s k e reply step of (refused a b error f) = nothing_still s
+allowed_still s k e reply step of (refused_last a b f r t d error g) = nothing_still s
+allowed_still s k e reply step of (no_memory a b f r t d g w) = nothing_still s
+allowed_still s k e reply step of (accepted a b f r t d g) = due_still s k e reply step of d
+
+not_due : (s : State) (k : Standing) (e : Event) (error : Error) (step : Option MachineStep) → IsDue s k e (Refused error) step → ⊥
+not_due s k Event.Begin error step d = let is = d.0 in absurd cc
+not_due s k (Event.Insert t row) error step d = let is = d.2 in absurd cc
+not_due s k (Event.Delete t r) error step d = let is = d.2 in absurd cc
+not_due s k (Event.Update t r row) error step d = let is = d.2 in absurd cc
+not_due s k (Event.Step t) error step d = let is = d.0 in absurd cc
+not_due s k (Event.Undo t) error step d = ⊎_elim (λ x. (let is = x.1 in absurd cc)) (λ x. (let is = x.1 in absurd cc)) d.0
+not_due s k (Event.End t) error step d = let is = d.0 in absurd cc
+not_due s k (Event.Commit t) error step d = let is = d.0 in absurd cc
+not_due s k Event.Create error step d = let is = d.0 in absurd cc
+not_due s k Event.Build error step d = let is = d.2 in absurd cc
+not_due s k Event.Clean error step d = let is = d.2 in absurd cc
+not_due s k (Event.Get r) error step d = let is = d.0 in absurd cc
+not_due s k (Event.Find key) error step d = let is = d.2 in absurd cc
+not_due s k Event.Life error step d = let is = d.0 in absurd cc
+
+refused_none : (s : State) (k : Standing) (e : Event) (error : Error) (step : Option MachineStep) → IsAllowed s k e (Refused error) step → step ≡ None
+refused_none s k e error step (unknown a) = refl
+refused_none s k e error step (refused a b err f) = refl
+refused_none s k e error step (refused_last a b f r t d err g) = refl
+refused_none s k e error step (no_memory a b f r t d g w) = refl
+refused_none s k e error step (accepted a b f r t d g) = absurd (not_due s k e error step d)
+
+-- ---- calls
+
+module _ (o : Opened) (can : CanOpen o) (pushed : List RecordValue) (core : CoreValue) (book : List SessionValue) (r : IsRegister o pushed core book) where
+  abbrev st : State
+  st = s o can pushed core book r
+
+  abbrev std : Standing
+  std = k o can pushed core book r
+
+  abbrev step_of : (e : Event) (reply : Reply) (new : CoreValue) → Serves core e reply new → Option MachineStep
+  step_of e reply new sv = (answer o can pushed core book r e reply new sv).step
+
+  allowed_of : (e : Event) (reply : Reply) (new : CoreValue) (sv : Serves core e reply new) → IsAllowed st std e reply (step_of e reply new sv)
+  allowed_of e reply new sv = (answer o can pushed core book r e reply new sv).allowed
+
+  due_of : (e : Event) (reply : Reply) (new : CoreValue) (sv : Serves core e reply new) → IsAnswer reply → IsDue st std e reply (step_of e reply new sv)
+  due_of e reply new sv answers = due st std e reply (step_of e reply new sv) (allowed_of e reply new sv) answers
+
+  enabled_of : (e : Event) (reply : Reply) (new : CoreValue) (sv : Serves core e reply new) (step : Option MachineStep) → step_of e reply new sv ≡ step → IsEnabledAny st step
+  enabled_of e reply new sv step is = subst (IsEnabledAny st) is (enabled o can pushed core book r e reply new sv)
+
+  pub others : (e : Event) (reply : Reply) (new : CoreValue) → IsOfNoSeat e → IsServed core e reply new → IsRegister o pushed new book
+  others e reply new of (not_asked is same) = subst (λ v. IsRegister o pushed v book) (sym same) r
+  others e reply new of (served sv) =
+      let still = allowed_still st std e reply (step_of e reply new sv) of (allowed_of e reply new sv) in
+      same_txns o can pushed core book r e reply new sv (step_of e reply new sv) refl book
+      (owned_kept st (after_any st (step_of e reply new sv)) book r.owner still.txns still.held r.owned)
+      (owners_kept st (after_any st (step_of e reply new sv)) book r.owner still.txns r.owners)
+
+  pub refusals : (e : Event) (error : Error) (new : CoreValue) → IsServed core e (Refused error) new → IsRegister o pushed new book
+  refusals e error new (not_asked is same) = subst (λ v. IsRegister o pushed v book) (sym same) r
+  refusals e error new (served sv) = same_txns o can pushed core book r e (Refused error) new sv None (refused_none st std e error (step_of e (Refused error) new sv) (allowed_of e (Refused error) new sv)) book r.owned r.owners
+
+  module _ (seat : ℕ) (p : SessionValue) (there : slice_get book seat ≡ Some p) where
+    pub begin : (txn : ℕ) (new : CoreValue) → IsServed core Event.Begin (Reply.Txn txn) new → IsRegister o pushed new (slice_set book seat (begun p txn))
+    begin txn new is =
+        let sv = asked core Event.Begin (Reply.Txn txn) new is tt in
+        let d = due_of Event.Begin (Reply.Txn txn) new sv tt in
+        let number = is_txn txn (std.begun + 1) d.0 in
+        let step = d.1 ∙ ap (λ n. Some (MachineStep.Begin n)) (sym number) in
+        let none : st.txns txn ≡ None = enabled_of Event.Begin (Reply.Txn txn) new sv (Some (MachineStep.Begin txn)) step in
+        let holds = made_holds o can _ _ _ st (so o can pushed core book r).served.log in
+        let absent = agree_none st txn (active_of txn p.active) (none_here o can pushed core book r seat p there txn none) in
+        txn_stepped o can pushed core book r Event.Begin (Reply.Txn txn) new sv (MachineStep.Begin txn) step seat txn p (begun p txn) there (inr none)
+        (subst (λ a. Agree (after st (MachineStep.Begin txn)) txn a ((after st (MachineStep.Begin txn)).txns txn)) (sym (new_own txn p.active absent)) (begin_own st holds txn none))
+        (λ u apart. new_other u txn p.active apart) (λ u apart. txn_apart st txn new_txn u apart) (λ u apart q. refl)
+
+    module _ (txn : ℕ) (own : is_some (active_of txn p.active) ≡ true) where
+      -- a change, by its first step
+      start : (e : Event) (reply : Reply) (new : CoreValue) (sv : Serves core e reply new) (rid : Place) (rows : Rows) → step_of e reply new sv ≡ Some (Start txn (change_of st txn rid rows))
+          → IsRegister o pushed new (slice_set book seat (changed p new txn (write_of (change_of st txn rid rows))))
+      start e reply new sv rid rows step =
+          let c : ChangeValue = change_of st txn rid rows in
+          let w : Write = write_of c in
+          let can_start : CanStart st txn c = enabled_of e reply new sv (Some (Start txn c)) step in
+          let mine_now = seen o can pushed core book r seat p there txn own (txn_at st txn) can_start.active in
+          let shown = shown_by o can pushed core book r e reply new sv (Some (Start txn c)) step in
+          txn_stepped o can pushed core book r e reply new sv (Start txn c) step seat txn p (changed p new txn w) there (mine o can pushed core book r seat p there txn own)
+          (subst (λ a. Agree (after st (Start txn c)) txn a ((after st (Start txn c)).txns txn)) (sym (with_own (change_seen new w) (λ a. refl) txn p.active ∙ ap (option_map (change_seen new w)) mine_now.1))
+          (start_own st txn c can_start new shown.rows mine_now.0 mine_now.2 (unfinished_in new mine_now.0.txn w)
+          (λ y is. ap (λ n. unfinished_in new n w) (number_is txn p.active mine_now.0 mine_now.1) ∙ unfinished_is new (after st (Start txn c)) (standing_after std reply) shown txn y is w)))
+          (λ u apart. with_other (change_seen new w) (λ a. refl) txn u p.active apart) (start_apart st txn c can_start) (start_others st txn c can_start)
+
+      pub insert : (row : Row) (rid : Place) (new : CoreValue) → IsServed core (Event.Insert txn row) (Reply.Rid rid) new → IsRegister o pushed new (slice_set book seat (changed p new txn (record { rid = rid; row = Some row })))
+      insert row rid new is =
+          let sv = asked core (Event.Insert txn row) (Reply.Rid rid) new is tt in
+          let d = due_of (Event.Insert txn row) (Reply.Rid rid) new sv tt in
+          let at : rid ≡ d.0 = one_place rid d.0 d.2 in
+          start (Event.Insert txn row) (Reply.Rid rid) new sv rid (Inserted row) (d.3 ∙ ap (λ q. Some (Start txn (change_of st txn q (Inserted row)))) (sym at))
+        where
+          one_place : (a b : Place) → Reply.Rid a ≡ Reply.Rid b → a ≡ b
+          one_place a b e = cc
+
+      pub delete : (rid : Place) (new : CoreValue) → IsServed core (Event.Delete txn rid) Reply.Stepped new → IsRegister o pushed new (slice_set book seat (changed p new txn (record { rid = rid; row = None })))
+      delete rid new is =
+          let sv = asked core (Event.Delete txn rid) Reply.Stepped new is tt in
+          let d = due_of (Event.Delete txn rid) Reply.Stepped new sv tt in
+          start (Event.Delete txn rid) Reply.Stepped new sv rid (Deleted d.0) d.3
+
+      pub update : (rid : Place) (row : Row) (new : CoreValue) → IsServed core (Event.Update txn rid row) Reply.Stepped new → IsRegister o pushed new (slice_set book seat (changed p new txn (record { rid = rid; row = Some row })))
+      update rid row new is =
+          let sv = asked core (Event.Update txn rid row) Reply.Stepped new is tt in
+          let d = due_of (Event.Update txn rid row) Reply.Stepped new sv tt in
+          start (Event.Update txn rid row) Reply.Stepped new sv rid (Updated d.0 row) d.3
+
+      pub next : (new : CoreValue) → Serves core (Event.Step txn) Reply.Stepped new → IsRegister o pushed new (slice_set book seat (stepped p new txn))
+      next new sv =
+          let d = due_of (Event.Step txn) Reply.Stepped new sv tt in
+          let owes : Owes (txn_at st txn) = proper st std (Event.Step txn) Reply.Stepped (step_of (Event.Step txn) Reply.Stepped new sv) (allowed_of (Event.Step txn) Reply.Stepped new sv) tt in
+          let active : IsActive st txn = (enabled_of (Event.Step txn) Reply.Stepped new sv (Some (MachineStep.Next txn)) d.1).0 in
+          let mine_now = seen o can pushed core book r seat p there txn own (txn_at st txn) active in
+          let shown = shown_by o can pushed core book r (Event.Step txn) Reply.Stepped new sv (Some (MachineStep.Next txn)) d.1 in
+          let fit = (so o can pushed core book r).stands.fit in
+          txn_stepped o can pushed core book r (Event.Step txn) Reply.Stepped new sv (MachineStep.Next txn) d.1 seat txn p (stepped p new txn) there (mine o can pushed core book r seat p there txn own)
+          (subst (λ a. Agree (after st (MachineStep.Next txn)) txn a ((after st (MachineStep.Next txn)).txns txn)) (sym (with_own (step_seen new) (λ a. refl) txn p.active ∙ ap (option_map (step_seen new)) mine_now.1))
+          (next_own st txn fit active new shown.rows mine_now.0 mine_now.2 (still_unfinished new mine_now.0.txn mine_now.0.unfinished)
+          (λ y is same.
+          (λ i. still_unfinished new (number_is txn p.active mine_now.0 mine_now.1 i) ((mine_now.2.unfinished ∙ (owes_one (txn_at st txn) owes ∙ ap newest_write (sym same))) i))
+          ∙ still_is new txn (is_owed y.phase y.rolling) (unfinished_is new (after st (MachineStep.Next txn)) (standing_after std Reply.Stepped) shown txn y is) y.changes)))
+          (λ u apart. with_other (step_seen new) (λ a. refl) txn u p.active apart) (next_apart st txn fit active) (next_others st txn fit active)
+
+      undo_at : (reply : Reply) → IsAnswer reply → (new : CoreValue) → Serves core (Event.Undo txn) reply new → IsRegister o pushed new (slice_set book seat (rolling_back p new txn))
+      undo_at reply answers new sv =
+          let d = due_of (Event.Undo txn) reply new sv answers in
+          let active : IsActive st txn = enabled_of (Event.Undo txn) reply new sv (Some (MachineStep.Undo txn)) d.1 in
+          let mine_now = seen o can pushed core book r seat p there txn own (txn_at st txn) active in
+          let shown = shown_by o can pushed core book r (Event.Undo txn) reply new sv (Some (MachineStep.Undo txn)) d.1 in
+          let fit = (so o can pushed core book r).stands.fit in
+          txn_stepped o can pushed core book r (Event.Undo txn) reply new sv (MachineStep.Undo txn) d.1 seat txn p (rolling_back p new txn) there (mine o can pushed core book r seat p there txn own)
+          (subst (λ a. Agree (after st (MachineStep.Undo txn)) txn a ((after st (MachineStep.Undo txn)).txns txn)) (sym (with_own (taken_back new) (λ a. refl) txn p.active ∙ ap (option_map (taken_back new)) mine_now.1))
+          (undo_own st txn fit active new shown.rows mine_now.0 mine_now.2))
+          (λ u apart. with_other (taken_back new) (λ a. refl) txn u p.active apart) (undo_apart st txn fit active) (undo_others st txn fit active)
+
+      pub undo : (u : Undone) (new : CoreValue) → Serves core (Event.Undo txn) (undone_reply u) new → IsRegister o pushed new (slice_set book seat (rolling_back p new txn))
+      undo Step new sv = undo_at Reply.Undone tt new sv
+      undo Empty new sv = undo_at Reply.Empty tt new sv
+
+      none_of : (new : State) → new.txns txn ≡ None → Agree new txn (active_of txn (without txn p.active)) (new.txns txn)
+      none_of new gone = subst (λ a. Agree new txn a (new.txns txn)) (sym (without_own txn p.active)) (subst (Agree new txn None) (sym gone) tt)
+
+      pub end : (new : CoreValue) → Serves core (Event.End txn) Reply.Ended new → IsRegister o pushed new (slice_set book seat (ended p txn))
+      end new sv =
+          let d = due_of (Event.End txn) Reply.Ended new sv tt in
+          txn_stepped o can pushed core book r (Event.End txn) Reply.Ended new sv (MachineStep.End txn) d.1 seat txn p (ended p txn) there (mine o can pushed core book r seat p there txn own)
+          (none_of (after st (MachineStep.End txn)) (leave_own st txn (after st (MachineStep.End txn)).committed))
+          (λ u apart. without_other u txn p.active apart) (leave_apart st txn (after st (MachineStep.End txn)).committed) (leave_others st txn (after st (MachineStep.End txn)).committed)
+
+      pub commit : (ticket : Ticket) (new : CoreValue) → IsServed core (Event.Commit txn) (reply_of_ticket ticket) new → IsRegister o pushed new (slice_set book seat (committed p txn ticket))
+      commit ticket new is =
+          let answers = ticket_answers ticket.«record» ticket.commit in
+          let sv = asked core (Event.Commit txn) (reply_of_ticket ticket) new is answers in
+          let d = due_of (Event.Commit txn) (reply_of_ticket ticket) new sv answers in
+          txn_stepped o can pushed core book r (Event.Commit txn) (reply_of_ticket ticket) new sv (MachineStep.Commit txn) d.1 seat txn p (committed p txn ticket) there (mine o can pushed core book r seat p there txn own)
+          (none_of (after st (MachineStep.Commit txn)) (leave_own st txn (after st (MachineStep.Commit txn)).committed))
+          (λ u apart. without_other u txn p.active apart) (leave_apart st txn (after st (MachineStep.Commit txn)).committed) (leave_others st txn (after st (MachineStep.Commit txn)).committed)
+
+    pub create : (ticket : Ticket) (new : CoreValue) → IsServed core Event.Create (reply_of_ticket ticket) new → IsRegister o pushed new (slice_set book seat (with_creation p ticket.«record»))
+    create ticket new is =
+        let answers = ticket_answers ticket.«record» ticket.commit in
+        let sv = asked core Event.Create (reply_of_ticket ticket) new is answers in
+        let d = due_of Event.Create (reply_of_ticket ticket) new sv answers in
+        same_txns o can pushed core book r Event.Create (reply_of_ticket ticket) new sv (Some MachineStep.Create) d.1 (slice_set book seat (with_creation p ticket.«record»))
+        (owned_beside (after st MachineStep.Create) book r.owner seat p (with_creation p ticket.«record») there refl (owned_kept st (after st MachineStep.Create) book r.owner (λ u. refl) (λ u q. refl) r.owned))
+        (owners_beside (after st MachineStep.Create) book r.owner seat (with_creation p ticket.«record») (owners_kept st (after st MachineStep.Create) book r.owner (λ u. refl) r.owners))
