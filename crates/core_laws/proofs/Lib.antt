@@ -4,3 +4,5 @@ mod Holding
 mod Levels
 mod Ordered
 mod Deciding
+mod Checked
+mod Answered

@@ -2,3 +2,4 @@ pub mod Calls
 pub mod Openings
 pub mod Holds
 pub mod Granted
+pub mod Alike

@@ -21,7 +21,9 @@ ghost use Rattle.core_contracts.specs.Served.{HasStanding, items_of};
 ghost use Rattle.core_loader.specs.Loaded.{holding};
 ghost use Rattle.nsf_core.specs.Moves.{fresh};
 ghost use Rattle.nsf_core.specs.Outbox.{HandsOn};
-ghost use Rattle.nsf_core.specs.View.{CoreValue, Serves};
+ghost use Rattle.nsf_core.specs.Asked.{IsFine, IsRefused};
+ghost use Rattle.nsf_core.specs.View.{CoreValue, IsSafe, Serves};
+ghost use Rattle.core_laws.specs.Alike.{AreAlike};
 ghost use Rattle.core_laws.specs.Calls.{BeginsWith, Calls, HasReplied};
 ghost use Rattle.core_laws.specs.Openings.{empty_after, store_with};
 ghost use Rattle.core_laws.specs.Holds.{HoldsHistory, ShowsRows};
@@ -68,4 +70,22 @@ pub fn one_reply()
         → IsAllowed s k e (Refused Error.NoMemory) none → WantsMemory s e step }
     ensures granted { (s : State) (k : Standing) → HasStanding s k → (e : Event) (reply : Reply) (step none : Option MachineStep) → IsAllowed s k e reply step → reply ≢ Refused Error.NoMemory
         → IsAllowed s k e (Refused Error.NoMemory) none → IsGranted reply }
+{}
+
+/// A law: a call leaves one value. Unless memory is wanted, a core's call has one reply, and what it leaves is the same, as far as
+/// any call tells.
+pub fn one_answer()
+    ensures reply { (old new next : CoreValue) (e : Event) (reply other : Reply) → IsSafe old → Serves old e reply new → Serves old e other next
+        → reply ≢ Refused Error.NoMemory → other ≢ Refused Error.NoMemory → reply ≡ other }
+    ensures value { (old new next : CoreValue) (e : Event) (reply other : Reply) → IsSafe old → Serves old e reply new → Serves old e other next
+        → reply ≢ Refused Error.NoMemory → other ≢ Refused Error.NoMemory → AreAlike new next }
+{}
+
+/// A law: a check says what the call then answers. A refusal that it gives is the one that there is, and the call gets no other
+/// reply; and where nothing but want of memory refuses, no refusal is there, and the call, unless memory is wanted, gets what it asks for.
+pub fn one_check()
+    ensures one { (v : CoreValue) (e : Event) (error other : Error) → IsSafe v → IsRefused v e error → IsRefused v e other → error ≡ other }
+    ensures apart { (v : CoreValue) (e : Event) (error : Error) → IsSafe v → IsRefused v e error → IsFine v e → ⊥ }
+    ensures refused { (v new : CoreValue) (e : Event) (error : Error) (reply : Reply) → IsSafe v → IsRefused v e error → Serves v e reply new → reply ≡ Refused error }
+    ensures fine { (v new : CoreValue) (e : Event) (reply : Reply) → IsSafe v → IsFine v e → Serves v e reply new → reply ≢ Refused Error.NoMemory → IsGranted reply }
 {}

@@ -1,5 +1,5 @@
 -- A core as it is made, and a transaction's beginning.
-use Rattle.std.proofs.Common.{Bool, unwrap_or, append-nil, Err, List, None, Ok, Option, Result, Some, [], ap, arith, cond, eqb, false, inl, inr, length, refl, subst, sym, true, ℕ, ◌++◌, ◌+◌, ◌<◌, ◌∙◌, ◌∷◌, ◌≡◌, ◌≢◌, ◌≤◌}
+use Rattle.std.proofs.Common.{Bool, unwrap_or, append-nil, Err, List, None, Ok, Option, Result, Some, [], ap, arith, cond, eqb, false, inl, inr, length, refl, subst, sym, true, ℕ, ◌++◌, ◌+◌, ◌<◌, ◌∙◌, ◌∷◌, ◌≡◌, ◌≢◌, ◌≤◌, ◌⊎◌}
 use Rattle.std.specs.FinMap.{empty, get, get-empty, insert, len-empty}
 use Rattle.std.specs.Ordering.{nat_cmp}
 use Rattle.std.specs.Option.{option_map}
@@ -201,8 +201,15 @@ module _ (v : CoreValue) where
   spent : TXNS_MAX ≤ length v.txns.active → Serves v Event.Begin (Refused Error.TooManyTxns) v
   spent le s k is = refusal v s k Event.Begin Error.TooManyTxns is.shown (refused (λ x. x) tt Error.TooManyTxns (inl (subst (λ n. TXNS_MAX ≤ n) (sym is.shown.active) le, refl)))
 
-  pub begin_refused : (e : Error) → (e ≡ Error.TooManyTxns) × (TXNS_MAX ≤ length v.txns.active) → IsRefused v Event.Begin e
-  begin_refused e why = (by_state, subst (λ n. Serves v Event.Begin (Refused n) v) (sym why.0) (spent why.1))
+  -- that no number is left never comes
+  unspent : 18446744073709551615 ≤ v.txns.begun → Serves v Event.Begin (Refused Error.TooManyTxns) v
+  unspent le s k is = absurd (apart _ (numbers_left v s k is) le)
+    where
+      apart : (n : ℕ) → n < 18446744073709551615 → 18446744073709551615 ≤ n → ⊥
+      apart n l r = omega (arith, l, r)
+
+  pub begin_refused : (e : Error) → (e ≡ Error.TooManyTxns) × ((TXNS_MAX ≤ length v.txns.active) ⊎ (18446744073709551615 ≤ v.txns.begun)) → IsRefused v Event.Begin e
+  begin_refused e why = (by_state, subst (λ n. Serves v Event.Begin (Refused n) v) (sym why.0) (elim why.1 [ inl many ↦ spent many | inr none ↦ unspent none ]))
     where
       by_state : e ≢ Error.NoMemory
       by_state lack = let other : Error.TooManyTxns ≡ Error.NoMemory = sym why.0 ∙ lack in absurd cc

@@ -1,5 +1,5 @@
 //! What a core consists of, and what its steps do to it.
-ghost use Rattle.std.specs.Prelude.{◌≡◌, ◌≢◌, ◌≤◌, ◌<◌, ◌+◌, ◌-◌, ◌++◌, ◌∷◌, [], None, Some, true, false, length, IfOk, IfErr, IfSome, IfNone, OnOk, OnErr, IsTrue, ◌↔◌};
+ghost use Rattle.std.specs.Prelude.{◌≡◌, ◌≢◌, ◌≤◌, ◌<◌, ◌+◌, ◌-◌, ◌++◌, ◌∷◌, [], None, Some, true, false, IfOk, IfErr, IfSome, IfNone, OnOk, OnErr, IsTrue, ◌↔◌};
 ghost use Rattle.std.specs.FinMap as map;
 ghost use Rattle.records.specs.Maps.{set_at};
 ghost use Rattle.std.specs.Prelude.{option_and_then};
@@ -26,7 +26,7 @@ use marked_index::{MarkedIndex, Stepped};
 use model::Life;
 use records::{
     Action, Body, Change, Error, Geometry, Key, LAST_NUMBER, Mark, PLACES_PER_CHANGE, Pair, Part,
-    Record, RecordNumber, Rid, Row, Rows, TXNS_MAX, Txn, TxnAction,
+    Record, RecordNumber, Rid, Row, Rows, Txn, TxnAction,
 };
 use sorted_scan::Scan;
 use std::alloc::Allocator;
@@ -242,17 +242,6 @@ impl<A: Allocator + Copy> Parts<A> {
         ensures safe { IsSafe (parts_of self.old) → IsSafe (parts_of self.new) }
     {
         self.heap.set(rid, row);
-    }
-
-    /// Why no transaction begins, but for want of memory.
-    pub(crate) fn may_begin(&self) -> Result<(), Error>
-        ensures many { IfErr result (λ e. (e ≡ Error.TooManyTxns) × (TXNS_MAX ≤ length (parts_of self.now).txns.active)) }
-        ensures few { OnOk result (length (parts_of self.now).txns.active < TXNS_MAX) }
-    {
-        if self.txns.len() >= TXNS_MAX {
-            return Err(Error::TooManyTxns);
-        }
-        Ok(())
     }
 
     /// Begins a transaction.

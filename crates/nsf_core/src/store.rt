@@ -178,7 +178,7 @@ impl<A: Allocator + Copy> Core<A> {
         ensures refused { IfErr result (IsRefused (value_of self.now) Event.Begin) }
         ensures fine { OnOk result (IsFine (value_of self.now) Event.Begin) }
     {
-        self.parts.may_begin()?;
+        let _txn = self.parts.txns.may_begin()?;
         Ok(())
     }
 

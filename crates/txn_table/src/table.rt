@@ -1,5 +1,5 @@
 //! The table of the active transactions.
-ghost use Rattle.std.specs.Prelude.{◌≡◌, ◌≢◌, ◌+◌, ◌<◌, ◌≤◌, ◌↔◌, ℕ, [], length, not, filter, Contains, Some, None, is_some, slice_get, option_map, option_and_then, IsTrue, IsErr, IsSome, IfOk, IfErr, OnOk, OnErr, IsOkUnless};
+ghost use Rattle.std.specs.Prelude.{◌≡◌, ◌≢◌, ◌+◌, ◌<◌, ◌≤◌, ◌↔◌, ◌⊎◌, ℕ, [], length, not, filter, Contains, Some, None, is_some, slice_get, option_map, option_and_then, IsTrue, IsErr, IsSome, IfOk, IfErr, OnOk, OnErr, IsOkUnless};
 ghost use Rattle.std.specs.Result.{result_err};
 ghost use Rattle.records.specs.Values.{Place};
 ghost use Rattle.txn_table.specs.Table.{TxnState, is_among, with_rid, holder_of, state_of, is_rolling, with_state, with_next, without, change_noted, without_last, put_at, last_change, change_refusal, touch_refusal};
@@ -185,19 +185,16 @@ impl<A: Allocator + Copy> TxnTable<A> {
         self.held.as_slice()
     }
 
-    /// Begins the next transaction. The numbers rise from 1, and none comes again.
+    /// The number of the transaction that begins next, or why none does, but for want of memory.
     ///
     /// `TooManyTxns` comes where `TXNS_MAX` are active, and where the last number, 2^64 - 1, was
-    /// given. After it and after `NoMemory` the table is as before, and no number is used up.
-    pub fn begin(&mut self) -> Result<Txn, Error>
-        ensures full { TXNS_MAX ≤ length self.old.active → result ≡ Err Error.TooManyTxns }
-        ensures spent { u64.MAX ≤ self.old.begun → result ≡ Err Error.TooManyTxns }
-        ensures room { length self.old.active < TXNS_MAX → self.old.begun < u64.MAX →
-            IsOkUnless result Error.NoMemory }
-        ensures number { IfOk result (λ txn. txn ≡ self.old.begun + 1) }
-        ensures ok { OnOk result (self.new ≡ with_next self.old) }
-        ensures err { OnErr result (self.new ≡ self.old) }
-        ensures holders { (r : Place) → holder_of r self.new.active ≡ holder_of r self.old.active }
+    /// given.
+    pub fn may_begin(&self) -> Result<Txn, Error>
+        ensures number { IfOk result (λ txn. txn ≡ self.now.begun + 1) }
+        ensures room { OnOk result (length self.now.active < TXNS_MAX) }
+        ensures left { OnOk result (self.now.begun < u64.MAX) }
+        ensures refused { IfErr result (λ e. (e ≡ Error.TooManyTxns)
+            × ((TXNS_MAX ≤ length self.now.active) ⊎ (u64.MAX ≤ self.now.begun))) }
     {
         if self.len() >= TXNS_MAX {
             return Err(Error::TooManyTxns);
@@ -208,8 +205,26 @@ impl<A: Allocator + Copy> TxnTable<A> {
         let Some(txn) = Txn::new(number) else {
             unreachable!()
         };
+        Ok(txn)
+    }
+
+    /// Begins the next transaction. The numbers rise from 1, and none comes again.
+    ///
+    /// The errors are those of `may_begin`, and then `NoMemory`. After an error the table is as
+    /// before, and no number is used up.
+    pub fn begin(&mut self) -> Result<Txn, Error>
+        ensures full { TXNS_MAX ≤ length self.old.active → result ≡ Err Error.TooManyTxns }
+        ensures spent { u64.MAX ≤ self.old.begun → result ≡ Err Error.TooManyTxns }
+        ensures room { length self.old.active < TXNS_MAX → self.old.begun < u64.MAX →
+            IsOkUnless result Error.NoMemory }
+        ensures number { IfOk result (λ txn. txn ≡ self.old.begun + 1) }
+        ensures ok { OnOk result (self.new ≡ with_next self.old) }
+        ensures err { OnErr result (self.new ≡ self.old) }
+        ensures holders { (r : Place) → holder_of r self.new.active ≡ holder_of r self.old.active }
+    {
+        let txn = self.may_begin()?;
         self.active.insert(txn, ActiveTxn::new(self.alloc))?;
-        self.begun = number;
+        self.begun = txn.number();
         Ok(txn)
     }
 
