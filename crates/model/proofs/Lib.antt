@@ -12,3 +12,4 @@ pub mod ImageLaws
 pub mod GivenLaws
 pub mod InsideLaws
 pub mod AboveLaws
+pub mod ExtendedLaws

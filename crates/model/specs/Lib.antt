@@ -12,3 +12,4 @@ pub mod Given
 pub mod Images
 pub mod Inside
 pub mod Above
+pub mod Extended
