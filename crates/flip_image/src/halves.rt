@@ -1,12 +1,12 @@
 //! A store on a device: formatted, opened, and checked to be fresh.
-ghost use Rattle.std.specs.Prelude.{◌≡◌, ◌⊎◌, ◌↔◌, ◌+◌, ◌*◌, ◌^◌, ◌≤◌, ◌<◌, ℕ, length, OnOk, OnErr, IfOk, IfErr};
+ghost use Rattle.std.specs.Prelude.{◌≡◌, ◌≢◌, ◌⊎◌, ◌↔◌, ◌+◌, ◌*◌, ◌^◌, ◌≤◌, ◌<◌, ℕ, length, OnOk, OnErr, IfOk, IfErr};
 ghost use Rattle.sector_device.specs.Disk.{sector, IsSynced, SameOutside};
 ghost use Rattle.sector_device.specs.History.{OnlyReads, LeavesOnly, CountsFailure};
 ghost use Rattle.sector_device.specs.Values.{zero_sector};
 ghost use Rattle.records.specs.GeometryValue.{GeometryValue, IsGeometry, sectors_of};
 ghost use Rattle.image_half.specs.Image.{no_cells};
 ghost use Rattle.image_half.specs.Layout.{image_end};
-ghost use Rattle.image_half.specs.Damage.{IsUnread};
+ghost use Rattle.image_half.specs.Damage.{IsSound, TheHeader, IsUnread};
 ghost use Rattle.flip_image.specs.Layout.{other, header_sector, log_first};
 ghost use Rattle.flip_image.specs.Store.{Names, IsFlipping, IsSuperblock, IsStore, IsFresh, HoldsImage, IsFormatted, AreGatesClosed, AreLogGatesZero, IsFormatSector, IsRefused, IsFirstUsed, AreZeros, IsDeviceFailure, IsUntitled, IsSuperblockDamaged};
 
@@ -73,7 +73,8 @@ impl Halves {
     ///
     /// `DeviceTooSmall` where the device has fewer sectors than a superblock and a flip sector take; else
     /// `NotFormatted` where the title is another; else `Damaged` with the superblock's sector where that is none; else
-    /// `DeviceTooSmall` where the device has fewer sectors than the geometry needs.
+    /// `DeviceTooSmall` where the device has fewer sectors than the geometry needs. `DeviceFailed` where the device failed in
+    /// the call, and only then.
     pub fn open<D: Device>(device: &mut D) -> Result<Self, Error>
         ensures opened { IfOk result (λ halves. IsStore halves.geometry halves.current (D.history device.old).disk.content) }
         ensures store { (g : GeometryValue) (half : Half) → IsStore g half (D.history device.old).disk.content
@@ -84,6 +85,7 @@ impl Halves {
             ⊎ IsDeviceFailure (D.failures device.old) (D.failures device.new) e) }
         ensures reads { OnlyReads (D.history device.old) (D.history device.new) }
         ensures quiet { OnOk result (D.failures device.new ≡ D.failures device.old) }
+        ensures told { IfErr result (λ e. e ≢ Error.DeviceFailed → D.failures device.new ≡ D.failures device.old) }
         ensures later { D.failures device.old ≤ D.failures device.new }
     {
         if device.sectors() < FRONT_SECTORS {
@@ -100,7 +102,7 @@ impl Halves {
     /// Checks that the current half's image is as `format` leaves it. Nothing is written.
     ///
     /// `Damaged` names the first part that is not: the sector of the header, the sector of the transaction heads, or
-    /// the first sector of a page.
+    /// the first sector of a page. `DeviceFailed` where the device failed in the call, and only then.
     pub fn check_fresh<D: Device>(&self, device: &mut D) -> Result<(), Error>
         requires inside { sectors_of self.now.geometry ≤ length (D.history device.old).disk.content }
         ensures fresh { OnOk result (IsFresh self.now.geometry self.now.current (D.history device.old).disk.content) }
@@ -110,6 +112,7 @@ impl Halves {
             ⊎ ((sector : ℕ) × (e ≡ Error.Damaged sector) × IsFirstUsed self.now.geometry self.now.current (D.history device.old).disk.content sector)) }
         ensures reads { OnlyReads (D.history device.old) (D.history device.new) }
         ensures quiet { OnOk result (D.failures device.new ≡ D.failures device.old) }
+        ensures told { IfErr result (λ e. e ≢ Error.DeviceFailed → D.failures device.new ≡ D.failures device.old) }
         ensures later { D.failures device.old ≤ D.failures device.new }
     {
         check_half(device, self.geometry, self.current)
@@ -119,7 +122,8 @@ impl Halves {
     /// made as it began. Nothing is written.
     ///
     /// `Damaged` names the first sector with a part that says nothing: the header, the transaction heads, an undo item, the
-    /// first sector of a page, or an entry. `NoMemory` where the sink refuses a cell.
+    /// first sector of a page, or an entry. `DeviceFailed` where the device failed in the call, and only then. `NoMemory` where
+    /// there is no memory for the cells; a damaged header is told before any is wanted (`memory`).
     pub fn read_image<D: Device, S: CellSink, A: Allocator + Copy>(
         &self,
         alloc: A,
@@ -132,6 +136,8 @@ impl Halves {
         ensures refused { IfErr result (IsUnread self.now.geometry (header_sector self.now.geometry self.now.current) (D.history device.old).disk.content (D.failures device.old) (D.failures device.new)) }
         ensures reads { OnlyReads (D.history device.old) (D.history device.new) }
         ensures quiet { OnOk result (D.failures device.new ≡ D.failures device.old) }
+        ensures told { IfErr result (λ e. e ≢ Error.DeviceFailed → D.failures device.new ≡ D.failures device.old) }
+        ensures memory { IfErr result (λ e. e ≡ Error.NoMemory → IsSound self.now.geometry (header_sector self.now.geometry self.now.current) (D.history device.old).disk.content TheHeader) }
         ensures later { D.failures device.old ≤ D.failures device.new }
     {
         read_half(alloc, device, self.geometry, self.current, sink)
@@ -215,6 +221,8 @@ fn read_half<D: Device, S: CellSink, A: Allocator + Copy>(
     ensures refused { IfErr result (IsUnread geometry (header_sector geometry half) (D.history device.old).disk.content (D.failures device.old) (D.failures device.new)) }
     ensures reads { OnlyReads (D.history device.old) (D.history device.new) }
     ensures quiet { OnOk result (D.failures device.new ≡ D.failures device.old) }
+    ensures told { IfErr result (λ e. e ≢ Error.DeviceFailed → D.failures device.new ≡ D.failures device.old) }
+    ensures memory { IfErr result (λ e. e ≡ Error.NoMemory → IsSound geometry (header_sector geometry half) (D.history device.old).disk.content TheHeader) }
     ensures later { D.failures device.old ≤ D.failures device.new }
 {
     let first = half.header_sector(geometry);
@@ -254,6 +262,7 @@ fn read_superblock<D: Device>(device: &mut D) -> Result<Geometry, Error>
         ⊎ ((e ≡ Error.Damaged SUPERBLOCK_SECTOR) × IsSuperblockDamaged (D.history device.old).disk.content))) }
     ensures reads { OnlyReads (D.history device.old) (D.history device.new) }
     ensures quiet { OnOk result (D.failures device.new ≡ D.failures device.old) }
+    ensures told { IfErr result (λ e. e ≢ Error.DeviceFailed → D.failures device.new ≡ D.failures device.old) }
     ensures later { D.failures device.old ≤ D.failures device.new }
 {
     let mut bytes = [0; SECTOR_SIZE];
@@ -270,6 +279,7 @@ fn read_flip_sector<D: Device>(device: &mut D) -> Result<Half, Error>
     ensures refused { IfErr result (IsDeviceFailure (D.failures device.old) (D.failures device.new)) }
     ensures reads { OnlyReads (D.history device.old) (D.history device.new) }
     ensures quiet { OnOk result (D.failures device.new ≡ D.failures device.old) }
+    ensures told { IfErr result (λ e. e ≢ Error.DeviceFailed → D.failures device.new ≡ D.failures device.old) }
     ensures later { D.failures device.old ≤ D.failures device.new }
 {
     let mut bytes = [0; SECTOR_SIZE];
@@ -292,6 +302,7 @@ fn check_zeros<D: Device>(device: &mut D, first: u64, count: u64) -> Result<(), 
         ⊎ ((e ≡ Error.Damaged first) × (¬ AreZeros (D.history device.old).disk.content first count))) }
     ensures reads { OnlyReads (D.history device.old) (D.history device.new) }
     ensures quiet { OnOk result (D.failures device.new ≡ D.failures device.old) }
+    ensures told { IfErr result (λ e. e ≢ Error.DeviceFailed → D.failures device.new ≡ D.failures device.old) }
     ensures later { D.failures device.old ≤ D.failures device.new }
 {
     if read_zeros(device, first, count)? {
@@ -312,6 +323,7 @@ fn check_pages<D: Device>(device: &mut D, first: u64, pages: u64) -> Result<(), 
         × ((earlier : ℕ) → earlier < page → AreZeros (D.history device.old).disk.content (first + PAGE_SECTORS * earlier) PAGE_SECTORS))) }
     ensures reads { OnlyReads (D.history device.old) (D.history device.new) }
     ensures quiet { OnOk result (D.failures device.new ≡ D.failures device.old) }
+    ensures told { IfErr result (λ e. e ≢ Error.DeviceFailed → D.failures device.new ≡ D.failures device.old) }
     ensures later { D.failures device.old ≤ D.failures device.new }
 {
     for page in 0..pages {
@@ -328,6 +340,7 @@ fn check_half<D: Device>(device: &mut D, geometry: Geometry, half: Half) -> Resu
         ⊎ ((sector : ℕ) × (e ≡ Error.Damaged sector) × IsFirstUsed geometry half (D.history device.old).disk.content sector)) }
     ensures reads { OnlyReads (D.history device.old) (D.history device.new) }
     ensures quiet { OnOk result (D.failures device.new ≡ D.failures device.old) }
+    ensures told { IfErr result (λ e. e ≢ Error.DeviceFailed → D.failures device.new ≡ D.failures device.old) }
     ensures later { D.failures device.old ≤ D.failures device.new }
 {
     let header = half.header_sector(geometry);

@@ -1,5 +1,5 @@
 //! Sectors of zeros.
-ghost use Rattle.std.specs.Prelude.{◌≡◌, ◌+◌, ◌^◌, ◌≤◌, ◌<◌, true, false, length, OnOk, IfOk, IfErr};
+ghost use Rattle.std.specs.Prelude.{◌≡◌, ◌≢◌, ◌+◌, ◌^◌, ◌≤◌, ◌<◌, true, false, length, OnOk, IfOk, IfErr};
 ghost use Rattle.sector_device.specs.History.{OnlyReads};
 ghost use Rattle.flip_image.specs.Store.{AreZeros, IsDeviceFailure};
 
@@ -14,6 +14,7 @@ pub(crate) fn read_zeros<D: Device>(device: &mut D, first: u64, count: u64) -> R
         × (are ≡ false → ¬ AreZeros (D.history device.old).disk.content first count)) }
     ensures reads { OnlyReads (D.history device.old) (D.history device.new) }
     ensures quiet { OnOk result (D.failures device.new ≡ D.failures device.old) }
+    ensures told { IfErr result (λ e. e ≢ Error.DeviceFailed → D.failures device.new ≡ D.failures device.old) }
     ensures later { D.failures device.old ≤ D.failures device.new }
     ensures refused { IfErr result (IsDeviceFailure (D.failures device.old) (D.failures device.new)) }
 {

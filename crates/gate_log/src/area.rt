@@ -1,5 +1,5 @@
 //! The area of a log.
-ghost use Rattle.std.specs.Prelude.{◌≡◌, ◌⊎◌, ◌↔◌, ◌+◌, ◌*◌, ◌^◌, ◌≤◌, ◌<◌, ◌++◌, ◌∷◌, [], ℕ, List, false, true, length, OnOk, OnErr, IfOk, IfErr, MatchOption};
+ghost use Rattle.std.specs.Prelude.{◌≡◌, ◌≢◌, ◌⊎◌, ◌↔◌, ◌+◌, ◌*◌, ◌^◌, ◌≤◌, ◌<◌, ◌++◌, ◌∷◌, [], ℕ, List, false, true, length, OnOk, OnErr, IfOk, IfErr, MatchOption};
 ghost use Rattle.sector_device.specs.Disk.{Image, sector, IsSynced, IsCrashImage, SameOutside};
 ghost use Rattle.sector_device.specs.History.{RunsWithin, OnlyReads, LeavesOnly, CountsFailure, Rises};
 ghost use Rattle.sector_device.specs.Values.{marked_sector};
@@ -161,7 +161,7 @@ impl LogArea {
     /// The records of all groups, in order. From then on the log knows how many slots are open.
     ///
     /// `Damaged` names the gate of the first slot that can't be: an open one after a closed one, or an open one whose
-    /// body is no group. Nothing is written.
+    /// body is no group. `DeviceFailed` where the device failed in the call, and only then. Nothing is written.
     pub fn read_all<D: Device, A: Allocator + Copy>(
         &mut self,
         alloc: A,
@@ -179,6 +179,7 @@ impl LogArea {
         ensures err { OnErr result (self.new ≡ self.old) }
         ensures reads { OnlyReads (D.history device.old) (D.history device.new) }
         ensures quiet { OnOk result (D.failures device.new ≡ D.failures device.old) }
+        ensures told { IfErr result (λ e. e ≢ Error.DeviceFailed → D.failures device.new ≡ D.failures device.old) }
         ensures later { D.failures device.old ≤ D.failures device.new }
     {
         let (records, open_slots) = read_slots(alloc, device, self.first, self.slots)?;
@@ -188,7 +189,7 @@ impl LogArea {
 
     /// The gate of the group that a record is in, by the record's index in what `read_all` gave, or `None` where there
     /// is no such record. So a caller can say where a record lies that can't follow the one before it. The groups are
-    /// read again, and nothing is written.
+    /// read again, and nothing is written. `DeviceFailed` where the device failed in the call, and only then.
     pub fn gate_of<D: Device, A: Allocator + Copy>(
         &self,
         alloc: A,
@@ -202,6 +203,7 @@ impl LogArea {
         ensures refused { IfErr result (Refuses (D.failures device.old) (D.failures device.new)) }
         ensures reads { OnlyReads (D.history device.old) (D.history device.new) }
         ensures quiet { OnOk result (D.failures device.new ≡ D.failures device.old) }
+        ensures told { IfErr result (λ e. e ≢ Error.DeviceFailed → D.failures device.new ≡ D.failures device.old) }
         ensures later { D.failures device.old ≤ D.failures device.new }
     {
         gate_of_record(alloc, device, self.first, self.open_slots, index)
@@ -254,6 +256,7 @@ fn read_slots<D: Device, A: Allocator + Copy>(
         ⊎ ((sector : ℕ) × (e ≡ Error.Damaged sector) × IsFirstDamagedSlot (record { first = first; slots = slots }) (D.history device.old).disk.content sector)) }
     ensures reads { OnlyReads (D.history device.old) (D.history device.new) }
     ensures quiet { OnOk result (D.failures device.new ≡ D.failures device.old) }
+    ensures told { IfErr result (λ e. e ≢ Error.DeviceFailed → D.failures device.new ≡ D.failures device.old) }
     ensures later { D.failures device.old ≤ D.failures device.new }
 {
     let mut count = 0;
@@ -293,6 +296,7 @@ fn gate_of_record<D: Device, A: Allocator + Copy>(
     ensures refused { IfErr result (Refuses (D.failures device.old) (D.failures device.new)) }
     ensures reads { OnlyReads (D.history device.old) (D.history device.new) }
     ensures quiet { OnOk result (D.failures device.new ≡ D.failures device.old) }
+    ensures told { IfErr result (λ e. e ≢ Error.DeviceFailed → D.failures device.new ≡ D.failures device.old) }
     ensures later { D.failures device.old ≤ D.failures device.new }
 {
     let mut left = index;

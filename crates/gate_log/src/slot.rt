@@ -1,5 +1,5 @@
 // One slot: how its group is written, and how it is read.
-ghost use Rattle.std.specs.Prelude.{◌≡◌, ◌↔◌, ◌+◌, ◌^◌, ◌≤◌, ◌<◌, List, false, length, OnOk, IfOk, IfErr, IsTrue, MatchOption};
+ghost use Rattle.std.specs.Prelude.{◌≡◌, ◌≢◌, ◌↔◌, ◌+◌, ◌^◌, ◌≤◌, ◌<◌, List, false, length, OnOk, IfOk, IfErr, IsTrue, MatchOption};
 ghost use Rattle.sector_device.specs.Disk.{sector, IsSynced, SameOutside};
 ghost use Rattle.sector_device.specs.History.{RunsWithin, OnlyReads, LeavesOnly, CountsFailure};
 ghost use Rattle.sector_device.specs.Values.{marked_sector};
@@ -68,6 +68,7 @@ pub(crate) fn is_open<D: Device>(device: &mut D, gate: u64) -> Result<bool, Erro
     ensures value { IfOk result (λ opened. IsTrue opened ↔ IsOpen (D.history device.old).disk.content gate) }
     ensures reads { OnlyReads (D.history device.old) (D.history device.new) }
     ensures quiet { OnOk result (D.failures device.new ≡ D.failures device.old) }
+    ensures told { IfErr result (λ e. e ≢ Error.DeviceFailed → D.failures device.new ≡ D.failures device.old) }
     ensures later { D.failures device.old ≤ D.failures device.new }
     ensures refused { IfErr result (Refuses (D.failures device.old) (D.failures device.new)) }
 {
@@ -90,6 +91,7 @@ fn read_body<D: Device, A: Allocator>(
     ensures size { IfOk result (λ bytes. length bytes.items ≡ BODY_SIZE) }
     ensures reads { OnlyReads (D.history device.old) (D.history device.new) }
     ensures quiet { OnOk result (D.failures device.new ≡ D.failures device.old) }
+    ensures told { IfErr result (λ e. e ≢ Error.DeviceFailed → D.failures device.new ≡ D.failures device.old) }
     ensures later { D.failures device.old ≤ D.failures device.new }
     ensures refused { IfErr result (Refuses (D.failures device.old) (D.failures device.new)) }
 {
@@ -117,6 +119,7 @@ pub(crate) fn read_group<D: Device, A: Allocator + Copy>(
         (λ records. IsGroup records.items (body (D.history device.old).disk.content gate))) }
     ensures reads { OnlyReads (D.history device.old) (D.history device.new) }
     ensures quiet { OnOk result (D.failures device.new ≡ D.failures device.old) }
+    ensures told { IfErr result (λ e. e ≢ Error.DeviceFailed → D.failures device.new ≡ D.failures device.old) }
     ensures later { D.failures device.old ≤ D.failures device.new }
     ensures refused { IfErr result (Refuses (D.failures device.old) (D.failures device.new)) }
 {

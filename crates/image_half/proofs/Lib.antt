@@ -7,7 +7,7 @@ mod Growing
 mod Bytes
 mod Refusing
 mod Heads
-mod Told
+pub mod Told
 mod Walk
 mod Joined
 mod Kept

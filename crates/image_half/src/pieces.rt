@@ -1,5 +1,5 @@
 //! Pieces of equal sizes, as many to a sector as fit.
-ghost use Rattle.std.specs.Prelude.{◌≡◌, ℕ, ◌+◌, ◌*◌, ◌/◌, ◌%◌, ◌^◌, ◌<◌, ◌≤◌, length, OnOk, IfErr};
+ghost use Rattle.std.specs.Prelude.{◌≡◌, ◌≢◌, ℕ, ◌+◌, ◌*◌, ◌/◌, ◌%◌, ◌^◌, ◌<◌, ◌≤◌, length, OnOk, IfErr};
 ghost use Rattle.sector_device.specs.Disk.{sector};
 ghost use Rattle.sector_device.specs.History.{OnlyReads};
 ghost use Rattle.image_half.specs.Layout.{cut};
@@ -25,6 +25,7 @@ pub(crate) fn load<D: Device>(
     ensures refused { IfErr result (IsHindered (D.failures device.old) (D.failures device.new)) }
     ensures reads { OnlyReads (D.history device.old) (D.history device.new) }
     ensures quiet { OnOk result (D.failures device.new ≡ D.failures device.old) }
+    ensures told { IfErr result (λ e. e ≢ Error.DeviceFailed → D.failures device.new ≡ D.failures device.old) }
     ensures later { D.failures device.old ≤ D.failures device.new }
 {
     if i % to_a_sector == 0 && device.read(at + i / to_a_sector, buffer).is_err() {

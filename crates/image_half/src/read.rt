@@ -1,5 +1,5 @@
 //! An image is read.
-ghost use Rattle.std.specs.Prelude.{◌≡◌, ◌⊎◌, ◌+◌, ◌*◌, ◌^◌, ◌≤◌, ◌<◌, ℕ, List, length, slice_get, Some, None, OnOk, IfOk, IfErr};
+ghost use Rattle.std.specs.Prelude.{◌≡◌, ◌≢◌, ◌⊎◌, ◌+◌, ◌*◌, ◌^◌, ◌≤◌, ◌<◌, ℕ, List, length, slice_get, Some, None, OnOk, IfOk, IfErr};
 ghost use Rattle.std.specs.FinMap as finite;
 ghost use Rattle.sector_device.specs.Disk.{sector};
 ghost use Rattle.sector_device.specs.History.{OnlyReads};
@@ -44,6 +44,8 @@ fn read_header<D: Device>(device: &mut D, geometry: Geometry, first: u64) -> Res
         ⊎ ((e ≡ Error.Damaged first) × (¬ IsSound geometry first (D.history device.old).disk.content TheHeader))) }
     ensures reads { OnlyReads (D.history device.old) (D.history device.new) }
     ensures quiet { OnOk result (D.failures device.new ≡ D.failures device.old) }
+    ensures told { IfErr result (λ e. e ≢ Error.DeviceFailed → D.failures device.new ≡ D.failures device.old) }
+    ensures no_memory { IfErr result (λ e. e ≢ Error.NoMemory) }
     ensures later { D.failures device.old ≤ D.failures device.new }
 {
     let mut bytes = zero_sector();
@@ -67,6 +69,7 @@ fn read_heads<D: Device, A: Allocator + Copy>(
         ⊎ ((e ≡ Error.Damaged (heads_at first)) × (¬ IsSound geometry first (D.history device.old).disk.content TheHeads))) }
     ensures reads { OnlyReads (D.history device.old) (D.history device.new) }
     ensures quiet { OnOk result (D.failures device.new ≡ D.failures device.old) }
+    ensures told { IfErr result (λ e. e ≢ Error.DeviceFailed → D.failures device.new ≡ D.failures device.old) }
     ensures later { D.failures device.old ≤ D.failures device.new }
 {
     let at = first + HEADER_SECTORS;
@@ -95,6 +98,7 @@ fn read_list<D: Device, A: Allocator + Copy>(
     ensures refused { IfErr result (IsItemRefused geometry first (D.history device.old).disk.content h count (D.failures device.old) (D.failures device.new)) }
     ensures reads { OnlyReads (D.history device.old) (D.history device.new) }
     ensures quiet { OnOk result (D.failures device.new ≡ D.failures device.old) }
+    ensures told { IfErr result (λ e. e ≢ Error.DeviceFailed → D.failures device.new ≡ D.failures device.old) }
     ensures later { D.failures device.old ≤ D.failures device.new }
 {
     let at = first + HEADER_SECTORS + HEADS_SECTORS;
@@ -136,6 +140,7 @@ fn read_lists<D: Device, S: CellSink, A: Allocator + Copy>(
     ensures refused { IfErr result (AreListsRefused geometry first (D.history device.old).disk.content heads.now (D.failures device.old) (D.failures device.new)) }
     ensures reads { OnlyReads (D.history device.old) (D.history device.new) }
     ensures quiet { OnOk result (D.failures device.new ≡ D.failures device.old) }
+    ensures told { IfErr result (λ e. e ≢ Error.DeviceFailed → D.failures device.new ≡ D.failures device.old) }
     ensures later { D.failures device.old ≤ D.failures device.new }
 {
     for (h, head) in heads.iter().enumerate() {
@@ -173,6 +178,7 @@ fn read_page<D: Device, S: CellSink>(
     ensures refused { IfErr result (IsPageRefused geometry first (D.history device.old).disk.content page (D.failures device.old) (D.failures device.new)) }
     ensures reads { OnlyReads (D.history device.old) (D.history device.new) }
     ensures quiet { OnOk result (D.failures device.new ≡ D.failures device.old) }
+    ensures told { IfErr result (λ e. e ≢ Error.DeviceFailed → D.failures device.new ≡ D.failures device.old) }
     ensures later { D.failures device.old ≤ D.failures device.new }
 {
     let at = page_at(first, u64::from(page));
@@ -212,6 +218,7 @@ fn read_pages<D: Device, S: CellSink>(
     ensures refused { IfErr result (ArePagesRefused geometry first (D.history device.old).disk.content (D.failures device.old) (D.failures device.new)) }
     ensures reads { OnlyReads (D.history device.old) (D.history device.new) }
     ensures quiet { OnOk result (D.failures device.new ≡ D.failures device.old) }
+    ensures told { IfErr result (λ e. e ≢ Error.DeviceFailed → D.failures device.new ≡ D.failures device.old) }
     ensures later { D.failures device.old ≤ D.failures device.new }
 {
     for page in 0..geometry.pages {
@@ -237,6 +244,7 @@ fn read_entries<D: Device, S: CellSink>(
     ensures refused { IfErr result (AreEntriesRefused geometry first (D.history device.old).disk.content count (D.failures device.old) (D.failures device.new)) }
     ensures reads { OnlyReads (D.history device.old) (D.history device.new) }
     ensures quiet { OnOk result (D.failures device.new ≡ D.failures device.old) }
+    ensures told { IfErr result (λ e. e ≢ Error.DeviceFailed → D.failures device.new ≡ D.failures device.old) }
     ensures later { D.failures device.old ≤ D.failures device.new }
 {
     let at = page_at(first, u64::from(geometry.pages));
@@ -266,7 +274,8 @@ fn read_entries<D: Device, S: CellSink>(
 ///
 /// `Damaged` names the first sector with a part that says nothing: the header, the transaction heads, an undo item of a
 /// head that is used, the first sector of a page, or an entry, which is above the one before it. A place in a page that the
-/// geometry doesn't have says nothing. `NoMemory` where the sink refuses a cell.
+/// geometry doesn't have says nothing. `DeviceFailed` where the device failed in the call, and only
+/// then. `NoMemory` where there is no memory for the cells; a damaged header is told before any is wanted (`memory`).
 pub fn read_image<D: Device, S: CellSink, A: Allocator + Copy>(
     alloc: A,
     device: &mut D,
@@ -283,6 +292,8 @@ pub fn read_image<D: Device, S: CellSink, A: Allocator + Copy>(
     ensures refused { IfErr result (IsUnread geometry first (D.history device.old).disk.content (D.failures device.old) (D.failures device.new)) }
     ensures reads { OnlyReads (D.history device.old) (D.history device.new) }
     ensures quiet { OnOk result (D.failures device.new ≡ D.failures device.old) }
+    ensures told { IfErr result (λ e. e ≢ Error.DeviceFailed → D.failures device.new ≡ D.failures device.old) }
+    ensures memory { IfErr result (λ e. e ≡ Error.NoMemory → IsSound geometry first (D.history device.old).disk.content TheHeader) }
     ensures later { D.failures device.old ≤ D.failures device.new }
 {
     let header = read_header(device, geometry, first)?;
