@@ -1,0 +1,5 @@
+mod Numbers
+mod Halves
+mod Writing
+mod Opening
+mod Given

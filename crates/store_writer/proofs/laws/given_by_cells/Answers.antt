@@ -1,0 +1,8 @@
+use Rattle.store_writer.proofs.Given.{gives, prefix}
+use Rattle.store_writer.proofs.laws.given_by_cells.Goals as goal
+
+pub returns-clause-gives : goal.returns-clause-gives
+returns-clause-gives c = gives
+
+pub returns-clause-prefix : goal.returns-clause-prefix
+returns-clause-prefix c = prefix

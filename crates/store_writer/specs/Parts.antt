@@ -1,0 +1,29 @@
+-- The parts of a writer.
+use Rattle.std.specs.Prelude.{ℕ, Bool, List}
+use Rattle.records.specs.RecordValue.{RecordValue}
+use Rattle.gate_log.specs.Area.{Log}
+use Rattle.flip_image.specs.Layout.{HalvesValue}
+use Rattle.store_writer.specs.declared.writer.Writer.{Writer}
+
+module _ {D M : Type 0} where
+  abbrev pub device_of : Writer D M → D
+  device_of w = w.device
+
+  abbrev pub halves_of : Writer D M → HalvesValue
+  halves_of w = w.halves
+
+  -- the log of the current half
+  abbrev pub log_of : Writer D M → Log
+  log_of w = w.log
+
+  -- the records that were handed in and are not synced yet, in order
+  abbrev pub waiting_of : Writer D M → List RecordValue
+  waiting_of w = w.waiting.items
+
+  -- the number of the last synced record
+  abbrev pub synced_of : Writer D M → ℕ
+  synced_of w = w.synced
+
+  -- whether the device has failed
+  abbrev pub has_failed : Writer D M → Bool
+  has_failed w = w.failed

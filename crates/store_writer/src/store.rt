@@ -1,0 +1,129 @@
+//! The writer of a store.
+ghost use Rattle.std.specs.Prelude.{◌≡◌, ◌+◌, ◌≤◌, ◌++◌, ℕ, List, [], length, false, OnOk, OnErr, IfOk, IfErr};
+ghost use Rattle.sector_device.specs.Disk.{Image, IsCrashImage};
+ghost use Rattle.sector_device.specs.History.{LeavesOnly};
+ghost use Rattle.records.specs.RecordValue.{RecordValue};
+ghost use Rattle.model.specs.Cells.{Cells};
+ghost use Rattle.image_model.specs.Run.{Run, IsRun};
+ghost use Rattle.store_writer.specs.Contents.{LeftBy};
+ghost use Rattle.store_writer.specs.Parts.{device_of, halves_of, log_of, waiting_of, synced_of, has_failed};
+
+use crate::FlushReply;
+use crate::writer::Writer;
+use flip_image::Halves;
+use gate_log::LogArea;
+use records::{Error, Record};
+use sector_device::Device;
+use std::alloc::Allocator;
+use std::marker::Model;
+
+/// The one that owns a store's device, and takes the records that are made.
+///
+/// A crash at any moment leaves what a prefix of the records handed in makes of the store that was opened, one that has
+/// every synced record. Every writer is where some run of records has left it: its type keeps that.
+///
+/// After `DeviceFailed` each call that needs the device answers that, and the device is left alone. It is to be opened
+/// again.
+#[derive(Drop)]
+pub struct StoreWriter<D: Device, A: Allocator> {
+    pub(crate) writer: Writer<D, A>,
+}
+
+impl<D: Device, A: Allocator> Model for StoreWriter<D, A> {
+    ghost use Rattle.std.specs.Coded.{codes};
+    ghost use Rattle.store_writer.specs.declared.writer.Writer.{Writer};
+    ghost use Rattle.std.specs.FinMap as map;
+    ghost use Rattle.store_writer.specs.Writer.{IsSomewhere};
+
+    ghost Value = { Writer D A };
+
+    ghost coded = { Prim.hlevel (codes, map.code) };
+
+    ghost view = { λ store. store.writer };
+
+    ghost invariant = { λ store. IsSomewhere D.history store.writer };
+}
+
+impl<D: Device, A: Allocator + Copy> StoreWriter<D, A> {
+    ghost use Rattle.store_writer.specs.Writer.{IsWriter, IsOpenedAt, opened_run, longer, AreNext, IsFlushReply, IsNotFlushed};
+
+    /// A writer to which nothing was handed, over a device that is synced. The log is that of the current half, as a reader
+    /// or `LogArea::clear` left it, and the current half has the cells after the record `synced`. Nothing is read, and no
+    /// memory is taken.
+    pub fn new(alloc: A, device: D, halves: Halves, log: LogArea, synced: u64) -> Self
+        requires { (cells : Cells) × IsOpenedAt (D.history device) halves log synced cells }
+        ensures writer { (cells : Cells) → IsOpenedAt (D.history device) halves log synced cells → IsWriter D.history (opened_run halves synced cells) synced result }
+        ensures device { device_of result ≡ device }
+        ensures halves { halves_of result ≡ halves }
+        ensures log { log_of result ≡ log }
+        ensures waiting { waiting_of result ≡ [] }
+        ensures synced { synced_of result ≡ synced }
+        ensures sound { has_failed result ≡ false }
+    {
+        StoreWriter {
+            writer: Writer::new(alloc, device, halves, log, synced),
+        }
+    }
+
+    /// A law: where more records are made, the writer stands as before.
+    pub fn goes_on(&self)
+        ensures { (run : Run) (handed : ℕ) (more : List RecordValue) → IsWriter D.history run handed self.now → IsRun (longer run more) → IsWriter D.history (longer run more) handed self.now }
+    {
+        self.writer.goes_on();
+    }
+
+    /// Takes the records that come next in the run. They wait until `flush_group` writes them.
+    ///
+    /// An `Err` gives them back, for want of memory, and changes nothing.
+    pub fn hand_in(&mut self, records: Vec<Record, A>) -> Result<(), Vec<Record, A>>
+        requires { (run : Run) × (handed : ℕ) × IsWriter D.history run handed self.old × AreNext run handed records.items }
+        ensures writer { OnOk result ((run : Run) (handed : ℕ) → IsWriter D.history run handed self.old → AreNext run handed records.items → IsWriter D.history run (handed + length records.items) self.new) }
+        ensures waits { OnOk result (waiting_of self.new ≡ waiting_of self.old ++ records.items) }
+        ensures unchanged { OnErr result ((run : Run) (handed : ℕ) → IsWriter D.history run handed self.old → IsWriter D.history run handed self.new) }
+        ensures still { OnErr result (waiting_of self.new ≡ waiting_of self.old) }
+        ensures back { IfErr result (λ back. back.items ≡ records.items) }
+        ensures device { device_of self.new ≡ device_of self.old }
+        ensures halves { halves_of self.new ≡ halves_of self.old }
+        ensures log { log_of self.new ≡ log_of self.old }
+        ensures synced { synced_of self.new ≡ synced_of self.old }
+        ensures failed { has_failed self.new ≡ has_failed self.old }
+    {
+        self.writer.hand_in(records)
+    }
+
+    /// Writes the next group of the records that wait, as many of them, in order, as fill one, and syncs it. A group is
+    /// written only where no memory is wanting.
+    ///
+    /// `NoMemory` means that nothing was written, and nothing changed. `DeviceFailed` comes where the device fails in the
+    /// call, and from then on.
+    pub fn flush_group(&mut self, alloc: A) -> Result<FlushReply, Error>
+        ensures writer { (run : Run) (handed : ℕ) → IsWriter D.history run handed self.old → IsWriter D.history run handed self.new }
+        ensures images { (run : Run) (handed : ℕ) → IsWriter D.history run handed self.old
+            → LeavesOnly (D.history (device_of self.old)) (D.history (device_of self.new)) (LeftBy run (synced_of self.old) handed) }
+        ensures flushed { IfOk result (λ reply. IsFlushReply reply self.old self.new) }
+        ensures nothing { result ≡ Ok FlushReply.Nothing → (run : Run) (handed : ℕ) → IsWriter D.history run handed self.old → synced_of self.old ≡ handed }
+        ensures idle { (run : Run) (handed : ℕ) → IsWriter D.history run handed self.old → has_failed self.old ≡ false → synced_of self.old ≡ handed → result ≡ Ok FlushReply.Nothing }
+        ensures sound { OnOk result ((has_failed self.old ≡ false) × (has_failed self.new ≡ false)) }
+        ensures err { IfErr result (λ e. IsNotFlushed D.failures e self.old self.new) }
+        ensures kept { OnErr result (synced_of self.new ≡ synced_of self.old) }
+        ensures quiet { OnOk result (D.failures (device_of self.new) ≡ D.failures (device_of self.old)) }
+        ensures later { D.failures (device_of self.old) ≤ D.failures (device_of self.new) }
+    {
+        self.writer.flush_group(alloc)
+    }
+
+    /// The number of the last synced record: what a crash leaves from now on has it.
+    pub fn synced(&self) -> u64
+        ensures { result ≡ synced_of self.now }
+    {
+        self.writer.synced
+    }
+
+    /// The device as it is now. The records that wait are lost.
+    pub fn into_device(self) -> D
+        ensures device { result ≡ device_of self }
+        ensures images { (run : Run) (handed : ℕ) → IsWriter D.history run handed self → (image : Image) → IsCrashImage (D.history result).disk image → LeftBy run (synced_of self) handed image }
+    {
+        self.writer.into_device()
+    }
+}
