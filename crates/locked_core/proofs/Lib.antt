@@ -1,0 +1,3 @@
+mod Book
+mod Kept
+mod Refused

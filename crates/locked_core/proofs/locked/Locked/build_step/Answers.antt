@@ -1,0 +1,15 @@
+use Rattle.std.proofs.Common.{map}
+use Rattle.std.proofs.Math.Logic.{∥∥₁_map}
+use Rattle.core_contracts.specs.Events.{Event}
+use Rattle.nsf_core.specs.Value.{value_of}
+use Rattle.registry.specs.Halves.{shown}
+use Rattle.locked_core.proofs.Kept.{others_kept}
+use Rattle.locked_core.proofs.locked.Locked.build_step.Goals as goal
+
+pub invariant_of-self : goal.invariant_of-self
+invariant_of-self g c = record {
+  queue = c.args.self.now.queue;
+  seats = c.args.self.now.seats;
+  halves = c.args.self.now.halves;
+  shared = ∥∥₁_map c.args.self.now.shared (λ shared. others_kept g.B.Site.site.opened (value_of c.args.self.now.core) (value_of c.build_step.new.self) c.args.self.now.pusher.records (map shown c.args.self.now.book.items) shared Event.Build _ tt tt c.build_step.ensures);
+}

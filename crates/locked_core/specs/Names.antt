@@ -1,0 +1,37 @@
+-- What many seats share, by name, and what it keeps.
+use Rattle.std.specs.FinMap as map
+use Rattle.std.specs.Prelude.{[], List, ℕ}
+use Rattle.std.specs.declared.alloc.Global.{Global}
+use Rattle.crossbeam_queue.specs.SegTies.{SegId}
+use Rattle.atomic_table.specs.Seated.{TableId}
+use Rattle.records.specs.RecordValue.{RecordValue}
+use Rattle.model.specs.declared.life.Life.TheVariants.{Absent}
+use Rattle.core_model.specs.Histories.{CanOpen, Opened}
+use Rattle.nsf_core.specs.View.{CoreValue}
+use Rattle.sessions.specs.Values.{SessionValue}
+use Rattle.register.specs.Agreement.{IsRegister}
+use Rattle.register.specs.Register.{AreAllCommits}
+
+-- the queue to the flusher, the registry of the sessions, how many seats there are, and what the core began with
+pub record Names : Type 0 where
+  pub queue : SegId Global
+  pub table : TableId
+  pub seats : ℕ
+  pub opened : Opened
+
+abbrev pub no_table : TableId
+no_table = record { words = 0; slots = 0; views_name = 0; atom = 0; block = 0; offset = 0; slot_names = [] }
+
+abbrev pub no_names : Names
+no_names = record {
+  queue = record { web = (0, 0); heap = record { memory = record { seal = tt } } };
+  table = no_table;
+  seats = 0;
+  opened = record { given = record { table = map.empty; entries = map.empty; life = Absent; last = 0 }; pages = 0; places = 0 };
+}
+
+-- What the core and the sessions under the lock keep: the sessions have what the core has of the active transactions, and all commits, with their numbers.
+pub record IsShared (opened : Opened) (core : CoreValue) (pushed : List RecordValue) (book : List SessionValue) : Type 0 where
+  pub opens : CanOpen opened
+  pub register : IsRegister opened pushed core book
+  pub commits : AreAllCommits book core.commits

@@ -1,0 +1,357 @@
+//! What lies under the lock, and the steps on it.
+ghost use Rattle.std.specs.FinMap as table;
+ghost use Rattle.std.specs.Prelude.{◌≡◌, ◌↔◌, [], IsTrue, false, true, Err, None, Some, IfOk, OnErr, OnOk, length, map, slice_get, slice_set};
+ghost use Rattle.core_contracts.specs.Events.{Event, Reply};
+ghost use Rattle.records.specs.declared.error.Error.TheVariants.{NoSuchTxn};
+ghost use Rattle.core_laws.specs.Calls.{BeginsWith};
+ghost use Rattle.core_model.specs.Histories.{CanOpen};
+ghost use Rattle.nsf_core.specs.Builds.{built};
+ghost use Rattle.nsf_core.specs.Cleaning.{cleaner};
+ghost use Rattle.nsf_core.specs.Moves.{HasNoChange, txn_shown};
+ghost use Rattle.nsf_core.specs.Outbox.{HandsOn};
+ghost use Rattle.nsf_core.specs.Replies.{reply_by, reply_of_ticket};
+ghost use Rattle.nsf_core.specs.Undoing.{undone_reply};
+ghost use Rattle.nsf_core.specs.View.{Serves};
+ghost use Rattle.nsf_core.specs.Value.{value_of};
+ghost use Rattle.register.specs.Register.{AreEmpty};
+ghost use Rattle.sessions.specs.Steps.{begun, changed, committed, ended, IsServed, rolling_back, with_creation};
+ghost use Rattle.sessions.specs.Values.{is_active, is_ready};
+ghost use Rattle.locked_core.specs.Names.{IsShared};
+ghost use Rattle.registry.specs.Halves.{IsBook, IsNew, shown};
+
+use crate::outbox::QueueSink;
+use crate::seat::SeatPart;
+use crate::site::Site;
+use model::Life;
+use nsf_core::{BuildReply, CleanReply, Core, Ticket, Undone};
+use records::{Body, Error, Key, Rid, Row, Txn};
+use registry::{Half, Registry};
+use std::alloc::Global;
+use std::marker::PhantomData;
+use std::sync::Wait;
+use tail::{Pusher, RecordQueue};
+
+/// What lies under the lock: the core, the end of the queue that its records go to, and a half of each seat's session. To
+/// a contract it is a `LockedValue`.
+#[derive(Drop)]
+pub struct Locked<B: Site> {
+    core: Core<Global>,
+    pusher: Pusher,
+    book: Vec<Half>,
+    site: PhantomData<B>,
+    ghost queue: { pusher.queue ≡ B.site.queue },
+    ghost seats: { length book.items ≡ B.site.seats },
+    ghost halves: { IsBook B.site.table book.items },
+    ghost shared: { ∥ IsShared B.site.opened (value_of core) pusher.records (map shown book.items) ∥₁ },
+}
+
+impl<B: Site> Locked<B> {
+    ghost use Rattle.locked_core.specs.Locked.{locked_of};
+
+    /// A core that was just opened, under the lock, with new sessions of all seats.
+    pub fn new(core: Core<Global>, pusher: Pusher, book: Vec<Half>) -> Locked<B>
+        requires opens { CanOpen B.site.opened }
+        requires core { BeginsWith B.site.opened (value_of core) }
+        requires pusher { pusher ≡ record { queue = B.site.queue; records = [] } }
+        requires seats { length book.items ≡ B.site.seats }
+        requires book { IsNew B.site.table book.items }
+        ensures core { (locked_of result).core ≡ value_of core }
+        ensures pushed { (locked_of result).pushed ≡ [] }
+        ensures book { AreEmpty (locked_of result).book }
+    {
+        Locked {
+            core,
+            pusher,
+            book,
+            site: PhantomData,
+        }
+    }
+
+    /// The core, the end of the queue that its records went to, and the halves of the sessions.
+    pub fn into_parts(self) -> (Core<Global>, Pusher, Vec<Half>)
+        ensures core { value_of result.0 ≡ (locked_of self).core }
+        ensures pusher { result.1 ≡ record { queue = B.site.queue; records = (locked_of self).pushed } }
+        ensures seats { length result.2.items ≡ B.site.seats }
+        ensures halves { IsBook B.site.table result.2.items }
+        ensures book { map shown result.2.items ≡ (locked_of self).book }
+        ensures shared { ∥ IsShared B.site.opened (locked_of self).core (locked_of self).pushed (locked_of self).book ∥₁ }
+    {
+        let Locked {
+            core,
+            pusher,
+            book,
+            site: _,
+        } = self;
+        (core, pusher, book)
+    }
+
+    /// Pushes the records that wait to the queue, in the order of their making. One that the queue refuses stays, and so do
+    /// those behind it.
+    pub fn push_outbox<R: Wait>(&mut self, rt: &R, queue: &RecordQueue)
+        requires { queue.now ≡ B.site.queue }
+        ensures pushed { HandsOn (locked_of self.old).core (locked_of self.new).core (locked_of self.old).pushed (locked_of self.new).pushed }
+        ensures book { (locked_of self.new).book ≡ (locked_of self.old).book }
+    {
+        let mut sink = QueueSink {
+            rt,
+            queue,
+            pusher: &mut self.pusher,
+            site: PhantomData::<B>,
+        };
+        self.core.take_outbox(&mut sink);
+    }
+
+    /// Begins a transaction of the seat.
+    ///
+    /// The refusals are those of the core's `begin`. After a refusal all is as before.
+    pub fn begin(&mut self, registry: &Registry, seat: &mut SeatPart<B>) -> Result<Txn, Error>
+        requires { registry.now ≡ B.site.table }
+        ensures before { slice_get (locked_of self.old).book seat.old.number ≡ Some seat.old.session }
+        ensures served { IsServed (locked_of self.old).core Event.Begin (reply_by Reply.Txn result) (locked_of self.new).core }
+        ensures number { seat.new.number ≡ seat.old.number }
+        ensures ok { IfOk result (λ txn. seat.new.session ≡ begun seat.old.session txn) }
+        ensures refused { OnErr result (seat.new.session ≡ seat.old.session) }
+        ensures book { (locked_of self.new).book ≡ slice_set (locked_of self.old).book seat.old.number seat.new.session }
+        ensures pushed { (locked_of self.new).pushed ≡ (locked_of self.old).pushed }
+    {
+        let begun = seat.session.begin(&mut self.core);
+        registry.change(&mut seat.half, &mut self.book[seat.number], &seat.session);
+        begun
+    }
+
+    /// Inserts a row in a transaction of the seat: the first step.
+    ///
+    /// The refusals are those of the session's `insert`. After a refusal all is as before.
+    pub fn insert(
+        &mut self,
+        registry: &Registry,
+        seat: &mut SeatPart<B>,
+        txn: Txn,
+        key: Key,
+        body: Body,
+    ) -> Result<Rid, Error>
+        requires registry { registry.now ≡ B.site.table }
+        requires ready { is_active seat.old.session txn ≡ true → is_ready seat.old.session txn ≡ true }
+        ensures before { slice_get (locked_of self.old).book seat.old.number ≡ Some seat.old.session }
+        ensures foreign { is_active seat.old.session txn ≡ false → (result ≡ Err NoSuchTxn) × ((locked_of self.new).core ≡ (locked_of self.old).core) }
+        ensures served { is_active seat.old.session txn ≡ true → IsServed (locked_of self.old).core (Event.Insert txn (record { key = key; body = body })) (reply_by Reply.Rid result) (locked_of self.new).core }
+        ensures ok { IfOk result (λ rid. seat.new.session ≡ changed seat.old.session (locked_of self.new).core txn (record { rid = rid; row = Some (record { key = key; body = body }) })) }
+        ensures refused { OnErr result (seat.new.session ≡ seat.old.session) }
+        ensures number { seat.new.number ≡ seat.old.number }
+        ensures book { (locked_of self.new).book ≡ slice_set (locked_of self.old).book seat.old.number seat.new.session }
+        ensures pushed { (locked_of self.new).pushed ≡ (locked_of self.old).pushed }
+    {
+        registry.change(&mut seat.half, &mut self.book[seat.number], &seat.session);
+        let inserted = seat.session.insert(&mut self.core, txn, key, body);
+        registry.change(&mut seat.half, &mut self.book[seat.number], &seat.session);
+        inserted
+    }
+
+    /// Deletes a row in a transaction of the seat: the first step.
+    ///
+    /// The refusals are those of the session's `delete`. After a refusal all is as before.
+    pub fn delete(
+        &mut self,
+        registry: &Registry,
+        seat: &mut SeatPart<B>,
+        txn: Txn,
+        rid: Rid,
+    ) -> Result<(), Error>
+        requires registry { registry.now ≡ B.site.table }
+        requires ready { is_active seat.old.session txn ≡ true → is_ready seat.old.session txn ≡ true }
+        ensures before { slice_get (locked_of self.old).book seat.old.number ≡ Some seat.old.session }
+        ensures foreign { is_active seat.old.session txn ≡ false → (result ≡ Err NoSuchTxn) × ((locked_of self.new).core ≡ (locked_of self.old).core) }
+        ensures served { is_active seat.old.session txn ≡ true → IsServed (locked_of self.old).core (Event.Delete txn rid) (reply_by (λ _. Reply.Stepped) result) (locked_of self.new).core }
+        ensures ok { OnOk result (seat.new.session ≡ changed seat.old.session (locked_of self.new).core txn (record { rid = rid; row = None })) }
+        ensures refused { OnErr result (seat.new.session ≡ seat.old.session) }
+        ensures number { seat.new.number ≡ seat.old.number }
+        ensures book { (locked_of self.new).book ≡ slice_set (locked_of self.old).book seat.old.number seat.new.session }
+        ensures pushed { (locked_of self.new).pushed ≡ (locked_of self.old).pushed }
+    {
+        registry.change(&mut seat.half, &mut self.book[seat.number], &seat.session);
+        let deleted = seat.session.delete(&mut self.core, txn, rid);
+        registry.change(&mut seat.half, &mut self.book[seat.number], &seat.session);
+        deleted
+    }
+
+    /// Puts another row in place of a row, in a transaction of the seat: the first step.
+    ///
+    /// The refusals are those of the session's `update`. After a refusal all is as before.
+    pub fn update(
+        &mut self,
+        registry: &Registry,
+        seat: &mut SeatPart<B>,
+        txn: Txn,
+        rid: Rid,
+        key: Key,
+        body: Body,
+    ) -> Result<(), Error>
+        requires registry { registry.now ≡ B.site.table }
+        requires ready { is_active seat.old.session txn ≡ true → is_ready seat.old.session txn ≡ true }
+        ensures before { slice_get (locked_of self.old).book seat.old.number ≡ Some seat.old.session }
+        ensures foreign { is_active seat.old.session txn ≡ false → (result ≡ Err NoSuchTxn) × ((locked_of self.new).core ≡ (locked_of self.old).core) }
+        ensures served { is_active seat.old.session txn ≡ true → IsServed (locked_of self.old).core (Event.Update txn rid (record { key = key; body = body })) (reply_by (λ _. Reply.Stepped) result) (locked_of self.new).core }
+        ensures ok { OnOk result (seat.new.session ≡ changed seat.old.session (locked_of self.new).core txn (record { rid = rid; row = Some (record { key = key; body = body }) })) }
+        ensures refused { OnErr result (seat.new.session ≡ seat.old.session) }
+        ensures number { seat.new.number ≡ seat.old.number }
+        ensures book { (locked_of self.new).book ≡ slice_set (locked_of self.old).book seat.old.number seat.new.session }
+        ensures pushed { (locked_of self.new).pushed ≡ (locked_of self.old).pushed }
+    {
+        registry.change(&mut seat.half, &mut self.book[seat.number], &seat.session);
+        let updated = seat.session.update(&mut self.core, txn, rid, key, body);
+        registry.change(&mut seat.half, &mut self.book[seat.number], &seat.session);
+        updated
+    }
+
+    /// Makes the next step that takes a change of a transaction of the seat back, or answers that none is left.
+    ///
+    /// The refusals are those of the session's `undo_step`. After a refusal all is as before.
+    pub fn undo_step(
+        &mut self,
+        registry: &Registry,
+        seat: &mut SeatPart<B>,
+        txn: Txn,
+    ) -> Result<Undone, Error>
+        requires { registry.now ≡ B.site.table }
+        ensures before { slice_get (locked_of self.old).book seat.old.number ≡ Some seat.old.session }
+        ensures foreign { is_active seat.old.session txn ≡ false → (result ≡ Err NoSuchTxn) × ((locked_of self.new).core ≡ (locked_of self.old).core) }
+        ensures served { is_active seat.old.session txn ≡ true → Serves (locked_of self.old).core (Event.Undo txn) (reply_by undone_reply result) (locked_of self.new).core }
+        ensures ok { OnOk result (seat.new.session ≡ rolling_back seat.old.session (locked_of self.new).core txn) }
+        ensures refused { OnErr result (seat.new.session ≡ seat.old.session) }
+        ensures number { seat.new.number ≡ seat.old.number }
+        ensures book { (locked_of self.new).book ≡ slice_set (locked_of self.old).book seat.old.number seat.new.session }
+        ensures pushed { (locked_of self.new).pushed ≡ (locked_of self.old).pushed }
+    {
+        let undone = seat.session.undo_step(&mut self.core, txn);
+        registry.change(&mut seat.half, &mut self.book[seat.number], &seat.session);
+        undone
+    }
+
+    /// Creates the index, and keeps the number of its record with the seat.
+    ///
+    /// The refusals are those of the core's `create_index`. After a refusal all is as before.
+    pub fn create_index(
+        &mut self,
+        registry: &Registry,
+        seat: &mut SeatPart<B>,
+    ) -> Result<Ticket, Error>
+        requires { registry.now ≡ B.site.table }
+        ensures before { slice_get (locked_of self.old).book seat.old.number ≡ Some seat.old.session }
+        ensures served { IsServed (locked_of self.old).core Event.Create (reply_by reply_of_ticket result) (locked_of self.new).core }
+        ensures ok { IfOk result (λ ticket. seat.new.session ≡ with_creation seat.old.session ticket.«record») }
+        ensures refused { OnErr result (seat.new.session ≡ seat.old.session) }
+        ensures number { seat.new.number ≡ seat.old.number }
+        ensures book { (locked_of self.new).book ≡ slice_set (locked_of self.old).book seat.old.number seat.new.session }
+        ensures pushed { (locked_of self.new).pushed ≡ (locked_of self.old).pushed }
+    {
+        let created = seat.session.create_index(&mut self.core);
+        registry.change(&mut seat.half, &mut self.book[seat.number], &seat.session);
+        created
+    }
+
+    /// Ends a transaction of the seat that has no change left. It is none of the seat's from then on.
+    ///
+    /// The refusals are those of the session's `end`. After a refusal all is as before.
+    pub fn end(
+        &mut self,
+        registry: &Registry,
+        seat: &mut SeatPart<B>,
+        txn: Txn,
+    ) -> Result<(), Error>
+        requires registry { registry.now ≡ B.site.table }
+        requires none_left { is_active seat.old.session txn ≡ true → HasNoChange (txn_shown (locked_of self.old).core txn) }
+        ensures before { slice_get (locked_of self.old).book seat.old.number ≡ Some seat.old.session }
+        ensures foreign { is_active seat.old.session txn ≡ false → (result ≡ Err NoSuchTxn) × ((locked_of self.new).core ≡ (locked_of self.old).core) }
+        ensures served { is_active seat.old.session txn ≡ true → Serves (locked_of self.old).core (Event.End txn) (reply_by (λ _. Reply.Ended) result) (locked_of self.new).core }
+        ensures ok { OnOk result (seat.new.session ≡ ended seat.old.session txn) }
+        ensures refused { OnErr result (seat.new.session ≡ seat.old.session) }
+        ensures number { seat.new.number ≡ seat.old.number }
+        ensures book { (locked_of self.new).book ≡ slice_set (locked_of self.old).book seat.old.number seat.new.session }
+        ensures pushed { (locked_of self.new).pushed ≡ (locked_of self.old).pushed }
+    {
+        let ended = seat.session.end(&mut self.core, txn);
+        registry.change(&mut seat.half, &mut self.book[seat.number], &seat.session);
+        ended
+    }
+
+    /// Commits a transaction of the seat: it is none of the active ones from then on, and the commit is the last one of the
+    /// seat's session.
+    ///
+    /// The refusals are those of the session's `commit`. After a refusal all is as before.
+    pub fn commit(
+        &mut self,
+        registry: &Registry,
+        seat: &mut SeatPart<B>,
+        txn: Txn,
+    ) -> Result<Ticket, Error>
+        requires registry { registry.now ≡ B.site.table }
+        requires ready { is_active seat.old.session txn ≡ true → is_ready seat.old.session txn ≡ true }
+        ensures before { slice_get (locked_of self.old).book seat.old.number ≡ Some seat.old.session }
+        ensures foreign { is_active seat.old.session txn ≡ false → (result ≡ Err NoSuchTxn) × ((locked_of self.new).core ≡ (locked_of self.old).core) }
+        ensures served { is_active seat.old.session txn ≡ true → IsServed (locked_of self.old).core (Event.Commit txn) (reply_by reply_of_ticket result) (locked_of self.new).core }
+        ensures ok { IfOk result (λ ticket. seat.new.session ≡ committed seat.old.session txn ticket) }
+        ensures refused { OnErr result (seat.new.session ≡ seat.old.session) }
+        ensures number { seat.new.number ≡ seat.old.number }
+        ensures book { (locked_of self.new).book ≡ slice_set (locked_of self.old).book seat.old.number seat.new.session }
+        ensures pushed { (locked_of self.new).pushed ≡ (locked_of self.old).pushed }
+    {
+        registry.change(&mut seat.half, &mut self.book[seat.number], &seat.session);
+        let committed = seat.session.commit(&mut self.core, txn);
+        registry.change(&mut seat.half, &mut self.book[seat.number], &seat.session);
+        committed
+    }
+
+    /// Makes a step of the builder.
+    ///
+    /// The answers and refusals are those of the core's `build_step`. After a refusal all is as before.
+    pub fn build_step(&mut self) -> Result<BuildReply, Error>
+        ensures served { Serves (locked_of self.old).core Event.Build (reply_by built result) (locked_of self.new).core }
+        ensures pushed { (locked_of self.new).pushed ≡ (locked_of self.old).pushed }
+        ensures book { (locked_of self.new).book ≡ (locked_of self.old).book }
+    {
+        self.core.build_step()
+    }
+
+    /// Makes a step of the cleaner.
+    ///
+    /// The answers and refusals are those of the core's `clean_step`. After a refusal all is as before.
+    pub fn clean_step(&mut self) -> Result<CleanReply, Error>
+        ensures served { Serves (locked_of self.old).core Event.Clean (reply_by cleaner result) (locked_of self.new).core }
+        ensures pushed { (locked_of self.new).pushed ≡ (locked_of self.old).pushed }
+        ensures book { (locked_of self.new).book ≡ (locked_of self.old).book }
+    {
+        self.core.clean_step()
+    }
+
+    /// The row at the place, as it is now, also before its transaction's commit.
+    pub fn get(&self, rid: Rid) -> Option<Row>
+        ensures row { result ≡ table.get (locked_of self.now).core.heap.rows rid }
+        ensures served { Serves (locked_of self.now).core (Event.Get rid) (Reply.RowIs result) (locked_of self.now).core }
+    {
+        self.core.get(rid)
+    }
+
+    /// The places of the rows with this key, by the index.
+    ///
+    /// The refusals are those of the core's `find`.
+    pub fn find(&self, key: Key) -> Result<Vec<Rid>, Error>
+        ensures { Serves (locked_of self.now).core (Event.Find key) (reply_by (λ rids. Reply.Found rids.items) result) (locked_of self.now).core }
+    {
+        self.core.find(key)
+    }
+
+    /// How far the index is.
+    pub fn life(&self) -> Life
+        ensures life { result ≡ (locked_of self.now).core.life }
+        ensures served { Serves (locked_of self.now).core Event.Life (Reply.LifeIs result) (locked_of self.now).core }
+    {
+        self.core.life()
+    }
+
+    /// Whether no change of the transaction is left to take back.
+    pub fn may_end(&self, txn: Txn) -> bool
+        ensures { IsTrue result ↔ HasNoChange (txn_shown (locked_of self.now).core txn) }
+    {
+        self.core.may_end(txn)
+    }
+}

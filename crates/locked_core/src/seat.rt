@@ -1,0 +1,67 @@
+//! A seat's part of what is shared.
+ghost use Rattle.std.specs.Prelude.{◌≡◌, ◌<◌};
+ghost use Rattle.sessions.specs.Values.{empty_session, is_ready};
+
+use crate::site::Site;
+use records::Txn;
+use registry::Half;
+use sessions::Session;
+use std::alloc::Global;
+use std::marker::{Model, PhantomData};
+
+/// A seat's session, with the half of it that is tied to the one under the lock. To a contract it is a `SeatValue`.
+#[derive(Drop)]
+pub struct SeatPart<B: Site> {
+    pub(crate) number: usize,
+    pub(crate) session: Session,
+    pub(crate) half: Half,
+    pub(crate) site: PhantomData<B>,
+}
+
+impl<B: Site> Model for SeatPart<B> {
+    ghost use Rattle.std.specs.Prelude.{◌≡◌, ◌<◌};
+    ghost use Rattle.locked_core.specs.Seats.{SeatValue};
+
+    ghost Value = { SeatValue };
+
+    ghost view = { λ s. record { number = s.number; session = s.session } };
+
+    ghost invariant = { λ s. (s.half ≡ record { table = B.site.table; number = s.number; session = s.session }) × (s.number < B.site.seats) };
+}
+
+impl<B: Site> SeatPart<B> {
+    /// The seat of this number, with nothing in its session.
+    pub fn new(alloc: Global, number: usize, half: Half) -> SeatPart<B>
+        requires half { half ≡ record { table = B.site.table; number = number; session = empty_session } }
+        requires number { number < B.site.seats }
+        ensures { result ≡ record { number = number; session = empty_session } }
+    {
+        SeatPart {
+            number,
+            session: Session::new(alloc),
+            half,
+            site: PhantomData,
+        }
+    }
+
+    /// The session.
+    pub fn into_session(self) -> Session
+        ensures { result ≡ self.session }
+    {
+        let SeatPart {
+            number: _,
+            session,
+            half: _,
+            site: _,
+        } = self;
+        session
+    }
+
+    /// Whether the transaction may begin a change or commit: it is one of the seat's, has no change to finish, and isn't
+    /// rolling back.
+    pub fn ready(&self, txn: Txn) -> bool
+        ensures { result ≡ is_ready self.now.session txn }
+    {
+        self.session.ready(txn)
+    }
+}
