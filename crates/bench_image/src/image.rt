@@ -1,6 +1,9 @@
 //! An image in the half of a store.
 ghost use Rattle.model.specs.Redo.{cells_of};
+ghost use Rattle.sector_device.specs.Disk.{sector};
 ghost use Rattle.image_half.specs.Source.{FitsImage};
+ghost use Rattle.flip_image.specs.Store.{Names};
+ghost use Rattle.flip_image.specs.declared.half.TheConstants.{FLIP_SECTOR};
 
 use crate::cells::{ENTRIES_PER_PAGE, full_maps};
 use anyhow::{Result, bail};
@@ -37,12 +40,12 @@ impl CellSink for Taken {
         Ok(())
     }
 
-    fn set_row(&mut self, rid: Rid, row: Row) -> Result<(), AllocError> {
-        self.maps.rows.set(rid, Some(row))
+    fn set_rows(&mut self, rows: &[(Rid, Row)]) -> Result<(), AllocError> {
+        self.maps.rows.extend(self.alloc, rows)
     }
 
-    fn set_entry(&mut self, pair: Pair, mark: Mark) -> Result<(), AllocError> {
-        self.maps.entries.set(pair, Some(mark))
+    fn set_entries(&mut self, entries: &[(Pair, Mark)]) -> Result<(), AllocError> {
+        self.maps.entries.extend(self.alloc, entries)
     }
 }
 
@@ -61,9 +64,10 @@ pub(crate) fn new_disk(alloc: Global, geometry: Geometry) -> Result<MemDisk<Glob
     Ok(disk)
 }
 
-/// Writes the image of these cells, which record 1 left, to the idle half.
+/// Writes the image of these cells, which record 1 left, to the half that the device doesn't name.
 pub(crate) fn write<D: Device>(halves: &Halves, disk: &mut D, maps: &CellMaps<Global>) -> Result<()>
-    requires { FitsImage halves.now.geometry (cells_of maps.now) }
+    requires fits { FitsImage halves.now.geometry (cells_of maps.now) }
+    requires current { Names (sector (D.history disk.old).disk.content FLIP_SECTOR) halves.now.current }
 {
     if disk.sectors() < halves.geometry().sectors() {
         bail!("the disk is too small");

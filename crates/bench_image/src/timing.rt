@@ -35,6 +35,21 @@ fn copy<R: Alloc<A = Global> + Clock>(rt: &R, sectors: u64) -> Result<u64> {
     Ok(each(start.elapsed(rt)?, sectors))
 }
 
+/// What it costs to copy so many sectors from one place of memory to another.
+fn copy_in_memory<R: Alloc<A = Global> + Clock>(rt: &R, sectors: u64) -> Result<u64> {
+    let from = vec![in rt.alloc(); [7; SECTOR_SIZE]; sectors as usize]?;
+    let mut to = vec![in rt.alloc(); [0; SECTOR_SIZE]; sectors as usize]?;
+    let start = Instant::now(rt)?;
+    for (place, sector) in to.iter_mut().zip(from.iter()) {
+        *place = *sector;
+    }
+    let spent = start.elapsed(rt)?;
+    if to != from {
+        bail!("a sector was not copied");
+    }
+    Ok(each(spent, sectors))
+}
+
 /// What it costs to go through the entries, each found behind the one before.
 fn walk(rt: &impl Clock, maps: &CellMaps<Global>, sectors: u64) -> Result<u64> {
     let start = Instant::now(rt)?;
@@ -65,9 +80,10 @@ pub(crate) fn print<R: Print + Alloc<A = Global> + Clock>(rt: &R, pages: u32) ->
     read(&halves, rt.alloc(), &mut disk)?;
     let read = each(start.elapsed(rt)?, sectors);
     let copied = copy(rt, sectors)?;
+    let copied_in_memory = copy_in_memory(rt, sectors)?;
     let walked = walk(rt, &maps, sectors)?;
     println!(rt;
-        "{sectors} sectors, nanoseconds a sector: image written {written}, image read {read}, copy {copied}, entries gone through {walked}, maps filled {filled}"
+        "{sectors} sectors, nanoseconds a sector: image written {written}, image read {read}, copy {copied}, copy in memory {copied_in_memory}, entries gone through {walked}, maps filled {filled}"
     )?;
     Ok(())
 }

@@ -2,7 +2,7 @@
 use Rattle.std.specs.Prelude.{◌≡◌, ◌⊎◌, true, ℕ, ◌+◌, ◌<◌, ◌≤◌, List, ◌++◌, length, take, drop, All, codes}
 use Rattle.sector_device.specs.Disk.{Image, Disk, sector, SameOutside}
 use Rattle.sector_device.specs.History.{Rises}
-use Rattle.sector_device.specs.Values.{zero_sector, IsMarked}
+use Rattle.sector_device.specs.Values.{zero_sector, marked_sector, IsMarked}
 use Rattle.records.specs.declared.geometry.TheConstants.{FRONT_SECTORS, HEADER_SECTORS, HEADS_SECTORS, PAGE_SECTORS}
 use Rattle.records.specs.declared.error.Error.{Error}
 use Rattle.records.specs.declared.error.Error.TheVariants.{DeviceFailed, NotFormatted, Damaged, DeviceTooSmall}
@@ -34,6 +34,11 @@ pub record IsSuperblock (g : GeometryValue) (bytes : List ℕ) : Type 0 where
 abbrev pub Names : List ℕ → Half → Type 0
 Names bytes A = ¬ IsMarked bytes
 Names bytes B = IsMarked bytes
+
+-- the flip sector that is written to name a half
+abbrev pub flip_sector : Half → List ℕ
+flip_sector A = zero_sector
+flip_sector B = marked_sector
 
 -- the image is of a store of this geometry, whose current half is this one
 pub record IsStore (g : GeometryValue) (half : Half) (image : Image) : Type 0 where

@@ -2,7 +2,7 @@
 ghost use Rattle.std.specs.Prelude.{◌≡◌, ◌≤◌, length, OnOk};
 ghost use Rattle.sector_device.specs.Disk.{sector, IsSynced, SameOutside};
 ghost use Rattle.sector_device.specs.History.{LeavesOnly, CountsFailure};
-ghost use Rattle.flip_image.specs.Store.{Names, IsFlipping};
+ghost use Rattle.flip_image.specs.Store.{Names, IsFlipping, flip_sector};
 
 use crate::half::{FLIP_SECTOR, Half};
 use records::FRONT_SECTORS;
@@ -11,6 +11,7 @@ use sector_device::{Device, Failed, SECTOR_SIZE, marked_sector, zero_sector};
 /// Syncs, names this half current, and syncs.
 pub(crate) fn write_flip_sector<D: Device>(device: &mut D, to: Half) -> Result<(), Failed>
     requires { FRONT_SECTORS ≤ length (D.history device.old).disk.content }
+    ensures sector { OnOk result (sector (D.history device.new).disk.content FLIP_SECTOR ≡ flip_sector to) }
     ensures named { OnOk result (Names (sector (D.history device.new).disk.content FLIP_SECTOR) to) }
     ensures synced { OnOk result (IsSynced (D.history device.new).disk) }
     ensures outside { SameOutside (λ n. n ≡ FLIP_SECTOR) (D.history device.old).disk.content (D.history device.new).disk.content }
@@ -25,7 +26,8 @@ pub(crate) fn write_flip_sector<D: Device>(device: &mut D, to: Half) -> Result<(
 
 // The flip sector that names this half.
 fn flip_sector(to: Half) -> [u8; SECTOR_SIZE]
-    ensures { Names result to }
+    ensures is { result ≡ flip_sector to }
+    ensures named { Names result to }
 {
     match to {
         Half::A => zero_sector(),

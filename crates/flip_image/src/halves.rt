@@ -8,7 +8,7 @@ ghost use Rattle.image_half.specs.Image.{no_cells};
 ghost use Rattle.image_half.specs.Layout.{image_end};
 ghost use Rattle.image_half.specs.Damage.{IsSound, TheHeader, IsUnread};
 ghost use Rattle.flip_image.specs.Layout.{other, header_sector, log_first};
-ghost use Rattle.flip_image.specs.Store.{Names, IsFlipping, IsSuperblock, IsStore, IsFresh, HoldsImage, IsFormatted, AreGatesClosed, AreLogGatesZero, IsFormatSector, IsRefused, IsFirstUsed, AreZeros, IsDeviceFailure, IsUntitled, IsSuperblockDamaged};
+ghost use Rattle.flip_image.specs.Store.{Names, flip_sector, IsFlipping, IsSuperblock, IsStore, IsFresh, HoldsImage, IsFormatted, AreGatesClosed, AreLogGatesZero, IsFormatSector, IsRefused, IsFirstUsed, AreZeros, IsDeviceFailure, IsUntitled, IsSuperblockDamaged};
 
 use crate::flip::write_flip_sector;
 use crate::half::{FLIP_SECTOR, Half};
@@ -143,7 +143,8 @@ impl Halves {
         read_half(alloc, device, self.geometry, self.current, sink)
     }
 
-    /// Makes the other half current, whose image and log must be whole: syncs, writes the flip sector, and syncs.
+    /// Makes the other half current, whose image and log must be whole: syncs, writes the flip sector, and syncs. The flip
+    /// sector is then 512 zeros for half A, and for half B `a5` and 511 zeros (`sector`).
     ///
     /// A crash leaves what it might leave before, until all is synced, and from then on that with any bytes in the flip
     /// sector, so with one of the halves current. After `DeviceFailed` either may be, and may change at a crash until
@@ -151,6 +152,7 @@ impl Halves {
     pub fn flip<D: Device>(&mut self, device: &mut D) -> Result<(), Error>
         requires inside { FRONT_SECTORS ≤ length (D.history device.old).disk.content }
         ensures flipped { OnOk result (self.new ≡ record { geometry = self.old.geometry; current = other self.old.current }) }
+        ensures sector { OnOk result (sector (D.history device.new).disk.content FLIP_SECTOR ≡ flip_sector self.new.current) }
         ensures named { OnOk result (Names (sector (D.history device.new).disk.content FLIP_SECTOR) self.new.current) }
         ensures synced { OnOk result (IsSynced (D.history device.new).disk) }
         ensures outside { SameOutside (λ n. n ≡ FLIP_SECTOR) (D.history device.old).disk.content (D.history device.new).disk.content }

@@ -1,5 +1,6 @@
 //! The half that isn't current is written, part by part or as a whole, without a sync. Until a sync, a sector that was
-//! written may hold anything after a crash; the current half and the sectors in front of the halves stay as they are.
+//! written may hold anything after a crash; the current half and the sectors in front of the halves stay as they are. Each
+//! call wants a value whose current half is the one that the device names (`current`), so none from before a flip.
 ghost use Rattle.std.specs.Prelude.{◌≡◌, ◌⊎◌, ℕ, ◌+◌, ◌%◌, ◌<◌, ◌≤◌, ◌∷◌, Option, true, length, slice_get, Some, None, OnOk};
 ghost use Rattle.sector_device.specs.Disk.{sector, SameOutside};
 ghost use Rattle.sector_device.specs.History.{RunsWithin, CountsFailure};
@@ -17,11 +18,12 @@ ghost use Rattle.model.specs.declared.life.Life.TheVariants.{Building};
 ghost use Rattle.image_parts.specs.declared.head.Head.{Head as HeadValue};
 ghost use Rattle.image_parts.specs.Spelling.{HeadFits};
 ghost use Rattle.image_half.specs.Layout.{InPage, InEntries, InList};
-ghost use Rattle.image_half.specs.Image.{IsHeader, AreHeads, HoldsList, IsRow, IsEntry, row_bytes, entry_bytes};
+ghost use Rattle.image_half.specs.Image.{IsHeader, AreHeads, HoldsList, IsRow, IsEntry, row_bytes, entry_bytes, ZerosBehind, ZerosBehindEntries, ZerosBehindItems, InImageOf};
 ghost use Rattle.image_half.specs.Source.{FitsImage};
 ghost use Rattle.flip_image.specs.Layout.{other, header_sector, heads_sector, InHalfImage};
-ghost use Rattle.flip_image.specs.Store.{HoldsImage};
+ghost use Rattle.flip_image.specs.Store.{Names, HoldsImage};
 
+use crate::half::FLIP_SECTOR;
 use crate::halves::Halves;
 use image_half::{
     CellSource, write_entries, write_header, write_heads, write_image, write_list, write_page,
@@ -34,6 +36,7 @@ impl Halves {
     /// Writes the header of the image. It counts the entries that are in the image, so it is written behind them.
     pub fn write_header<D: Device>(&self, device: &mut D, header: &Header) -> Result<(), Failed>
         requires inside { sectors_of self.now.geometry ≤ length (D.history device.old).disk.content }
+        requires current { Names (sector (D.history device.old).disk.content FLIP_SECTOR) self.now.current }
         requires base { header.now.base ≤ LAST_NUMBER }
         requires room { header.now.entries ≤ self.now.geometry.entries }
         requires pages { (p : PairValue) → header.now.life ≡ Building (Some p) → p.rid.page < self.now.geometry.pages }
@@ -49,6 +52,7 @@ impl Halves {
     /// Writes the transaction heads of the image, of transactions in the order of their numbers.
     pub fn write_heads<D: Device>(&self, device: &mut D, heads: &[Head]) -> Result<(), Failed>
         requires inside { sectors_of self.now.geometry ≤ length (D.history device.old).disk.content }
+        requires current { Names (sector (D.history device.old).disk.content FLIP_SECTOR) self.now.current }
         requires count { length heads.now ≤ TXNS_MAX }
         requires fits { (k : ℕ) (h : HeadValue) → slice_get heads.now k ≡ Some h → HeadFits h }
         requires rising { (k : ℕ) (a b : HeadValue) → slice_get heads.now k ≡ Some a → slice_get heads.now (k + 1) ≡ Some b → a.txn < b.txn }
@@ -61,7 +65,8 @@ impl Halves {
         write_heads(device, first, heads)
     }
 
-    /// Writes the changes of a head, numbered from 0, as undo items of the image. Each sector is written once.
+    /// Writes the changes of a head, numbered from 0, as undo items of the image. Of an odd number the item beside the last one
+    /// is zeros then (`rest`). That each sector is written once is only tested.
     pub fn write_list<D: Device>(
         &self,
         device: &mut D,
@@ -69,11 +74,13 @@ impl Halves {
         changes: &[Change],
     ) -> Result<(), Failed>
         requires inside { sectors_of self.now.geometry ≤ length (D.history device.old).disk.content }
+        requires current { Names (sector (D.history device.old).disk.content FLIP_SECTOR) self.now.current }
         requires head { h < TXNS_MAX }
         requires count { length changes.now ≤ CHANGES_MAX }
         requires positions { (p : ℕ) (c : ChangeValue) → slice_get changes.now p ≡ Some c → c.position ≡ p }
         requires pages { (p : ℕ) (c : ChangeValue) → slice_get changes.now p ≡ Some c → c.rid.page < self.now.geometry.pages }
         ensures written { OnOk result (HoldsList self.now.geometry (header_sector self.now.geometry (other self.now.current)) (D.history device.new).disk.content h changes.now) }
+        ensures rest { OnOk result (ZerosBehindItems (header_sector self.now.geometry (other self.now.current)) (D.history device.new).disk.content h (length changes.now)) }
         ensures outside { SameOutside (InList (header_sector self.now.geometry (other self.now.current)) h (length changes.now)) (D.history device.old).disk.content (D.history device.new).disk.content }
         ensures within { RunsWithin (λ n. InHalfImage self.now.geometry (other self.now.current) n ⊎ ((D.history device.old).disk.unsynced n ≡ true)) (D.history device.old).disk.content (D.history device.old) (D.history device.new) }
         ensures counts { CountsFailure (D.failures device.old) (D.failures device.new) result }
@@ -82,7 +89,8 @@ impl Halves {
         write_list(device, self.geometry(), first, h, changes)
     }
 
-    /// Writes a page of the image, with the rows of its slots in order, or none. Each of its eight sectors is written once.
+    /// Writes a page of the image, with the rows of its slots in order, or none. That each of its eight sectors is written once
+    /// is only tested.
     pub fn write_page<D: Device>(
         &self,
         device: &mut D,
@@ -90,6 +98,7 @@ impl Halves {
         rows: &[Option<Row>],
     ) -> Result<(), Failed>
         requires inside { sectors_of self.now.geometry ≤ length (D.history device.old).disk.content }
+        requires current { Names (sector (D.history device.old).disk.content FLIP_SECTOR) self.now.current }
         requires rows { length rows.now ≡ SLOTS_PER_PAGE }
         requires page { page < self.now.geometry.pages }
         ensures written { OnOk result ((i : ℕ) (o : Option RowValue) → slice_get (None ∷ rows.now) i ≡ Some o → IsRow (row_bytes (D.history device.new).disk.content (header_sector self.now.geometry (other self.now.current)) page i) o) }
@@ -101,8 +110,8 @@ impl Halves {
         write_page(device, self.geometry(), first, page, rows)
     }
 
-    /// Writes these entries of the image, from the entry number `start` on, which begins a sector. Each sector is written
-    /// once, and what stood in the last one behind them is lost.
+    /// Writes these entries of the image, from the entry number `start` on, which begins a sector. What is left of the last
+    /// sector behind them is zeros then (`rest`). That each sector is written once is only tested.
     pub fn write_entries<D: Device>(
         &self,
         device: &mut D,
@@ -110,10 +119,12 @@ impl Halves {
         entries: &[(Pair, Mark)],
     ) -> Result<(), Failed>
         requires inside { sectors_of self.now.geometry ≤ length (D.history device.old).disk.content }
+        requires current { Names (sector (D.history device.old).disk.content FLIP_SECTOR) self.now.current }
         requires start { start % ENTRIES_PER_SECTOR ≡ 0 }
         requires room { start + length entries.now ≤ self.now.geometry.entries }
         requires pages { (i : ℕ) (e : PairValue × MarkValue) → slice_get entries.now i ≡ Some e → e.0.rid.page < self.now.geometry.pages }
         ensures written { OnOk result ((i : ℕ) (e : PairValue × MarkValue) → slice_get entries.now i ≡ Some e → IsEntry self.now.geometry (entry_bytes self.now.geometry (D.history device.new).disk.content (header_sector self.now.geometry (other self.now.current)) (start + i)) e) }
+        ensures rest { OnOk result (ZerosBehindEntries self.now.geometry (header_sector self.now.geometry (other self.now.current)) (D.history device.new).disk.content (start + length entries.now)) }
         ensures outside { SameOutside (InEntries self.now.geometry (header_sector self.now.geometry (other self.now.current)) start (length entries.now)) (D.history device.old).disk.content (D.history device.new).disk.content }
         ensures within { RunsWithin (λ n. InHalfImage self.now.geometry (other self.now.current) n ⊎ ((D.history device.old).disk.unsynced n ≡ true)) (D.history device.old).disk.content (D.history device.old) (D.history device.new) }
         ensures counts { CountsFailure (D.failures device.old) (D.failures device.new) result }
@@ -123,7 +134,9 @@ impl Halves {
     }
 
     /// Writes the image of these cells, which record `base` left: undo items, transaction heads, every page, the entries, and
-    /// the header behind them. Each sector is written once at most.
+    /// the header behind them. What is left of the sector of the last entry, and of that of each transaction's last change, is
+    /// zeros then (`rest`); sectors of undo items and of entries behind those stay as they are (`outside`). That no sector is
+    /// written twice is only tested.
     pub fn write_image<D: Device, S: CellSource>(
         &self,
         device: &mut D,
@@ -131,10 +144,12 @@ impl Halves {
         source: &S,
     ) -> Result<(), Failed>
         requires inside { sectors_of self.now.geometry ≤ length (D.history device.old).disk.content }
+        requires current { Names (sector (D.history device.old).disk.content FLIP_SECTOR) self.now.current }
         requires fits { FitsImage self.now.geometry (S.cells source.now) }
         requires base { base ≤ LAST_NUMBER }
         ensures written { OnOk result (HoldsImage self.now.geometry (other self.now.current) (D.history device.new).disk.content base (S.cells source.now)) }
-        ensures outside { SameOutside (InHalfImage self.now.geometry (other self.now.current)) (D.history device.old).disk.content (D.history device.new).disk.content }
+        ensures rest { OnOk result (ZerosBehind self.now.geometry (header_sector self.now.geometry (other self.now.current)) (D.history device.new).disk.content (S.cells source.now)) }
+        ensures outside { SameOutside (InImageOf self.now.geometry (header_sector self.now.geometry (other self.now.current)) (S.cells source.now)) (D.history device.old).disk.content (D.history device.new).disk.content }
         ensures within { RunsWithin (λ n. InHalfImage self.now.geometry (other self.now.current) n ⊎ ((D.history device.old).disk.unsynced n ≡ true)) (D.history device.old).disk.content (D.history device.old) (D.history device.new) }
         ensures counts { CountsFailure (D.failures device.old) (D.failures device.new) result }
     {

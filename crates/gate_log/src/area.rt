@@ -79,6 +79,7 @@ impl LogArea {
         requires fits { FitsGroup records.now }
         requires inside { IsAreaInside self.old.area (D.history device.old).disk.content }
         requires synced { (n : ℕ) → InArea self.old.area n → (D.history device.old).disk.unsynced n ≡ false }
+        requires stands { (groups : List (List RecordValue)) × Stands self.old (D.history device.old).disk.content groups }
 
         // The groups are those that the log stands for at the call.
         ensures done { result ≡ Ok Appended.Done → (groups : List (List RecordValue))
@@ -121,6 +122,7 @@ impl LogArea {
         requires spelled { IsSpelledGroup body.now }
         requires inside { IsAreaInside self.old.area (D.history device.old).disk.content }
         requires synced { (n : ℕ) → InArea self.old.area n → (D.history device.old).disk.unsynced n ≡ false }
+        requires stands { (groups : List (List RecordValue)) × Stands self.old (D.history device.old).disk.content groups }
 
         // The records are those that the body spells.
         ensures done { result ≡ Ok Appended.Done → (records : List RecordValue) (groups : List (List RecordValue)) → IsGroup records body.now

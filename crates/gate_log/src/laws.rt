@@ -4,8 +4,8 @@ ghost use Rattle.sector_device.specs.Disk.{Image, sector};
 ghost use Rattle.records.specs.RecordValue.{RecordValue};
 ghost use Rattle.gate_log.specs.Area.{Area, InArea, HoldsGroups, IsFirstDamagedSlot, records_of};
 
-/// A law: an image has one reading at most. It holds one list of groups, or it is damaged first at one sector, and
-/// never both.
+/// A law: an image has one reading at most. It holds one list of groups at most, it is damaged first at one sector at
+/// most, and never both.
 pub fn one_reading()
     ensures groups { (area : Area) (image : Image) (a b : List (List RecordValue)) → HoldsGroups area image a → HoldsGroups area image b → a ≡ b }
     ensures sector { (area : Area) (image : Image) (a b : ℕ) → IsFirstDamagedSlot area image a → IsFirstDamagedSlot area image b → a ≡ b }

@@ -12,6 +12,6 @@ mod Walk
 mod Joined
 mod Kept
 mod Writing
-mod Written
+pub mod Written
 pub mod Readings
 mod Fitting

@@ -1,8 +1,8 @@
 -- Entries are gone through in their order, each found behind the one before.
-use Rattle.std.proofs.Common.{◌≡◌, ⊎_elim, ℕ, ◌+◌, ◌≤◌, List, length, Option, Some, None, sym, ◌∙◌, arith}
+use Rattle.std.proofs.Common.{◌≡◌, ⊎_elim, ℕ, ◌+◌, ◌<◌, ◌≤◌, List, length, Option, Some, None, sym, ◌∙◌, arith}
 use Rattle.std.specs.Prelude.{slice_get}
 use Rattle.std.proofs.lemmas.Bool.{cases_lt}
-use Rattle.std.proofs.lemmas.Option.{slice_get_past}
+use Rattle.std.proofs.lemmas.Option.{slice_get_past, slice_get_within}
 use Rattle.image_half.specs.Source.{IsNextBehind}
 use Rattle.image_half.specs.Steps.{IsReached}
 use Rattle.image_half.proofs.Lists.{not_past}
@@ -16,6 +16,10 @@ module _ {K X : Type 0} (es : List (K × X)) where
 
   ended : (n : ℕ) → slice_get es n ≡ None → length es ≤ n
   ended n none = ⊎_elim (λ below. absurd (not_past es n below none)) (λ past. past) (cases_lt n (length es))
+
+  -- what is found at a number comes before the first number at which nothing is
+  pub before_end : (n k : ℕ) (e : K × X) → slice_get es n ≡ None → slice_get es k ≡ Some e → k < n
+  before_end n k e none at_k = omega (arith, slice_get_within es k e at_k, ended n none)
 
   pub reached_at : (n : ℕ) (e : K × X) → slice_get es n ≡ Some e → IsReached es (n + 1) (Some e.0)
   reached_at n e is later step = step n e.1 is

@@ -1,13 +1,14 @@
 -- What an image says, each part by its bytes, and what it is to hold the image of some cells.
-use Rattle.std.specs.Prelude.{◌≡◌, ℕ, ◌+◌, ◌*◌, ◌<◌, ◌≤◌, List, length, map, Option, Some, None, slice_get}
+use Rattle.std.specs.Prelude.{◌≡◌, ◌⊎◌, ℕ, ◌+◌, ◌*◌, ◌<◌, ◌≤◌, List, length, map, Option, Some, None, slice_get}
 use Rattle.std.specs.FinMap as finite
 use Rattle.sector_device.specs.Disk.{Image, sector}
 use Rattle.records.specs.Values.{Place}
 use Rattle.records.specs.ChangeValue.{ChangeValue}
-use Rattle.records.specs.GeometryValue.{GeometryValue}
+use Rattle.records.specs.GeometryValue.{GeometryValue, sectors_for}
 use Rattle.records.specs.Spelling.{PairFits}
 use Rattle.records.specs.declared.rid.TheConstants.{SLOTS_PER_PAGE}
 use Rattle.records.specs.declared.txn.TheConstants.{TXNS_MAX}
+use Rattle.records.specs.declared.geometry.TheConstants.{ENTRIES_PER_SECTOR}
 use Rattle.records.specs.declared.change.TheConstants.{CHANGES_MAX}
 use Rattle.records.specs.declared.row.Row.{Row}
 use Rattle.records.specs.declared.pair.Pair.{Pair}
@@ -21,8 +22,8 @@ use Rattle.image_parts.specs.declared.entry.TheConstants.{ENTRY_SIZE}
 use Rattle.image_parts.specs.declared.head.Head.{Head}
 use Rattle.image_parts.specs.declared.header.Header.{Header}
 use Rattle.image_parts.specs.declared.item.UndoItem.{UndoItem}
-use Rattle.image_parts.specs.Spelling.{row, entry, head, item, header, RowFitsIfSome, HeadFits, ItemFits, HeaderFits}
-use Rattle.image_half.specs.Layout.{heads_at, undo_at, page_at, entries_at, cut, piece}
+use Rattle.image_parts.specs.Spelling.{zeros, row, entry, head, item, header, RowFitsIfSome, HeadFits, ItemFits, HeaderFits}
+use Rattle.image_half.specs.Layout.{heads_at, undo_at, page_at, entries_at, cut, piece, InPages, InList, InEntries}
 
 -- ---- the parts, each by its bytes
 
@@ -100,6 +101,31 @@ pub record IsImage (g : GeometryValue) (first : ℕ) (image : Image) (base : ℕ
   pub rows : (q : Place) → q.page < g.pages → q.slot < SLOTS_PER_PAGE → IsRow (row_bytes image first q.page (q.slot + 1)) (finite.get cells.rows q)
   pub within : (q : Place) (r : Row) → finite.get cells.rows q ≡ Some r → (q.page < g.pages) × (q.slot < SLOTS_PER_PAGE)
   pub entries : (i : ℕ) (e : Pair × Mark) → slice_get (finite.entries cells.entries) i ≡ Some e → IsEntry g (entry_bytes g image first i) e
+
+-- ---- what lies behind the last ones
+
+-- behind the first n entries, what is left of the sector of the last one is zeros
+abbrev pub ZerosBehindEntries : GeometryValue → (first : ℕ) → Image → (n : ℕ) → Type 0
+ZerosBehindEntries g first image n = (i : ℕ) → n ≤ i → i < ENTRIES_PER_SECTOR * sectors_for n ENTRIES_PER_SECTOR → entry_bytes g image first i ≡ zeros ENTRY_SIZE
+
+-- behind the first n undo items of a head, the one beside the last is zeros where it lies in that one's sector
+abbrev pub ZerosBehindItems : (first : ℕ) → Image → (h n : ℕ) → Type 0
+ZerosBehindItems first image h n = (p : ℕ) → n ≤ p → p < 2 * sectors_for n 2 → item_bytes image first h p ≡ zeros ITEM_SIZE
+
+-- so it is behind the entries of these cells, and behind the changes of each of their transactions
+pub record ZerosBehind (g : GeometryValue) (first : ℕ) (image : Image) (cells : Cells) : Type 0 where
+  pub entries : ZerosBehindEntries g first image (length (finite.entries cells.entries))
+  pub items : (h : ℕ) (list : ℕ × List ChangeValue) → slice_get (finite.entries cells.pending) h ≡ Some list → ZerosBehindItems first image h (length list.1)
+
+-- ---- the sectors that an image takes
+
+-- a sector of the undo items that these cells have
+abbrev pub InLists : ℕ → Cells → ℕ → Type 0
+InLists first cells n = (h : ℕ) × (list : ℕ × List ChangeValue) × (slice_get (finite.entries cells.pending) h ≡ Some list) × InList first h (length list.1) n
+
+-- a sector of the image of these cells: header, heads, a page, or one of the undo items and of the entries that there are
+abbrev pub InImageOf : GeometryValue → ℕ → Cells → ℕ → Type 0
+InImageOf g first cells n = (n ≡ first) ⊎ ((n ≡ heads_at first) ⊎ (InPages g first n ⊎ (InLists first cells n ⊎ InEntries g first 0 (length (finite.entries cells.entries)) n)))
 
 -- no row, no entry, no transaction and no index
 abbrev pub no_cells : Cells

@@ -33,6 +33,10 @@ InImage g first n = (first ≤ n) × (n < image_end g first)
 abbrev pub InPage : ℕ → ℕ → ℕ → Type 0
 InPage first page n = (page_at first page ≤ n) × (n < page_at first page + PAGE_SECTORS)
 
+-- a sector of the pages
+abbrev pub InPages : GeometryValue → ℕ → ℕ → Type 0
+InPages g first n = (page_at first 0 ≤ n) × (n < entries_at g first)
+
 -- a sector of the first undo items of a head, this many of them
 abbrev pub InList : ℕ → (h count n : ℕ) → Type 0
 InList first h count n = (undo_at first + 32 * h ≤ n) × (n < undo_at first + 32 * h + sectors_for count 2)

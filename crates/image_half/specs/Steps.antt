@@ -14,13 +14,16 @@ use Rattle.records.specs.declared.error.Error.{Error}
 use Rattle.records.specs.declared.error.Error.TheVariants.{Damaged}
 use Rattle.model.specs.Table.{Table, Index}
 use Rattle.model.specs.Cells.{Pending}
+use Rattle.model.specs.Extended.{extended}
 use Rattle.image_parts.specs.declared.head.Head.{Head}
 use Rattle.image_parts.specs.declared.item.UndoItem.{UndoItem}
 use Rattle.image_parts.specs.declared.head.TheConstants.{HEAD_SIZE}
+use Rattle.image_parts.specs.declared.item.TheConstants.{ITEM_SIZE}
+use Rattle.image_parts.specs.declared.entry.TheConstants.{ENTRY_SIZE}
 use Rattle.records.specs.Spelling.{PairFits}
-use Rattle.image_parts.specs.Spelling.{entry, head, item, HeadFits, ItemFits}
-use Rattle.image_half.specs.Layout.{undo_at, page_at, entries_at, cut}
-use Rattle.image_half.specs.Image.{HoldsList, IsRow, IsEntry, row_bytes, entry_bytes, head_of}
+use Rattle.image_parts.specs.Spelling.{zeros, entry, head, item, HeadFits, ItemFits}
+use Rattle.image_half.specs.Layout.{undo_at, page_at, cut}
+use Rattle.image_half.specs.Image.{HoldsList, ZerosBehindItems, IsRow, IsEntry, row_bytes, entry_bytes, head_of, item_of}
 use Rattle.image_half.specs.Damage.{AnItem, APage, AnEntry, sector_of, IsSound, IsHindered}
 use Rattle.image_half.specs.Source.{IsNextBehind}
 
@@ -40,6 +43,13 @@ pub record AreFirstHeads (bytes : List ℕ) (k : ℕ) (heads : List Head) : Type
 pub record HoldsLists (g : GeometryValue) (first : ℕ) (image : Image) (heads : List Head) (pending : Pending) : Type 0 where
   pub heads-are : map head_of (finite.entries pending) ≡ heads
   pub each : (h : ℕ) (list : ℕ × List ChangeValue) → slice_get (finite.entries pending) h ≡ Some list → HoldsList g first image h list.1
+
+-- the table of these rows, and the index of these entries
+abbrev pub table_of : List (Place × Row) → Table
+table_of rows = extended finite.empty rows
+
+abbrev pub index_of : List (Pair × Mark) → Index
+index_of entries = extended finite.empty entries
 
 -- these rows are those of the first n pages
 pub record HoldsPages (g : GeometryValue) (first : ℕ) (image : Image) (n : ℕ) (rows : Table) : Type 0 where
@@ -62,6 +72,15 @@ pub record IsEntryPiece (bytes : List ℕ) (e : Pair × Mark) : Type 0 where
 pub record IsItemPiece (bytes : List ℕ) (i : UndoItem) : Type 0 where
   pub spelled : bytes ≡ item i
   pub fits : ItemFits i
+
+-- the bytes are the spelling of what there is, and zeros where there is nothing
+abbrev pub IsEntryPlace : List ℕ → Option (Pair × Mark) → Type 0
+IsEntryPlace bytes None = bytes ≡ zeros ENTRY_SIZE
+IsEntryPlace bytes (Some e) = IsEntryPiece bytes e
+
+abbrev pub IsItemPlace : List ℕ → Option ChangeValue → Type 0
+IsItemPlace bytes None = bytes ≡ zeros ITEM_SIZE
+IsItemPlace bytes (Some c) = IsItemPiece bytes (item_of c)
 
 -- these are the first n entries
 pub record HoldsEntries (g : GeometryValue) (first : ℕ) (image : Image) (n : ℕ) (entries : Index) : Type 0 where
@@ -107,13 +126,14 @@ pub record ShowsPage (first : ℕ) (image : Image) (page : ℕ) (rows : Table) :
   pub front : IsRow (row_bytes image first page 0) None
   pub slots : (slot : ℕ) → slot < SLOTS_PER_PAGE → IsRow (row_bytes image first page (slot + 1)) (finite.get rows (record { page = page; slot = slot }))
 
+-- the first undo items of a head are these changes, and behind them are zeros
+pub record ShowsList (g : GeometryValue) (first : ℕ) (image : Image) (h : ℕ) (changes : List ChangeValue) : Type 0 where
+  pub held : HoldsList g first image h changes
+  pub rest : ZerosBehindItems first image h (length changes)
+
 -- a sector of the undo items
 abbrev pub InUndo : ℕ → ℕ → Type 0
 InUndo first n = (undo_at first ≤ n) × (n < page_at first 0)
-
--- a sector of the pages
-abbrev pub InPages : GeometryValue → ℕ → ℕ → Type 0
-InPages g first n = (page_at first 0 ≤ n) × (n < entries_at g first)
 
 -- Only sectors of S were written: a crash at any moment since leaves the others, but for those that were unsynced.
 pub record WritesIn (S : ℕ → Type 0) (old new : History) : Type 0 where

@@ -9,7 +9,7 @@ ghost use Rattle.records.specs.declared.change.TheConstants.{CHANGES_MAX};
 ghost use Rattle.image_half.specs.Layout.{heads_at, undo_at, page_at, entries_at, image_end};
 ghost use Rattle.image_half.specs.Image.{IsHeader, AreHeads, IsImage, HoldsList, no_cells};
 ghost use Rattle.image_half.specs.Damage.{IsSound, TheHeader, TheHeads, AnItem, APage, AnEntry, IsHindered, IsUnread};
-ghost use Rattle.image_half.specs.Steps.{HoldsLists, HoldsPages, HoldsEntries, IsItemRefused, AreListsRefused, IsPageRefused, ArePagesRefused, AreEntriesRefused};
+ghost use Rattle.image_half.specs.Steps.{HoldsLists, HoldsPages, HoldsEntries, IsItemRefused, AreListsRefused, IsPageRefused, ArePagesRefused, AreEntriesRefused, table_of};
 
 use crate::parts::{entry_in, header_in, heads_in, is_above, item_in};
 use crate::pieces::{load, piece_of};
@@ -150,31 +150,37 @@ fn read_lists<D: Device, S: CellSink, A: Allocator + Copy>(
     Ok(())
 }
 
-// Sets the row at a place that has none yet, where there is one.
-fn put_row<S: CellSink>(sink: &mut S, rid: Rid, found: Option<Row>) -> Result<(), AllocError>
-    requires { finite.get (S.cells sink.old).rows rid ≡ None }
-    ensures { OnOk result (S.cells sink.new ≡ record (S.cells sink.old) { rows = set_at (S.cells sink.old).rows rid found }) }
+// Adds the row at a place that has none yet, where there is one.
+fn add_row<A: Allocator>(
+    rows: &mut Vec<(Rid, Row), A>,
+    rid: Rid,
+    found: Option<Row>,
+) -> Result<(), AllocError>
+    requires { finite.get (table_of rows.old.items) rid ≡ None }
+    ensures { OnOk result (table_of rows.new.items ≡ set_at (table_of rows.old.items) rid found) }
 {
     match found {
         None => Ok(()),
-        Some(row) => sink.set_row(rid, row),
+        Some(row) => {
+            rows.push((rid, row))?;
+            Ok(())
+        }
     }
 }
 
-// The rows of a page.
-fn read_page<D: Device, S: CellSink>(
+// Adds the rows of a page to those of the pages before it.
+fn read_page<D: Device, A: Allocator>(
     device: &mut D,
     geometry: Geometry,
     first: u64,
     page: u32,
-    sink: &mut S,
+    rows: &mut Vec<(Rid, Row), A>,
 ) -> Result<(), Error>
     requires page { page < geometry.pages }
     requires inside { entries_at geometry first ≤ length (D.history device.old).disk.content }
     requires number { entries_at geometry first < 2 ^ 64 }
-    requires held { HoldsPages geometry first (D.history device.old).disk.content page (S.cells sink.old).rows }
-    ensures held { OnOk result (HoldsPages geometry first (D.history device.old).disk.content (page + 1) (S.cells sink.new).rows) }
-    ensures rest { OnOk result (S.cells sink.new ≡ record (S.cells sink.old) { rows = (S.cells sink.new).rows }) }
+    requires held { HoldsPages geometry first (D.history device.old).disk.content page (table_of rows.old.items) }
+    ensures held { OnOk result (HoldsPages geometry first (D.history device.old).disk.content (page + 1) (table_of rows.new.items)) }
     ensures refused { IfErr result (IsPageRefused geometry first (D.history device.old).disk.content page (D.failures device.old) (D.failures device.new)) }
     ensures reads { OnlyReads (D.history device.old) (D.history device.new) }
     ensures quiet { OnOk result (D.failures device.new ≡ D.failures device.old) }
@@ -198,13 +204,14 @@ fn read_page<D: Device, S: CellSink>(
         let Some(found) = read_row(&bytes) else {
             return Err(Error::Damaged { sector: at });
         };
-        put_row(sink, Rid { page, slot }, found)?;
+        add_row(rows, Rid { page, slot }, found)?;
     }
     Ok(())
 }
 
 // The rows of all pages.
-fn read_pages<D: Device, S: CellSink>(
+fn read_pages<D: Device, S: CellSink, A: Allocator>(
+    alloc: A,
     device: &mut D,
     geometry: Geometry,
     first: u64,
@@ -221,14 +228,17 @@ fn read_pages<D: Device, S: CellSink>(
     ensures told { IfErr result (λ e. e ≢ Error.DeviceFailed → D.failures device.new ≡ D.failures device.old) }
     ensures later { D.failures device.old ≤ D.failures device.new }
 {
+    let mut rows = Vec::new(alloc);
     for page in 0..geometry.pages {
-        read_page(device, geometry, first, page, sink)?;
+        read_page(device, geometry, first, page, &mut rows)?;
     }
+    sink.set_rows(&rows)?;
     Ok(())
 }
 
 // The first `count` entries.
-fn read_entries<D: Device, S: CellSink>(
+fn read_entries<D: Device, S: CellSink, A: Allocator>(
+    alloc: A,
     device: &mut D,
     geometry: Geometry,
     first: u64,
@@ -248,6 +258,7 @@ fn read_entries<D: Device, S: CellSink>(
     ensures later { D.failures device.old ≤ D.failures device.new }
 {
     let at = page_at(first, u64::from(geometry.pages));
+    let mut entries = Vec::with_capacity(alloc, count as usize)?;
     let mut buffer = zero_sector();
     let mut last = None;
     for n in 0..count {
@@ -263,9 +274,10 @@ fn read_entries<D: Device, S: CellSink>(
         if !is_above(&pair, &last) {
             return Err(damaged);
         }
-        sink.set_entry(pair, mark)?;
+        entries.push((pair, mark))?;
         last = Some(pair);
     }
+    sink.set_entries(&entries)?;
     Ok(())
 }
 
@@ -275,7 +287,7 @@ fn read_entries<D: Device, S: CellSink>(
 /// `Damaged` names the first sector with a part that says nothing: the header, the transaction heads, an undo item of a
 /// head that is used, the first sector of a page, or an entry, which is above the one before it. A place in a page that the
 /// geometry doesn't have says nothing. `DeviceFailed` where the device failed in the call, and only
-/// then. `NoMemory` where there is no memory for the cells; a damaged header is told before any is wanted (`memory`).
+/// then. `NoMemory` where there is none for what is read, or the sink has none; a damaged header is told before any is wanted (`memory`).
 pub fn read_image<D: Device, S: CellSink, A: Allocator + Copy>(
     alloc: A,
     device: &mut D,
@@ -299,8 +311,8 @@ pub fn read_image<D: Device, S: CellSink, A: Allocator + Copy>(
     let header = read_header(device, geometry, first)?;
     let heads = read_heads(alloc, device, geometry, first)?;
     read_lists(alloc, device, geometry, first, &heads, sink)?;
-    read_pages(device, geometry, first, sink)?;
-    read_entries(device, geometry, first, header.entries, sink)?;
+    read_pages(alloc, device, geometry, first, sink)?;
+    read_entries(alloc, device, geometry, first, header.entries, sink)?;
     sink.set_life(header.life);
     Ok(header.base)
 }

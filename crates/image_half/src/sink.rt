@@ -1,7 +1,7 @@
 //! What takes the cells of an image.
 ghost use Rattle.std.specs.Prelude.{◌≡◌, Some, OnOk};
 ghost use Rattle.model.specs.Cells.{Cells, with_list};
-ghost use Rattle.records.specs.Maps.{set_at};
+ghost use Rattle.model.specs.Extended.{extended};
 
 use model::Life;
 use records::{Change, Mark, Pair, Rid, Row, Txn};
@@ -20,11 +20,11 @@ pub trait CellSink {
     fn set_list(&mut self, txn: Txn, changes: &[Change]) -> Result<(), AllocError>
         ensures { OnOk result (cells self.new ≡ record (cells self.old) { pending = with_list (cells self.old).pending txn (Some changes.now) }) };
 
-    /// Sets the row at a place.
-    fn set_row(&mut self, rid: Rid, row: Row) -> Result<(), AllocError>
-        ensures { OnOk result (cells self.new ≡ record (cells self.old) { rows = set_at (cells self.old).rows rid (Some row) }) };
+    /// Sets the rows at these places, one after another. Those of an image come in the order of their places, all at once.
+    fn set_rows(&mut self, rows: &[(Rid, Row)]) -> Result<(), AllocError>
+        ensures { OnOk result (cells self.new ≡ record (cells self.old) { rows = extended (cells self.old).rows rows.now }) };
 
-    /// Sets the entry of a pair.
-    fn set_entry(&mut self, pair: Pair, mark: Mark) -> Result<(), AllocError>
-        ensures { OnOk result (cells self.new ≡ record (cells self.old) { entries = set_at (cells self.old).entries pair (Some mark) }) };
+    /// Sets the entries of these pairs, one after another. Those of an image come in the order of pairs, all at once.
+    fn set_entries(&mut self, entries: &[(Pair, Mark)]) -> Result<(), AllocError>
+        ensures { OnOk result (cells self.new ≡ record (cells self.old) { entries = extended (cells self.old).entries entries.now }) };
 }

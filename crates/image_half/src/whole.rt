@@ -9,10 +9,10 @@ ghost use Rattle.records.specs.declared.pair.Pair.{Pair};
 ghost use Rattle.records.specs.declared.pair.Mark.{Mark};
 ghost use Rattle.records.specs.declared.number.TheConstants.{LAST_NUMBER};
 ghost use Rattle.image_parts.specs.declared.head.Head.{Head as HeadValue};
-ghost use Rattle.image_half.specs.Layout.{cut, heads_at, page_at, entries_at, image_end, InImage, InEntries};
-ghost use Rattle.image_half.specs.Image.{AreHeads, HoldsList, IsImage, IsEntry, entry_bytes, head_of};
+ghost use Rattle.image_half.specs.Layout.{cut, heads_at, page_at, entries_at, image_end, InPages, InEntries};
+ghost use Rattle.image_half.specs.Image.{AreHeads, IsImage, IsEntry, entry_bytes, head_of, ZerosBehindEntries, ZerosBehind, InLists, InImageOf};
 ghost use Rattle.image_half.specs.Source.{FitsImage, IsPassed};
-ghost use Rattle.image_half.specs.Steps.{IsEntryPiece, IsReached, ShowsPage, WritesIn, InUndo, InPages};
+ghost use Rattle.image_half.specs.Steps.{IsEntryPlace, IsReached, ShowsList, ShowsPage, WritesIn};
 
 use crate::pieces::put_piece;
 use crate::read::page_at;
@@ -38,8 +38,8 @@ fn write_lists<D: Device, S: CellSource>(
     requires fits { FitsImage geometry (S.cells source.now) }
     requires inside { page_at first 0 ≤ length (D.history device.old).disk.content }
     requires number { page_at first 0 < 2 ^ 64 }
-    ensures written { OnOk result ((h : ℕ) (list : ℕ × List ChangeValue) → slice_get (finite.entries (S.cells source.now).pending) h ≡ Some list → HoldsList geometry first (D.history device.new).disk.content h list.1) }
-    ensures part { WritesIn (InUndo first) (D.history device.old) (D.history device.new) }
+    ensures written { OnOk result ((h : ℕ) (list : ℕ × List ChangeValue) → slice_get (finite.entries (S.cells source.now).pending) h ≡ Some list → ShowsList geometry first (D.history device.new).disk.content h list.1) }
+    ensures part { WritesIn (InLists first (S.cells source.now)) (D.history device.old) (D.history device.new) }
     ensures counts { CountsFailure (D.failures device.old) (D.failures device.new) result }
 {
     let mut last = None;
@@ -145,8 +145,9 @@ fn write_pages<D: Device, S: CellSource>(
 }
 
 // The spelling of an entry, or zeros.
+#[tactic(auto, unfolding(image_parts::specs::Spelling::zeros))]
 fn piece_of_entry(entry: &Option<(Pair, Mark)>) -> [u8; ENTRY_SIZE]
-    ensures { (e : Pair × Mark) → entry.now ≡ Some e → IsEntryPiece result e }
+    ensures { IsEntryPlace result entry.now }
 {
     match entry {
         Some(found) => spell_entry(found),
@@ -167,7 +168,7 @@ fn last_pair(entries: &[Option<(Pair, Mark)>; SECTOR_ENTRIES], other: Option<Pai
 // The sector of the entries behind that of the last pair, which is then the last one of them where the sector is full.
 fn entries_sector<S: CellSource>(source: &S, last: &mut Option<Pair>) -> [u8; SECTOR_SIZE]
     ensures spelled { (n : ℕ) → IsPassed (finite.entries (S.cells source.now).entries) n last.old
-        → (j : ℕ) (e : Pair × Mark) → j < ENTRIES_PER_SECTOR → slice_get (finite.entries (S.cells source.now).entries) (n + j) ≡ Some e → IsEntryPiece (cut result ENTRY_SIZE j) e }
+        → (j : ℕ) → j < ENTRIES_PER_SECTOR → IsEntryPlace (cut result ENTRY_SIZE j) (slice_get (finite.entries (S.cells source.now).entries) (n + j)) }
     ensures passed { (n : ℕ) → IsPassed (finite.entries (S.cells source.now).entries) n last.old → n + ENTRIES_PER_SECTOR ≤ length (finite.entries (S.cells source.now).entries)
         → IsPassed (finite.entries (S.cells source.now).entries) (n + ENTRIES_PER_SECTOR) last.new }
 {
@@ -178,7 +179,7 @@ fn entries_sector<S: CellSource>(source: &S, last: &mut Option<Pair>) -> [u8; SE
 
 // The sector of these entries.
 fn pieces_of(entries: &[Option<(Pair, Mark)>; SECTOR_ENTRIES]) -> [u8; SECTOR_SIZE]
-    ensures { (j : ℕ) (e : Pair × Mark) → slice_get entries.now j ≡ Some (Some e) → IsEntryPiece (cut result ENTRY_SIZE j) e }
+    ensures { (j : ℕ) (o : Option (Pair × Mark)) → slice_get entries.now j ≡ Some o → IsEntryPlace (cut result ENTRY_SIZE j) o }
 {
     let mut bytes = zero_sector();
     for j in 0..SECTOR_ENTRIES {
@@ -201,6 +202,7 @@ fn write_all_entries<D: Device, S: CellSource>(
     requires inside { image_end geometry first ≤ length (D.history device.old).disk.content }
     requires number { image_end geometry first < 2 ^ 64 }
     ensures written { OnOk result ((i : ℕ) (e : Pair × Mark) → slice_get (finite.entries (S.cells source.now).entries) i ≡ Some e → IsEntry geometry (entry_bytes geometry (D.history device.new).disk.content first i) e) }
+    ensures rest { OnOk result (ZerosBehindEntries geometry first (D.history device.new).disk.content count) }
     ensures part { WritesIn (InEntries geometry first 0 count) (D.history device.old) (D.history device.new) }
     ensures counts { CountsFailure (D.failures device.old) (D.failures device.new) result }
 {
@@ -214,8 +216,9 @@ fn write_all_entries<D: Device, S: CellSource>(
 }
 
 /// Writes the image of these cells, which record `base` left, from sector `first` on: undo items, heads, every page, the
-/// entries, and the header behind them. Each of its sectors is written once at most; undo items and entries beyond the last
-/// ones stay as they are.
+/// entries, and the header behind them. What is left of the sector of the last entry, and of that of each transaction's last
+/// change, is zeros then (`rest`); sectors of undo items and of entries behind those stay as they are (`outside`). That no
+/// sector is written twice is only tested.
 pub fn write_image<D: Device, S: CellSource>(
     device: &mut D,
     geometry: Geometry,
@@ -228,8 +231,9 @@ pub fn write_image<D: Device, S: CellSource>(
     requires inside { image_end geometry first ≤ length (D.history device.old).disk.content }
     requires number { image_end geometry first < 2 ^ 64 }
     ensures written { OnOk result (IsImage geometry first (D.history device.new).disk.content base (S.cells source.now)) }
-    ensures outside { SameOutside (InImage geometry first) (D.history device.old).disk.content (D.history device.new).disk.content }
-    ensures within { RunsWithin (λ n. InImage geometry first n ⊎ ((D.history device.old).disk.unsynced n ≡ true)) (D.history device.old).disk.content (D.history device.old) (D.history device.new) }
+    ensures rest { OnOk result (ZerosBehind geometry first (D.history device.new).disk.content (S.cells source.now)) }
+    ensures outside { SameOutside (InImageOf geometry first (S.cells source.now)) (D.history device.old).disk.content (D.history device.new).disk.content }
+    ensures within { RunsWithin (λ n. InImageOf geometry first (S.cells source.now) n ⊎ ((D.history device.old).disk.unsynced n ≡ true)) (D.history device.old).disk.content (D.history device.old) (D.history device.new) }
     ensures counts { CountsFailure (D.failures device.old) (D.failures device.new) result }
 {
     let life = source.life();

@@ -10,8 +10,8 @@ ghost use Rattle.image_parts.specs.declared.head.Head.{Head};
 ghost use Rattle.records.specs.declared.number.TheConstants.{LAST_NUMBER};
 ghost use Rattle.image_parts.specs.Spelling.{HeadFits, head};
 ghost use Rattle.image_half.specs.Layout.{cut, heads_at, page_at, entries_at, image_end, InPage, InEntries, InList};
-ghost use Rattle.image_half.specs.Image.{IsHeader, AreHeads, HoldsList, IsRow, IsEntry, row_bytes, entry_bytes, item_of};
-ghost use Rattle.image_half.specs.Steps.{IsEntryPiece, IsItemPiece};
+ghost use Rattle.image_half.specs.Image.{IsHeader, AreHeads, HoldsList, IsRow, IsEntry, row_bytes, entry_bytes, ZerosBehindEntries, ZerosBehindItems};
+ghost use Rattle.image_half.specs.Steps.{IsEntryPlace, IsItemPlace};
 
 use crate::pieces::put_piece;
 use crate::read::{ITEMS_PER_SECTOR, ROWS_PER_SECTOR, page_at};
@@ -73,8 +73,8 @@ fn page_sector(rows: &[Option<Row>], k: usize) -> [u8; SECTOR_SIZE]
     bytes
 }
 
-/// Writes a page of the image that begins at sector `first`, with the rows of its slots in order, or none. Each of its eight
-/// sectors is written once.
+/// Writes a page of the image that begins at sector `first`, with the rows of its slots in order, or none. That each of its
+/// eight sectors is written once is only tested.
 pub fn write_page<D: Device>(
     device: &mut D,
     geometry: Geometry,
@@ -100,8 +100,9 @@ pub fn write_page<D: Device>(
 }
 
 // The spelling of the i-th of these entries, or zeros behind the last one.
+#[tactic(auto, unfolding(image_parts::specs::Spelling::zeros))]
 fn entry_piece(entries: &[(Pair, Mark)], i: usize) -> [u8; ENTRY_SIZE]
-    ensures { (e : Pair × Mark) → slice_get entries.now i ≡ Some e → IsEntryPiece result e }
+    ensures { IsEntryPlace result (slice_get entries.now i) }
 {
     match entries.get(i) {
         Some(found) => spell_entry(found),
@@ -112,7 +113,7 @@ fn entry_piece(entries: &[(Pair, Mark)], i: usize) -> [u8; ENTRY_SIZE]
 // The k-th sector of these entries.
 fn entries_sector(entries: &[(Pair, Mark)], k: usize) -> [u8; SECTOR_SIZE]
     requires { ENTRIES_PER_SECTOR * k < length entries.now }
-    ensures { (j : ℕ) (e : Pair × Mark) → j < ENTRIES_PER_SECTOR → slice_get entries.now (ENTRIES_PER_SECTOR * k + j) ≡ Some e → IsEntryPiece (cut result ENTRY_SIZE j) e }
+    ensures { (j : ℕ) → j < ENTRIES_PER_SECTOR → IsEntryPlace (cut result ENTRY_SIZE j) (slice_get entries.now (ENTRIES_PER_SECTOR * k + j)) }
 {
     let mut bytes = zero_sector();
     for j in 0..ENTRIES_PER_SECTOR as usize {
@@ -123,7 +124,7 @@ fn entries_sector(entries: &[(Pair, Mark)], k: usize) -> [u8; SECTOR_SIZE]
 }
 
 /// Writes these entries of the image that begins at sector `first`, from the entry number `start` on, which begins a sector.
-/// Each sector is written once, and what stood in the last one behind them is lost.
+/// What is left of the last sector behind them is zeros then (`rest`). That each sector is written once is only tested.
 pub fn write_entries<D: Device>(
     device: &mut D,
     geometry: Geometry,
@@ -137,6 +138,7 @@ pub fn write_entries<D: Device>(
     requires inside { image_end geometry first ≤ length (D.history device.old).disk.content }
     requires number { image_end geometry first < 2 ^ 64 }
     ensures written { OnOk result ((i : ℕ) (e : Pair × Mark) → slice_get entries.now i ≡ Some e → IsEntry geometry (entry_bytes geometry (D.history device.new).disk.content first (start + i)) e) }
+    ensures rest { OnOk result (ZerosBehindEntries geometry first (D.history device.new).disk.content (start + length entries.now)) }
     ensures outside { SameOutside (InEntries geometry first start (length entries.now)) (D.history device.old).disk.content (D.history device.new).disk.content }
     ensures within { RunsWithin (λ n. InEntries geometry first start (length entries.now) n ⊎ ((D.history device.old).disk.unsynced n ≡ true)) (D.history device.old).disk.content (D.history device.old) (D.history device.new) }
     ensures counts { CountsFailure (D.failures device.old) (D.failures device.new) result }
@@ -189,8 +191,9 @@ pub fn write_heads<D: Device>(device: &mut D, first: u64, heads: &[Head]) -> Res
 }
 
 // The spelling of the change at this position, or zeros behind the last one.
+#[tactic(auto, unfolding(image_parts::specs::Spelling::zeros))]
 fn item_piece(changes: &[Change], position: usize) -> [u8; ITEM_SIZE]
-    ensures { (c : ChangeValue) → slice_get changes.now position ≡ Some c → IsItemPiece result (item_of c) }
+    ensures { IsItemPlace result (slice_get changes.now position) }
 {
     match changes.get(position) {
         Some(change) => spell_item(&UndoItem {
@@ -204,7 +207,7 @@ fn item_piece(changes: &[Change], position: usize) -> [u8; ITEM_SIZE]
 // The k-th sector of these changes.
 fn items_sector(changes: &[Change], k: usize) -> [u8; SECTOR_SIZE]
     requires { ITEMS_PER_SECTOR * k < length changes.now }
-    ensures { (j : ℕ) (c : ChangeValue) → j < ITEMS_PER_SECTOR → slice_get changes.now (ITEMS_PER_SECTOR * k + j) ≡ Some c → IsItemPiece (cut result ITEM_SIZE j) (item_of c) }
+    ensures { (j : ℕ) → j < ITEMS_PER_SECTOR → IsItemPlace (cut result ITEM_SIZE j) (slice_get changes.now (ITEMS_PER_SECTOR * k + j)) }
 {
     let mut bytes = zero_sector();
     for j in 0..ITEMS_PER_SECTOR as usize {
@@ -214,8 +217,8 @@ fn items_sector(changes: &[Change], k: usize) -> [u8; SECTOR_SIZE]
     bytes
 }
 
-/// Writes the changes of a head, numbered from 0, as undo items of the image that begins at sector `first`. Each sector is
-/// written once.
+/// Writes the changes of a head, numbered from 0, as undo items of the image that begins at sector `first`. Of an odd number
+/// the item beside the last one is zeros then (`rest`). That each sector is written once is only tested.
 pub fn write_list<D: Device>(
     device: &mut D,
     geometry: Geometry,
@@ -230,6 +233,7 @@ pub fn write_list<D: Device>(
     requires inside { page_at first 0 ≤ length (D.history device.old).disk.content }
     requires number { page_at first 0 < 2 ^ 64 }
     ensures written { OnOk result (HoldsList geometry first (D.history device.new).disk.content h changes.now) }
+    ensures rest { OnOk result (ZerosBehindItems first (D.history device.new).disk.content h (length changes.now)) }
     ensures outside { SameOutside (InList first h (length changes.now)) (D.history device.old).disk.content (D.history device.new).disk.content }
     ensures within { RunsWithin (λ n. InList first h (length changes.now) n ⊎ ((D.history device.old).disk.unsynced n ≡ true)) (D.history device.old).disk.content (D.history device.old) (D.history device.new) }
     ensures counts { CountsFailure (D.failures device.old) (D.failures device.new) result }

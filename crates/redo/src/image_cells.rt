@@ -76,15 +76,27 @@ impl<A: Allocator + Copy> CellSink for ImageCells<A> {
         Ok(())
     }
 
-    fn set_row(&mut self, rid: Rid, row: Row) -> Result<(), AllocError> {
-        self.maps.rows.set(rid, Some(row))?;
-        self.some = true;
+    fn set_rows(&mut self, rows: &[(Rid, Row)]) -> Result<(), AllocError> {
+        let Ok(()) = self.maps.rows.extend(self.alloc, rows) else {
+            self.maps = CellMaps::new(self.alloc);
+            self.some = false;
+            return Err(AllocError);
+        };
+        if !rows.is_empty() {
+            self.some = true;
+        }
         Ok(())
     }
 
-    fn set_entry(&mut self, pair: Pair, mark: Mark) -> Result<(), AllocError> {
-        self.maps.entries.set(pair, Some(mark))?;
-        self.some = true;
+    fn set_entries(&mut self, entries: &[(Pair, Mark)]) -> Result<(), AllocError> {
+        let Ok(()) = self.maps.entries.extend(self.alloc, entries) else {
+            self.maps = CellMaps::new(self.alloc);
+            self.some = false;
+            return Err(AllocError);
+        };
+        if !entries.is_empty() {
+            self.some = true;
+        }
         Ok(())
     }
 }

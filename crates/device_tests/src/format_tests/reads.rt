@@ -33,12 +33,12 @@ impl<A: Allocator + Copy> CellSink for Taken<A> {
         Ok(())
     }
 
-    fn set_row(&mut self, rid: Rid, row: Row) -> Result<(), AllocError> {
-        self.maps.rows.set(rid, Some(row))
+    fn set_rows(&mut self, rows: &[(Rid, Row)]) -> Result<(), AllocError> {
+        self.maps.rows.extend(self.alloc, rows)
     }
 
-    fn set_entry(&mut self, pair: Pair, mark: Mark) -> Result<(), AllocError> {
-        self.maps.entries.set(pair, Some(mark))
+    fn set_entries(&mut self, entries: &[(Pair, Mark)]) -> Result<(), AllocError> {
+        self.maps.entries.extend(self.alloc, entries)
     }
 }
 

@@ -1,5 +1,5 @@
 use Rattle.std.proofs.Common.{◌≡◌, inr, ℕ, ◌+◌, ◌/◌, ◌%◌, List, Some, refl, sym, ap, ◌∙◌, subst, arith}
-use Rattle.std.specs.FinMap.{insert}
+use Rattle.std.specs.FinMap.{insert, empty}
 use Rattle.std.proofs.lemmas.Bool.{iff_false}
 use Rattle.std.specs.declared.cmp.Ordering.TheVariants.{Less}
 use Rattle.std.proofs.lemmas.Option.{none-some, same_Some}
@@ -10,15 +10,16 @@ use Rattle.records.specs.declared.pair.Mark.{Mark}
 use Rattle.records.specs.declared.error.Error.TheVariants.{Damaged}
 use Rattle.model.specs.Table.{Index}
 use Rattle.model.specs.Cells.{Cells}
+use Rattle.model.specs.Extended.{extended}
+use Rattle.model.proofs.ExtendedLaws.{extended_more}
 use Rattle.sector_device.specs.Disk.{sector}
 use Rattle.sector_device.proofs.Within.{reads_none, reads_then}
 use Rattle.image_half.specs.Layout.{cut, page_at, entries_at}
 use Rattle.image_half.specs.Image.{IsEntry}
-use Rattle.image_half.specs.Steps.{HoldsEntries, IsLastPair}
+use Rattle.image_half.specs.Steps.{HoldsEntries, IsLastPair, index_of}
 use Rattle.image_half.proofs.Growing.{no_entry, entries_more, last_more}
 use Rattle.image_half.proofs.Sound.{entries_sound}
 use Rattle.image_half.proofs.Bytes.{cut_at, still_held}
-use Rattle.image_half.proofs.Refusing.{only_entries}
 use Rattle.image_half.proofs.read.read_entries.Goals as goal
 
 pub loop-n-init : goal.loop-n-init
@@ -26,9 +27,8 @@ loop-n-init g c =
     let h = g.D.Device.history in
     let content = (h c.args.device.now).disk.content in
     record {
-      held = subst (λ (m : Index). HoldsEntries c.args.geometry c.args.first content 0 m) (sym c.requires.empty) (no_entry c.args.geometry c.args.first content);
+      held = subst (λ (es : List (Pair × Mark)). HoldsEntries c.args.geometry c.args.first content 0 (index_of es)) (sym c.in_ok-entries.ensures.items) (no_entry c.args.geometry c.args.first content);
       last = refl;
-      rest = refl;
       buffered = λ none. absurd (omega (arith, none));
       reads = reads_none (h c.args.device.now);
       quiet = refl;
@@ -48,7 +48,7 @@ returns-in_default-clause-refused g c =
       c.loop-n-test.true,
       ap (λ k. Damaged (at + k / 16)) c.from-i.ensures ∙ ap (λ k. Damaged (k + n / 16)) at_is,
       (λ sound. none-some sound.0 (c.in_default.ensures.again sound.0 (subst (λ (b : List ℕ). IsEntry c.args.geometry b sound.0) (sym bytes) sound.1))),
-      (λ j less. entries_sound c.args.geometry c.args.first old.content n (g.S.CellSink.cells c.loop-n.sink).entries c.loop-n.invariant.held j less),
+      (λ j less. entries_sound c.args.geometry c.args.first old.content n (index_of c.loop-n.entries.items) c.loop-n.invariant.held j less),
     )
 
 pub returns-then-not-is_above-clause-refused : goal.returns-then-not-is_above-clause-refused
@@ -56,7 +56,7 @@ returns-then-not-is_above-clause-refused g c =
     let h = g.D.Device.history in
     let old = (h c.args.device.now).disk in
     let n = c.loop-n.n in
-    let m : Index = (g.S.CellSink.cells c.loop-n.sink).entries in
+    let m : Index = index_of c.loop-n.entries.items in
     let e : Pair × Mark = (c.in-Some.pair, c.in-Some.mark) in
     let at = c.page_at-at.result in
     let at_is : at ≡ entries_at c.args.geometry c.args.first = c.page_at-at.ensures ∙ ap (page_at c.args.first) (c.from.ensures ∙ ap (λ (x : GeometryValue). x.pages) c.geometry.view_is) in
@@ -85,21 +85,28 @@ loop-n-preserved g c =
     let at_is : at ≡ entries_at c.args.geometry c.args.first = c.page_at-at.ensures ∙ ap (page_at c.args.first) (c.from.ensures ∙ ap (λ (x : GeometryValue). x.pages) c.geometry.view_is) in
     let bytes = cut_at old (h c.loop-n.device).disk c.piece_of-bytes.result c.load.new.buffer 32 at 16 c.from-i.result n c.loop-n.invariant.reads.disk c.piece_of-bytes.ensures c.in_ok-load.ensures.loaded c.from-i.ensures
     ∙ ap (λ k. cut (sector old.content (k + n / 16)) 32 (n % 16)) at_is in
-    let m : Index = (g.S.CellSink.cells c.loop-n.sink).entries in
-    let new : Cells = g.S.CellSink.cells c.set_entry.new.self in
+    let m : Index = index_of c.loop-n.entries.items in
     let pair = c.in-Some.pair in
     let mark = c.in-Some.mark in
     let above = c.is_above.ensures.0 c.if-not-is_above.false in
     let is = subst (λ (b : List ℕ). IsEntry c.args.geometry b (pair, mark)) bytes c.in-Some.ensures.found in
-    let entries : new.entries ≡ insert m pair mark = ap (λ (x : Cells). x.entries) c.in_ok-set_entry.ensures in
+    let entries : index_of c.push.new.self.items ≡ insert m pair mark = ap index_of c.in_ok-push.ensures.items ∙ extended_more (empty {R = pair_cmp}) c.loop-n.entries.items pair mark in
     let held = c.loop-n.invariant.held in
     let last = c.loop-n.invariant.last in
     record {
       held = subst (λ (x : Index). HoldsEntries c.args.geometry c.args.first old.content (n + 1) x) (sym entries) (entries_more c.args.geometry c.args.first old.content n m c.loop-n.last pair mark held last above is);
       last = subst (λ (x : Index). IsLastPair x (n + 1) (Some pair)) (sym entries) (last_more c.args.geometry c.args.first old.content n m c.loop-n.last pair mark held last above);
-      rest = only_entries (g.S.CellSink.cells c.args.sink.now) (g.S.CellSink.cells c.loop-n.sink) new _ c.in_ok-set_entry.ensures c.loop-n.invariant.rest;
       buffered = λ within. still_held old (h c.loop-n.device).disk c.load.new.buffer at (c.from-i.result / 16) ((n + 1) / 16) c.loop-n.invariant.reads.disk c.in_ok-load.ensures.loaded (omega (arith, c.from-i.ensures, within))
           ∙ ap (λ k. sector old.content (k + (n + 1) / 16)) at_is;
       reads = reads_then _ _ _ c.loop-n.invariant.reads c.load.ensures.reads;
       quiet = c.in_ok-load.ensures.quiet ∙ c.loop-n.invariant.quiet;
     }
+
+pub returns-clause-held : goal.returns-clause-held
+returns-clause-held g c =
+    let content = (g.D.Device.history c.args.device.now).disk.content in
+    let new : Cells = g.S.CellSink.cells c.set_entries.new.self in
+    let all : c.loop-n.n ≡ c.args.count = omega (arith, c.loop-n-test.false, c.loop-n.auto.n-end) in
+    let index : new.entries ≡ index_of c.loop-n.entries.items = ap (λ (x : Cells). x.entries) c.in_ok-set_entries.ensures ∙ (λ i. extended (c.requires.empty i) (c.deref.ensures.value i)) in
+    subst (λ n. HoldsEntries c.args.geometry c.args.first content n new.entries) all
+    (subst (λ (m : Index). HoldsEntries c.args.geometry c.args.first content c.loop-n.n m) (sym index) c.loop-n.invariant.held)

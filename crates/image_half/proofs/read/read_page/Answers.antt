@@ -5,15 +5,13 @@ use Rattle.std.proofs.lemmas.Option.{none-some, same_Some}
 use Rattle.records.specs.declared.row.Row.{Row}
 use Rattle.records.specs.declared.error.Error.TheVariants.{Damaged}
 use Rattle.model.specs.Table.{Table}
-use Rattle.model.specs.Cells.{Cells}
 use Rattle.sector_device.specs.Disk.{sector}
 use Rattle.sector_device.proofs.Within.{reads_then}
 use Rattle.image_half.specs.Layout.{cut, page_at}
 use Rattle.image_half.specs.Image.{IsRow, row_bytes}
-use Rattle.image_half.specs.Steps.{HoldsSlots}
+use Rattle.image_half.specs.Steps.{HoldsSlots, table_of}
 use Rattle.image_half.proofs.Growing.{slots_more}
 use Rattle.image_half.proofs.Bytes.{cut_at, still_held}
-use Rattle.image_half.proofs.Refusing.{only_rows}
 use Rattle.image_half.proofs.read.read_page.Goals as goal
 
 pub returns-in_default-clause-refused : goal.returns-in_default-clause-refused
@@ -64,14 +62,10 @@ loop-slot-preserved g c =
     let at_is : at ≡ page_at c.args.first c.args.page = c.page_at-at.ensures ∙ ap (page_at c.args.first) c.from.ensures in
     let bytes = cut_at old (h c.loop-slot.device).disk c.piece_of-bytes.result c.load-in-loop-slot.new.buffer 64 at 8 i (s + 1) c.loop-slot.invariant.reads.disk c.piece_of-bytes.ensures c.in_ok-load-2.ensures.loaded which
     ∙ ap (λ n. cut (sector old.content (n + (s + 1) / 8)) 64 ((s + 1) % 8)) at_is in
-    let start : Cells = g.S.CellSink.cells c.args.sink.now in
-    let before : Cells = g.S.CellSink.cells c.loop-slot.sink in
-    let new : Cells = g.S.CellSink.cells c.put_row.new.sink in
     let is : IsRow (row_bytes old.content c.args.first c.args.page (s + 1)) c.in-Some-read_row.found = record { spelled = sym bytes ∙ c.in-Some-read_row.ensures.found; fits = c.in-Some-read_row.ensures.fits } in
     record {
-      slots = subst (λ (t : Table). HoldsSlots c.args.first old.content c.args.page (s + 1) start.rows t) (sym (ap (λ (x : Cells). x.rows) c.in_ok-put_row.ensures))
-          (slots_more c.args.geometry c.args.first old.content c.args.page s start.rows before.rows c.in-Some-read_row.found c.loop-slot.invariant.slots is);
-      rest = only_rows start before new _ c.in_ok-put_row.ensures c.loop-slot.invariant.rest;
+      slots = subst (λ (t : Table). HoldsSlots c.args.first old.content c.args.page (s + 1) (table_of c.args.rows.now.items) t) (sym c.in_ok-add_row.ensures)
+          (slots_more c.args.geometry c.args.first old.content c.args.page s (table_of c.args.rows.now.items) (table_of c.loop-slot.rows.items) c.in-Some-read_row.found c.loop-slot.invariant.slots is);
       buffered = λ within. still_held old (h c.loop-slot.device).disk c.load-in-loop-slot.new.buffer at (i / 8) ((s + 1 + 1) / 8) c.loop-slot.invariant.reads.disk c.in_ok-load-2.ensures.loaded (omega (arith, which, within))
           ∙ ap (λ n. sector old.content (n + (s + 1 + 1) / 8)) at_is;
       reads = reads_then _ _ _ c.loop-slot.invariant.reads c.load-in-loop-slot.ensures.reads;

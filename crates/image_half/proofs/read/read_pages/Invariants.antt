@@ -1,17 +1,13 @@
-use Rattle.std.proofs.Common.{◌≡◌}
+use Rattle.std.proofs.Common.{◌≡◌, []}
 use Rattle.sector_device.specs.History.{OnlyReads}
-use Rattle.model.specs.Cells.{Cells}
-use Rattle.image_half.specs.Steps.{HoldsPages}
+use Rattle.image_half.specs.Steps.{HoldsPages, table_of}
 use Rattle.image_half.proofs.read.read_pages.Given as goal
 
 abbrev pub invariant-loop-page : goal.invariant-loop-page
 invariant-loop-page g l =
     let h = g.D.Device.history in
-    let now : Cells = g.S.CellSink.cells l.sink in
-    let start : Cells = g.S.CellSink.cells l.initial.sink in
     record {
-      held : HoldsPages l.geometry l.first (h l.initial.device).disk.content l.page now.rows;
-      rest : now ≡ record start { rows = now.rows };
+      held : HoldsPages l.geometry l.first (h l.initial.device).disk.content l.page (table_of l.rows.items);
       reads : OnlyReads (h l.initial.device) (h l.device);
       quiet : g.D.Device.failures l.device ≡ g.D.Device.failures l.initial.device;
     }

@@ -8,7 +8,7 @@ use Rattle.image_half.proofs.Lists.{option_cases, not_past}
 use Rattle.image_half.proofs.whole.entries_sector.Goals as goal
 
 pub returns-clause-spelled : goal.returns-clause-spelled
-returns-clause-spelled g c = λ n passed j e below at. c.pieces_of.ensures j e (c.entries_behind-entries.ensures n j passed below ∙ ap Some at)
+returns-clause-spelled g c = λ n passed j below. c.pieces_of.ensures j _ (c.entries_behind-entries.ensures n j passed below)
 
 pub returns-clause-passed : goal.returns-clause-passed
 returns-clause-passed g c = λ n passed room.

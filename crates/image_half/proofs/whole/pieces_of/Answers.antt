@@ -5,23 +5,23 @@ use Rattle.std.proofs.lemmas.Option.{slice_get-get_or, slice_get_within, same_So
 use Rattle.records.specs.declared.pair.Pair.{Pair}
 use Rattle.records.specs.declared.pair.Mark.{Mark}
 use Rattle.image_half.specs.Layout.{cut}
-use Rattle.image_half.specs.Steps.{IsEntryPiece}
+use Rattle.image_half.specs.Steps.{IsEntryPlace}
 use Rattle.image_half.proofs.whole.pieces_of.Goals as goal
 
 pub loop-j-preserved : goal.loop-j-preserved
-loop-j-preserved c = λ i e less at_i.
+loop-j-preserved c = λ i o less at_i.
     let j = c.loop-j.j in
     let entry : Option (Pair × Mark) = c.index-entries-j.result in
     ⊎_elim
-    (λ (lower : i < j). subst (λ (b : List ℕ). IsEntryPiece b e) (sym (c.put_piece.ensures.before i lower)) (c.loop-j.invariant i e lower at_i))
+    (λ (lower : i < j). subst (λ (b : List ℕ). IsEntryPlace b o) (sym (c.put_piece.ensures.before i lower)) (c.loop-j.invariant i o lower at_i))
     (λ higher.
     let same : i ≡ j = omega (arith, less, higher) in
     let at_j : slice_get c.args.entries.now j ≡ Some entry = slice_get-get_or c.args.entries.now j entry (omega (arith, c.loop-j-test.true, c.type_inv.entries)) ∙ ap Some (sym c.index-entries-j.is) in
-    let is : entry ≡ Some e = same_Some _ _ (sym at_j ∙ subst (λ n. slice_get c.args.entries.now n ≡ Some (Some e)) same at_i) in
-    subst (λ n. IsEntryPiece (cut c.put_piece.new.buffer 32 n) e) (sym same)
-    (subst (λ (b : List ℕ). IsEntryPiece b e) (sym c.put_piece.ensures.put)
-    (c.piece_of_entry-piece.ensures e (sym c.index-entries-j.is ∙ is))))
+    let is : entry ≡ o = same_Some _ _ (sym at_j ∙ subst (λ n. slice_get c.args.entries.now n ≡ Some o) same at_i) in
+    subst (λ n. IsEntryPlace (cut c.put_piece.new.buffer 32 n) o) (sym same)
+    (subst (λ (b : List ℕ). IsEntryPlace b o) (sym c.put_piece.ensures.put)
+    (subst (IsEntryPlace c.piece_of_entry-piece.result) (sym c.index-entries-j.is ∙ is) c.piece_of_entry-piece.ensures)))
     (cases_lt i j)
 
 pub returns : goal.returns
-returns c = λ i e at_i. c.loop-j.invariant i e (omega (arith, slice_get_within _ i (Some e) at_i, c.loop-j-test.false, c.type_inv.entries)) at_i
+returns c = λ i o at_i. c.loop-j.invariant i o (omega (arith, slice_get_within _ i o at_i, c.loop-j-test.false, c.type_inv.entries)) at_i

@@ -1,10 +1,10 @@
-use Rattle.std.proofs.Common.{◌≡◌, ℕ, ◌<◌, Some}
+use Rattle.std.proofs.Common.{◌≡◌, ℕ, ◌<◌, Option, Some}
 use Rattle.std.specs.Prelude.{slice_get}
 use Rattle.records.specs.declared.pair.Pair.{Pair}
 use Rattle.records.specs.declared.pair.Mark.{Mark}
 use Rattle.image_half.specs.Layout.{cut}
-use Rattle.image_half.specs.Steps.{IsEntryPiece}
+use Rattle.image_half.specs.Steps.{IsEntryPlace}
 use Rattle.image_half.proofs.whole.pieces_of.Given as goal
 
 abbrev pub invariant-loop-j : goal.invariant-loop-j
-invariant-loop-j l = (i : ℕ) (e : Pair × Mark) → i < l.j → slice_get l.entries i ≡ Some (Some e) → IsEntryPiece (cut l.bytes 32 i) e
+invariant-loop-j l = (i : ℕ) (o : Option (Pair × Mark)) → i < l.j → slice_get l.entries i ≡ Some o → IsEntryPlace (cut l.bytes 32 i) o

@@ -1,15 +1,16 @@
-use Rattle.std.proofs.Common.{◌≡◌, ⊎_elim, ℕ, ◌+◌, ◌*◌, ◌/◌, ◌%◌, ◌<◌, List, length, Some, sym, ap, ◌∙◌, subst, arith}
+use Rattle.std.proofs.Common.{◌≡◌, ⊎_elim, ℕ, ◌+◌, ◌*◌, ◌/◌, ◌%◌, ◌<◌, List, length, sym, ap, ◌∙◌, subst, arith}
 use Rattle.std.specs.Prelude.{slice_get}
 use Rattle.std.specs.FinMap.{entries}
 use Rattle.std.proofs.lemmas.Bool.{cases_lt}
-use Rattle.std.proofs.lemmas.Option.{slice_get_within}
+use Rattle.std.proofs.lemmas.Option.{slice_get_within, slice_get_past}
 use Rattle.sector_device.specs.Disk.{Disk, sector, after_write}
 use Rattle.sector_device.proofs.Sectors.{sector_written, sector_other}
 use Rattle.records.specs.GeometryValue.{GeometryValue}
 use Rattle.records.specs.declared.pair.Pair.{Pair}
 use Rattle.records.specs.declared.pair.Mark.{Mark}
 use Rattle.image_half.specs.Layout.{cut, page_at, entries_at, InEntries}
-use Rattle.image_half.specs.Image.{IsEntry}
+use Rattle.image_half.specs.Image.{entry_bytes}
+use Rattle.image_half.specs.Steps.{IsEntryPiece, IsEntryPlace}
 use Rattle.image_half.specs.Source.{IsPassed}
 use Rattle.image_half.proofs.Joined.{writes_one}
 use Rattle.image_half.proofs.Writing.{entry_inside}
@@ -45,23 +46,32 @@ loop-k-preserved g c =
     let room : at < length mid.content = omega (arith, inside.1, c.requires.inside, c.requires.count, c.requires.fits.room, so_far.part.outside.sectors) in
     record {
       passed = λ more. subst (λ n. IsPassed all n c.entries_sector-bytes.new.last) (let e : 16 * k + 16 ≡ 16 * (k + 1) = omega arith in e) (c.entries_sector-bytes.ensures.passed (16 * k) passed (omega (arith, more, c.requires.count)));
-      written = λ i e less at_i. ⊎_elim
+      placed = λ i less. ⊎_elim
           (λ (lower : i < 16 * k).
           let n = first_entry + i / 16 in
           let same : sector new.content n ≡ sector mid.content n = ap (λ (d : Disk). sector d.content n) ok ∙ sector_other mid at n bytes (omega (arith, at_is, lower)) in
-          subst (λ (b : List ℕ). IsEntry c.args.geometry (cut b 32 (i % 16)) e) (sym same) (so_far.written i e lower at_i))
+          subst (λ (b : List ℕ). IsEntryPlace (cut b 32 (i % 16)) (slice_get all i)) (sym same) (so_far.placed i lower))
           (λ higher.
           let n = first_entry + i / 16 in
           let which : n ≡ at = omega (arith, at_is, less, higher) in
           let there : sector new.content n ≡ bytes = ap (λ m. sector new.content m) which ∙ ap (λ (d : Disk). sector d.content at) ok ∙ sector_written mid at bytes room in
           let nth : i ≡ 16 * k + i % 16 = omega (arith, less, higher) in
-          let piece = c.entries_sector-bytes.ensures.spelled (16 * k) passed (i % 16) e (omega arith) (subst (λ m. slice_get all m ≡ Some e) nth at_i) in
-          subst (λ (b : List ℕ). IsEntry c.args.geometry (cut b 32 (i % 16)) e) (sym there)
-          (record { spelled = piece.spelled; fits = piece.fits; inside = entry_inside c.args.geometry cells c.requires.fits i e at_i }))
+          let piece = c.entries_sector-bytes.ensures.spelled (16 * k) passed (i % 16) (omega arith) in
+          subst (λ (b : List ℕ). IsEntryPlace (cut b 32 (i % 16)) (slice_get all i)) (sym there)
+          (subst (λ m. IsEntryPlace (cut bytes 32 (i % 16)) (slice_get all m)) (sym nth) piece))
           (cases_lt i (16 * k));
       part = writes_one (InEntries c.args.geometry c.args.first 0 c.args.count) (hist c.args.device.now) (hist c.loop-k.device) (hist c.write.new.self) at _ c.write.result inside c.write.ensures.time c.write.ensures.ok c.write.ensures.err so_far.part;
       failures = c.in_ok-write.ensures.counts.none ∙ so_far.failures;
     }
 
 pub returns-clause-written : goal.returns-clause-written
-returns-clause-written g c = λ i e at_i. c.loop-k.invariant.written i e (omega (arith, slice_get_within _ i e at_i, c.requires.count, c.div_ceil-k-end.ensures, c.from-2.ensures, c.loop-k-test.false)) at_i
+returns-clause-written g c = λ i e at_i.
+    let bytes = entry_bytes c.args.geometry (g.D.Device.history c.loop-k.device).disk.content c.args.first i in
+    let piece : IsEntryPiece bytes e = subst (IsEntryPlace bytes) at_i (c.loop-k.invariant.placed i (omega (arith, slice_get_within _ i e at_i, c.requires.count, c.div_ceil-k-end.ensures, c.from-2.ensures, c.loop-k-test.false))) in
+    record { spelled = piece.spelled; fits = piece.fits; inside = entry_inside c.args.geometry (g.S.CellSource.cells c.args.source.now) c.requires.fits i e at_i }
+
+pub returns-clause-rest : goal.returns-clause-rest
+returns-clause-rest g c = λ i behind below.
+    let all : List (Pair × Mark) = entries (g.S.CellSource.cells c.args.source.now).entries in
+    subst (IsEntryPlace (entry_bytes c.args.geometry (g.D.Device.history c.loop-k.device).disk.content c.args.first i)) (slice_get_past all i (omega (arith, behind, c.requires.count)))
+    (c.loop-k.invariant.placed i (omega (arith, below, c.div_ceil-k-end.ensures, c.from-2.ensures, c.loop-k-test.false)))

@@ -1,4 +1,4 @@
-use Rattle.std.proofs.Common.{◌≡◌, ⊎_elim, ℕ, ◌+◌, ◌<◌, ◌≤◌, List, length, Some, sym, ap, ◌∙◌, subst, arith}
+use Rattle.std.proofs.Common.{◌≡◌, ⊎_elim, ℕ, ◌+◌, ◌<◌, ◌≤◌, List, length, Some, None, sym, ap, ◌∙◌, subst, arith}
 use Rattle.std.specs.Prelude.{slice_get}
 use Rattle.std.specs.Option.{option_map}
 use Rattle.std.specs.FinMap.{entries}
@@ -6,11 +6,11 @@ use Rattle.std.proofs.lemmas.Bool.{cases_eq}
 use Rattle.std.proofs.lemmas.Option.{same_Some, slice_get_within}
 use Rattle.records.specs.ChangeValue.{ChangeValue}
 use Rattle.image_half.specs.Layout.{InList}
-use Rattle.image_half.specs.Image.{HoldsList}
-use Rattle.image_half.specs.Steps.{InUndo}
+use Rattle.image_half.specs.Image.{InLists}
+use Rattle.image_half.specs.Steps.{ShowsList}
 use Rattle.image_half.proofs.Joined.{writes_then}
 use Rattle.image_half.proofs.Kept.{list_kept}
-use Rattle.image_half.proofs.Walk.{reached_next}
+use Rattle.image_half.proofs.Walk.{reached_next, before_end}
 use Rattle.image_half.proofs.Writing.{change_at, list_short, list_placed}
 use Rattle.image_half.proofs.whole.write_lists.Goals as goal
 
@@ -41,9 +41,8 @@ returns-in_err-write_list-clause-part g c =
     let first = c.args.first in
     let list : ℕ × List ChangeValue = (c.in-Some.list.0, c.in-Some.list.1.now) in
     let there : slice_get (entries cells.pending) c.loop-h.h ≡ Some list = sym (c.loop-h.invariant.reached _ c.list_behind.ensures) ∙ ap (option_map (λ l. (l.0, l.1.now))) c.in-Some.is in
-    let short : length list.1 ≤ 64 = list_short c.args.geometry cells c.requires.fits c.loop-h.h list there in
-    writes_then (InUndo first) (InList first c.loop-h.h (length list.1)) (hist c.args.device.now) (hist c.loop-h.device) (hist c.write_list.new.device)
-    (λ n is. (omega (arith, is.0), omega (arith, is.1, short, c.loop-h-test.true))) c.loop-h.invariant.part (record { outside = c.write_list.ensures.outside; within = c.write_list.ensures.within })
+    writes_then (InLists first cells) (InList first c.loop-h.h (length list.1)) (hist c.args.device.now) (hist c.loop-h.device) (hist c.write_list.new.device)
+    (λ n is. (c.loop-h.h, list, there, is)) c.loop-h.invariant.part (record { outside = c.write_list.ensures.outside; within = c.write_list.ensures.within })
 
 pub loop-h-preserved : goal.loop-h-preserved
 loop-h-preserved g c =
@@ -55,21 +54,26 @@ loop-h-preserved g c =
     let list : ℕ × List ChangeValue = (c.in-Some.list.0, c.in-Some.list.1.now) in
     let found : option_map (λ l. (l.0, l.1.now)) c.list_behind.result ≡ Some list = ap (option_map (λ l. (l.0, l.1.now))) c.in-Some.is in
     let there : slice_get lists h ≡ Some list = sym (c.loop-h.invariant.reached _ c.list_behind.ensures) ∙ found in
-    let short : length list.1 ≤ 64 = list_short c.args.geometry cells c.requires.fits h list there in
     record {
       reached = reached_next lists h c.loop-h.last _ list.0 list.1 c.loop-h.invariant.reached c.list_behind.ensures found;
       written = λ k l less at_k. ⊎_elim
           (λ (same : k ≡ h).
           let this : list ≡ l = same_Some list l (sym there ∙ subst (λ n. slice_get lists n ≡ Some l) same at_k) in
-          subst (λ n. HoldsList c.args.geometry first (hist c.write_list.new.device).disk.content n l.1) (sym same)
-          (subst (λ (x : ℕ × List ChangeValue). HoldsList c.args.geometry first (hist c.write_list.new.device).disk.content h x.1) this c.in_ok-write_list.ensures.written))
+          subst (λ n. ShowsList c.args.geometry first (hist c.write_list.new.device).disk.content n l.1) (sym same)
+          (subst (λ (x : ℕ × List ChangeValue). ShowsList c.args.geometry first (hist c.write_list.new.device).disk.content h x.1) this (record { held = c.in_ok-write_list.ensures.written; rest = c.in_ok-write_list.ensures.rest })))
           (λ other. list_kept (InList first h (length list.1)) _ _ c.write_list.ensures.outside c.args.geometry first k l.1 (λ p low is. omega (arith, is.0, less, other, low))
           (list_short c.args.geometry cells c.requires.fits k l at_k) (c.loop-h.invariant.written k l (omega (arith, less, other)) at_k))
           (cases_eq k h);
-      part = writes_then (InUndo first) (InList first h (length list.1)) (hist c.args.device.now) (hist c.loop-h.device) (hist c.write_list.new.device)
-          (λ n is. (omega (arith, is.0), omega (arith, is.1, short, c.loop-h-test.true))) c.loop-h.invariant.part (record { outside = c.write_list.ensures.outside; within = c.write_list.ensures.within });
+      part = writes_then (InLists first cells) (InList first h (length list.1)) (hist c.args.device.now) (hist c.loop-h.device) (hist c.write_list.new.device)
+          (λ n is. (h, list, there, is)) c.loop-h.invariant.part (record { outside = c.write_list.ensures.outside; within = c.write_list.ensures.within });
       failures = c.in_ok-write_list.ensures.counts.none ∙ c.loop-h.invariant.failures;
     }
+
+pub returns-in_default-clause-written : goal.returns-in_default-clause-written
+returns-in_default-clause-written g c = λ h list at_h.
+    let lists = entries (g.S.CellSource.cells c.args.source.now).pending in
+    let none : slice_get lists c.loop-h.h ≡ None = sym (c.loop-h.invariant.reached _ c.list_behind.ensures) ∙ ap (option_map (λ l. (l.0, l.1.now))) c.in_default.is in
+    c.loop-h.invariant.written h list (before_end lists c.loop-h.h h list none at_h) at_h
 
 pub returns-clause-written : goal.returns-clause-written
 returns-clause-written g c = λ h list at_h.

@@ -5,8 +5,8 @@ use Rattle.std.proofs.lemmas.Bool.{cases_eq}
 use Rattle.std.proofs.lemmas.Option.{slice_get-get_or}
 use Rattle.records.specs.GeometryValue.{GeometryValue}
 use Rattle.records.specs.declared.row.Row.{Row}
-use Rattle.image_half.specs.Layout.{InPage}
-use Rattle.image_half.specs.Steps.{ShowsPage, InPages}
+use Rattle.image_half.specs.Layout.{InPage, InPages}
+use Rattle.image_half.specs.Steps.{ShowsPage}
 use Rattle.image_half.proofs.Joined.{writes_then}
 use Rattle.image_half.proofs.Kept.{page_kept}
 use Rattle.image_half.proofs.whole.write_pages.Goals as goal

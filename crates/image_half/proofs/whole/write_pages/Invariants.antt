@@ -1,5 +1,6 @@
 use Rattle.std.proofs.Common.{◌≡◌, ℕ, ◌<◌}
-use Rattle.image_half.specs.Steps.{ShowsPage, WritesIn, InPages}
+use Rattle.image_half.specs.Layout.{InPages}
+use Rattle.image_half.specs.Steps.{ShowsPage, WritesIn}
 use Rattle.image_half.proofs.whole.write_pages.Given as goal
 
 abbrev pub invariant-loop-page : goal.invariant-loop-page

@@ -1,21 +1,20 @@
-use Rattle.std.proofs.Common.{◌≡◌, ⊎_elim, ℕ, ◌+◌, ◌*◌, ◌<◌, List, Some, sym, subst, arith}
+use Rattle.std.proofs.Common.{◌≡◌, ⊎_elim, ℕ, ◌+◌, ◌*◌, ◌<◌, List, sym, subst, arith}
 use Rattle.std.specs.Prelude.{slice_get}
 use Rattle.std.proofs.lemmas.Bool.{cases_lt}
 use Rattle.image_half.specs.Layout.{cut}
-use Rattle.image_half.specs.Steps.{IsEntryPiece}
+use Rattle.image_half.specs.Steps.{IsEntryPlace}
 use Rattle.image_half.proofs.write.entries_sector.Goals as goal
 
 pub loop-j-preserved : goal.loop-j-preserved
-loop-j-preserved c = λ i e less at_i.
+loop-j-preserved c = λ i less.
     let j = c.loop-j.j in
     ⊎_elim
-    (λ (lower : i < j). subst (λ (b : List ℕ). IsEntryPiece b e) (sym (c.put_piece.ensures.before i lower)) (c.loop-j.invariant i e lower at_i))
+    (λ (lower : i < j). subst (λ (b : List ℕ). IsEntryPlace b (slice_get c.args.entries.now (16 * c.args.k + i))) (sym (c.put_piece.ensures.before i lower)) (c.loop-j.invariant i lower))
     (λ higher.
     let same : i ≡ j = omega (arith, less, higher) in
-    subst (λ n. IsEntryPiece (cut c.put_piece.new.buffer 32 n) e) (sym same)
-    (subst (λ (b : List ℕ). IsEntryPiece b e) (sym c.put_piece.ensures.put)
-    (c.entry_piece-piece.ensures e (subst (λ n. slice_get c.args.entries.now (16 * c.args.k + n) ≡ Some e) same at_i))))
+    subst (λ n. IsEntryPlace (cut c.put_piece.new.buffer 32 n) (slice_get c.args.entries.now (16 * c.args.k + n))) (sym same)
+    (subst (λ (b : List ℕ). IsEntryPlace b (slice_get c.args.entries.now (16 * c.args.k + j))) (sym c.put_piece.ensures.put) c.entry_piece-piece.ensures))
     (cases_lt i j)
 
 pub returns : goal.returns
-returns c = λ i e below at_i. c.loop-j.invariant i e (omega (arith, below, c.loop-j-test.false)) at_i
+returns c = λ i below. c.loop-j.invariant i (omega (arith, below, c.loop-j-test.false))

@@ -1,10 +1,8 @@
-use Rattle.std.proofs.Common.{◌≡◌, ℕ, ◌+◌, ◌*◌, ◌<◌, Some}
+use Rattle.std.proofs.Common.{ℕ, ◌+◌, ◌*◌, ◌<◌}
 use Rattle.std.specs.Prelude.{slice_get}
-use Rattle.records.specs.declared.pair.Pair.{Pair}
-use Rattle.records.specs.declared.pair.Mark.{Mark}
 use Rattle.image_half.specs.Layout.{cut}
-use Rattle.image_half.specs.Steps.{IsEntryPiece}
+use Rattle.image_half.specs.Steps.{IsEntryPlace}
 use Rattle.image_half.proofs.write.entries_sector.Given as goal
 
 abbrev pub invariant-loop-j : goal.invariant-loop-j
-invariant-loop-j l = (i : ℕ) (e : Pair × Mark) → i < l.j → slice_get l.entries (16 * l.k + i) ≡ Some e → IsEntryPiece (cut l.bytes 32 i) e
+invariant-loop-j l = (i : ℕ) → i < l.j → IsEntryPlace (cut l.bytes 32 i) (slice_get l.entries (16 * l.k + i))

@@ -1,22 +1,20 @@
-use Rattle.std.proofs.Common.{◌≡◌, ⊎_elim, ◌+◌, ◌*◌, ◌<◌, List, ℕ, Some, sym, subst, arith}
+use Rattle.std.proofs.Common.{◌≡◌, ⊎_elim, ◌+◌, ◌*◌, ◌<◌, List, ℕ, sym, subst, arith}
 use Rattle.std.specs.Prelude.{slice_get}
 use Rattle.std.proofs.lemmas.Bool.{cases_lt}
 use Rattle.image_half.specs.Layout.{cut}
-use Rattle.image_half.specs.Image.{item_of}
-use Rattle.image_half.specs.Steps.{IsItemPiece}
+use Rattle.image_half.specs.Steps.{IsItemPlace}
 use Rattle.image_half.proofs.write.items_sector.Goals as goal
 
 pub loop-j-preserved : goal.loop-j-preserved
-loop-j-preserved c = λ i e less at_i.
+loop-j-preserved c = λ i less.
     let j = c.loop-j.j in
     ⊎_elim
-    (λ (lower : i < j). subst (λ (b : List ℕ). IsItemPiece b (item_of e)) (sym (c.put_piece.ensures.before i lower)) (c.loop-j.invariant i e lower at_i))
+    (λ (lower : i < j). subst (λ (b : List ℕ). IsItemPlace b (slice_get c.args.changes.now (2 * c.args.k + i))) (sym (c.put_piece.ensures.before i lower)) (c.loop-j.invariant i lower))
     (λ higher.
     let same : i ≡ j = omega (arith, less, higher) in
-    subst (λ n. IsItemPiece (cut c.put_piece.new.buffer 256 n) (item_of e)) (sym same)
-    (subst (λ (b : List ℕ). IsItemPiece b (item_of e)) (sym c.put_piece.ensures.put)
-    (c.item_piece-piece.ensures e (subst (λ n. slice_get c.args.changes.now (2 * c.args.k + n) ≡ Some e) same at_i))))
+    subst (λ n. IsItemPlace (cut c.put_piece.new.buffer 256 n) (slice_get c.args.changes.now (2 * c.args.k + n))) (sym same)
+    (subst (λ (b : List ℕ). IsItemPlace b (slice_get c.args.changes.now (2 * c.args.k + j))) (sym c.put_piece.ensures.put) c.item_piece-piece.ensures))
     (cases_lt i j)
 
 pub returns : goal.returns
-returns c = λ i e below at_i. c.loop-j.invariant i e (omega (arith, below, c.loop-j-test.false)) at_i
+returns c = λ i below. c.loop-j.invariant i (omega (arith, below, c.loop-j-test.false))

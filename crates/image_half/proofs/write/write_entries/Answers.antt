@@ -1,13 +1,15 @@
-use Rattle.std.proofs.Common.{◌≡◌, ⊎_elim, inl, ℕ, ◌+◌, ◌*◌, ◌/◌, ◌%◌, ◌<◌, List, length, Some, sym, ap, ◌∙◌, subst, arith}
+use Rattle.std.proofs.Common.{◌≡◌, ⊎_elim, inl, ℕ, ◌+◌, ◌-◌, ◌*◌, ◌/◌, ◌%◌, ◌<◌, List, length, sym, ap, ◌∙◌, subst, arith}
 use Rattle.std.specs.Prelude.{slice_get}
 use Rattle.std.proofs.lemmas.Bool.{cases_lt}
-use Rattle.std.proofs.lemmas.Option.{slice_get_within}
+use Rattle.std.proofs.lemmas.Option.{slice_get_within, slice_get_past}
 use Rattle.sector_device.specs.Disk.{Disk, sector, after_write}
 use Rattle.sector_device.proofs.Sectors.{sector_written, sector_other, content_after}
 use Rattle.sector_device.proofs.Within.{within_write}
 use Rattle.records.specs.GeometryValue.{GeometryValue}
 use Rattle.image_half.specs.Layout.{cut, page_at, entries_at, InEntries}
-use Rattle.image_half.specs.Image.{IsEntry}
+use Rattle.image_parts.specs.Spelling.{zeros}
+use Rattle.image_half.specs.Image.{entry_bytes}
+use Rattle.image_half.specs.Steps.{IsEntryPiece, IsEntryPlace}
 use Rattle.image_half.proofs.write.write_entries.Goals as goal
 
 pub returns-in_err-write-clause-within : goal.returns-in_err-write-clause-within
@@ -37,19 +39,19 @@ loop-k-preserved g c =
     let ok : new ≡ after_write mid at bytes = c.in_ok-write.ensures.ok in
     let room : at < length mid.content = omega (arith, inside.1, c.requires.inside, c.requires.room, so_far.outside.sectors) in
     record {
-      written = λ i e less at_i. ⊎_elim
+      placed = λ i less. ⊎_elim
           (λ (lower : i < 16 * k).
           let n = first_entry + (start + i) / 16 in
           let same : sector new.content n ≡ sector mid.content n = ap (λ (d : Disk). sector d.content n) ok ∙ sector_other mid at n bytes (omega (arith, at_is, c.from-2.ensures, c.requires.start, lower)) in
-          subst (λ (b : List ℕ). IsEntry c.args.geometry (cut b 32 ((start + i) % 16)) e) (sym same) (so_far.written i e lower at_i))
+          subst (λ (b : List ℕ). IsEntryPlace (cut b 32 ((start + i) % 16)) (slice_get c.args.entries.now i)) (sym same) (so_far.placed i lower))
           (λ higher.
           let n = first_entry + (start + i) / 16 in
           let which : n ≡ at = omega (arith, at_is, c.from-2.ensures, c.requires.start, less, higher) in
           let there : sector new.content n ≡ bytes = ap (λ m. sector new.content m) which ∙ ap (λ (d : Disk). sector d.content at) ok ∙ sector_written mid at bytes room in
           let nth : i ≡ 16 * k + (start + i) % 16 = omega (arith, less, higher, c.requires.start) in
-          let piece = c.entries_sector-bytes.ensures ((start + i) % 16) e (omega arith) (subst (λ m. slice_get c.args.entries.now m ≡ Some e) nth at_i) in
-          subst (λ (b : List ℕ). IsEntry c.args.geometry (cut b 32 ((start + i) % 16)) e) (sym there)
-          (record { spelled = piece.spelled; fits = piece.fits; inside = c.requires.pages i e at_i }))
+          let piece = c.entries_sector-bytes.ensures ((start + i) % 16) (omega arith) in
+          subst (λ (b : List ℕ). IsEntryPlace (cut b 32 ((start + i) % 16)) (slice_get c.args.entries.now i)) (sym there)
+          (subst (λ m. IsEntryPlace (cut bytes 32 ((start + i) % 16)) (slice_get c.args.entries.now m)) (sym nth) piece))
           (cases_lt i (16 * k));
       outside = content_after _ _ mid at _ _ c.write.result c.write.ensures.ok c.write.ensures.err inside so_far.outside;
       within = within_write _ _ _ _ _ so_far.within c.write.ensures.time at _ c.write.result (inl inside) c.write.ensures.ok c.write.ensures.err;
@@ -59,4 +61,16 @@ loop-k-preserved g c =
 pub returns-clause-written : goal.returns-clause-written
 returns-clause-written g c = λ i e at_i.
     let count : c.div_ceil-sectors.result ≡ (length c.args.entries.now + 15) / 16 = omega (arith, c.div_ceil-sectors.ensures) in
-    c.loop-k.invariant.written i e (omega (arith, slice_get_within c.args.entries.now i e at_i, count, c.loop-k-test.false)) at_i
+    let bytes = entry_bytes c.args.geometry (g.D.Device.history c.loop-k.device).disk.content c.args.first (c.args.start + i) in
+    let piece : IsEntryPiece bytes e = subst (IsEntryPlace bytes) at_i (c.loop-k.invariant.placed i (omega (arith, slice_get_within c.args.entries.now i e at_i, count, c.loop-k-test.false))) in
+    record { spelled = piece.spelled; fits = piece.fits; inside = c.requires.pages i e at_i }
+
+pub returns-clause-rest : goal.returns-clause-rest
+returns-clause-rest g c = λ n behind below.
+    let count : c.div_ceil-sectors.result ≡ (length c.args.entries.now + 15) / 16 = omega (arith, c.div_ceil-sectors.ensures) in
+    let i : ℕ = n - c.args.start in
+    let is : c.args.start + i ≡ n = omega (arith, behind) in
+    let bytes : ℕ → List ℕ = λ k. entry_bytes c.args.geometry (g.D.Device.history c.loop-k.device).disk.content c.args.first k in
+    subst (λ k. bytes k ≡ zeros 32) is
+    (subst (IsEntryPlace (bytes (c.args.start + i))) (slice_get_past c.args.entries.now i (omega (arith, behind)))
+    (c.loop-k.invariant.placed i (omega (arith, below, behind, count, c.requires.start, c.loop-k-test.false))))

@@ -1,11 +1,10 @@
-use Rattle.std.proofs.Common.{◌≡◌, ◌⊎◌, ℕ, ◌+◌, ◌*◌, ◌<◌, Some, true, length}
+use Rattle.std.proofs.Common.{◌≡◌, ◌⊎◌, ℕ, ◌+◌, ◌*◌, ◌<◌, true, length}
 use Rattle.std.specs.Prelude.{slice_get}
 use Rattle.sector_device.specs.Disk.{SameOutside}
 use Rattle.sector_device.specs.History.{RunsWithin}
-use Rattle.records.specs.declared.pair.Pair.{Pair}
-use Rattle.records.specs.declared.pair.Mark.{Mark}
 use Rattle.image_half.specs.Layout.{InEntries}
-use Rattle.image_half.specs.Image.{IsEntry, entry_bytes}
+use Rattle.image_half.specs.Image.{entry_bytes}
+use Rattle.image_half.specs.Steps.{IsEntryPlace}
 use Rattle.image_half.proofs.write.write_entries.Given as goal
 
 abbrev pub invariant-loop-k : goal.invariant-loop-k
@@ -13,7 +12,7 @@ invariant-loop-k g l =
     let h = g.D.Device.history in
     let old = h l.initial.device in
     record {
-      written : (i : ℕ) (e : Pair × Mark) → i < 16 * l.k → slice_get l.entries i ≡ Some e → IsEntry l.fn.geometry (entry_bytes l.fn.geometry (h l.device).disk.content l.fn.first (l.fn.start + i)) e;
+      placed : (i : ℕ) → i < 16 * l.k → IsEntryPlace (entry_bytes l.fn.geometry (h l.device).disk.content l.fn.first (l.fn.start + i)) (slice_get l.entries i);
       outside : SameOutside (InEntries l.fn.geometry l.fn.first l.fn.start (length l.entries)) old.disk.content (h l.device).disk.content;
       within : RunsWithin (λ n. InEntries l.fn.geometry l.fn.first l.fn.start (length l.entries) n ⊎ (old.disk.unsynced n ≡ true)) old.disk.content old (h l.device);
       failures : g.D.Device.failures l.device ≡ g.D.Device.failures l.initial.device;
