@@ -143,6 +143,9 @@ module _ {D M : Type 0} (old mid new : Parts D M) (scanned : ℕ) (so_far : HasB
     pub all_built : AreBuilt (so_far.replies ++ r ∷ []) old new
     all_built = one_more_built so_far.replies r old mid new so_far.each (record { reply = told; reply_is = is; serves = serves; rest = rest })
 
+    pub comes_to : HasCome (core_of old) → HasCome (core_of new)
+    comes_to come = (comes_on (so_far.replies ++ r ∷ []) old new all_built come).come
+
     ends_with : EndsWith r (so_far.replies ++ r ∷ [])
     ends_with = record { before = so_far.replies; all = refl; underway = so_far.underway }
 

@@ -9,7 +9,7 @@ use Rattle.store_reader.specs.Contents.{log_area}
 use Rattle.sector_device.specs.Disk.{Image}
 use Rattle.sector_device.specs.History.{History, LeavesOnly}
 use Rattle.sector_device.proofs.Moments.{weaker}
-use Rattle.gate_log.specs.Area.{Area}
+use Rattle.gate_log.specs.Area.{Area, Log}
 use Rattle.core_contracts.specs.Events as core
 use Rattle.core_contracts.specs.Served.{HasServed}
 use Rattle.nsf_core.specs.Outbox.{HandsOn}
@@ -20,7 +20,7 @@ use Rattle.first.specs.declared.event.Reply.{Reply}
 use Rattle.first.specs.declared.parts.Parts.{Parts}
 use Rattle.first.specs.declared.writer.Writer.{Writer}
 use Rattle.first.specs.History.{IsOfKind, acknowledged, core_calls}
-use Rattle.first.specs.Writer.{HoldsRecords, LeftBy, StandsFor, FillsGroup, IsWriter}
+use Rattle.first.specs.Writer.{HoldsRecords, LeftBy, StandsFor, FillsGroup, IsWriter, OpensOne}
 use Rattle.first.specs.Store.{Past, acknowledged_by, and_then, over, Survives, IsAt, ServesOn}
 use Rattle.first.specs.Parts.{unwritten}
 use Rattle.first.specs.Lawful.{Writes}
@@ -29,6 +29,10 @@ use Rattle.gate_log.specs.declared.group.TheConstants.{GROUP_MAX}
 use Rattle.std.proofs.lemmas.Bool.{cases_lt}
 use Rattle.first.proofs.Stories.{survives, at_next}
 use Rattle.first.proofs.Told.{pairs_last}
+
+-- where nothing was written no slot is open that was not
+pub no_slot : (old new : Log) → new ≡ old → OpensOne 0 old new
+no_slot old new same = record { one = λ some. absurd (omega (arith, some)); none = λ _. same }
 
 left_handed : (area : Area) (frame : Image) (handed more : List RecordValue) (n : ℕ) (image : Image) → LeftBy area frame handed n image → LeftBy area frame (handed ++ more) n image
 left_handed area frame handed more n image left = record {
@@ -240,11 +244,12 @@ module _ {D M : Type 0} (history : D → History) (old : Parts D M) (new_core : 
     waiting : new.writer.waiting.items ≡ drop count mid.waiting.items
     waiting = after.waits ∙ ap (λ n. drop n (handed_now past is)) synced ∙ sym (ap (drop count) in_hand.waits ∙ drop-drop count mid.synced (handed_now past is) ∙ ap (λ n. drop n (handed_now past is)) (omega arith))
 
-    pub writes : Writes failures old new count
-    writes = record {
+    pub writes : OpensOne count mid.log new.writer.log → Writes failures old new count
+    writes slots = record {
       within = omega (arith, enough, unwritten_size);
       horizon = omega (arith, base, synced, ap (λ w. w.base) same, ap (λ w. w.synced) same);
       left = ap (λ (o : List RecordValue). new.writer.waiting.items ++ o) outbox_is ∙ ap (λ (o : List RecordValue). o ++ new_core.outbox) waiting ∙ sym (ap (drop count) was ∙ drop-append-le count mid.waiting.items new_core.outbox enough);
+      slots = subst (λ (l : Log). OpensOne count l new.writer.log) (ap (λ w. w.log) same) slots;
       core = core_is ∙ hands.others ∙ ap (λ (o : List RecordValue). record (value_of old.core) { outbox = o }) (sym outbox_is);
       mode = mode;
       later = omega (arith, rises, ap (λ w. failures w.device) same);

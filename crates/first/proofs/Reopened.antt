@@ -244,4 +244,14 @@ module _ {D M : Type 0} (history : D → History) (before : D) (engine : Parts D
       device = device;
       synced = synced;
       begins = begins;
+      come = λ opens. record {
+        opening = over is.geometry is.given;
+        opens = opens;
+        made = [];
+        pairs = [];
+        state = opened (over is.geometry is.given);
+        standing = standing_at is.given.last;
+        served = served_nothing (over is.geometry is.given) is.shown.standing.within;
+        shown = is.shown;
+      };
     }

@@ -1,5 +1,5 @@
 -- What a flush leaves of the records that were handed in.
-use Rattle.std.proofs.Common.{◌≡◌, ◌≢◌, ℕ, ◌+◌, ◌<◌, ◌≤◌, false, List, [], ◌∷◌, ◌++◌, length, take, drop, sym, ap, subst, ◌∙◌, ⊎_elim, arith, length-drop, append-nil}
+use Rattle.std.proofs.Common.{◌≡◌, ◌≢◌, ℕ, ◌+◌, ◌<◌, ◌≤◌, false, List, [], ◌∷◌, ◌++◌, length, take, drop, sym, ap, subst, ◌∙◌, ⊎_elim, arith, length-append, length-drop, append-nil}
 use Rattle.std.proofs.lemmas.Bool.{false≢true}
 use Rattle.std.proofs.lemmas.List.{drop-drop}
 use Rattle.std.proofs.Math.Seq.{take-add}
@@ -12,6 +12,12 @@ use Rattle.sector_device.proofs.Sectors.{crash_synced, same_outside_wider, same_
 use Rattle.gate_log.specs.Area.{Area, Log, InArea, InSlot, IsAreaInside, HoldsGroups, Stands, IsAppended, records_of}
 use Rattle.first.specs.declared.writer.Writer.{Writer}
 use Rattle.first.specs.Writer.{LeftBy, StandsFor, IsWriter}
+
+-- the log with one group more
+pub one_more : (old new : Log) (image later : Image) (groups : List (List RecordValue)) (group : List RecordValue) → Stands old image groups → Stands new later (groups ++ group ∷ []) → new.area ≡ old.area → new ≡ record old { open_slots = old.open_slots + 1 }
+one_more old new image later groups group before after same =
+    let opened : new.open_slots ≡ old.open_slots + 1 = omega (arith, after.counted, before.counted, length-append groups (group ∷ [])) in
+    λ i. record { area = same i; open_slots = opened i }
 
 -- the records of one group more
 records_of-push : (groups : List (List RecordValue)) (group : List RecordValue) → records_of (groups ++ group ∷ []) ≡ records_of groups ++ group

@@ -10,7 +10,7 @@ use Rattle.first.specs.declared.event.Reply.{Reply}
 use Rattle.first.specs.declared.event.Reply.TheVariants as reply
 use Rattle.first.specs.declared.parts.Parts.{Parts}
 use Rattle.first.specs.History.{answered, asked}
-use Rattle.first.specs.Writer.{FillsGroup}
+use Rattle.first.specs.Writer.{FillsGroup, OpensOne}
 use Rattle.first.specs.Parts.{core_of, device_of, log_of, unwritten, horizon_of, has_failed, is_read_only}
 
 -- whether a request only reads
@@ -31,12 +31,13 @@ is_read (event.Get rid) = true
 is_read (event.Find key) = true
 is_read event.Life = true
 
--- So many of the records that were not in the log, the first of them, now are, and synced; the core keeps the rest of its
--- state, and the device's count of failures doesn't fall.
+-- So many of the records that were not in the log, the first of them, now are, and synced, in one slot of the log; the core keeps
+-- the rest of its state, and the device's count of failures doesn't fall.
 pub record Writes {D M : Type 0} (failures : D → ℕ) (old new : Parts D M) (n : ℕ) : Type 0 where
   pub within : n ≤ length (unwritten old)
   pub horizon : horizon_of new ≡ horizon_of old + n
   pub left : unwritten new ≡ drop n (unwritten old)
+  pub slots : OpensOne n (log_of old) (log_of new)
   pub core : core_of new ≡ record (core_of old) { outbox = (core_of new).outbox }
   pub mode : is_read_only new ≡ is_read_only old
   pub later : failures (device_of old) ≤ failures (device_of new)
@@ -50,7 +51,7 @@ pub record WritesNothing {D M : Type 0} (failures : D → ℕ) (old new : Parts 
 -- what is answered to a flush
 abbrev pub IsFlushAnswer : {D M : Type 0} → (D → ℕ) → Reply M → Parts D M → Parts D M → Type 0
 -- A flush that succeeds writes as many of the records that are not in the log as fill one group, one at least where there is one,
--- and leaves the device alone where there is none; no call of the device failed.
+-- in one slot of the log, and leaves the device alone where there is none; no call of the device failed.
 IsFlushAnswer failures (reply.Horizon n) old new = (has_failed old ≡ false) × (has_failed new ≡ false) × (n ≡ horizon_of new) × (unwritten old ≢ [] → horizon_of old < n)
     × ((written : ℕ) × Writes failures old new written × FillsGroup (unwritten old) written)
     × (unwritten old ≡ [] → WritesNothing failures old new) × (failures (device_of new) ≡ failures (device_of old))

@@ -1,7 +1,8 @@
 -- What a restart makes of what a device holds.
-use Rattle.std.specs.Prelude.{◌≡◌, ◌⊎◌, ◌↔◌, ℕ, ◌≤◌, Bool, IsTrue, false, List, [], length}
+use Rattle.std.specs.Prelude.{◌≡◌, ◌≢◌, ◌⊎◌, ◌↔◌, ℕ, ◌≤◌, Bool, IsTrue, false, List, [], length}
 use Rattle.records.specs.GeometryValue.{GeometryValue}
 use Rattle.records.specs.declared.error.Error.{Error}
+use Rattle.records.specs.declared.error.Error.TheVariants.{DeviceFailed}
 use Rattle.model.specs.Given.{Given, IsBeginning, nothing}
 use Rattle.sector_device.specs.Disk.{Image, IsSynced, IsCrashImage}
 use Rattle.sector_device.specs.History.{History, LeavesOnly}
@@ -38,7 +39,8 @@ abbrev pub opening : {M : Type 0} → GeometryValue → Past M
 opening geometry = record { geometry = geometry; given = nothing; events = []; replies = [] }
 
 -- The engine holds what its device gave, and no transaction. It serves every request where the store held nothing, and else
--- only reads.
+-- only reads. Where what was given is something that a core may begin with, the core has come to where it is, so that a build that
+-- goes on to its end leaves the index whole.
 pub record IsOpened {D M : Type 0} (history : D → History) (before : D) (engine : Parts D M) : Type 0 where
   pub geometry : GeometryValue
   pub given : Given
@@ -50,11 +52,14 @@ pub record IsOpened {D M : Type 0} (history : D → History) (before : D) (engin
   pub device : OnlySyncs history before (device_of engine)
   pub synced : IsSynced (history (device_of engine)).disk
   pub begins : IsUntouched (history before).disk.content geometry → IsAt history (opening geometry) engine
+  pub come : CanOpen (over geometry given) → HasCome (core_of engine)
 
--- Why nothing was opened: there was no memory, the device failed in the call, or it gives nothing.
+-- Why nothing was opened: there was no memory, the device failed in the call, or it gives nothing. With any answer but
+-- `DeviceFailed` no call of the device failed.
 pub record IsNotOpened {D : Type 0} (history : D → History) (failures : D → ℕ) (before after : D) (e : Error) : Type 0 where
   pub device : OnlySyncs history before after
   pub why : Refuses (failures before) (failures after) e ⊎ IsUnreadable (history before).disk.content e
+  pub told : e ≢ DeviceFailed → failures after ≡ failures before
 
 -- The engine holds a beginning of the run's history, which has every item up to the floor and no record past the last that
 -- the run made, and no transaction; and what it holds is something that a core may begin with: as far as the index is built, it shows the pair of each row, and no other. The

@@ -5,7 +5,7 @@ use Rattle.sector_device.specs.Disk.{Image, IsCrashImage, IsSynced, SameOutside}
 use Rattle.sector_device.specs.History.{History, Rises}
 use Rattle.records.specs.declared.error.Error.{Error}
 use Rattle.records.specs.declared.error.Error.TheVariants.{NoMemory, DeviceFailed}
-use Rattle.gate_log.specs.Area.{Area, InArea, IsAreaInside, HoldsGroups, Stands, records_of}
+use Rattle.gate_log.specs.Area.{Area, Log, InArea, IsAreaInside, HoldsGroups, Stands, records_of}
 use Rattle.gate_log.specs.Group.{FitsGroup, spellings}
 use Rattle.gate_log.specs.declared.group.TheConstants.{GROUP_MAX}
 use Rattle.first.specs.declared.writer.Writer.{Writer}
@@ -50,11 +50,17 @@ pub record FillsGroup (records : List RecordValue) (n : ℕ) : Type 0 where
   pub fits : 0 < n → FitsGroup (take n records)
   pub full : n < length records → GROUP_MAX < length (spellings (take (n + 1) records))
 
--- Of the records that waited so many were written as fill a group, and where none did the device was left alone; and where more
--- come behind those, one of them at least still waits.
+-- After so many records were written one slot more of the log is open, and where none was written the log is as it was.
+pub record OpensOne (n : ℕ) (old new : Log) : Type 0 where
+  pub one : 0 < n → new ≡ record old { open_slots = old.open_slots + 1 }
+  pub none : n ≡ 0 → new ≡ old
+
+-- Of the records that waited so many were written as fill a group, in one slot of the log, and where none did the device was left
+-- alone; and where more come behind those, one of them at least still waits.
 pub record WritesGroup {D M : Type 0} (more : Bool) (old new : Writer D M) : Type 0 where
   pub some : old.waiting.items ≢ [] → old.synced < new.synced
   pub full : FillsGroup old.waiting.items (new.synced - old.synced)
+  pub slots : OpensOne (new.synced - old.synced) old.log new.log
   pub rest : more ≡ true → new.synced - old.synced < length old.waiting.items
   pub idle : old.waiting.items ≡ [] → new ≡ old
 

@@ -11,7 +11,7 @@ use sector_device::Device;
 use std::alloc::Allocator;
 
 impl<D: Device, A: Allocator + Copy> Parts<D, A> {
-    ghost use Rattle.first.specs.Building.{IsBuiltToEnd, BuildsWhole};
+    ghost use Rattle.first.specs.Building.{IsBuiltToEnd, BuildsWhole, HasCome};
     ghost use Rattle.first.specs.Parts.{core_of};
     ghost use Rattle.first.specs.Store.{CanRun};
 
@@ -20,6 +20,7 @@ impl<D: Device, A: Allocator + Copy> Parts<D, A> {
         requires { CanRun D.history self.old }
         ensures built { IsBuiltToEnd D.history result self.old self.new }
         ensures whole { OnOk result (BuildsWhole (core_of self.old) (core_of self.new)) }
+        ensures come { HasCome (core_of self.old) → HasCome (core_of self.new) }
         ensures can_run { CanRun D.history self.new }
     {
         if let Life::Complete = self.core.life() {

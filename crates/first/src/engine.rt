@@ -1,5 +1,5 @@
 //! The engine: a store that serves requests, whatever was asked of it before.
-ghost use Rattle.std.specs.Prelude.{◌≡◌, OnErr, OnOk, IfOk, IfErr};
+ghost use Rattle.std.specs.Prelude.{◌≡◌, ◌≢◌, [], OnErr, OnOk, IfOk, IfErr};
 
 use crate::parts::Parts;
 use crate::{Event, Reply};
@@ -41,7 +41,7 @@ impl<D: Device, A: Allocator + Copy> Engine<D, A> {
     ghost use Rattle.first.specs.Lawful.{IsLawful, AreLawful};
     ghost use Rattle.first.specs.Store.{ServesOn, RunsOn, RunsLawfully, KeepsRun};
     ghost use Rattle.first.specs.Reopening.{KeepsWholeRun, SurvivesAnyCrash};
-    ghost use Rattle.first.specs.Building.{IsBuiltToEnd, BuildsWhole};
+    ghost use Rattle.first.specs.Building.{IsBuiltToEnd, BuildsWhole, HasCome};
 
     /// Serves one request. A crash at any moment of the call leaves a store that `restart` takes back to what was
     /// told by a prefix of the requests, and nothing that an earlier reply has told to be safe is lost (`serves`).
@@ -53,8 +53,8 @@ impl<D: Device, A: Allocator + Copy> Engine<D, A> {
     }
 
     /// Serves requests in order, one reply for each. The one error is
-    /// `NoMemory`, where there was no room for the replies, and then nothing
-    /// was served.
+    /// `NoMemory`, where there is a request and was no room for the replies,
+    /// and then nothing was served.
     ///
     /// A crash at any moment, between the replies or within a request, leaves a store that `restart` takes back to what
     /// was told by a prefix of the requests, and nothing that a reply has told to be safe is lost (`ran`).
@@ -66,6 +66,7 @@ impl<D: Device, A: Allocator + Copy> Engine<D, A> {
         ensures lawful { IfOk result (λ replies. AreLawful D.failures events.now replies.items self.old self.new) }
         ensures refused { OnErr result (self.new ≡ self.old) }
         ensures no_memory { IfErr result (λ e. e ≡ Error.NoMemory) }
+        ensures some { OnErr result (events.now ≢ []) }
     {
         let mut replies = Vec::with_capacity(self.parts.alloc, events.len())?;
         for event in events {
@@ -85,10 +86,14 @@ impl<D: Device, A: Allocator + Copy> Engine<D, A> {
     /// number is left, and `NoMemory`.
     ///
     /// With no transaction active and the answer `Ok`, the rows are as they were, and the visible entries are just their
-    /// pairs (`whole`). An engine that only reads builds too, in memory alone: nothing of that is ever written.
+    /// pairs (`whole`). This is promised of an engine that a run left, and of one that was opened over what a run left; of
+    /// one that was opened over any other store it is where the index that the store gave had, as far as it was built, a
+    /// visible entry for the pair of each row, and no other. It stays so whatever the answer is (`come`), so that a build
+    /// may be gone on with. An engine that only reads builds too, in memory alone: nothing of that is ever written.
     pub fn build_to_end(&mut self) -> Result<Ticket, Error>
         ensures built { IsBuiltToEnd D.history result self.old self.new }
         ensures whole { OnOk result (BuildsWhole (core_of self.old) (core_of self.new)) }
+        ensures come { HasCome (core_of self.old) → HasCome (core_of self.new) }
     {
         self.parts.build_to_end()
     }

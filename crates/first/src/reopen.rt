@@ -1,10 +1,10 @@
 //! A store is opened, after `format` or after a crash.
-ghost use Rattle.std.specs.Prelude.{◌≡◌, ◌⊎◌, List, OnOk, IfOk, IfErr};
+ghost use Rattle.std.specs.Prelude.{◌≡◌, ◌≢◌, ◌⊎◌, List, OnOk, IfOk, IfErr};
 ghost use Rattle.sector_device.specs.Disk.{IsSynced};
 ghost use Rattle.records.specs.GeometryValue.{GeometryValue};
 ghost use Rattle.model.specs.Given.{Given};
 ghost use Rattle.gate_log.specs.Area.{IsAreaInside, Refuses};
-ghost use Rattle.store_reader.specs.Contents.{Gives, IsOfStore, IsUnreadable};
+ghost use Rattle.store_reader.specs.Contents.{Gives, HasHeader, IsUnreadable};
 ghost use Rattle.nsf_core.specs.Value.{value_of};
 ghost use Rattle.first.specs.Parts.{device_of};
 ghost use Rattle.first.specs.Reopening.{IsCoreOf, OnlySyncs, IsOpened, IsNotOpened, RecoversAnyRun, RefusesNoRun};
@@ -25,8 +25,8 @@ use store_reader::read_store;
 ///
 /// `DeviceTooSmall`, `NotFormatted` and `Damaged` where the device holds no store, or one that was harmed; none of them
 /// comes after a crash of a device that was formatted and then written by this engine alone (`recovers`). `NoMemory` comes
-/// only where the device holds a store's superblock and has room for it (`memory`), and `DeviceFailed` where the device failed
-/// in the call.
+/// only where the device holds a store, whose current half begins with a header (`memory`), and `DeviceFailed` where the device
+/// failed in the call, and only then.
 pub fn restart<D: Device, A: Allocator + Copy>(
     alloc: A,
     mut device: D,
@@ -35,7 +35,7 @@ pub fn restart<D: Device, A: Allocator + Copy>(
     ensures refused { IfErr result (λ r. IsNotOpened D.history D.failures device r.1 r.0) }
     ensures recovers { IfOk result (λ engine. RecoversAnyRun D.history device engine) }
     ensures readable { IfErr result (λ r. RefusesNoRun A D.history D.failures device r.1 r.0) }
-    ensures memory { IfErr result (λ r. r.0 ≡ Error.NoMemory → IsOfStore (D.history device).disk.content) }
+    ensures memory { IfErr result (λ r. r.0 ≡ Error.NoMemory → HasHeader (D.history device).disk.content) }
     ensures quiet { IfOk result (λ engine. D.failures (device_of engine) ≡ D.failures device) }
 {
     match open_core(alloc, &mut device) {
@@ -64,10 +64,11 @@ fn open_core<D: Device, A: Allocator + Copy>(
     ensures synced { OnOk result (IsSynced (D.history device.new).disk) }
     ensures only { OnlySyncs D.history device.old device.new }
     ensures quiet { OnOk result (D.failures device.new ≡ D.failures device.old) }
+    ensures told { IfErr result (λ e. e ≢ Error.DeviceFailed → D.failures device.new ≡ D.failures device.old) }
     ensures refused { IfErr result (λ e. Refuses (D.failures device.old) (D.failures device.new) e ⊎ IsUnreadable (D.history device.old).disk.content e) }
     ensures accepted { (geometry : GeometryValue) (given : Given) → Gives (D.history device.old).disk.content geometry given
         → IfErr result (Refuses (D.failures device.old) (D.failures device.new)) }
-    ensures memory { IfErr result (λ e. e ≡ Error.NoMemory → IsOfStore (D.history device.old).disk.content) }
+    ensures memory { IfErr result (λ e. e ≡ Error.NoMemory → HasHeader (D.history device.old).disk.content) }
 {
     let Ok(()) = device.sync() else {
         return Err(Error::DeviceFailed);

@@ -77,6 +77,7 @@ impl<D: Device, A: Allocator + Copy> Writer<D, A> {
         ensures grows { self.old.synced ≤ self.new.synced }
         ensures err { IfErr result (λ e. IsNotFlushed D.failures more e self.old self.new) }
         ensures nothing { OnErr result (self.new.synced ≡ self.old.synced) }
+        ensures log { OnErr result (self.new.log ≡ self.old.log) }
         ensures quiet { OnOk result (D.failures self.new.device ≡ D.failures self.old.device) }
         ensures later { D.failures self.old.device ≤ D.failures self.new.device }
     {

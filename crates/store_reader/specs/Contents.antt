@@ -11,7 +11,7 @@ use Rattle.model.specs.Following.{AreFollowing, IsFirstUnfit}
 use Rattle.model.specs.Given.{Given, recovered}
 use Rattle.gate_log.specs.Area.{Area, Log, HoldsGroups, Stands, records_of, IsGateOf, IsFirstDamagedSlot}
 use Rattle.image_half.specs.Image.{no_cells}
-use Rattle.image_half.specs.Damage.{IsFirstDamaged}
+use Rattle.image_half.specs.Damage.{IsSound, TheHeader, IsFirstDamaged}
 use Rattle.flip_image.specs.declared.half.Half.{Half}
 use Rattle.flip_image.specs.Layout.{header_sector, log_first}
 use Rattle.flip_image.specs.Store.{IsStore, HoldsImage, IsRefused}
@@ -58,9 +58,9 @@ IsUntouched image geometry = (half : Half) × HoldsStore image geometry half 0 n
 
 -- ---- why an image gives nothing
 
--- the image is of a store: its superblock and its flip sector say how large it is, and which half is current
-abbrev pub IsOfStore : Image → Type 0
-IsOfStore image = (geometry : GeometryValue) × (half : Half) × IsStore geometry half image
+-- the image is of a store, whose current half begins with a header
+abbrev pub HasHeader : Image → Type 0
+HasHeader image = (geometry : GeometryValue) × (half : Half) × IsStore geometry half image × IsSound geometry (header_sector geometry half) image TheHeader
 
 -- the gate of the group of the first record that can't follow the ones before it, over these cells
 pub record IsMisplacedAt (geometry : GeometryValue) (half : Half) (image : Image) (base : ℕ) (cells : Cells) (sector : ℕ) : Type 0 where

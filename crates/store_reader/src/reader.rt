@@ -1,5 +1,5 @@
 //! A store is read.
-ghost use Rattle.std.specs.Prelude.{◌≡◌, ◌⊎◌, ◌↔◌, ◌<◌, ◌≤◌, ℕ, List, [], length, IsTrue, OnOk, IfOk, IfErr};
+ghost use Rattle.std.specs.Prelude.{◌≡◌, ◌≢◌, ◌⊎◌, ◌↔◌, ◌<◌, ◌≤◌, ℕ, List, [], length, IsTrue, OnOk, IfOk, IfErr};
 ghost use Rattle.sector_device.specs.History.{OnlyReads};
 ghost use Rattle.records.specs.RecordValue.{RecordValue};
 ghost use Rattle.records.specs.GeometryValue.{GeometryValue};
@@ -8,10 +8,10 @@ ghost use Rattle.model.specs.Given.{Given};
 ghost use Rattle.redo.specs.Restored.{given_in};
 ghost use Rattle.gate_log.specs.Area.{IsAreaInside, Stands, records_of, IsGateOf, Refuses};
 ghost use Rattle.image_half.specs.Image.{no_cells};
-ghost use Rattle.image_half.specs.Damage.{IsUnread};
+ghost use Rattle.image_half.specs.Damage.{IsSound, TheHeader, IsUnread};
 ghost use Rattle.flip_image.specs.Layout.{header_sector};
 ghost use Rattle.flip_image.specs.Store.{IsStore, HoldsImage};
-ghost use Rattle.store_reader.specs.Contents.{Gives, IsFound, IsOfStore, IsUnreadable, IsUntouched};
+ghost use Rattle.store_reader.specs.Contents.{Gives, HasHeader, IsFound, IsUnreadable, IsUntouched};
 
 use flip_image::Halves;
 use gate_log::LogArea;
@@ -44,6 +44,8 @@ fn read_cells<D: Device, A: Allocator + Copy>(
     ensures refused { IfErr result (IsUnread halves.now.geometry (header_sector halves.now.geometry halves.now.current) (D.history device.old).disk.content (D.failures device.old) (D.failures device.new)) }
     ensures reads { OnlyReads (D.history device.old) (D.history device.new) }
     ensures quiet { OnOk result (D.failures device.new ≡ D.failures device.old) }
+    ensures told { IfErr result (λ e. e ≢ Error.DeviceFailed → D.failures device.new ≡ D.failures device.old) }
+    ensures memory { IfErr result (λ e. e ≡ Error.NoMemory → IsSound halves.now.geometry (header_sector halves.now.geometry halves.now.current) (D.history device.old).disk.content TheHeader) }
     ensures later { D.failures device.old ≤ D.failures device.new }
 {
     let mut image = ImageCells::new(alloc);
@@ -62,9 +64,10 @@ fn open_store<D: Device, A: Allocator + Copy>(
     ensures imaged { IfOk result (λ r. HoldsImage r.0.geometry r.0.current (D.history device.old).disk.content r.1.last r.1.cells) }
     ensures bare { IfOk result (λ r. IsTrue r.2 ↔ (r.1.last ≡ 0) × (r.1.cells ≡ no_cells)) }
     ensures refused { IfErr result (λ e. Refuses (D.failures device.old) (D.failures device.new) e ⊎ IsUnreadable (D.history device.old).disk.content e) }
-    ensures memory { IfErr result (λ e. e ≡ Error.NoMemory → IsOfStore (D.history device.old).disk.content) }
+    ensures memory { IfErr result (λ e. e ≡ Error.NoMemory → HasHeader (D.history device.old).disk.content) }
     ensures reads { OnlyReads (D.history device.old) (D.history device.new) }
     ensures quiet { OnOk result (D.failures device.new ≡ D.failures device.old) }
+    ensures told { IfErr result (λ e. e ≢ Error.DeviceFailed → D.failures device.new ≡ D.failures device.old) }
     ensures later { D.failures device.old ≤ D.failures device.new }
 {
     let halves = Halves::open(device)?;
@@ -91,6 +94,7 @@ fn misplaced<D: Device, A: Allocator + Copy>(
     ensures told { Refuses (D.failures device.old) (D.failures device.new) result
         ⊎ ((sector : ℕ) × (result ≡ Error.Damaged sector) × ((groups : List (List RecordValue)) → Stands log.now (D.history device.old).disk.content groups → IsGateOf log.now.area groups index sector)) }
     ensures reads { OnlyReads (D.history device.old) (D.history device.new) }
+    ensures quiet { result ≢ Error.DeviceFailed → D.failures device.new ≡ D.failures device.old }
     ensures later { D.failures device.old ≤ D.failures device.new }
 {
     match log.gate_of(alloc, device, index) {
@@ -109,8 +113,9 @@ fn misplaced<D: Device, A: Allocator + Copy>(
 /// `Halves::open` answers them; `Damaged` with the first sector of the image that says nothing, as `Halves::read_image`
 /// names it; `Damaged` with the gate of the log's first slot that can't be; `Damaged` with the gate of the group of the
 /// first record that can't follow the ones before it; `Damaged` with the header's sector where there are more entries in the
-/// end than the geometry has places. `DeviceFailed` comes at any of these, and `NoMemory` behind those of `Halves::open` alone:
-/// of a device that holds no store it is never answered (`memory`).
+/// end than the geometry has places. `DeviceFailed` comes at any of these, where the device failed in the call and only then
+/// (`told`). `NoMemory` comes behind those of `Halves::open`, and behind the header of the image: of a device that holds no
+/// store, or a damaged header in its current half, it is never answered (`memory`).
 pub fn read_store<D: Device, A: Allocator + Copy>(
     alloc: A,
     device: &mut D,
@@ -122,9 +127,10 @@ pub fn read_store<D: Device, A: Allocator + Copy>(
     ensures accepted { (geometry : GeometryValue) (given : Given) → Gives (D.history device.old).disk.content geometry given
         → IfErr result (Refuses (D.failures device.old) (D.failures device.new)) }
     ensures refused { IfErr result (λ e. Refuses (D.failures device.old) (D.failures device.new) e ⊎ IsUnreadable (D.history device.old).disk.content e) }
-    ensures memory { IfErr result (λ e. e ≡ Error.NoMemory → IsOfStore (D.history device.old).disk.content) }
+    ensures memory { IfErr result (λ e. e ≡ Error.NoMemory → HasHeader (D.history device.old).disk.content) }
     ensures reads { OnlyReads (D.history device.old) (D.history device.new) }
     ensures quiet { OnOk result (D.failures device.new ≡ D.failures device.old) }
+    ensures told { IfErr result (λ e. e ≢ Error.DeviceFailed → D.failures device.new ≡ D.failures device.old) }
     ensures later { D.failures device.old ≤ D.failures device.new }
 {
     let (halves, mut cells, bare) = open_store(alloc, device)?;

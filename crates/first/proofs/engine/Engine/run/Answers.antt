@@ -1,4 +1,4 @@
-use Rattle.std.proofs.Common.{◌≡◌, length, take, List, [], ◌∷◌, ◌++◌, get_or, refl, sym, ap, subst, arith, length-append, length-take}
+use Rattle.std.proofs.Common.{rules, ◌≡◌, length, take, List, [], ◌∷◌, ◌++◌, get_or, refl, sym, ap, subst, arith, length-append, length-take}
 use Rattle.std.proofs.lemmas.List.{take_more, take_all}
 use Rattle.first.specs.declared.event.Event.{Event}
 use Rattle.first.specs.declared.event.Reply.{Reply}
@@ -55,4 +55,8 @@ returns g c =
       lawful = subst (λ (es : List Event). AreLawful g.D.Device.failures es c.loop-event.replies.items c.args.self.now c.loop-event.self) (take_all c.loop-event.event-index c.args.events.now c.loop-event-test.false) c.loop-event.invariant.lawful;
       refused = tt;
       no_memory = tt;
+      some = tt;
     }
+
+pub returns-in_err-replies-clause-some : goal.returns-in_err-replies-clause-some
+returns-in_err-replies-clause-some g c = search rules

@@ -8,7 +8,7 @@ use Rattle.first.specs.declared.parts.Parts.{Parts}
 use Rattle.first.specs.declared.event.Reply.TheVariants.{Built, Refused}
 use Rattle.nsf_core.specs.declared.reply.BuildReply.TheVariants.{Done}
 use Rattle.first.specs.Parts.{core_of}
-use Rattle.first.proofs.Ended.{all_built, can_run_built, complete_ends, complete_whole, done_ends, done_whole, is_done, last_within, none_built, refused_ends, stepped}
+use Rattle.first.proofs.Ended.{all_built, can_run_built, comes_to, complete_ends, complete_whole, done_ends, done_whole, is_done, last_within, none_built, refused_ends, stepped}
 use Rattle.first.proofs.parts.Parts.build_to_end.Goals as goal
 
 pub last_ticket-requires : goal.last_ticket-requires
@@ -86,3 +86,17 @@ returns-in-Some-clause-can_run g c =
     let mid = c.steps.self in
     let new : Parts g.row.D.Denot g.row.A.Denot = record { core = c.build_step.new.self; writer = c.steps.self.writer; alloc = c.steps.self.alloc; read_only = c.steps.self.read_only } in
     can_run_built history failures old _ new (all_built old mid new c.steps.scanned c.steps.invariant refl (Built (Done c.in-Some.ticket)) _ refl (subst (λ b. Serves (core_of mid) Build (built b) (core_of new)) (is_done c.in_ok-reply.reply c.in-Some.ticket (sym c.end_of.ensures ∙ c.in-Some.is)) c.in_ok-reply.ensures)) c.requires
+
+pub returns-in_err-reply-clause-come : goal.returns-in_err-reply-clause-come
+returns-in_err-reply-clause-come g c =
+    let old = c.args.self.now in
+    let mid = c.steps.self in
+    let new : Parts g.row.D.Denot g.row.A.Denot = record { core = c.build_step.new.self; writer = c.steps.self.writer; alloc = c.steps.self.alloc; read_only = c.steps.self.read_only } in
+    comes_to old mid new c.steps.scanned c.steps.invariant refl (Refused _) _ refl c.in_err-reply.ensures
+
+pub returns-in-Some-clause-come : goal.returns-in-Some-clause-come
+returns-in-Some-clause-come g c =
+    let old = c.args.self.now in
+    let mid = c.steps.self in
+    let new : Parts g.row.D.Denot g.row.A.Denot = record { core = c.build_step.new.self; writer = c.steps.self.writer; alloc = c.steps.self.alloc; read_only = c.steps.self.read_only } in
+    comes_to old mid new c.steps.scanned c.steps.invariant refl (Built (Done c.in-Some.ticket)) _ refl (subst (λ b. Serves (core_of mid) Build (built b) (core_of new)) (is_done c.in_ok-reply.reply c.in-Some.ticket (sym c.end_of.ensures ∙ c.in-Some.is)) c.in_ok-reply.ensures)

@@ -7,7 +7,7 @@ use Rattle.first.specs.declared.writer.Writer.{Writer}
 use Rattle.std.proofs.lemmas.Bool.{false≢true, cases_lt}
 use Rattle.std.proofs.lemmas.List.{nil_from_length}
 use Rattle.first.specs.Writer.{LeftBy, FillsGroup}
-use Rattle.first.proofs.Writing.{stood, leaves, appended_one, failed_one}
+use Rattle.first.proofs.Writing.{stood, leaves, appended_one, failed_one, one_more}
 use Rattle.first.proofs.writer.Writer.flush_group.Goals as goal
 use Rattle.first.proofs.writer.Writer.flush_group.Goals.{else-more-via-then-more+else-count-len, else-more-via-else-more}
 
@@ -53,9 +53,15 @@ returns-in-Ok-Done-clause-flushed g c =
     let some : 0 < length c.deref.result.now = omega (arith, ⊎_elim (λ s. s) (λ none. absurd (c.if-count-eq0.false (omega (arith, none, c.group_len-count.ensures.within)))) (cases_lt 0 (length c.deref.result.now))) in
     let filled : FillsGroup c.deref.result.now count = record { fits = λ _. c.group_len-count.ensures.fits some; full = c.group_len-count.ensures.most } in
     let most : FillsGroup old.waiting.items count = subst (λ (rs : List RecordValue). FillsGroup rs count) c.deref.ensures.value filled in
+    let before = stood g.D.Device.history c.requires.0 c.requires.1 c.requires.2 old c.requires.3 c.if-self.false in
+    let done : c.append.result ≡ Ok Done = cc (c.in-Ok-Done.is, c.in-Ok-Done.field-0-is) in
     record {
       some = λ waits. omega arith;
       full = subst (FillsGroup old.waiting.items) (sym is_count) most;
+      slots = record {
+        one = λ _. one_more old.log c.append.new.self _ _ before.groups _ before.stands (c.append.ensures.done done before.groups before.stands) c.append.ensures.area;
+        none = λ zero. absurd (c.if-count-eq0.false (omega (arith, zero)));
+      };
       rest = λ yes. elim c.else-more.branch [
         | else-more-via-then-more+else-count-len w ↦ omega (arith, w.if-count-len.false, w.len.ensures, old.waiting.ok.0, c.group_len-count.ensures.within, length_is)
         | else-more-via-else-more w ↦ absurd (false≢true (sym w.if-more.false ∙ yes))
@@ -72,6 +78,7 @@ returns-then-count-eq0-clause-flushed g c =
     record {
       some = λ waits. absurd (waits (nil_from_length c.args.self.now.waiting.items (omega (arith, ap length c.deref.ensures.value, none))));
       full = record { fits = λ some. absurd (omega (arith, some)); full = λ below. absurd (omega (arith, below, ap length c.deref.ensures.value, none)) };
+      slots = record { one = λ some. absurd (omega (arith, some)); none = λ _. refl };
       rest = λ yes. elim c.else-more.branch [
         | else-more-via-then-more+else-count-len w ↦ absurd (omega (arith, w.if-count-len.false, w.len.ensures, c.args.self.now.waiting.ok.0, ap length c.deref.ensures.value, none, c.if-count-eq0.true))
         | else-more-via-else-more w ↦ absurd (false≢true (sym w.if-more.false ∙ yes))
