@@ -22,11 +22,10 @@ use Rattle.nsf_core.specs.Moves.{IsReadyOrNone, txn_shown}
 use Rattle.nsf_core.specs.Undoing.{undone_reply}
 use Rattle.nsf_core.specs.declared.parts.Ticket.{Ticket}
 use Rattle.nsf_core.specs.declared.reply.Undone.{Undone}
-use Rattle.nsf_core.specs.declared.reply.Undone.TheVariants.{Empty, Step}
 use Rattle.registry.specs.Halves.{HalfValue, IsBook, IsNew, shown}
-use Rattle.sessions.specs.Steps.{begun, changed, committed, ended, IsServed, rolling_back, served, with_creation}
+use Rattle.sessions.specs.Steps.{begun, changed, committed, ended, rolling_back, with_creation}
 use Rattle.sessions.specs.Values.{empty_session, is_active, is_ready, SessionValue}
-use Rattle.register.proofs.Laws.{asked, begin_agreed, commit_agreed, commit_counted, commit_numbered, commits_begin, commits_more, commits_stay, create_agreed, delete_agreed, end_agreed, insert_agreed, IsAnswer, opened_agreed, others_agreed, others_counted, pushed_agreed, ready_seen, refused_agreed, undo_agreed, update_agreed}
+use Rattle.register.proofs.Laws.{begin_agreed, commit_agreed, commit_counted, commit_numbered, commits_begin, commits_more, commits_stay, create_agreed, delete_agreed, end_agreed, insert_agreed, opened_agreed, others_agreed, others_counted, pushed_agreed, ready_seen, refused_agreed, undo_agreed, update_agreed}
 use Rattle.register.specs.Agreement.{IsOfNoSeat, IsRegister}
 use Rattle.register.specs.Register.{AreAllCommits, AreEmpty, IsNoCommit}
 use Rattle.locked_core.proofs.Book.{set_itself, some_is}
@@ -35,21 +34,21 @@ use Rattle.locked_core.specs.Names.{IsShared}
 
 module _ (o : Opened) (core new : CoreValue) (pushed : List RecordValue) (book : List SessionValue) (k : ℕ) (p q : SessionValue) (there : slice_get book k ≡ Some p) (shared : IsShared o core pushed book) where
   -- a step that is no commit
-  stepped : (e : Event) (reply : Reply) → IsNoCommit e → IsServed core e reply new → q.commits ≡ p.commits → IsRegister o pushed new (slice_set book k q) → IsShared o new pushed (slice_set book k q)
+  stepped : (e : Event) (reply : Reply) → IsNoCommit e → Serves core e reply new → q.commits ≡ p.commits → IsRegister o pushed new (slice_set book k q) → IsShared o new pushed (slice_set book k q)
   stepped e reply other is same register =
       let counted : new.commits ≡ core.commits = others_counted o pushed core shared.register.kept e reply new other is in
       record { opens = shared.opens; register = register; commits = subst (AreAllCommits (slice_set book k q)) (sym counted) (commits_stay book core.commits shared.commits k p q there same) }
 
   -- a call that was refused leaves the session as it was
-  refused : (e : Event) (error : Error) → IsNoCommit e → IsServed core e (Refused error) new → q ≡ p → IsShared o new pushed (slice_set book k q)
+  refused : (e : Event) (error : Error) → IsNoCommit e → Serves core e (Refused error) new → q ≡ p → IsShared o new pushed (slice_set book k q)
   refused e error other is same =
       stepped e (Refused error) other is (ap (λ (x : SessionValue). x.commits) same)
       (subst (IsRegister o pushed new) (sym (ap (slice_set book k) same ∙ set_itself book k p there)) (refused_agreed o shared.opens pushed core book shared.register e error new is))
 
   -- a call for a transaction: one that is not the seat's is unknown, and the core is as it was
   module _ {T : Type 0} (txn : ℕ) (e : Event) (other : IsNoCommit e) (f : T → Reply) (g : T → SessionValue) (same : (x : T) → (g x).commits ≡ p.commits)
-      (kept : is_active p txn ≡ true → (x : T) → IsServed core e (f x) new → IsRegister o pushed new (slice_set book k (g x))) where
-    own_kept : (result : Result T Error) → is_active p txn ≡ true → IsServed core e (reply_by f result) new → IfOk result (λ x. q ≡ g x) → OnErr result (q ≡ p) → IsShared o new pushed (slice_set book k q)
+      (kept : is_active p txn ≡ true → (x : T) → Serves core e (f x) new → IsRegister o pushed new (slice_set book k (g x))) where
+    own_kept : (result : Result T Error) → is_active p txn ≡ true → Serves core e (reply_by f result) new → IfOk result (λ x. q ≡ g x) → OnErr result (q ≡ p) → IsShared o new pushed (slice_set book k q)
     own_kept (Ok x) own is ok err = stepped e (f x) other is (ap (λ (y : SessionValue). y.commits) ok ∙ same x) (subst (λ y. IsRegister o pushed new (slice_set book k y)) (sym ok) (kept own x is))
     own_kept (Err error) own is ok err = refused e error other is err
 
@@ -60,7 +59,7 @@ module _ (o : Opened) (core new : CoreValue) (pushed : List RecordValue) (book :
         not_ok is = absurd cc
     foreign_kept (Err error) foreign err = subst (λ v. IsShared o v pushed (slice_set book k q)) (sym foreign.1) (subst (IsShared o core pushed) (sym (ap (slice_set book k) err ∙ set_itself book k p there)) shared)
 
-    pub txn_kept : (result : Result T Error) → (is_active p txn ≡ false → (result ≡ Err NoSuchTxn) × (new ≡ core)) → (is_active p txn ≡ true → IsServed core e (reply_by f result) new)
+    pub txn_kept : (result : Result T Error) → (is_active p txn ≡ false → (result ≡ Err NoSuchTxn) × (new ≡ core)) → (is_active p txn ≡ true → Serves core e (reply_by f result) new)
         → IfOk result (λ x. q ≡ g x) → OnErr result (q ≡ p) → IsShared o new pushed (slice_set book k q)
     txn_kept result foreign is ok err = by (is_active p txn) refl
       where
@@ -68,17 +67,17 @@ module _ (o : Opened) (core new : CoreValue) (pushed : List RecordValue) (book :
         by true own = own_kept result own (is own) ok err
         by false none = foreign_kept result (foreign none) err
 
-  pub insert_kept : (txn : ℕ) (row : Row) (result : Result Place Error) → (is_active p txn ≡ false → (result ≡ Err NoSuchTxn) × (new ≡ core)) → (is_active p txn ≡ true → IsServed core (Event.Insert txn row) (reply_by Reply.Rid result) new)
+  pub insert_kept : (txn : ℕ) (row : Row) (result : Result Place Error) → (is_active p txn ≡ false → (result ≡ Err NoSuchTxn) × (new ≡ core)) → (is_active p txn ≡ true → Serves core (Event.Insert txn row) (reply_by Reply.Rid result) new)
       → IfOk result (λ rid. q ≡ changed p new txn (record { rid = rid; row = Some row })) → OnErr result (q ≡ p) → IsShared o new pushed (slice_set book k q)
   insert_kept txn row = txn_kept txn (Event.Insert txn row) tt Reply.Rid (λ rid. changed p new txn (record { rid = rid; row = Some row })) (λ rid. refl)
       (λ own rid is. insert_agreed o shared.opens pushed core book shared.register k p there txn own row rid new is)
 
-  pub delete_kept : (txn : ℕ) (rid : Place) (result : Result (Unit {0}) Error) → (is_active p txn ≡ false → (result ≡ Err NoSuchTxn) × (new ≡ core)) → (is_active p txn ≡ true → IsServed core (Event.Delete txn rid) (reply_by (λ _. Reply.Stepped) result) new)
+  pub delete_kept : (txn : ℕ) (rid : Place) (result : Result (Unit {0}) Error) → (is_active p txn ≡ false → (result ≡ Err NoSuchTxn) × (new ≡ core)) → (is_active p txn ≡ true → Serves core (Event.Delete txn rid) (reply_by (λ _. Reply.Stepped) result) new)
       → OnOk result (q ≡ changed p new txn (record { rid = rid; row = None })) → OnErr result (q ≡ p) → IsShared o new pushed (slice_set book k q)
   delete_kept txn rid = txn_kept txn (Event.Delete txn rid) tt (λ _. Reply.Stepped) (λ _. changed p new txn (record { rid = rid; row = None })) (λ _. refl)
       (λ own done is. delete_agreed o shared.opens pushed core book shared.register k p there txn own rid new is)
 
-  pub update_kept : (txn : ℕ) (rid : Place) (row : Row) (result : Result (Unit {0}) Error) → (is_active p txn ≡ false → (result ≡ Err NoSuchTxn) × (new ≡ core)) → (is_active p txn ≡ true → IsServed core (Event.Update txn rid row) (reply_by (λ _. Reply.Stepped) result) new)
+  pub update_kept : (txn : ℕ) (rid : Place) (row : Row) (result : Result (Unit {0}) Error) → (is_active p txn ≡ false → (result ≡ Err NoSuchTxn) × (new ≡ core)) → (is_active p txn ≡ true → Serves core (Event.Update txn rid row) (reply_by (λ _. Reply.Stepped) result) new)
       → OnOk result (q ≡ changed p new txn (record { rid = rid; row = Some row })) → OnErr result (q ≡ p) → IsShared o new pushed (slice_set book k q)
   update_kept txn rid row = txn_kept txn (Event.Update txn rid row) tt (λ _. Reply.Stepped) (λ _. changed p new txn (record { rid = rid; row = Some row })) (λ _. refl)
       (λ own done is. update_agreed o shared.opens pushed core book shared.register k p there txn own rid row new is)
@@ -86,22 +85,18 @@ module _ (o : Opened) (core new : CoreValue) (pushed : List RecordValue) (book :
   pub undo_kept : (txn : ℕ) (result : Result Undone Error) → (is_active p txn ≡ false → (result ≡ Err NoSuchTxn) × (new ≡ core)) → (is_active p txn ≡ true → Serves core (Event.Undo txn) (reply_by undone_reply result) new)
       → OnOk result (q ≡ rolling_back p new txn) → OnErr result (q ≡ p) → IsShared o new pushed (slice_set book k q)
   undo_kept txn result foreign is = txn_kept txn (Event.Undo txn) tt undone_reply (λ _. rolling_back p new txn) (λ _. refl)
-      (λ own answer serves. undo_agreed o shared.opens pushed core book shared.register k p there txn own answer new (asked core (Event.Undo txn) (undone_reply answer) new serves (answers answer))) result foreign (λ own. served (is own))
-    where
-      answers : (u : Undone) → IsAnswer (undone_reply u)
-      answers Step = tt
-      answers Empty = tt
+      (λ own answer serves. undo_agreed o shared.opens pushed core book shared.register k p there txn own answer new serves) result foreign is
 
   pub end_kept : (txn : ℕ) (result : Result (Unit {0}) Error) → (is_active p txn ≡ false → (result ≡ Err NoSuchTxn) × (new ≡ core)) → (is_active p txn ≡ true → Serves core (Event.End txn) (reply_by (λ _. Reply.Ended) result) new)
       → OnOk result (q ≡ ended p txn) → OnErr result (q ≡ p) → IsShared o new pushed (slice_set book k q)
   end_kept txn result foreign is = txn_kept txn (Event.End txn) tt (λ _. Reply.Ended) (λ _. ended p txn) (λ _. refl)
-      (λ own done serves. end_agreed o shared.opens pushed core book shared.register k p there txn own new (asked core (Event.End txn) Reply.Ended new serves tt)) result foreign (λ own. served (is own))
+      (λ own done serves. end_agreed o shared.opens pushed core book shared.register k p there txn own new serves) result foreign is
 
   -- a call that was refused, and a transaction that is not the seat's, leave all as it was
   unchanged : new ≡ core → q ≡ p → IsShared o new pushed (slice_set book k q)
   unchanged is same = subst (λ v. IsShared o v pushed (slice_set book k q)) (sym is) (subst (IsShared o core pushed) (sym (ap (slice_set book k) same ∙ set_itself book k p there)) shared)
 
-  commit_made : (txn : ℕ) (own : is_active p txn ≡ true) (ticket : Ticket) → IsServed core (Event.Commit txn) (reply_of_ticket ticket) new → q ≡ committed p txn ticket → IsShared o new pushed (slice_set book k q)
+  commit_made : (txn : ℕ) (own : is_active p txn ≡ true) (ticket : Ticket) → Serves core (Event.Commit txn) (reply_of_ticket ticket) new → q ≡ committed p txn ticket → IsShared o new pushed (slice_set book k q)
   commit_made txn own ticket is ok =
       let kept = shared.register.kept in
       let number = (commit_numbered o pushed core kept txn ticket new is).1 in
@@ -113,11 +108,11 @@ module _ (o : Opened) (core new : CoreValue) (pushed : List RecordValue) (book :
         commits = subst (λ x. AreAllCommits (slice_set book k x) new.commits) (sym ok) (subst (AreAllCommits (slice_set book k (committed p txn ticket))) (sym count) all);
       }
 
-  pub commit_kept : (txn : ℕ) (result : Result Ticket Error) → (is_active p txn ≡ false → (result ≡ Err NoSuchTxn) × (new ≡ core)) → (is_active p txn ≡ true → IsServed core (Event.Commit txn) (reply_by reply_of_ticket result) new)
+  pub commit_kept : (txn : ℕ) (result : Result Ticket Error) → (is_active p txn ≡ false → (result ≡ Err NoSuchTxn) × (new ≡ core)) → (is_active p txn ≡ true → Serves core (Event.Commit txn) (reply_by reply_of_ticket result) new)
       → IfOk result (λ ticket. q ≡ committed p txn ticket) → OnErr result (q ≡ p) → IsShared o new pushed (slice_set book k q)
   commit_kept txn result foreign is ok err = by (is_active p txn) refl
     where
-      own_kept : (r : Result Ticket Error) → is_active p txn ≡ true → IsServed core (Event.Commit txn) (reply_by reply_of_ticket r) new → IfOk r (λ ticket. q ≡ committed p txn ticket) → OnErr r (q ≡ p) → IsShared o new pushed (slice_set book k q)
+      own_kept : (r : Result Ticket Error) → is_active p txn ≡ true → Serves core (Event.Commit txn) (reply_by reply_of_ticket r) new → IfOk r (λ ticket. q ≡ committed p txn ticket) → OnErr r (q ≡ p) → IsShared o new pushed (slice_set book k q)
       own_kept (Ok ticket) own so made refusal = commit_made txn own ticket so made
       own_kept (Err error) own so made refusal = unchanged (commit_refused o pushed core new shared.register.kept txn error so) refusal
 
@@ -129,13 +124,13 @@ module _ (o : Opened) (core new : CoreValue) (pushed : List RecordValue) (book :
       by true own = own_kept result own (is own) ok err
       by false none = foreign_kept result (foreign none).0 (foreign none).1 err
 
-  pub create_kept : (result : Result Ticket Error) → IsServed core Event.Create (reply_by reply_of_ticket result) new → IfOk result (λ ticket. q ≡ with_creation p ticket.«record») → OnErr result (q ≡ p) → IsShared o new pushed (slice_set book k q)
+  pub create_kept : (result : Result Ticket Error) → Serves core Event.Create (reply_by reply_of_ticket result) new → IfOk result (λ ticket. q ≡ with_creation p ticket.«record») → OnErr result (q ≡ p) → IsShared o new pushed (slice_set book k q)
   create_kept (Ok ticket) is ok err =
       stepped Event.Create (reply_of_ticket ticket) tt is (ap (λ (x : SessionValue). x.commits) ok)
       (subst (λ x. IsRegister o pushed new (slice_set book k x)) (sym ok) (create_agreed o shared.opens pushed core book shared.register k p there ticket new is))
   create_kept (Err e) is ok err = refused Event.Create e tt is err
 
-  pub begin_kept : (result : Result ℕ Error) → IsServed core Event.Begin (reply_by Reply.Txn result) new → IfOk result (λ txn. q ≡ begun p txn) → OnErr result (q ≡ p) → IsShared o new pushed (slice_set book k q)
+  pub begin_kept : (result : Result ℕ Error) → Serves core Event.Begin (reply_by Reply.Txn result) new → IfOk result (λ txn. q ≡ begun p txn) → OnErr result (q ≡ p) → IsShared o new pushed (slice_set book k q)
   begin_kept (Ok txn) is ok err =
       stepped Event.Begin (Reply.Txn txn) tt is (ap (λ (x : SessionValue). x.commits) ok)
       (subst (λ x. IsRegister o pushed new (slice_set book k x)) (sym ok) (begin_agreed o shared.opens pushed core book shared.register k p there txn new is))
@@ -168,8 +163,8 @@ module _ (o : Opened) (core new : CoreValue) (pushed : List RecordValue) (book :
   pub others_kept : (e : Event) (reply : Reply) → IsOfNoSeat e → IsNoCommit e → Serves core e reply new → IsShared o new pushed book
   others_kept e reply of other serves = record {
     opens = shared.opens;
-    register = others_agreed o shared.opens pushed core book shared.register e reply new of (served serves);
-    commits = subst (AreAllCommits book) (sym (others_counted o pushed core shared.register.kept e reply new other (served serves))) shared.commits;
+    register = others_agreed o shared.opens pushed core book shared.register e reply new of serves;
+    commits = subst (AreAllCommits book) (sym (others_counted o pushed core shared.register.kept e reply new other serves)) shared.commits;
   }
 
   pub pushed_kept : (after : List RecordValue) → HandsOn core new pushed after → IsShared o new after book

@@ -1,3 +1,4 @@
 mod Book
 mod Kept
 mod Refused
+mod Owed

@@ -14,8 +14,8 @@ ghost use Rattle.nsf_core.specs.Undoing.{undone_reply};
 ghost use Rattle.nsf_core.specs.View.{Serves};
 ghost use Rattle.nsf_core.specs.Value.{value_of};
 ghost use Rattle.register.specs.Register.{AreEmpty};
-ghost use Rattle.sessions.specs.Steps.{begun, changed, committed, ended, IsServed, rolling_back, with_creation};
-ghost use Rattle.sessions.specs.Values.{is_active, is_ready};
+ghost use Rattle.sessions.specs.Steps.{begun, changed, committed, ended, rolling_back, stepped, with_creation};
+ghost use Rattle.sessions.specs.Values.{is_active, is_ready, is_unfinished};
 ghost use Rattle.locked_core.specs.Names.{IsShared};
 ghost use Rattle.registry.specs.Halves.{IsBook, IsNew, shown};
 
@@ -85,10 +85,13 @@ impl<B: Site> Locked<B> {
         (core, pusher, book)
     }
 
-    /// Pushes the records that wait to the queue, in the order of their making. One that the queue refuses stays, and so do
-    /// those behind it.
-    pub fn push_outbox<R: Wait>(&mut self, rt: &R, queue: &RecordQueue)
+    /// Pushes the records that wait to the queue, in the order of their making, and answers whether none waits any more. One
+    /// that the queue refuses stays, and so do those behind it.
+    ///
+    /// No clause says that a record is pushed where the queue would take it: a caller learns from the answer how it is.
+    pub fn push_outbox<R: Wait>(&mut self, rt: &R, queue: &RecordQueue) -> bool
         requires { queue.now ≡ B.site.queue }
+        ensures none_waits { IsTrue result ↔ ((locked_of self.new).core.outbox ≡ []) }
         ensures pushed { HandsOn (locked_of self.old).core (locked_of self.new).core (locked_of self.old).pushed (locked_of self.new).pushed }
         ensures book { (locked_of self.new).book ≡ (locked_of self.old).book }
     {
@@ -99,6 +102,7 @@ impl<B: Site> Locked<B> {
             site: PhantomData::<B>,
         };
         self.core.take_outbox(&mut sink);
+        self.core.waiting() == 0
     }
 
     /// Begins a transaction of the seat.
@@ -107,7 +111,7 @@ impl<B: Site> Locked<B> {
     pub fn begin(&mut self, registry: &Registry, seat: &mut SeatPart<B>) -> Result<Txn, Error>
         requires { registry.now ≡ B.site.table }
         ensures before { slice_get (locked_of self.old).book seat.old.number ≡ Some seat.old.session }
-        ensures served { IsServed (locked_of self.old).core Event.Begin (reply_by Reply.Txn result) (locked_of self.new).core }
+        ensures served { Serves (locked_of self.old).core Event.Begin (reply_by Reply.Txn result) (locked_of self.new).core }
         ensures number { seat.new.number ≡ seat.old.number }
         ensures ok { IfOk result (λ txn. seat.new.session ≡ begun seat.old.session txn) }
         ensures refused { OnErr result (seat.new.session ≡ seat.old.session) }
@@ -134,7 +138,7 @@ impl<B: Site> Locked<B> {
         requires ready { is_active seat.old.session txn ≡ true → is_ready seat.old.session txn ≡ true }
         ensures before { slice_get (locked_of self.old).book seat.old.number ≡ Some seat.old.session }
         ensures foreign { is_active seat.old.session txn ≡ false → (result ≡ Err NoSuchTxn) × ((locked_of self.new).core ≡ (locked_of self.old).core) }
-        ensures served { is_active seat.old.session txn ≡ true → IsServed (locked_of self.old).core (Event.Insert txn (record { key = key; body = body })) (reply_by Reply.Rid result) (locked_of self.new).core }
+        ensures served { is_active seat.old.session txn ≡ true → Serves (locked_of self.old).core (Event.Insert txn (record { key = key; body = body })) (reply_by Reply.Rid result) (locked_of self.new).core }
         ensures ok { IfOk result (λ rid. seat.new.session ≡ changed seat.old.session (locked_of self.new).core txn (record { rid = rid; row = Some (record { key = key; body = body }) })) }
         ensures refused { OnErr result (seat.new.session ≡ seat.old.session) }
         ensures number { seat.new.number ≡ seat.old.number }
@@ -161,7 +165,7 @@ impl<B: Site> Locked<B> {
         requires ready { is_active seat.old.session txn ≡ true → is_ready seat.old.session txn ≡ true }
         ensures before { slice_get (locked_of self.old).book seat.old.number ≡ Some seat.old.session }
         ensures foreign { is_active seat.old.session txn ≡ false → (result ≡ Err NoSuchTxn) × ((locked_of self.new).core ≡ (locked_of self.old).core) }
-        ensures served { is_active seat.old.session txn ≡ true → IsServed (locked_of self.old).core (Event.Delete txn rid) (reply_by (λ _. Reply.Stepped) result) (locked_of self.new).core }
+        ensures served { is_active seat.old.session txn ≡ true → Serves (locked_of self.old).core (Event.Delete txn rid) (reply_by (λ _. Reply.Stepped) result) (locked_of self.new).core }
         ensures ok { OnOk result (seat.new.session ≡ changed seat.old.session (locked_of self.new).core txn (record { rid = rid; row = None })) }
         ensures refused { OnErr result (seat.new.session ≡ seat.old.session) }
         ensures number { seat.new.number ≡ seat.old.number }
@@ -190,7 +194,7 @@ impl<B: Site> Locked<B> {
         requires ready { is_active seat.old.session txn ≡ true → is_ready seat.old.session txn ≡ true }
         ensures before { slice_get (locked_of self.old).book seat.old.number ≡ Some seat.old.session }
         ensures foreign { is_active seat.old.session txn ≡ false → (result ≡ Err NoSuchTxn) × ((locked_of self.new).core ≡ (locked_of self.old).core) }
-        ensures served { is_active seat.old.session txn ≡ true → IsServed (locked_of self.old).core (Event.Update txn rid (record { key = key; body = body })) (reply_by (λ _. Reply.Stepped) result) (locked_of self.new).core }
+        ensures served { is_active seat.old.session txn ≡ true → Serves (locked_of self.old).core (Event.Update txn rid (record { key = key; body = body })) (reply_by (λ _. Reply.Stepped) result) (locked_of self.new).core }
         ensures ok { OnOk result (seat.new.session ≡ changed seat.old.session (locked_of self.new).core txn (record { rid = rid; row = Some (record { key = key; body = body }) })) }
         ensures refused { OnErr result (seat.new.session ≡ seat.old.session) }
         ensures number { seat.new.number ≡ seat.old.number }
@@ -237,7 +241,7 @@ impl<B: Site> Locked<B> {
     ) -> Result<Ticket, Error>
         requires { registry.now ≡ B.site.table }
         ensures before { slice_get (locked_of self.old).book seat.old.number ≡ Some seat.old.session }
-        ensures served { IsServed (locked_of self.old).core Event.Create (reply_by reply_of_ticket result) (locked_of self.new).core }
+        ensures served { Serves (locked_of self.old).core Event.Create (reply_by reply_of_ticket result) (locked_of self.new).core }
         ensures ok { IfOk result (λ ticket. seat.new.session ≡ with_creation seat.old.session ticket.«record») }
         ensures refused { OnErr result (seat.new.session ≡ seat.old.session) }
         ensures number { seat.new.number ≡ seat.old.number }
@@ -247,6 +251,32 @@ impl<B: Site> Locked<B> {
         let created = seat.session.create_index(&mut self.core);
         registry.change(&mut seat.half, &mut self.book[seat.number], &seat.session);
         created
+    }
+
+    /// Makes the step that a transaction of the seat owes.
+    ///
+    /// The refusals are those of the session's `next_step`. After a refusal all is as before.
+    pub fn next_step(
+        &mut self,
+        registry: &Registry,
+        seat: &mut SeatPart<B>,
+        txn: Txn,
+    ) -> Result<(), Error>
+        requires registry { registry.now ≡ B.site.table }
+        requires unfinished { is_active seat.old.session txn ≡ true → is_unfinished seat.old.session txn ≡ true }
+        ensures before { slice_get (locked_of self.old).book seat.old.number ≡ Some seat.old.session }
+        ensures foreign { is_active seat.old.session txn ≡ false → (result ≡ Err NoSuchTxn) × ((locked_of self.new).core ≡ (locked_of self.old).core) }
+        ensures served { is_active seat.old.session txn ≡ true → Serves (locked_of self.old).core (Event.Step txn) (reply_by (λ _. Reply.Stepped) result) (locked_of self.new).core }
+        ensures ok { OnOk result (seat.new.session ≡ stepped seat.old.session (locked_of self.new).core txn) }
+        ensures refused { OnErr result (seat.new.session ≡ seat.old.session) }
+        ensures number { seat.new.number ≡ seat.old.number }
+        ensures book { (locked_of self.new).book ≡ slice_set (locked_of self.old).book seat.old.number seat.new.session }
+        ensures pushed { (locked_of self.new).pushed ≡ (locked_of self.old).pushed }
+    {
+        registry.change(&mut seat.half, &mut self.book[seat.number], &seat.session);
+        let stepped = seat.session.next_step(&mut self.core, txn);
+        registry.change(&mut seat.half, &mut self.book[seat.number], &seat.session);
+        stepped
     }
 
     /// Ends a transaction of the seat that has no change left. It is none of the seat's from then on.
@@ -288,7 +318,7 @@ impl<B: Site> Locked<B> {
         requires ready { is_active seat.old.session txn ≡ true → is_ready seat.old.session txn ≡ true }
         ensures before { slice_get (locked_of self.old).book seat.old.number ≡ Some seat.old.session }
         ensures foreign { is_active seat.old.session txn ≡ false → (result ≡ Err NoSuchTxn) × ((locked_of self.new).core ≡ (locked_of self.old).core) }
-        ensures served { is_active seat.old.session txn ≡ true → IsServed (locked_of self.old).core (Event.Commit txn) (reply_by reply_of_ticket result) (locked_of self.new).core }
+        ensures served { is_active seat.old.session txn ≡ true → Serves (locked_of self.old).core (Event.Commit txn) (reply_by reply_of_ticket result) (locked_of self.new).core }
         ensures ok { IfOk result (λ ticket. seat.new.session ≡ committed seat.old.session txn ticket) }
         ensures refused { OnErr result (seat.new.session ≡ seat.old.session) }
         ensures number { seat.new.number ≡ seat.old.number }

@@ -1,6 +1,6 @@
 //! A seat's part of what is shared.
 ghost use Rattle.std.specs.Prelude.{◌≡◌, ◌<◌};
-ghost use Rattle.sessions.specs.Values.{empty_session, is_ready};
+ghost use Rattle.sessions.specs.Values.{empty_session, is_ready, is_unfinished};
 
 use crate::site::Site;
 use records::Txn;
@@ -63,5 +63,12 @@ impl<B: Site> SeatPart<B> {
         ensures { result ≡ is_ready self.now.session txn }
     {
         self.session.ready(txn)
+    }
+
+    /// Whether the transaction is one of the seat's and has a change to finish.
+    pub fn unfinished(&self, txn: Txn) -> bool
+        ensures { result ≡ is_unfinished self.now.session txn }
+    {
+        self.session.unfinished(txn)
     }
 }

@@ -9,7 +9,6 @@ use Rattle.core_contracts.specs.Replies.{IsAllowed, IsDue, accepted, no_memory, 
 use Rattle.nsf_core.specs.Replies.{reply_of_ticket, ticket_by}
 use Rattle.nsf_core.specs.View.{Answers, CoreValue, Serves}
 use Rattle.nsf_core.specs.declared.parts.Ticket.{Ticket}
-use Rattle.sessions.specs.Steps.{IsServed, not_asked, served}
 use Rattle.register.specs.Register.{IsKept, IsNoCommit}
 
 -- neither a refusal nor left out
@@ -70,10 +69,6 @@ allowed_same s k e reply step (accepted a b f r t d g) other = due_same s k e re
 
 -- ---- what answers tell
 
-pub asked : (core : CoreValue) (e : Event) (reply : Reply) (new : CoreValue) → IsServed core e reply new → IsAnswer reply → Serves core e reply new
-asked core e reply new (served s) answer = s
-asked core e reply new (not_asked is same) answer = absurd (subst IsAnswer is answer)
-
 pub ticket_answers : (number : ℕ) (commit : Option ℕ) → IsAnswer (ticket_by Reply.Created number commit)
 ticket_answers number None = tt
 ticket_answers number (Some c) = tt
@@ -96,42 +91,41 @@ module _ (o : Opened) (pushed : List RecordValue) (core : CoreValue) (kept : IsK
   abbrev k : Standing
   k = kept.replied.standing
 
-  answers : (e : Event) (reply : Reply) (new : CoreValue) → IsServed core e reply new → IsAnswer reply → Answers core s k e reply new
-  answers e reply new is answer = asked core e reply new is answer s k kept.replied.stands
+  answers : (e : Event) (reply : Reply) (new : CoreValue) → Serves core e reply new → Answers core s k e reply new
+  answers e reply new is = is s k kept.replied.stands
 
-  pub begin : (txn : ℕ) (new : CoreValue) → IsServed core Event.Begin (Reply.Txn txn) new → txn ≡ core.txns.begun + 1
+  pub begin : (txn : ℕ) (new : CoreValue) → Serves core Event.Begin (Reply.Txn txn) new → txn ≡ core.txns.begun + 1
   begin txn new is =
-      let a = answers Event.Begin (Reply.Txn txn) new is tt in
+      let a = answers Event.Begin (Reply.Txn txn) new is in
       let d = due s k Event.Begin (Reply.Txn txn) a.step a.allowed tt in is_txn txn (k.begun + 1) d.0 ∙ ap (λ n. n + 1) kept.replied.stands.shown.begun
 
-  committed : (txn : ℕ) (ticket : Ticket) (new : CoreValue) → IsServed core (Event.Commit txn) (reply_of_ticket ticket) new → reply_of_ticket ticket ≡ Reply.Committed (k.made + 1) (k.commits + 1)
+  committed : (txn : ℕ) (ticket : Ticket) (new : CoreValue) → Serves core (Event.Commit txn) (reply_of_ticket ticket) new → reply_of_ticket ticket ≡ Reply.Committed (k.made + 1) (k.commits + 1)
   committed txn ticket new is =
       let answer = ticket_answers ticket.«record» ticket.commit in
-      let a = answers (Event.Commit txn) (reply_of_ticket ticket) new is answer in
+      let a = answers (Event.Commit txn) (reply_of_ticket ticket) new is in
       (due s k (Event.Commit txn) (reply_of_ticket ticket) a.step a.allowed answer).0
 
-  pub commit : (txn : ℕ) (ticket : Ticket) (new : CoreValue) → IsServed core (Event.Commit txn) (reply_of_ticket ticket) new → (ticket.«record» ≡ core.last + 1) × (ticket.commit ≡ Some (core.commits + 1))
+  pub commit : (txn : ℕ) (ticket : Ticket) (new : CoreValue) → Serves core (Event.Commit txn) (reply_of_ticket ticket) new → (ticket.«record» ≡ core.last + 1) × (ticket.commit ≡ Some (core.commits + 1))
   commit txn ticket new is =
       let numbers = is_commit ticket.«record» ticket.commit (k.made + 1) (k.commits + 1) (committed txn ticket new is) in
       (numbers.0 ∙ ap (λ n. n + 1) kept.replied.stands.shown.made, numbers.1 ∙ ap (λ n. Some (n + 1)) kept.replied.stands.shown.commits)
 
-  pub counted : (txn : ℕ) (ticket : Ticket) (new : CoreValue) → IsServed core (Event.Commit txn) (reply_of_ticket ticket) new → (new.last ≡ core.last + 1) × (new.commits ≡ core.commits + 1)
+  pub counted : (txn : ℕ) (ticket : Ticket) (new : CoreValue) → Serves core (Event.Commit txn) (reply_of_ticket ticket) new → (new.last ≡ core.last + 1) × (new.commits ≡ core.commits + 1)
   counted txn ticket new is =
       let answer = ticket_answers ticket.«record» ticket.commit in
-      let a = answers (Event.Commit txn) (reply_of_ticket ticket) new is answer in
+      let a = answers (Event.Commit txn) (reply_of_ticket ticket) new is in
       let reply = committed txn ticket new is in (
         sym a.shown.made ∙ (ap (λ (r : Reply). (standing_after k r).made) reply ∙ ap (λ n. n + 1) kept.replied.stands.shown.made),
         sym a.shown.commits ∙ (ap (λ (r : Reply). (standing_after k r).commits) reply ∙ ap (λ n. n + 1) kept.replied.stands.shown.commits),
       )
 
-  pub create : (ticket : Ticket) (new : CoreValue) → IsServed core Event.Create (reply_of_ticket ticket) new → (ticket.«record» ≡ core.last + 1) × (ticket.commit ≡ None)
+  pub create : (ticket : Ticket) (new : CoreValue) → Serves core Event.Create (reply_of_ticket ticket) new → (ticket.«record» ≡ core.last + 1) × (ticket.commit ≡ None)
   create ticket new is =
       let answer = ticket_answers ticket.«record» ticket.commit in
-      let a = answers Event.Create (reply_of_ticket ticket) new is answer in
+      let a = answers Event.Create (reply_of_ticket ticket) new is in
       let d = due s k Event.Create (reply_of_ticket ticket) a.step a.allowed answer in
       let numbers = is_creation ticket.«record» ticket.commit (k.made + 1) d.0 in
       (numbers.0 ∙ ap (λ n. n + 1) kept.replied.stands.shown.made, numbers.1)
 
-  pub others : (e : Event) (reply : Reply) (new : CoreValue) → IsNoCommit e → IsServed core e reply new → new.commits ≡ core.commits
-  others e reply new other (served serves) = let a = serves s k kept.replied.stands in sym a.shown.commits ∙ (allowed_same s k e reply a.step a.allowed other ∙ kept.replied.stands.shown.commits)
-  others e reply new other (not_asked is same) = ap (λ (v : CoreValue). v.commits) same
+  pub others : (e : Event) (reply : Reply) (new : CoreValue) → IsNoCommit e → Serves core e reply new → new.commits ≡ core.commits
+  others e reply new other serves = let a = serves s k kept.replied.stands in sym a.shown.commits ∙ (allowed_same s k e reply a.step a.allowed other ∙ kept.replied.stands.shown.commits)

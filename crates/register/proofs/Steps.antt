@@ -25,11 +25,11 @@ use Rattle.nsf_core.specs.View.{CoreValue, Serves}
 use Rattle.nsf_core.specs.declared.parts.Ticket.{Ticket}
 use Rattle.nsf_core.specs.declared.reply.Undone.{Undone}
 use Rattle.nsf_core.specs.declared.reply.Undone.TheVariants.{Empty, Step}
-use Rattle.sessions.specs.Steps.{begun, step_seen, changed, committed, with_creation, ended, IsServed, not_asked, served, stepped, still_unfinished, taken_back, rolling_back, unfinished_in, change_seen}
+use Rattle.sessions.specs.Steps.{begun, step_seen, changed, committed, with_creation, ended, stepped, still_unfinished, taken_back, rolling_back, unfinished_in, change_seen}
 use Rattle.sessions.specs.Values.{active_of, SessionValue, without}
 use Rattle.register.proofs.Lookups.{new_other, new_own, number_is, with_other, with_own, without_other, without_own}
 use Rattle.register.proofs.Moved.{begin_own, leave_apart, leave_others, leave_own, next_apart, next_others, next_own, start_apart, start_others, start_own, undo_apart, undo_others, undo_own}
-use Rattle.register.proofs.Numbers.{IsAnswer, asked, due, is_txn, ticket_answers}
+use Rattle.register.proofs.Numbers.{IsAnswer, due, is_txn, ticket_answers}
 use Rattle.register.proofs.Owned.{owned_kept, owners_kept}
 use Rattle.register.proofs.Seen.{agree_none}
 use Rattle.register.proofs.Served.{answer, enabled, k, mine, none_here, owned_beside, owners_beside, s, same_txns, seen, shown_by, so, txn_stepped, unfinished_is}
@@ -146,22 +146,19 @@ module _ (o : Opened) (can : CanOpen o) (pushed : List RecordValue) (core : Core
   enabled_of : (e : Event) (reply : Reply) (new : CoreValue) (sv : Serves core e reply new) (step : Option MachineStep) → step_of e reply new sv ≡ step → IsEnabledAny st step
   enabled_of e reply new sv step is = subst (IsEnabledAny st) is (enabled o can pushed core book r e reply new sv)
 
-  pub others : (e : Event) (reply : Reply) (new : CoreValue) → IsOfNoSeat e → IsServed core e reply new → IsRegister o pushed new book
-  others e reply new of (not_asked is same) = subst (λ v. IsRegister o pushed v book) (sym same) r
-  others e reply new of (served sv) =
+  pub others : (e : Event) (reply : Reply) (new : CoreValue) → IsOfNoSeat e → Serves core e reply new → IsRegister o pushed new book
+  others e reply new of sv =
       let still = allowed_still st std e reply (step_of e reply new sv) of (allowed_of e reply new sv) in
       same_txns o can pushed core book r e reply new sv (step_of e reply new sv) refl book
       (owned_kept st (after_any st (step_of e reply new sv)) book r.owner still.txns still.held r.owned)
       (owners_kept st (after_any st (step_of e reply new sv)) book r.owner still.txns r.owners)
 
-  pub refusals : (e : Event) (error : Error) (new : CoreValue) → IsServed core e (Refused error) new → IsRegister o pushed new book
-  refusals e error new (not_asked is same) = subst (λ v. IsRegister o pushed v book) (sym same) r
-  refusals e error new (served sv) = same_txns o can pushed core book r e (Refused error) new sv None (refused_none st std e error (step_of e (Refused error) new sv) (allowed_of e (Refused error) new sv)) book r.owned r.owners
+  pub refusals : (e : Event) (error : Error) (new : CoreValue) → Serves core e (Refused error) new → IsRegister o pushed new book
+  refusals e error new sv = same_txns o can pushed core book r e (Refused error) new sv None (refused_none st std e error (step_of e (Refused error) new sv) (allowed_of e (Refused error) new sv)) book r.owned r.owners
 
   module _ (seat : ℕ) (p : SessionValue) (there : slice_get book seat ≡ Some p) where
-    pub begin : (txn : ℕ) (new : CoreValue) → IsServed core Event.Begin (Reply.Txn txn) new → IsRegister o pushed new (slice_set book seat (begun p txn))
-    begin txn new is =
-        let sv = asked core Event.Begin (Reply.Txn txn) new is tt in
+    pub begin : (txn : ℕ) (new : CoreValue) → Serves core Event.Begin (Reply.Txn txn) new → IsRegister o pushed new (slice_set book seat (begun p txn))
+    begin txn new sv =
         let d = due_of Event.Begin (Reply.Txn txn) new sv tt in
         let number = is_txn txn (std.begun + 1) d.0 in
         let step = d.1 ∙ ap (λ n. Some (MachineStep.Begin n)) (sym number) in
@@ -188,9 +185,8 @@ module _ (o : Opened) (can : CanOpen o) (pushed : List RecordValue) (core : Core
           (λ y is. ap (λ n. unfinished_in new n w) (number_is txn p.active mine_now.0 mine_now.1) ∙ unfinished_is new (after st (Start txn c)) (standing_after std reply) shown txn y is w)))
           (λ u apart. with_other (change_seen new w) (λ a. refl) txn u p.active apart) (start_apart st txn c can_start) (start_others st txn c can_start)
 
-      pub insert : (row : Row) (rid : Place) (new : CoreValue) → IsServed core (Event.Insert txn row) (Reply.Rid rid) new → IsRegister o pushed new (slice_set book seat (changed p new txn (record { rid = rid; row = Some row })))
-      insert row rid new is =
-          let sv = asked core (Event.Insert txn row) (Reply.Rid rid) new is tt in
+      pub insert : (row : Row) (rid : Place) (new : CoreValue) → Serves core (Event.Insert txn row) (Reply.Rid rid) new → IsRegister o pushed new (slice_set book seat (changed p new txn (record { rid = rid; row = Some row })))
+      insert row rid new sv =
           let d = due_of (Event.Insert txn row) (Reply.Rid rid) new sv tt in
           let at : rid ≡ d.0 = one_place rid d.0 d.2 in
           start (Event.Insert txn row) (Reply.Rid rid) new sv rid (Inserted row) (d.3 ∙ ap (λ q. Some (Start txn (change_of st txn q (Inserted row)))) (sym at))
@@ -198,15 +194,13 @@ module _ (o : Opened) (can : CanOpen o) (pushed : List RecordValue) (core : Core
           one_place : (a b : Place) → Reply.Rid a ≡ Reply.Rid b → a ≡ b
           one_place a b e = cc
 
-      pub delete : (rid : Place) (new : CoreValue) → IsServed core (Event.Delete txn rid) Reply.Stepped new → IsRegister o pushed new (slice_set book seat (changed p new txn (record { rid = rid; row = None })))
-      delete rid new is =
-          let sv = asked core (Event.Delete txn rid) Reply.Stepped new is tt in
+      pub delete : (rid : Place) (new : CoreValue) → Serves core (Event.Delete txn rid) Reply.Stepped new → IsRegister o pushed new (slice_set book seat (changed p new txn (record { rid = rid; row = None })))
+      delete rid new sv =
           let d = due_of (Event.Delete txn rid) Reply.Stepped new sv tt in
           start (Event.Delete txn rid) Reply.Stepped new sv rid (Deleted d.0) d.3
 
-      pub update : (rid : Place) (row : Row) (new : CoreValue) → IsServed core (Event.Update txn rid row) Reply.Stepped new → IsRegister o pushed new (slice_set book seat (changed p new txn (record { rid = rid; row = Some row })))
-      update rid row new is =
-          let sv = asked core (Event.Update txn rid row) Reply.Stepped new is tt in
+      pub update : (rid : Place) (row : Row) (new : CoreValue) → Serves core (Event.Update txn rid row) Reply.Stepped new → IsRegister o pushed new (slice_set book seat (changed p new txn (record { rid = rid; row = Some row })))
+      update rid row new sv =
           let d = due_of (Event.Update txn rid row) Reply.Stepped new sv tt in
           start (Event.Update txn rid row) Reply.Stepped new sv rid (Updated d.0 row) d.3
 
@@ -252,19 +246,17 @@ module _ (o : Opened) (can : CanOpen o) (pushed : List RecordValue) (core : Core
           (none_of (after st (MachineStep.End txn)) (leave_own st txn (after st (MachineStep.End txn)).committed))
           (λ u apart. without_other u txn p.active apart) (leave_apart st txn (after st (MachineStep.End txn)).committed) (leave_others st txn (after st (MachineStep.End txn)).committed)
 
-      pub commit : (ticket : Ticket) (new : CoreValue) → IsServed core (Event.Commit txn) (reply_of_ticket ticket) new → IsRegister o pushed new (slice_set book seat (committed p txn ticket))
-      commit ticket new is =
+      pub commit : (ticket : Ticket) (new : CoreValue) → Serves core (Event.Commit txn) (reply_of_ticket ticket) new → IsRegister o pushed new (slice_set book seat (committed p txn ticket))
+      commit ticket new sv =
           let answers = ticket_answers ticket.«record» ticket.commit in
-          let sv = asked core (Event.Commit txn) (reply_of_ticket ticket) new is answers in
           let d = due_of (Event.Commit txn) (reply_of_ticket ticket) new sv answers in
           txn_stepped o can pushed core book r (Event.Commit txn) (reply_of_ticket ticket) new sv (MachineStep.Commit txn) d.1 seat txn p (committed p txn ticket) there (mine o can pushed core book r seat p there txn own)
           (none_of (after st (MachineStep.Commit txn)) (leave_own st txn (after st (MachineStep.Commit txn)).committed))
           (λ u apart. without_other u txn p.active apart) (leave_apart st txn (after st (MachineStep.Commit txn)).committed) (leave_others st txn (after st (MachineStep.Commit txn)).committed)
 
-    pub create : (ticket : Ticket) (new : CoreValue) → IsServed core Event.Create (reply_of_ticket ticket) new → IsRegister o pushed new (slice_set book seat (with_creation p ticket.«record»))
-    create ticket new is =
+    pub create : (ticket : Ticket) (new : CoreValue) → Serves core Event.Create (reply_of_ticket ticket) new → IsRegister o pushed new (slice_set book seat (with_creation p ticket.«record»))
+    create ticket new sv =
         let answers = ticket_answers ticket.«record» ticket.commit in
-        let sv = asked core Event.Create (reply_of_ticket ticket) new is answers in
         let d = due_of Event.Create (reply_of_ticket ticket) new sv answers in
         same_txns o can pushed core book r Event.Create (reply_of_ticket ticket) new sv (Some MachineStep.Create) d.1 (slice_set book seat (with_creation p ticket.«record»))
         (owned_beside (after st MachineStep.Create) book r.owner seat p (with_creation p ticket.«record») there refl (owned_kept st (after st MachineStep.Create) book r.owner (λ u. refl) (λ u q. refl) r.owned))

@@ -21,7 +21,7 @@ ghost use Rattle.nsf_core.specs.declared.parts.Ticket.{Ticket};
 ghost use Rattle.nsf_core.specs.declared.reply.Undone.{Undone};
 ghost use Rattle.sessions.specs.Values.{active_of, ActiveValue, is_active, is_ready, SessionValue};
 ghost use Rattle.model.specs.declared.write.Write.{Write};
-ghost use Rattle.sessions.specs.Steps.{begun, changed, committed, ended, IsServed, rolling_back, stepped, with_creation};
+ghost use Rattle.sessions.specs.Steps.{begun, changed, committed, ended, rolling_back, stepped, with_creation};
 ghost use Rattle.register.specs.Agreement.{IsOfNoSeat, IsRegister, row_at};
 ghost use Rattle.register.specs.Register.{AreAllCommits, AreEmpty, IsKept, IsNoCommit};
 
@@ -32,7 +32,7 @@ use core_laws::each_call;
 /// replies made.
 pub fn each_step()
     ensures begins { (o : Opened) (core : CoreValue) → BeginsWith o core → IsKept o [] core }
-    ensures served { (o : Opened) → CanOpen o → (pushed : List RecordValue) (core : CoreValue) → IsKept o pushed core → (e : Event) (reply : Reply) (new : CoreValue) → IsServed core e reply new → IsKept o pushed new }
+    ensures served { (o : Opened) → CanOpen o → (pushed : List RecordValue) (core : CoreValue) → IsKept o pushed core → (e : Event) (reply : Reply) (new : CoreValue) → Serves core e reply new → IsKept o pushed new }
     ensures pushed { (o : Opened) (pushed : List RecordValue) (core : CoreValue) → IsKept o pushed core → (new : CoreValue) (after : List RecordValue) → HandsOn core new pushed after → IsKept o after new }
 {
     each_call();
@@ -42,14 +42,14 @@ pub fn each_step()
 /// record and that after the commits so far, which are one more then and by no other step; a creation the number of the next
 /// record, and it is no commit.
 pub fn each_number()
-    ensures begin { (o : Opened) (pushed : List RecordValue) (core : CoreValue) → IsKept o pushed core → (txn : ℕ) (new : CoreValue) → IsServed core Event.Begin (Reply.Txn txn) new → txn ≡ core.txns.begun + 1 }
-    ensures commit { (o : Opened) (pushed : List RecordValue) (core : CoreValue) → IsKept o pushed core → (txn : ℕ) (ticket : Ticket) (new : CoreValue) → IsServed core (Event.Commit txn) (reply_of_ticket ticket) new
+    ensures begin { (o : Opened) (pushed : List RecordValue) (core : CoreValue) → IsKept o pushed core → (txn : ℕ) (new : CoreValue) → Serves core Event.Begin (Reply.Txn txn) new → txn ≡ core.txns.begun + 1 }
+    ensures commit { (o : Opened) (pushed : List RecordValue) (core : CoreValue) → IsKept o pushed core → (txn : ℕ) (ticket : Ticket) (new : CoreValue) → Serves core (Event.Commit txn) (reply_of_ticket ticket) new
         → (ticket.«record» ≡ core.last + 1) × (ticket.commit ≡ Some (core.commits + 1)) }
-    ensures counted { (o : Opened) (pushed : List RecordValue) (core : CoreValue) → IsKept o pushed core → (txn : ℕ) (ticket : Ticket) (new : CoreValue) → IsServed core (Event.Commit txn) (reply_of_ticket ticket) new
+    ensures counted { (o : Opened) (pushed : List RecordValue) (core : CoreValue) → IsKept o pushed core → (txn : ℕ) (ticket : Ticket) (new : CoreValue) → Serves core (Event.Commit txn) (reply_of_ticket ticket) new
         → (new.last ≡ core.last + 1) × (new.commits ≡ core.commits + 1) }
-    ensures create { (o : Opened) (pushed : List RecordValue) (core : CoreValue) → IsKept o pushed core → (ticket : Ticket) (new : CoreValue) → IsServed core Event.Create (reply_of_ticket ticket) new
+    ensures create { (o : Opened) (pushed : List RecordValue) (core : CoreValue) → IsKept o pushed core → (ticket : Ticket) (new : CoreValue) → Serves core Event.Create (reply_of_ticket ticket) new
         → (ticket.«record» ≡ core.last + 1) × (ticket.commit ≡ None) }
-    ensures others { (o : Opened) (pushed : List RecordValue) (core : CoreValue) → IsKept o pushed core → (e : Event) (reply : Reply) (new : CoreValue) → IsNoCommit e → IsServed core e reply new → new.commits ≡ core.commits }
+    ensures others { (o : Opened) (pushed : List RecordValue) (core : CoreValue) → IsKept o pushed core → (e : Event) (reply : Reply) (new : CoreValue) → IsNoCommit e → Serves core e reply new → new.commits ≡ core.commits }
 {}
 
 /// A law: the commits of all seats have the numbers 1 to n, each once, and each session has its own in their order: in new
@@ -70,23 +70,23 @@ pub fn each_agreement()
     ensures opens { (o : Opened) (core : CoreValue) → BeginsWith o core → (book : List SessionValue) → AreEmpty book → IsRegister o [] core book }
     ensures pushed { (o : Opened) (pushed : List RecordValue) (core : CoreValue) (book : List SessionValue) → IsRegister o pushed core book → (new : CoreValue) (after : List RecordValue) → HandsOn core new pushed after → IsRegister o after new book }
     ensures others { (o : Opened) → CanOpen o → (pushed : List RecordValue) (core : CoreValue) (book : List SessionValue) → IsRegister o pushed core book
-        → (e : Event) (reply : Reply) (new : CoreValue) → IsOfNoSeat e → IsServed core e reply new → IsRegister o pushed new book }
+        → (e : Event) (reply : Reply) (new : CoreValue) → IsOfNoSeat e → Serves core e reply new → IsRegister o pushed new book }
     ensures refused { (o : Opened) → CanOpen o → (pushed : List RecordValue) (core : CoreValue) (book : List SessionValue) → IsRegister o pushed core book
-        → (e : Event) (error : Error) (new : CoreValue) → IsServed core e (Refused error) new → IsRegister o pushed new book }
+        → (e : Event) (error : Error) (new : CoreValue) → Serves core e (Refused error) new → IsRegister o pushed new book }
     ensures begin { (o : Opened) → CanOpen o → (pushed : List RecordValue) (core : CoreValue) (book : List SessionValue) → IsRegister o pushed core book → (seat : ℕ) (session : SessionValue) → slice_get book seat ≡ Some session
-        → (txn : ℕ) (new : CoreValue) → IsServed core Event.Begin (Reply.Txn txn) new → IsRegister o pushed new (slice_set book seat (begun session txn)) }
+        → (txn : ℕ) (new : CoreValue) → Serves core Event.Begin (Reply.Txn txn) new → IsRegister o pushed new (slice_set book seat (begun session txn)) }
     ensures create { (o : Opened) → CanOpen o → (pushed : List RecordValue) (core : CoreValue) (book : List SessionValue) → IsRegister o pushed core book → (seat : ℕ) (session : SessionValue) → slice_get book seat ≡ Some session
-        → (ticket : Ticket) (new : CoreValue) → IsServed core Event.Create (reply_of_ticket ticket) new → IsRegister o pushed new (slice_set book seat (with_creation session ticket.«record»)) }
+        → (ticket : Ticket) (new : CoreValue) → Serves core Event.Create (reply_of_ticket ticket) new → IsRegister o pushed new (slice_set book seat (with_creation session ticket.«record»)) }
 {}
 
 /// A law: so it is after each step of a transaction of a seat.
 pub fn each_agreement_of_a_transaction()
     ensures insert { (o : Opened) → CanOpen o → (pushed : List RecordValue) (core : CoreValue) (book : List SessionValue) → IsRegister o pushed core book → (seat : ℕ) (session : SessionValue) → slice_get book seat ≡ Some session → (txn : ℕ) → is_active session txn ≡ true
-        → (row : Row) (rid : Place) (new : CoreValue) → IsServed core (Event.Insert txn row) (Reply.Rid rid) new → IsRegister o pushed new (slice_set book seat (changed session new txn (record { rid = rid; row = Some row }))) }
+        → (row : Row) (rid : Place) (new : CoreValue) → Serves core (Event.Insert txn row) (Reply.Rid rid) new → IsRegister o pushed new (slice_set book seat (changed session new txn (record { rid = rid; row = Some row }))) }
     ensures delete { (o : Opened) → CanOpen o → (pushed : List RecordValue) (core : CoreValue) (book : List SessionValue) → IsRegister o pushed core book → (seat : ℕ) (session : SessionValue) → slice_get book seat ≡ Some session → (txn : ℕ) → is_active session txn ≡ true
-        → (rid : Place) (new : CoreValue) → IsServed core (Event.Delete txn rid) Reply.Stepped new → IsRegister o pushed new (slice_set book seat (changed session new txn (record { rid = rid; row = None }))) }
+        → (rid : Place) (new : CoreValue) → Serves core (Event.Delete txn rid) Reply.Stepped new → IsRegister o pushed new (slice_set book seat (changed session new txn (record { rid = rid; row = None }))) }
     ensures update { (o : Opened) → CanOpen o → (pushed : List RecordValue) (core : CoreValue) (book : List SessionValue) → IsRegister o pushed core book → (seat : ℕ) (session : SessionValue) → slice_get book seat ≡ Some session → (txn : ℕ) → is_active session txn ≡ true
-        → (rid : Place) (row : Row) (new : CoreValue) → IsServed core (Event.Update txn rid row) Reply.Stepped new → IsRegister o pushed new (slice_set book seat (changed session new txn (record { rid = rid; row = Some row }))) }
+        → (rid : Place) (row : Row) (new : CoreValue) → Serves core (Event.Update txn rid row) Reply.Stepped new → IsRegister o pushed new (slice_set book seat (changed session new txn (record { rid = rid; row = Some row }))) }
     ensures next_step { (o : Opened) → CanOpen o → (pushed : List RecordValue) (core : CoreValue) (book : List SessionValue) → IsRegister o pushed core book → (seat : ℕ) (session : SessionValue) → slice_get book seat ≡ Some session → (txn : ℕ) → is_active session txn ≡ true
         → (new : CoreValue) → Serves core (Event.Step txn) Reply.Stepped new → IsRegister o pushed new (slice_set book seat (stepped session new txn)) }
     ensures undo_step { (o : Opened) → CanOpen o → (pushed : List RecordValue) (core : CoreValue) (book : List SessionValue) → IsRegister o pushed core book → (seat : ℕ) (session : SessionValue) → slice_get book seat ≡ Some session → (txn : ℕ) → is_active session txn ≡ true
@@ -94,7 +94,7 @@ pub fn each_agreement_of_a_transaction()
     ensures end { (o : Opened) → CanOpen o → (pushed : List RecordValue) (core : CoreValue) (book : List SessionValue) → IsRegister o pushed core book → (seat : ℕ) (session : SessionValue) → slice_get book seat ≡ Some session → (txn : ℕ) → is_active session txn ≡ true
         → (new : CoreValue) → Serves core (Event.End txn) Reply.Ended new → IsRegister o pushed new (slice_set book seat (ended session txn)) }
     ensures commit { (o : Opened) → CanOpen o → (pushed : List RecordValue) (core : CoreValue) (book : List SessionValue) → IsRegister o pushed core book → (seat : ℕ) (session : SessionValue) → slice_get book seat ≡ Some session → (txn : ℕ) → is_active session txn ≡ true
-        → (ticket : Ticket) (new : CoreValue) → IsServed core (Event.Commit txn) (reply_of_ticket ticket) new → IsRegister o pushed new (slice_set book seat (committed session txn ticket)) }
+        → (ticket : Ticket) (new : CoreValue) → Serves core (Event.Commit txn) (reply_of_ticket ticket) new → IsRegister o pushed new (slice_set book seat (committed session txn ticket)) }
 {}
 
 /// A law: what a seat's session says of the core. A transaction that is ready there may begin a change or commit; one with a

@@ -1,13 +1,11 @@
--- What becomes of a session in a step of its seat, and how the step is served.
+-- What becomes of a session in a step of its seat.
 use Rattle.std.specs.FinMap.{get}
 use Rattle.std.specs.Option.{option_map}
-use Rattle.std.specs.Prelude.{[], List, None, Option, map, option_and_then, true, ℕ, ◌++◌, ◌∷◌, ◌≡◌}
+use Rattle.std.specs.Prelude.{[], List, None, Option, map, option_and_then, true, ℕ, ◌++◌, ◌∷◌}
 use Rattle.records.specs.Values.{Place}
-use Rattle.records.specs.declared.error.Error.TheVariants.{NoMemory}
 use Rattle.model.specs.declared.write.Write.{Write}
-use Rattle.core_contracts.specs.Events.{Event, Refused, Reply}
 use Rattle.nsf_core.specs.Asked.{owed, progress_of}
-use Rattle.nsf_core.specs.View.{CoreValue, Serves}
+use Rattle.nsf_core.specs.View.{CoreValue}
 use Rattle.nsf_core.specs.declared.parts.Ticket.{Ticket}
 use Rattle.sessions.specs.Values.{ActiveValue, SessionValue, new_active, rows_of, with_active, with_write, without}
 
@@ -65,10 +63,3 @@ committed s txn ticket = record s {
 
 abbrev pub with_creation : SessionValue → ℕ → SessionValue
 with_creation s number = record s { creations = s.creations ++ number ∷ [] }
-
--- ---- how a step is served
-
--- The core served the event so; or the session had no memory for what it keeps of the step, and the core was not asked.
-pub data IsServed (old : CoreValue) (e : Event) (reply : Reply) (new : CoreValue) : Type 0 where
-  served : Serves old e reply new → IsServed old e reply new
-  not_asked : reply ≡ Refused NoMemory → new ≡ old → IsServed old e reply new

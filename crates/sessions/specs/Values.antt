@@ -66,3 +66,11 @@ can_go_on (Some a) = not (is_some a.unfinished) && not a.rolling
 -- active, with no unfinished change, and not rolling back
 abbrev pub is_ready : SessionValue → ℕ → Bool
 is_ready s txn = can_go_on (active_of txn s.active)
+
+abbrev pub has_unfinished : Option ActiveValue → Bool
+has_unfinished None = false
+has_unfinished (Some a) = is_some a.unfinished
+
+-- active, with an unfinished change
+abbrev pub is_unfinished : SessionValue → ℕ → Bool
+is_unfinished s txn = has_unfinished (active_of txn s.active)

@@ -1,6 +1,6 @@
 //! A session, and what it tells.
 ghost use Rattle.std.specs.Prelude.{◌≡◌, map};
-ghost use Rattle.sessions.specs.Values.{SessionValue, empty_session, is_ready};
+ghost use Rattle.sessions.specs.Values.{SessionValue, empty_session, is_ready, is_unfinished};
 
 use crate::active::{ActiveTxn, place_of};
 use crate::commit::Commit;
@@ -70,6 +70,16 @@ impl Session {
                 let one = &self.active[i];
                 one.unfinished.is_none() && !one.rolling
             }
+            None => false,
+        }
+    }
+
+    /// Whether the transaction is one of the seat's and has a change to finish.
+    pub fn unfinished(&self, txn: Txn) -> bool
+        ensures { result ≡ is_unfinished self.now txn }
+    {
+        match place_of(&self.active, txn) {
+            Some(i) => self.active[i].unfinished.is_some(),
             None => false,
         }
     }

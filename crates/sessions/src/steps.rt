@@ -8,7 +8,7 @@ ghost use Rattle.nsf_core.specs.Moves.{HasNoChange, IsReadyOrNone, OwesOrNone, t
 ghost use Rattle.nsf_core.specs.Replies.{reply_by, reply_of_ticket};
 ghost use Rattle.nsf_core.specs.Undoing.{undone_reply};
 ghost use Rattle.sessions.specs.Values.{is_active};
-ghost use Rattle.sessions.specs.Steps.{begun, changed, committed, with_creation, ended, stepped, rolling_back, IsServed};
+ghost use Rattle.sessions.specs.Steps.{begun, changed, committed, with_creation, ended, stepped, rolling_back};
 
 use crate::active::{
     ActiveTxn, note_change, note_step, note_undo, place_of, reserve_row, take_out,
@@ -23,13 +23,14 @@ use std::alloc::Global;
 impl Session {
     /// Begins a transaction of the seat.
     ///
-    /// The refusals are those of the core's `begin`. `NoMemory` comes also where there is none for the session's part,
-    /// and the core was then not asked. After a refusal both are as before.
+    /// The refusals are those of the core's `begin`, `NoMemory` the last of them; it comes also where there is none for the
+    /// session's part. After a refusal both are as before.
     pub fn begin(&mut self, core: &mut Core<Global>) -> Result<Txn, Error>
-        ensures served { IsServed (value_of core.old) Event.Begin (reply_by Reply.Txn result) (value_of core.new) }
+        ensures served { Serves (value_of core.old) Event.Begin (reply_by Reply.Txn result) (value_of core.new) }
         ensures ok { IfOk result (λ txn. self.new ≡ begun self.old txn) }
         ensures unchanged { OnErr result (self.new ≡ self.old) }
     {
+        core.check_begin()?;
         self.active.reserve(1)?;
         let txn = core.begin()?;
         self.active.push_reserved(ActiveTxn {
@@ -43,9 +44,9 @@ impl Session {
 
     /// Inserts a row in a transaction of the seat: the first step, and all of the insertion where there is no index.
     ///
-    /// `NoSuchTxn` where the transaction isn't one of the seat's, and else the refusals of the core's `start_insert`.
-    /// `NoMemory` comes also where there is none for the session's part, and the core was then not asked. After a refusal
-    /// both are as before.
+    /// `NoSuchTxn` where the transaction isn't one of the seat's, and else the refusals of the core's `start_insert`,
+    /// `NoMemory` the last of them; it comes also where there is none for the session's part. After a refusal both are as
+    /// before.
     pub fn insert(
         &mut self,
         core: &mut Core<Global>,
@@ -55,13 +56,14 @@ impl Session {
     ) -> Result<Rid, Error>
         requires { is_active self.old txn ≡ true → IsReadyOrNone (txn_shown (value_of core.old) txn) }
         ensures foreign { is_active self.old txn ≡ false → (result ≡ Err NoSuchTxn) × (value_of core.new ≡ value_of core.old) }
-        ensures served { is_active self.old txn ≡ true → IsServed (value_of core.old) (Event.Insert txn (record { key = key; body = body })) (reply_by Reply.Rid result) (value_of core.new) }
+        ensures served { is_active self.old txn ≡ true → Serves (value_of core.old) (Event.Insert txn (record { key = key; body = body })) (reply_by Reply.Rid result) (value_of core.new) }
         ensures ok { IfOk result (λ rid. self.new ≡ changed self.old (value_of core.new) txn (record { rid = rid; row = Some (record { key = key; body = body }) })) }
         ensures unchanged { OnErr result (self.new ≡ self.old) }
     {
         let Some(i) = place_of(&self.active, txn) else {
             return Err(Error::NoSuchTxn);
         };
+        core.check_insert(txn)?;
         reserve_row(&mut self.active, i)?;
         let rid = core.start_insert(txn, key, body)?;
         let row = Some(Row { key, body });
@@ -75,13 +77,14 @@ impl Session {
     pub fn delete(&mut self, core: &mut Core<Global>, txn: Txn, rid: Rid) -> Result<(), Error>
         requires { is_active self.old txn ≡ true → IsReadyOrNone (txn_shown (value_of core.old) txn) }
         ensures foreign { is_active self.old txn ≡ false → (result ≡ Err NoSuchTxn) × (value_of core.new ≡ value_of core.old) }
-        ensures served { is_active self.old txn ≡ true → IsServed (value_of core.old) (Event.Delete txn rid) (reply_by (λ _. Reply.Stepped) result) (value_of core.new) }
+        ensures served { is_active self.old txn ≡ true → Serves (value_of core.old) (Event.Delete txn rid) (reply_by (λ _. Reply.Stepped) result) (value_of core.new) }
         ensures ok { OnOk result (self.new ≡ changed self.old (value_of core.new) txn (record { rid = rid; row = None })) }
         ensures unchanged { OnErr result (self.new ≡ self.old) }
     {
         let Some(i) = place_of(&self.active, txn) else {
             return Err(Error::NoSuchTxn);
         };
+        core.check_change(txn, rid)?;
         reserve_row(&mut self.active, i)?;
         core.start_delete(txn, rid)?;
         note_change(&mut self.active, i, core, Write { rid, row: None });
@@ -102,13 +105,14 @@ impl Session {
     ) -> Result<(), Error>
         requires { is_active self.old txn ≡ true → IsReadyOrNone (txn_shown (value_of core.old) txn) }
         ensures foreign { is_active self.old txn ≡ false → (result ≡ Err NoSuchTxn) × (value_of core.new ≡ value_of core.old) }
-        ensures served { is_active self.old txn ≡ true → IsServed (value_of core.old) (Event.Update txn rid (record { key = key; body = body })) (reply_by (λ _. Reply.Stepped) result) (value_of core.new) }
+        ensures served { is_active self.old txn ≡ true → Serves (value_of core.old) (Event.Update txn rid (record { key = key; body = body })) (reply_by (λ _. Reply.Stepped) result) (value_of core.new) }
         ensures ok { OnOk result (self.new ≡ changed self.old (value_of core.new) txn (record { rid = rid; row = Some (record { key = key; body = body }) })) }
         ensures unchanged { OnErr result (self.new ≡ self.old) }
     {
         let Some(i) = place_of(&self.active, txn) else {
             return Err(Error::NoSuchTxn);
         };
+        core.check_change(txn, rid)?;
         reserve_row(&mut self.active, i)?;
         core.start_update(txn, rid, key, body)?;
         let row = Some(Row { key, body });
@@ -176,19 +180,19 @@ impl Session {
     /// Commits a transaction of the seat: it is none of the active ones from then on, and a commit with its ticket and
     /// the rows at the places that it held is the last one.
     ///
-    /// `NoSuchTxn` where the transaction isn't one of the seat's, and else the refusals of the core's `commit`. `NoMemory`
-    /// comes also where there is none for the session's part, and the core was then not asked. After a refusal both are
-    /// as before.
+    /// `NoSuchTxn` where the transaction isn't one of the seat's, and else the refusals of the core's `commit`, `NoMemory`
+    /// the last of them; it comes also where there is none for the session's part. After a refusal both are as before.
     pub fn commit(&mut self, core: &mut Core<Global>, txn: Txn) -> Result<Ticket, Error>
         requires { is_active self.old txn ≡ true → IsReadyOrNone (txn_shown (value_of core.old) txn) }
         ensures foreign { is_active self.old txn ≡ false → (result ≡ Err NoSuchTxn) × (value_of core.new ≡ value_of core.old) }
-        ensures served { is_active self.old txn ≡ true → IsServed (value_of core.old) (Event.Commit txn) (reply_by reply_of_ticket result) (value_of core.new) }
+        ensures served { is_active self.old txn ≡ true → Serves (value_of core.old) (Event.Commit txn) (reply_by reply_of_ticket result) (value_of core.new) }
         ensures ok { IfOk result (λ ticket. self.new ≡ committed self.old txn ticket) }
         ensures unchanged { OnErr result (self.new ≡ self.old) }
     {
         let Some(i) = place_of(&self.active, txn) else {
             return Err(Error::NoSuchTxn);
         };
+        core.check_commit(txn)?;
         self.commits.reserve(1)?;
         let ticket = core.commit(txn)?;
         let writes = take_out(&mut self.active, i, txn);
@@ -202,13 +206,14 @@ impl Session {
 
     /// Creates the index, and keeps the number of the record that tells of it.
     ///
-    /// The refusals are those of the core's `create_index`. `NoMemory` comes also where there is none for the session's
-    /// part, and the core was then not asked. After a refusal both are as before.
+    /// The refusals are those of the core's `create_index`, `NoMemory` the last of them; it comes also where there is none
+    /// for the session's part. After a refusal both are as before.
     pub fn create_index(&mut self, core: &mut Core<Global>) -> Result<Ticket, Error>
-        ensures served { IsServed (value_of core.old) Event.Create (reply_by reply_of_ticket result) (value_of core.new) }
+        ensures served { Serves (value_of core.old) Event.Create (reply_by reply_of_ticket result) (value_of core.new) }
         ensures ok { IfOk result (λ ticket. self.new ≡ with_creation self.old ticket.«record») }
         ensures unchanged { OnErr result (self.new ≡ self.old) }
     {
+        core.check_create()?;
         self.creations.reserve(1)?;
         let ticket = core.create_index()?;
         self.creations.push_reserved(ticket.record);
