@@ -1,3 +1,4 @@
 mod Flushed
 mod Entries
 mod Made
+mod Started
