@@ -6,10 +6,10 @@ use Rattle.records.specs.declared.number.TheConstants.{LAST_NUMBER}
 use Rattle.core_model.specs.States.{State}
 use Rattle.core_contracts.specs.Events.{Standing}
 use Rattle.store_reader.specs.Contents.{log_area}
-use Rattle.sector_device.specs.Disk.{Image}
+use Rattle.sector_device.specs.Disk.{Image, SameOutside}
 use Rattle.sector_device.specs.History.{History, LeavesOnly}
 use Rattle.sector_device.proofs.Moments.{weaker}
-use Rattle.gate_log.specs.Area.{Area, Log}
+use Rattle.gate_log.specs.Area.{Area, InArea, Log}
 use Rattle.core_contracts.specs.Events as core
 use Rattle.core_contracts.specs.Served.{HasServed}
 use Rattle.nsf_core.specs.Outbox.{HandsOn}
@@ -21,12 +21,13 @@ use Rattle.first.specs.declared.parts.Parts.{Parts}
 use Rattle.first.specs.declared.writer.Writer.{Writer}
 use Rattle.first.specs.History.{IsOfKind, acknowledged, core_calls}
 use Rattle.first.specs.Writer.{HoldsRecords, LeftBy, StandsFor, FillsGroup, IsWriter, OpensOne}
-use Rattle.first.specs.Store.{Past, acknowledged_by, and_then, over, Survives, IsAt, ServesOn}
+use Rattle.first.specs.Store.{Past, acknowledged_by, and_then, over, Survives, IsAt, ServesOn, KeepsAround}
 use Rattle.first.specs.Parts.{unwritten}
 use Rattle.first.specs.Lawful.{Writes}
 use Rattle.gate_log.specs.Group.{FitsGroup, spellings}
 use Rattle.gate_log.specs.declared.group.TheConstants.{GROUP_MAX}
 use Rattle.std.proofs.lemmas.Bool.{cases_lt}
+use Rattle.first.proofs.Around.{outside_left}
 use Rattle.first.proofs.Stories.{survives, at_next}
 use Rattle.first.proofs.Told.{pairs_last}
 
@@ -124,6 +125,16 @@ module _ {D M : Type 0} (history : D → History) (old : Parts D M) (new_core : 
     -- the writer's numbers are those of records
     pub within : (new : Writer D M) → IsWriter history area is.frame handed_now new → new.base ≡ mid.base → new.base + new.synced ≤ LAST_NUMBER
     within new is_writer base = omega (arith, is_writer.reached, base, ap (λ w. w.base) same, is.base, last_is, numbered, sizes)
+
+    -- only the log is written
+    pub around : (new : Parts D M) → ((area : Area) (frame : Image) (handed : List RecordValue) → IsWriter history area frame handed mid → IsWriter history area frame handed new.writer)
+        → ((area : Area) (frame : Image) (handed : List RecordValue) → IsWriter history area frame handed mid → LeavesOnly (history mid.device) (history new.writer.device) (LeftBy area frame handed mid.synced)) → KeepsAround history old new
+    around new writer images = record {
+      area = (writer area is.frame handed_now taken).area_is ∙ sym is.writer.area_is;
+      images = subst (λ d. LeavesOnly (history d) (history new.writer.device) (SameOutside (InArea old.writer.log.area) (history old.writer.device).disk.content)) (ap (λ w. w.device) same)
+          (weaker (history mid.device) (history new.writer.device) (LeftBy area is.frame handed_now mid.synced) (SameOutside (InArea old.writer.log.area) (history old.writer.device).disk.content)
+          (outside_left history past old is handed_now mid.synced) (images area is.frame handed_now taken));
+    }
 
   module _ (new : Parts D M) (core_is : value_of new.core ≡ new_core) (reply : Reply M) (kind : IsOfKind None reply)
       (writer : (area : Area) (frame : Image) (handed : List RecordValue) → IsWriter history area frame handed mid → IsWriter history area frame handed new.writer)

@@ -3,6 +3,7 @@ mod Told
 mod Stories
 mod Answered
 mod Served
+mod Around
 mod Flushing
 mod Runs
 mod Crashes

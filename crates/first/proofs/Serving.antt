@@ -11,8 +11,9 @@ use Rattle.first.specs.declared.event.Reply.TheVariants as reply
 use Rattle.first.specs.History.{acknowledged, answered, asked}
 use Rattle.first.specs.Lawful.{IsAnswer, IsAnswerTo, IsFlushAnswer, IsInCore, IsInCoreBy, IsLawful, ServesInCore, is_read}
 use Rattle.first.specs.Parts.{is_read_only}
-use Rattle.first.specs.Store.{CanRun, IsSomewhere, ServesOn}
+use Rattle.first.specs.Store.{CanRun, IsSomewhere, ServesOn, KeepsAround, WritesLogAlone}
 use Rattle.first.proofs.Runs.{can_run_after, is_serving}
+use Rattle.first.proofs.Around.{none_written}
 use Rattle.first.proofs.Served.{served}
 
 -- what the core answers tells nothing of what is safe
@@ -45,6 +46,9 @@ module _ {D M : Type 0} (history : D → History) (failures : D → ℕ) (x : Ev
 
     pub answered_by_core : IsAnswer failures x r old new
     answered_by_core = let by = by_core (asked x) refl in_core in subst (λ o. IsAnswerTo failures o r old new) (sym by.1) by.2
+
+    pub around_by_core : WritesLogAlone history old new
+    around_by_core past is = let by = by_core (asked x) refl in_core in none_written history past old is new by.2.rest
 
     same_mode : is_read_only new ≡ is_read_only old
     same_mode = let by = by_core (asked x) refl in_core in ap (λ (e : Parts D M). e.read_only) by.2.rest
@@ -83,6 +87,9 @@ module _ {D M : Type 0} (history : D → History) (failures : D → ℕ) (x : Ev
 
   pub flush_serves : ServesOn history event.Flush r mid new → ServesOn history x r old new
   flush_serves serves = subst (λ e. ServesOn history e r old new) (sym is) (subst (λ e. ServesOn history event.Flush r e new) same serves)
+
+  pub flush_around : KeepsAround history mid new → WritesLogAlone history old new
+  flush_around keeps past at = subst (λ (e : Parts D M). KeepsAround history e new) same keeps
 
   pub flush_lawful : IsFlushAnswer failures r mid new → IsLawful failures x r old new
   flush_lawful answer = inr (inl not_only, subst (λ e. IsAnswer failures e r old new) (sym is) (subst (λ e. IsFlushAnswer failures r e new) same answer))

@@ -55,11 +55,12 @@ pub record IsOpened {D M : Type 0} (history : D → History) (before : D) (engin
   pub come : CanOpen (over geometry given) → HasCome (core_of engine)
 
 -- Why nothing was opened: there was no memory, the device failed in the call, or it gives nothing. With any answer but
--- `DeviceFailed` no call of the device failed.
+-- `DeviceFailed` no call of the device failed, and the device is synced.
 pub record IsNotOpened {D : Type 0} (history : D → History) (failures : D → ℕ) (before after : D) (e : Error) : Type 0 where
   pub device : OnlySyncs history before after
   pub why : Refuses (failures before) (failures after) e ⊎ IsUnreadable (history before).disk.content e
   pub told : e ≢ DeviceFailed → failures after ≡ failures before
+  pub synced : e ≢ DeviceFailed → IsSynced (history after).disk
 
 -- The engine holds a beginning of the run's history, which has every item up to the floor and no record past the last that
 -- the run made, and no transaction; and what it holds is something that a core may begin with: as far as the index is built, it shows the pair of each row, and no other. The

@@ -10,19 +10,20 @@ use Rattle.core_contracts.specs.Events.{Standing, standing_at}
 use Rattle.core_contracts.specs.Served as told
 use Rattle.core_contracts.specs.Served.{HasServed}
 use Rattle.nsf_core.specs.View.{IsState}
-use Rattle.sector_device.specs.Disk.{Image, IsCrashImage}
+use Rattle.sector_device.specs.Disk.{Image, IsCrashImage, SameOutside}
 use Rattle.sector_device.specs.History.{History, LeavesOnly, Spans}
 use Rattle.flip_image.specs.declared.half.Half.{Half}
 use Rattle.flip_image.specs.Store.{HoldsImage, IsStore}
 use Rattle.image_half.specs.Image.{no_cells}
 use Rattle.store_reader.specs.Contents.{Gives, log_area}
+use Rattle.gate_log.specs.Area.{InArea}
 use Rattle.first.specs.declared.event.Event.{Event}
 use Rattle.first.specs.declared.event.Reply.{Reply}
 use Rattle.first.specs.declared.parts.Parts.{Parts}
 use Rattle.first.specs.History.{AreOfKind, acknowledged, core_calls, standing_over}
 use Rattle.first.specs.Writer.{IsWriter}
 use Rattle.first.specs.Lawful.{IsLawful}
-use Rattle.first.specs.Parts.{core_of, device_of, synced_of, is_read_only}
+use Rattle.first.specs.Parts.{core_of, device_of, log_of, synced_of, is_read_only}
 
 -- A run: how large the store is, what it began with, what was asked, and what was answered.
 pub record Past (M : Type 0) : Type 0 where
@@ -101,6 +102,16 @@ abbrev pub ServesOn : {D M : Type 0} → (D → History) → Event → Reply M �
 ServesOn {D} {M} history event reply old new = (past : Past M) → IsAt history past old
     → IsAt history (and_then past (event ∷ []) (reply ∷ [])) new
     × LeavesOnly (history (device_of old)) (history (device_of new)) (Survives (and_then past (event ∷ []) (reply ∷ [])) (acknowledged_by past))
+
+-- Only the log was written: at any moment of the call a crash leaves, in each sector that is none of the log's, what the device
+-- held before the call, and so does the call's end.
+pub record KeepsAround {D M : Type 0} (history : D → History) (old new : Parts D M) : Type 0 where
+  pub area : (log_of new).area ≡ (log_of old).area
+  pub images : LeavesOnly (history (device_of old)) (history (device_of new)) (SameOutside (InArea (log_of old).area) (history (device_of old)).disk.content)
+
+-- whatever run left the engine so, only the log was written
+abbrev pub WritesLogAlone : {D M : Type 0} → (D → History) → Parts D M → Parts D M → Type 0
+WritesLogAlone {D} {M} history old new = (past : Past M) → IsAt history past old → KeepsAround history old new
 
 -- what a crash between borders j and j + 1 leaves of a run that answered these requests
 abbrev pub SurvivesAt : {M : Type 0} → Past M → List Event → List (Reply M) → ℕ → Image → Type 0

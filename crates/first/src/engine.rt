@@ -39,15 +39,17 @@ impl<D: Device, A: Allocator + Copy> Engine<D, A> {
     ghost use Rattle.nsf_core.specs.Value.{value_of};
     ghost use Rattle.first.specs.Parts.{core_of, device_of};
     ghost use Rattle.first.specs.Lawful.{IsLawful, AreLawful};
-    ghost use Rattle.first.specs.Store.{ServesOn, RunsOn, RunsLawfully, KeepsRun};
+    ghost use Rattle.first.specs.Store.{ServesOn, RunsOn, RunsLawfully, KeepsRun, WritesLogAlone};
     ghost use Rattle.first.specs.Reopening.{KeepsWholeRun, SurvivesAnyCrash};
     ghost use Rattle.first.specs.Building.{IsBuiltToEnd, BuildsWhole, HasCome};
 
     /// Serves one request. A crash at any moment of the call leaves a store that `restart` takes back to what was
-    /// told by a prefix of the requests, and nothing that an earlier reply has told to be safe is lost (`serves`).
+    /// told by a prefix of the requests, and nothing that an earlier reply has told to be safe is lost (`serves`). No sector
+    /// but those of the log is written (`around`).
     pub fn serve(&mut self, event: Event) -> Reply<A>
         ensures serves { ServesOn D.history event result self.old self.new }
         ensures lawful { IsLawful D.failures event result self.old self.new }
+        ensures around { WritesLogAlone D.history self.old self.new }
     {
         self.parts.serve(event)
     }
@@ -64,6 +66,7 @@ impl<D: Device, A: Allocator + Copy> Engine<D, A> {
         ensures ran { IfOk result (λ replies. RunsOn D.history events.now replies.items self.old self.new) }
         ensures served { IfOk result (λ replies. RunsLawfully D.history D.failures events.now replies.items self.old self.new) }
         ensures lawful { IfOk result (λ replies. AreLawful D.failures events.now replies.items self.old self.new) }
+        ensures around { OnOk result (WritesLogAlone D.history self.old self.new) }
         ensures refused { OnErr result (self.new ≡ self.old) }
         ensures no_memory { IfErr result (λ e. e ≡ Error.NoMemory) }
         ensures some { OnErr result (events.now ≢ []) }
@@ -88,7 +91,8 @@ impl<D: Device, A: Allocator + Copy> Engine<D, A> {
     /// With no transaction active and the answer `Ok`, the rows are as they were, and the visible entries are just their
     /// pairs (`whole`). This is promised of an engine that a run left, and of one that was opened over what a run left; of
     /// one that was opened over any other store it is where the index that the store gave had, as far as it was built, a
-    /// visible entry for the pair of each row, and no other. It stays so whatever the answer is (`come`), so that a build
+    /// visible entry for the pair of each row, nowhere one for another pair, and nowhere a marked one for the pair of a row
+    /// (`CanOpen`): a builder leaves a marked entry as it is. It stays so whatever the answer is (`come`), so that a build
     /// may be gone on with. An engine that only reads builds too, in memory alone: nothing of that is ever written.
     pub fn build_to_end(&mut self) -> Result<Ticket, Error>
         ensures built { IsBuiltToEnd D.history result self.old self.new }

@@ -124,6 +124,6 @@ pub enum Reply<A: Allocator> {
     Life(Life),
     /// The store doesn't serve such a request now, or what it asks for isn't met. Nothing was done.
     Skipped,
-    /// Nothing was done.
+    /// Nothing was done; but to a flush that meets `DeviceFailed` the group may be in the log or not.
     Refused(Error),
 }

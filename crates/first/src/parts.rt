@@ -21,13 +21,14 @@ impl<D: Device, A: Allocator + Copy> Parts<D, A> {
     ghost use Rattle.first.specs.declared.event.Event.TheVariants.{Flush};
     ghost use Rattle.first.specs.Parts.{is_read_only};
     ghost use Rattle.first.specs.Lawful.{is_read, IsFlushAnswer, IsLawful};
-    ghost use Rattle.first.specs.Store.{CanRun, IsSomewhere, ServesOn};
+    ghost use Rattle.first.specs.Store.{CanRun, IsSomewhere, ServesOn, KeepsAround, WritesLogAlone};
 
     /// Serves one request.
     pub(crate) fn serve(&mut self, event: Event) -> Reply<A>
         requires { CanRun D.history self.old }
         ensures serves { ServesOn D.history event result self.old self.new }
         ensures lawful { IsLawful D.failures event result self.old self.new }
+        ensures around { WritesLogAlone D.history self.old self.new }
         ensures can_run { CanRun D.history self.new }
     {
         if self.skips(&event) {
@@ -52,6 +53,7 @@ impl<D: Device, A: Allocator + Copy> Parts<D, A> {
         requires { IsSomewhere D.history self.old }
         ensures serves { ServesOn D.history Flush result self.old self.new }
         ensures answer { IsFlushAnswer D.failures result self.old self.new }
+        ensures around { KeepsAround D.history self.old self.new }
     {
         self.core.take_outbox(&mut self.writer.waiting);
         let more = self.writer.last() < self.core.last();

@@ -24,9 +24,9 @@ use store_reader::read_store;
 /// ended. Nothing is written. The device is given back with a refusal.
 ///
 /// `DeviceTooSmall`, `NotFormatted` and `Damaged` where the device holds no store, or one that was harmed; none of them
-/// comes after a crash of a device that was formatted and then written by this engine alone (`recovers`). `NoMemory` comes
+/// comes after a crash of a device that was formatted and then written by this engine alone (`readable`). `NoMemory` comes
 /// only where the device holds a store, whose current half begins with a header (`memory`), and `DeviceFailed` where the device
-/// failed in the call, and only then.
+/// failed in the call, and only then. With any other refusal the device is synced.
 pub fn restart<D: Device, A: Allocator + Copy>(
     alloc: A,
     mut device: D,
@@ -62,6 +62,7 @@ fn open_core<D: Device, A: Allocator + Copy>(
     ensures found { IfOk result (λ r. IsCoreOf (D.history device.old).disk.content r.1 (value_of r.0) r.2) }
     ensures area { IfOk result (λ r. IsAreaInside r.1.area (D.history device.old).disk.content) }
     ensures synced { OnOk result (IsSynced (D.history device.new).disk) }
+    ensures settled { IfErr result (λ e. e ≢ Error.DeviceFailed → IsSynced (D.history device.new).disk) }
     ensures only { OnlySyncs D.history device.old device.new }
     ensures quiet { OnOk result (D.failures device.new ≡ D.failures device.old) }
     ensures told { IfErr result (λ e. e ≢ Error.DeviceFailed → D.failures device.new ≡ D.failures device.old) }

@@ -1,4 +1,4 @@
-use Rattle.std.proofs.Common.{◌≡◌, ◌⊎◌, ◌∙◌, sym, ap, subst}
+use Rattle.std.proofs.Common.{refl, ◌≡◌, ◌⊎◌, ◌∙◌, sym, ap, subst}
 use Rattle.std.proofs.lemmas.Result.{err_from_is_err_and}
 use Rattle.sector_device.specs.Disk.{Image, Disk}
 use Rattle.gate_log.specs.Area.{IsAreaInside, Refuses}
@@ -53,3 +53,16 @@ returns-clause-found g c =
 
 pub returns-in_default-clause-memory : goal.returns-in_default-clause-memory
 returns-in_default-clause-memory g c is = absurd cc
+
+pub returns-in_err-found-clause-settled : goal.returns-in_err-found-clause-settled
+returns-in_err-found-clause-settled g c =
+    let p = err_from_is_err_and c.from_residual.result c.from_residual.ensures.1 in
+    rw p.1 (λ other k. ap (λ (d : Disk). d.unsynced k) (c.in_err-found.ensures.reads.disk ∙ c.in-Ok.ensures.ok))
+
+pub returns-in_err-core-clause-settled : goal.returns-in_err-core-clause-settled
+returns-in_err-core-clause-settled g c =
+    let p = err_from_is_err_and c.from_residual-in_err-core.result c.from_residual-in_err-core.ensures.1 in
+    rw p.1 (λ other k. ap (λ (d : Disk). d.unsynced k) (c.in_ok-found.ensures.reads.disk ∙ c.in-Ok.ensures.ok))
+
+pub returns-in_default-clause-settled : goal.returns-in_default-clause-settled
+returns-in_default-clause-settled g c = λ other. absurd (other refl)

@@ -23,3 +23,6 @@ returns-in-Ok-clause-recovers g c past floor left =
 
 pub returns-in-Err-clause-readable : goal.returns-in-Err-clause-readable
 returns-in-Err-clause-readable g c past floor left = c.in-Err.ensures.accepted past.geometry left.given left.gives
+
+pub returns-in-Err-clause-refused : goal.returns-in-Err-clause-refused
+returns-in-Err-clause-refused g c = record { device = c.in-Err.ensures.only; why = c.in-Err.ensures.refused; told = c.in-Err.ensures.told; synced = c.in-Err.ensures.settled }

@@ -4,6 +4,7 @@ use Rattle.first.specs.declared.event.Event.{Event}
 use Rattle.first.specs.declared.event.Reply.{Reply}
 use Rattle.first.specs.Lawful.{IsLawful, AreLawful}
 use Rattle.first.specs.Store.{Past, IsAt, ServesOn, GoesOn, AreServed, and_then}
+use Rattle.first.proofs.Around.{none_written, then_around}
 use Rattle.first.proofs.Runs.{goes_nowhere, goes_further, lawful_last, served_last}
 use Rattle.first.proofs.Crashes.{survives_any_crash}
 use Rattle.first.proofs.Stories.{crash_now}
@@ -16,6 +17,7 @@ loop-event-init g c = record {
   lawful = subst (λ (rs : List (Reply _)). AreLawful g.D.Device.failures [] rs c.args.self.now c.args.self.now) (sym c.in_ok-replies.ensures.items) refl;
   served = λ past is. subst (λ (rs : List (Reply _)). AreServed g.D.Device.history g.D.Device.failures past [] rs c.args.self.now c.args.self.now) (sym c.in_ok-replies.ensures.items) refl;
   ran = λ past is. subst (λ (rs : List (Reply _)). GoesOn g.D.Device.history past [] rs c.args.self.now c.args.self.now) (sym c.in_ok-replies.ensures.items) (goes_nowhere g.D.Device.history past c.args.self.now is);
+  around = λ past is. none_written g.D.Device.history past c.args.self.now is c.args.self.now refl;
 }
 
 pub loop-event-preserved : goal.loop-event-preserved
@@ -41,6 +43,7 @@ loop-event-preserved g c =
           subst (λ (es : List Event). GoesOn history past es c.push.new.self.items c.args.self.now c.serve-reply.new.self) (sym (take_more events i c.event-item.result c.loop-event-test.true))
           (subst (λ (rs : List (Reply _)). GoesOn history past (take i events ++ get_or events i c.event-item.result ∷ []) rs c.args.self.now c.serve-reply.new.self) (sym c.in-Ok.ensures.items)
           (goes_further history past (take i events) c.loop-event.replies.items c.args.self.now c.loop-event.self c.serve-reply.new.self (get_or events i c.event-item.result) c.serve-reply.result even (inv.ran past is) (subst (λ e. ServesOn history e c.serve-reply.result c.loop-event.self c.serve-reply.new.self) item c.serve-reply.ensures.serves)));
+      around = λ past is. then_around history c.args.self.now c.loop-event.self c.serve-reply.new.self (inv.around past is) (c.serve-reply.ensures.around _ (inv.ran past is).at);
     }
 
 pub returns : goal.returns
@@ -53,6 +56,7 @@ returns g c =
       served = λ past is. subst (λ (es : List Event). AreServed g.D.Device.history g.D.Device.failures past es c.loop-event.replies.items c.args.self.now c.loop-event.self) (take_all c.loop-event.event-index c.args.events.now c.loop-event-test.false) (c.loop-event.invariant.served past is);
       ran = ran;
       lawful = subst (λ (es : List Event). AreLawful g.D.Device.failures es c.loop-event.replies.items c.args.self.now c.loop-event.self) (take_all c.loop-event.event-index c.args.events.now c.loop-event-test.false) c.loop-event.invariant.lawful;
+      around = c.loop-event.invariant.around;
       refused = tt;
       no_memory = tt;
       some = tt;

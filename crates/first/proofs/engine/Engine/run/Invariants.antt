@@ -1,6 +1,6 @@
 use Rattle.std.proofs.Common.{◌≡◌, ◌≤◌, length, take, vec_capacity}
 use Rattle.first.specs.Lawful.{AreLawful}
-use Rattle.first.specs.Store.{Past, IsAt, GoesOn, AreServed}
+use Rattle.first.specs.Store.{Past, IsAt, GoesOn, AreServed, KeepsAround}
 use Rattle.first.proofs.engine.Engine.run.Given as goal
 
 abbrev pub invariant-loop-event : goal.invariant-loop-event
@@ -12,4 +12,5 @@ invariant-loop-event g l =
       lawful : AreLawful g.D.Device.failures (take l.event-index l.events) l.replies.items l.fn.self l.self;
       served : (past : Past _) → IsAt history past l.fn.self → AreServed history g.D.Device.failures past (take l.event-index l.events) l.replies.items l.fn.self l.self;
       ran : (past : Past _) → IsAt history past l.fn.self → GoesOn history past (take l.event-index l.events) l.replies.items l.fn.self l.self;
+      around : (past : Past _) → IsAt history past l.fn.self → KeepsAround history l.fn.self l.self;
     }

@@ -5,7 +5,7 @@ use Rattle.first.specs.declared.writer.Writer.{Writer}
 use Rattle.first.specs.declared.writer.Flushed.TheVariants.{Done}
 use Rattle.store_reader.specs.Contents.{log_area}
 use Rattle.first.specs.Writer.{IsFlushed}
-use Rattle.first.proofs.Flushing.{core_has, enough, fills, handed_within, no_slot, none_left, none_waits, one_waits, served_flush, some_left, some_waits, taken, within, writes}
+use Rattle.first.proofs.Flushing.{around, core_has, enough, fills, handed_within, no_slot, none_left, none_waits, one_waits, served_flush, some_left, some_waits, taken, within, writes}
 use Rattle.nsf_core.specs.Value.{value_of}
 use Rattle.first.proofs.parts.Parts.flush.Goals as goal
 
@@ -110,3 +110,27 @@ returns-in-Err-clause-answer g c =
     (λ none. inl (none.0, none.1, ap (λ w. w.failed) none.3 ∙ none.1, ⊎_elim (λ w. some_waits history old (value_of c.take_outbox.new.self) mid hands refl w.0) (some_left history old (value_of c.take_outbox.new.self) mid hands refl c.requires.0 c.requires.1 more is_more) none.2, ⊎_elim (λ w. inl w.1) (λ behind. inr (core_has history old (value_of c.take_outbox.new.self) mid hands refl c.requires.0 c.requires.1 more is_more behind)) none.2, record { none = writes history old (value_of c.take_outbox.new.self) mid hands refl new refl c.requires.0 c.requires.1 after 0 c.flush_group.ensures.base (omega (arith, ap (λ w. w.synced) none.3)) refl g.D.Device.failures c.flush_group.ensures.later (no_slot mid.log c.flush_group.new.self.log (ap (λ w. w.log) none.3)); device = ap (λ w. w.device) none.3; log = ap (λ w. w.log) none.3 }))
     (λ failed. inr (failed.0, failed.1, (λ sound. (some_waits history old (value_of c.take_outbox.new.self) mid hands refl (failed.2 sound).0, (failed.2 sound).1)), (λ before. record { none = writes history old (value_of c.take_outbox.new.self) mid hands refl new refl c.requires.0 c.requires.1 after 0 c.flush_group.ensures.base (omega (arith, ap (λ w. w.synced) (failed.3 before))) refl g.D.Device.failures c.flush_group.ensures.later (no_slot mid.log c.flush_group.new.self.log (ap (λ w. w.log) (failed.3 before))); device = ap (λ w. w.device) (failed.3 before); log = ap (λ w. w.log) (failed.3 before) }), writes history old (value_of c.take_outbox.new.self) mid hands refl new refl c.requires.0 c.requires.1 after 0 c.flush_group.ensures.base (omega (arith, c.in-Err.ensures.nothing)) refl g.D.Device.failures c.flush_group.ensures.later (no_slot mid.log c.flush_group.new.self.log c.in-Err.ensures.log)))
     c.in-Err.ensures.err
+
+pub returns-in-Ok-Done-clause-around : goal.returns-in-Ok-Done-clause-around
+returns-in-Ok-Done-clause-around g c =
+    let history = g.D.Device.history in
+    let old = c.args.self.now in
+    let mid : Writer g.row.D.Denot g.row.A.Denot = record old.writer { waiting = c.take_outbox.new.sink } in
+    let new : Parts g.row.D.Denot g.row.A.Denot = record { core = c.take_outbox.new.self; writer = c.flush_group.new.self; alloc = old.alloc; read_only = old.read_only } in
+    around history old (value_of c.take_outbox.new.self) mid c.take_outbox.ensures.handed refl c.requires.0 c.requires.1 new c.flush_group.ensures.writer c.flush_group.ensures.images
+
+pub returns-in-Ok-Full-clause-around : goal.returns-in-Ok-Full-clause-around
+returns-in-Ok-Full-clause-around g c =
+    let history = g.D.Device.history in
+    let old = c.args.self.now in
+    let mid : Writer g.row.D.Denot g.row.A.Denot = record old.writer { waiting = c.take_outbox.new.sink } in
+    let new : Parts g.row.D.Denot g.row.A.Denot = record { core = c.take_outbox.new.self; writer = c.flush_group.new.self; alloc = old.alloc; read_only = old.read_only } in
+    around history old (value_of c.take_outbox.new.self) mid c.take_outbox.ensures.handed refl c.requires.0 c.requires.1 new c.flush_group.ensures.writer c.flush_group.ensures.images
+
+pub returns-in-Err-clause-around : goal.returns-in-Err-clause-around
+returns-in-Err-clause-around g c =
+    let history = g.D.Device.history in
+    let old = c.args.self.now in
+    let mid : Writer g.row.D.Denot g.row.A.Denot = record old.writer { waiting = c.take_outbox.new.sink } in
+    let new : Parts g.row.D.Denot g.row.A.Denot = record { core = c.take_outbox.new.self; writer = c.flush_group.new.self; alloc = old.alloc; read_only = old.read_only } in
+    around history old (value_of c.take_outbox.new.self) mid c.take_outbox.ensures.handed refl c.requires.0 c.requires.1 new c.flush_group.ensures.writer c.flush_group.ensures.images

@@ -1,7 +1,7 @@
 use Rattle.std.proofs.Common.{refl, sym, inl, inr, ◌∙◌}
 use Rattle.std.proofs.lemmas.Bool.{false≢true}
 use Rattle.first.specs.declared.event.Reply.TheVariants as reply
-use Rattle.first.proofs.Serving.{answered_by_core, can_run_by_core, flush_can_run, flush_lawful, flush_serves, flush_somewhere, served_by_core, serves_or_reads, skips_only}
+use Rattle.first.proofs.Serving.{answered_by_core, around_by_core, can_run_by_core, flush_around, flush_can_run, flush_lawful, flush_serves, flush_somewhere, served_by_core, serves_or_reads, skips_only}
 use Rattle.first.proofs.parts.Parts.serve.Goals as goal
 
 pub returns-then-skips-clause-serves : goal.returns-then-skips-clause-serves
@@ -30,3 +30,12 @@ returns-in-None-clause-lawful g c = flush_lawful g.D.Device.history g.D.Device.f
 
 pub returns-in-None-clause-can_run : goal.returns-in-None-clause-can_run
 returns-in-None-clause-can_run g c = flush_can_run g.D.Device.history g.D.Device.failures c.args.event c.flush.result c.args.self.now c.ask_core.new.self c.flush.new.self c.in-None.ensures.none.0 c.in-None.ensures.none.1 (sym c.skips.ensures ∙ c.if-skips.false) c.requires c.flush.ensures.serves
+
+pub returns-then-skips-clause-around : goal.returns-then-skips-clause-around
+returns-then-skips-clause-around g c past is = absurd (false≢true (sym is.serves ∙ (skips_only _ c.args.event (sym c.skips.ensures ∙ c.if-skips.true)).0))
+
+pub returns-in-Some-clause-around : goal.returns-in-Some-clause-around
+returns-in-Some-clause-around g c = around_by_core g.D.Device.history g.D.Device.failures c.args.event c.in-Some.reply c.args.self.now c.ask_core.new.self c.in-Some.ensures.some
+
+pub returns-in-None-clause-around : goal.returns-in-None-clause-around
+returns-in-None-clause-around g c = flush_around g.D.Device.history g.D.Device.failures c.args.event c.flush.result c.args.self.now c.ask_core.new.self c.flush.new.self c.in-None.ensures.none.0 c.in-None.ensures.none.1 (sym c.skips.ensures ∙ c.if-skips.false) c.flush.ensures.around
