@@ -118,6 +118,16 @@ one_open first slot image groups records held all is_open group = record {
     size : length (groups ++ records ∷ []) ≡ length groups + 1
     size = omega (arith, length-append {A = List RecordValue} groups (records ∷ []))
 
+-- an open slot that so many open ones are before: the first one is open
+pub first_open : (first slot slots : ℕ) (image : Image) (groups : List (List RecordValue)) → slot < slots → HoldsGroups (record { first = first; slots = slot }) image groups → length groups ≡ slot → IsOpen image (first + 8 * slot) → (0 < slots) × IsOpen image first
+first_open first slot slots image groups inside held all opened = (
+  omega (arith, inside),
+  ⊎_elim
+      (λ some. subst (IsOpen image) (omega arith) (held.opened 0 (omega (arith, some, all))).0)
+      (λ none. subst (IsOpen image) (omega (arith, none)) opened)
+      (cases_lt 0 slot),
+)
+
 -- no slot so far is damaged
 pub undamaged : (first slot slots : ℕ) (image : Image) (groups : List (List RecordValue)) → HoldsGroups (record { first = first; slots = slot }) image groups → (i : ℕ) → i < slot → ¬ IsDamaged (record { first = first; slots = slots }) image i
 undamaged first slot slots image groups held i lt damaged = ⊎_elim

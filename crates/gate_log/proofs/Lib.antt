@@ -3,3 +3,4 @@ mod Areas
 mod Runs
 mod Slots
 pub mod Readings
+mod Decided

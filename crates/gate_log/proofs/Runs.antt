@@ -1,6 +1,6 @@
 -- The bytes of a body, cut into sectors and joined again.
 use Rattle.std.specs.Prelude.{is_err}
-use Rattle.std.proofs.Common.{Result, Ok, Err, OnOk, ◌≡◌, ℕ, ◌+◌, ◌*◌, ◌<◌, ◌≤◌, false, List, ◌++◌, length, take, drop, slice_range, sym, ap, ◌∙◌, arith, zero, suc}
+use Rattle.std.proofs.Common.{Result, Ok, Err, OnOk, IfErr, ◌≡◌, ℕ, ◌+◌, ◌*◌, ◌<◌, ◌≤◌, false, List, ◌++◌, length, take, drop, slice_range, sym, ap, ◌∙◌, arith, zero, suc}
 use Rattle.std.specs.List.{concat}
 use Rattle.std.specs.Simd.{first_chunks}
 use Rattle.std.proofs.lemmas.List.{take-append-drop, nil_from_length, length-drop}
@@ -30,6 +30,10 @@ on_ok P Q (Err e) f h = tt
 pub on_ok_always : {T E : Type 0} (P : Type 0) (r : Result T E) → P → OnOk r P
 on_ok_always P (Ok x) h = h
 on_ok_always P (Err e) h = tt
+
+pub on_err_always : {T E : Type 0} (P : E → Type 0) (r : Result T E) → ((e : E) → P e) → IfErr r P
+on_err_always P (Ok x) h = tt
+on_err_always P (Err e) h = h e
 
 pub from_ok : {T E : Type 0} (P : Type 0) (r : Result T E) → is_err r ≡ false → OnOk r P → P
 from_ok P (Ok x) is h = h

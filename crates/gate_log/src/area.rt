@@ -5,7 +5,7 @@ ghost use Rattle.sector_device.specs.History.{RunsWithin, OnlyReads, LeavesOnly,
 ghost use Rattle.sector_device.specs.Values.{marked_sector};
 ghost use Rattle.records.specs.RecordValue.{RecordValue};
 ghost use Rattle.gate_log.specs.Group.{FitsGroup, IsGroup, IsSpelledGroup};
-ghost use Rattle.gate_log.specs.Area.{gate, InArea, InSlot, IsGate, IsAreaInside, AreGatesZero, HoldsGroups, Stands, records_of, IsGateOf, IsAppended, IsFirstDamagedSlot, Refuses};
+ghost use Rattle.gate_log.specs.Area.{gate, InArea, InSlot, IsGate, IsOpen, IsAreaInside, AreGatesZero, HoldsGroups, Stands, records_of, IsGateOf, IsAppended, IsFirstDamagedSlot, Refuses};
 
 use crate::group::spell;
 use crate::slot::{is_open, read_group, write_group};
@@ -65,7 +65,7 @@ impl LogArea {
     }
 
     /// Adds a group in the first closed slot, if there is one, by seven writes of its body, a sync, a write of its
-    /// gate, and a sync. `fits` tells whether the records can be a group.
+    /// gate, and a sync. That it makes just these calls is only tested. `fits` tells whether the records can be a group.
     ///
     /// A crash at any moment of the call leaves the groups as they were, or with the whole new group behind them, and
     /// from the moment it answers `Done` the latter. `NoMemory` means that nothing was written. After `DeviceFailed`
@@ -163,7 +163,8 @@ impl LogArea {
     /// The records of all groups, in order. From then on the log knows how many slots are open.
     ///
     /// `Damaged` names the gate of the first slot that can't be: an open one after a closed one, or an open one whose
-    /// body is no group. `DeviceFailed` where the device failed in the call, and only then. Nothing is written.
+    /// body is no group. `DeviceFailed` where the device failed in the call, and only then. No memory is wanted where the first
+    /// gate is closed (`memory`). Nothing is written.
     pub fn read_all<D: Device, A: Allocator + Copy>(
         &mut self,
         alloc: A,
@@ -182,6 +183,7 @@ impl LogArea {
         ensures reads { OnlyReads (D.history device.old) (D.history device.new) }
         ensures quiet { OnOk result (D.failures device.new ≡ D.failures device.old) }
         ensures told { IfErr result (λ e. e ≢ Error.DeviceFailed → D.failures device.new ≡ D.failures device.old) }
+        ensures memory { IfErr result (λ e. e ≡ Error.NoMemory → (0 < self.old.area.slots) × IsOpen (D.history device.old).disk.content self.old.area.first) }
         ensures later { D.failures device.old ≤ D.failures device.new }
     {
         let (records, open_slots) = read_slots(alloc, device, self.first, self.slots)?;
@@ -191,7 +193,8 @@ impl LogArea {
 
     /// The gate of the group that a record is in, by the record's index in what `read_all` gave, or `None` where there
     /// is no such record. So a caller can say where a record lies that can't follow the one before it. The groups are
-    /// read again, and nothing is written. `DeviceFailed` where the device failed in the call, and only then.
+    /// read again, and nothing is written. `DeviceFailed` where the device failed in the call, and only then. No memory is
+    /// wanted of a log that knows of no open slot (`memory`).
     pub fn gate_of<D: Device, A: Allocator + Copy>(
         &self,
         alloc: A,
@@ -206,6 +209,7 @@ impl LogArea {
         ensures reads { OnlyReads (D.history device.old) (D.history device.new) }
         ensures quiet { OnOk result (D.failures device.new ≡ D.failures device.old) }
         ensures told { IfErr result (λ e. e ≢ Error.DeviceFailed → D.failures device.new ≡ D.failures device.old) }
+        ensures memory { IfErr result (λ e. e ≡ Error.NoMemory → 0 < self.now.open_slots) }
         ensures later { D.failures device.old ≤ D.failures device.new }
     {
         gate_of_record(alloc, device, self.first, self.open_slots, index)
@@ -259,6 +263,7 @@ fn read_slots<D: Device, A: Allocator + Copy>(
     ensures reads { OnlyReads (D.history device.old) (D.history device.new) }
     ensures quiet { OnOk result (D.failures device.new ≡ D.failures device.old) }
     ensures told { IfErr result (λ e. e ≢ Error.DeviceFailed → D.failures device.new ≡ D.failures device.old) }
+    ensures memory { IfErr result (λ e. e ≡ Error.NoMemory → (0 < slots) × IsOpen (D.history device.old).disk.content first) }
     ensures later { D.failures device.old ≤ D.failures device.new }
 {
     let mut count = 0;
@@ -299,6 +304,7 @@ fn gate_of_record<D: Device, A: Allocator + Copy>(
     ensures reads { OnlyReads (D.history device.old) (D.history device.new) }
     ensures quiet { OnOk result (D.failures device.new ≡ D.failures device.old) }
     ensures told { IfErr result (λ e. e ≢ Error.DeviceFailed → D.failures device.new ≡ D.failures device.old) }
+    ensures memory { IfErr result (λ e. e ≡ Error.NoMemory → 0 < slots) }
     ensures later { D.failures device.old ≤ D.failures device.new }
 {
     let mut left = index;

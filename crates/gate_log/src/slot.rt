@@ -71,6 +71,7 @@ pub(crate) fn is_open<D: Device>(device: &mut D, gate: u64) -> Result<bool, Erro
     ensures told { IfErr result (λ e. e ≢ Error.DeviceFailed → D.failures device.new ≡ D.failures device.old) }
     ensures later { D.failures device.old ≤ D.failures device.new }
     ensures refused { IfErr result (Refuses (D.failures device.old) (D.failures device.new)) }
+    ensures no_memory { IfErr result (λ e. e ≢ Error.NoMemory) }
 {
     let mut sector = [0; SECTOR_SIZE];
     if device.read(gate, &mut sector).is_err() {

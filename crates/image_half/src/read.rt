@@ -282,7 +282,8 @@ fn read_entries<D: Device, S: CellSink, A: Allocator>(
 }
 
 /// Reads the image of a store of this geometry that begins at sector `first`, into an empty sink. The answer is its base,
-/// the number of the last record made as the image began. Each of its sectors is read once at most, and nothing is written.
+/// the number of the last record made as the image began. Nothing is written. That each of its sectors is read once at most is
+/// only tested.
 ///
 /// `Damaged` names the first sector with a part that says nothing: the header, the transaction heads, an undo item of a
 /// head that is used, the first sector of a page, or an entry, which is above the one before it. A place in a page that the

@@ -7,11 +7,11 @@ ghost use Rattle.model.specs.Redo.{cells_of};
 ghost use Rattle.image_half.specs.Source.{IsNextBehind, IsPassed};
 
 use model::{CellMaps, Life};
-use records::{Change, Mark, Pair, Rid, Row, Txn};
+use records::{Change, ENTRIES_PER_SECTOR, Mark, Pair, Rid, Row, Txn};
 use std::alloc::Allocator;
 
 /// How many entries lie in a sector.
-pub const SECTOR_ENTRIES: usize = 16;
+pub const SECTOR_ENTRIES: usize = ENTRIES_PER_SECTOR as usize;
 
 // The entry that is lent, where there is one.
 fn copied(entry: Option<(&Pair, &Mark)>) -> Option<(Pair, Mark)>

@@ -6,7 +6,8 @@ use Rattle.gate_log.specs.Group.{IsGroup}
 use Rattle.gate_log.specs.Area.{IsOpen}
 use Rattle.std.proofs.lemmas.List.{flat_map_more}
 use Rattle.sector_device.proofs.Within.{reads_none, reads_then}
-use Rattle.gate_log.proofs.Areas.{one_open, first_damaged, none_here, some_here}
+use Rattle.gate_log.proofs.Areas.{one_open, first_open, first_damaged, none_here, some_here}
+use Rattle.gate_log.proofs.Runs.{on_err_always}
 use Rattle.gate_log.proofs.area.read_slots.Goals as goal
 
 pub returns-then-count-slot-clause-refused : goal.returns-then-count-slot-clause-refused
@@ -26,6 +27,22 @@ returns-in_default-clause-refused g c =
     let is_open = subst (λ (d : Disk). IsOpen d.content gate) c.loop-slot.invariant.reads.disk (c.in_ok-is_open.ensures.value.0 c.if-not-branch.false) in
     let none = subst (λ (d : Disk). (records : List RecordValue) → ¬ IsGroup records (concat (slice_range d.content (gate + 1) (gate + 8)))) same (none_here _ _ _ c.in_default.is c.in_ok-group.ensures.found) in
     inr (_, refl, first_damaged c.args.first slot c.args.slots _ read.0 c.loop-slot-test.true read.1 (is_open, inr none))
+
+pub returns-in_err-group-clause-memory : goal.returns-in_err-group-clause-memory
+returns-in_err-group-clause-memory g c =
+    let slot = c.loop-slot.slot in
+    let read = c.loop-slot.invariant.read in
+    let is_open = subst (λ (d : Disk). IsOpen d.content (c.args.first + 8 * slot)) c.loop-slot.invariant.reads.disk (c.in_ok-is_open.ensures.value.0 c.if-not-branch.false) in
+    let all : length read.0 ≡ slot = omega (arith, read.2, read.1.room, c.if-count-slot.false) in
+    on_err_always _ c.from_residual-in_err-group.result (λ e no. first_open c.args.first slot c.args.slots _ read.0 c.loop-slot-test.true read.1 all is_open)
+
+pub returns-in_err-append-clause-memory : goal.returns-in_err-append-clause-memory
+returns-in_err-append-clause-memory g c =
+    let slot = c.loop-slot.slot in
+    let read = c.loop-slot.invariant.read in
+    let is_open = subst (λ (d : Disk). IsOpen d.content (c.args.first + 8 * slot)) c.loop-slot.invariant.reads.disk (c.in_ok-is_open.ensures.value.0 c.if-not-branch.false) in
+    let all : length read.0 ≡ slot = omega (arith, read.2, read.1.room, c.if-count-slot.false) in
+    on_err_always _ c.from_residual-in_err-append.result (λ e no. first_open c.args.first slot c.args.slots _ read.0 c.loop-slot-test.true read.1 all is_open)
 
 pub loop-slot-init : goal.loop-slot-init
 loop-slot-init g c = record {
