@@ -1,7 +1,8 @@
 //! The half that isn't current is written, part by part or as a whole, without a sync. Until a sync, a sector that was
 //! written may hold anything after a crash; the current half and the sectors in front of the halves stay as they are. Each
 //! call wants a value whose current half is the one that the device names (`current`), so none from before a flip.
-ghost use Rattle.std.specs.Prelude.{◌≡◌, ◌⊎◌, ℕ, ◌+◌, ◌%◌, ◌<◌, ◌≤◌, ◌∷◌, Option, true, length, slice_get, Some, None, OnOk};
+ghost use Rattle.std.specs.Prelude.{◌≡◌, ◌⊎◌, ℕ, ◌+◌, ◌%◌, ◌<◌, ◌≤◌, ◌∷◌, List, Option, true, length, slice_get, Some, None, OnOk};
+ghost use Rattle.std.specs.FinMap.{empty, entries};
 ghost use Rattle.sector_device.specs.Disk.{sector, SameOutside};
 ghost use Rattle.sector_device.specs.History.{RunsWithin, CountsFailure};
 ghost use Rattle.records.specs.GeometryValue.{sectors_of};
@@ -18,7 +19,8 @@ ghost use Rattle.model.specs.declared.life.Life.TheVariants.{Building};
 ghost use Rattle.image_parts.specs.declared.head.Head.{Head as HeadValue};
 ghost use Rattle.image_parts.specs.Spelling.{HeadFits};
 ghost use Rattle.image_half.specs.Layout.{InPage, InEntries, InList};
-ghost use Rattle.image_half.specs.Image.{IsHeader, AreHeads, HoldsList, IsRow, IsEntry, row_bytes, entry_bytes, ZerosBehind, ZerosBehindEntries, ZerosBehindItems, InImageOf};
+ghost use Rattle.image_half.specs.Image.{IsHeader, AreHeads, HoldsList, IsRow, IsEntry, row_bytes, entry_bytes, ZerosBehind, ZerosBehindEntries, ZerosBehindItems, InStart, InImageOf};
+ghost use Rattle.image_half.specs.Part.{IsImagePart, HasPage};
 ghost use Rattle.image_half.specs.Source.{FitsImage};
 ghost use Rattle.flip_image.specs.Layout.{other, header_sector, heads_sector, InHalfImage};
 ghost use Rattle.flip_image.specs.Store.{Names, HoldsImage};
@@ -27,6 +29,7 @@ use crate::half::FLIP_SECTOR;
 use crate::halves::Halves;
 use image_half::{
     CellSource, write_entries, write_header, write_heads, write_image, write_list, write_page,
+    write_rows, write_start,
 };
 use image_parts::{Head, Header};
 use records::{Change, Mark, Pair, Row};
@@ -131,6 +134,46 @@ impl Halves {
     {
         let first = self.idle_first();
         write_entries(device, self.geometry(), first, start, entries)
+    }
+
+    /// Begins an image of these cells that is written part by part: writes undo items and transaction heads. What is left of
+    /// the sector of each transaction's last change is zeros then (`rest`). That no sector is written twice is only tested.
+    pub fn write_start<D: Device, S: CellSource>(
+        &self,
+        device: &mut D,
+        source: &S,
+    ) -> Result<(), Failed>
+        requires inside { sectors_of self.now.geometry ≤ length (D.history device.old).disk.content }
+        requires current { Names (sector (D.history device.old).disk.content FLIP_SECTOR) self.now.current }
+        requires fits { FitsImage self.now.geometry (S.cells source.now) }
+        ensures written { OnOk result (IsImagePart self.now.geometry (header_sector self.now.geometry (other self.now.current)) (D.history device.new).disk.content 0 (record (S.cells source.now) { rows = empty; entries = empty })) }
+        ensures rest { OnOk result ((h : ℕ) (list : ℕ × List ChangeValue) → slice_get (entries (S.cells source.now).pending) h ≡ Some list → ZerosBehindItems (header_sector self.now.geometry (other self.now.current)) (D.history device.new).disk.content h (length list.1)) }
+        ensures outside { SameOutside (InStart (header_sector self.now.geometry (other self.now.current)) (S.cells source.now)) (D.history device.old).disk.content (D.history device.new).disk.content }
+        ensures within { RunsWithin (λ n. InHalfImage self.now.geometry (other self.now.current) n ⊎ ((D.history device.old).disk.unsynced n ≡ true)) (D.history device.old).disk.content (D.history device.old) (D.history device.new) }
+        ensures counts { CountsFailure (D.failures device.old) (D.failures device.new) result }
+    {
+        let first = self.idle_first();
+        write_start(device, self.geometry(), first, source)
+    }
+
+    /// Writes a page of the image, with the rows that these cells have there. That each of its eight sectors is written once is
+    /// only tested.
+    pub fn write_rows<D: Device, S: CellSource>(
+        &self,
+        device: &mut D,
+        page: u32,
+        source: &S,
+    ) -> Result<(), Failed>
+        requires inside { sectors_of self.now.geometry ≤ length (D.history device.old).disk.content }
+        requires current { Names (sector (D.history device.old).disk.content FLIP_SECTOR) self.now.current }
+        requires page { page < self.now.geometry.pages }
+        ensures written { OnOk result (HasPage (header_sector self.now.geometry (other self.now.current)) (D.history device.new).disk.content page (S.cells source.now).rows) }
+        ensures outside { SameOutside (InPage (header_sector self.now.geometry (other self.now.current)) page) (D.history device.old).disk.content (D.history device.new).disk.content }
+        ensures within { RunsWithin (λ n. InHalfImage self.now.geometry (other self.now.current) n ⊎ ((D.history device.old).disk.unsynced n ≡ true)) (D.history device.old).disk.content (D.history device.old) (D.history device.new) }
+        ensures counts { CountsFailure (D.failures device.old) (D.failures device.new) result }
+    {
+        let first = self.idle_first();
+        write_rows(device, self.geometry(), first, page, source)
     }
 
     /// Writes the image of these cells, which record `base` left: undo items, transaction heads, every page, the entries, and

@@ -9,7 +9,8 @@ use Rattle.model.specs.Table.{Table}
 use Rattle.image_parts.specs.Spelling.{zeros}
 use Rattle.image_half.specs.Layout.{undo_at, page_at, cut}
 use Rattle.image_half.specs.Image.{IsItem, IsRow, item_of}
-use Rattle.image_half.specs.Steps.{ShowsList, ShowsPage}
+use Rattle.image_half.specs.Steps.{ShowsList}
+use Rattle.image_half.specs.Part.{HasPage}
 
 module _ (P : ℕ → Type 0) (image other : Image) (same : SameOutside P image other) where
   -- a piece
@@ -27,7 +28,7 @@ module _ (P : ℕ → Type 0) (image other : Image) (same : SameOutside P image 
   }
 
   -- a page
-  pub page_kept : (first page : ℕ) (rows : Table) → ((k : ℕ) → k < 8 → ¬ P (page_at first page + k)) → ShowsPage first image page rows → ShowsPage first other page rows
+  pub page_kept : (first page : ℕ) (rows : Table) → ((k : ℕ) → k < 8 → ¬ P (page_at first page + k)) → HasPage first image page rows → HasPage first other page rows
   page_kept first page rows apart shown = record {
     front = piece_kept (λ b. IsRow b None) (page_at first page) 64 8 0 (apart (0 / 8) (omega arith)) shown.front;
     slots = λ slot below. piece_kept (λ b. IsRow b (get rows (record { page = page; slot = slot }))) (page_at first page) 64 8 (slot + 1) (apart ((slot + 1) / 8) (omega (arith, below))) (shown.slots slot below);

@@ -15,3 +15,4 @@ mod Writing
 pub mod Written
 pub mod Readings
 mod Fitting
+pub mod PartByPart

@@ -15,7 +15,8 @@ use Rattle.image_parts.specs.Spelling.{zeros}
 use Rattle.image_half.specs.Layout.{heads_at, entries_at, InImage, InPages, InList, InEntries}
 use Rattle.image_half.specs.Image.{IsHeader, AreHeads, IsEntry, IsImage, entry_bytes, header_of, head_of, ZerosBehind, ZerosBehindEntries, InLists, InImageOf}
 use Rattle.image_half.specs.Source.{FitsImage}
-use Rattle.image_half.specs.Steps.{ShowsList, ShowsPage, WritesIn, InUndo}
+use Rattle.image_half.specs.Steps.{ShowsList, WritesIn, InUndo}
+use Rattle.image_half.specs.Part.{HasPage}
 use Rattle.image_half.proofs.Joined.{writes_then, writes_wider}
 use Rattle.image_half.proofs.Kept.{piece_kept, list_kept, page_kept}
 use Rattle.image_half.proofs.Writing.{list_short}
@@ -69,7 +70,7 @@ module _ (g : GeometryValue) (first base : ℕ) (cells : Cells) (fits : FitsImag
 
   pub image_is : ((h : ℕ) (list : ℕ × List ChangeValue) → slice_get (entries cells.pending) h ≡ Some list → ShowsList g first h1.disk.content h list.1)
       → AreHeads (sector h2.disk.content (heads_at first)) (map head_of (entries cells.pending))
-      → ((page : ℕ) → page < g.pages → ShowsPage first h3.disk.content page cells.rows)
+      → ((page : ℕ) → page < g.pages → HasPage first h3.disk.content page cells.rows)
       → ((i : ℕ) (e : Pair × Mark) → slice_get (entries cells.entries) i ≡ Some e → IsEntry g (entry_bytes g h4.disk.content first i) e)
       → IsHeader g (sector h5.disk.content first) (header_of base cells)
       → IsImage g first h5.disk.content base cells
@@ -83,7 +84,7 @@ module _ (g : GeometryValue) (first base : ℕ) (cells : Cells) (fits : FitsImag
     entries = λ i e at_i. piece_kept (λ n. n ≡ first) h4.disk.content h5.disk.content p5.outside (λ b. IsEntry g b e) (entries_at g first) 32 16 i (λ is. omega (arith, is)) (all i e at_i);
   }
     where
-      kept : (page : ℕ) → page < g.pages → ShowsPage first h5.disk.content page cells.rows
+      kept : (page : ℕ) → page < g.pages → HasPage first h5.disk.content page cells.rows
       kept page below = page_kept (λ n. ¬ InPages g first n) h3.disk.content h5.disk.content pages_stay first page cells.rows (λ k low out. out (omega (arith, low), omega (arith, low, below))) (pages page below)
 
 -- the sectors that the image of some cells takes are those of an image

@@ -123,6 +123,10 @@ pub record ZerosBehind (g : GeometryValue) (first : ℕ) (image : Image) (cells 
 abbrev pub InLists : ℕ → Cells → ℕ → Type 0
 InLists first cells n = (h : ℕ) × (list : ℕ × List ChangeValue) × (slice_get (finite.entries cells.pending) h ≡ Some list) × InList first h (length list.1) n
 
+-- a sector of the heads, or of the undo items that these cells have
+abbrev pub InStart : ℕ → Cells → ℕ → Type 0
+InStart first cells n = (n ≡ heads_at first) ⊎ InLists first cells n
+
 -- a sector of the image of these cells: header, heads, a page, or one of the undo items and of the entries that there are
 abbrev pub InImageOf : GeometryValue → ℕ → Cells → ℕ → Type 0
 InImageOf g first cells n = (n ≡ first) ⊎ ((n ≡ heads_at first) ⊎ (InPages g first n ⊎ (InLists first cells n ⊎ InEntries g first 0 (length (finite.entries cells.entries)) n)))

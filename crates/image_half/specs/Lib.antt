@@ -3,3 +3,4 @@ pub mod Image
 pub mod Damage
 pub mod Source
 pub mod Steps
+pub mod Part

@@ -121,11 +121,6 @@ AreEntriesRefused g first image count before now e = IsHindered before now e
 abbrev pub IsReached : {K X : Type 0} → List (K × X) → ℕ → Option K → Type 0
 IsReached {K} {X} entries n key = (next : Option (K × X)) → IsNextBehind entries key next → next ≡ slice_get entries n
 
--- the page has these rows in its slots
-pub record ShowsPage (first : ℕ) (image : Image) (page : ℕ) (rows : Table) : Type 0 where
-  pub front : IsRow (row_bytes image first page 0) None
-  pub slots : (slot : ℕ) → slot < SLOTS_PER_PAGE → IsRow (row_bytes image first page (slot + 1)) (finite.get rows (record { page = page; slot = slot }))
-
 -- the first undo items of a head are these changes, and behind them are zeros
 pub record ShowsList (g : GeometryValue) (first : ℕ) (image : Image) (h : ℕ) (changes : List ChangeValue) : Type 0 where
   pub held : HoldsList g first image h changes

@@ -1,22 +1,25 @@
 //! Laws of images.
-ghost use Rattle.std.specs.Prelude.{◌≡◌, ℕ, ◌<◌, ◌≤◌, List, length, slice_get, Some};
+ghost use Rattle.std.specs.Prelude.{◌≡◌, ℕ, ◌+◌, ◌%◌, ◌<◌, ◌≤◌, ◌++◌, List, length, map, slice_get, Some};
 ghost use Rattle.std.specs.FinMap as finite;
-ghost use Rattle.sector_device.specs.Disk.{Image, sector};
+ghost use Rattle.sector_device.specs.Disk.{Image, sector, SameOutside};
 ghost use Rattle.records.specs.Values.{Place};
 ghost use Rattle.records.specs.ChangeValue.{ChangeValue};
 ghost use Rattle.records.specs.GeometryValue.{GeometryValue};
 ghost use Rattle.records.specs.Maps.{set_at};
 ghost use Rattle.records.specs.declared.rid.TheConstants.{SLOTS_PER_PAGE};
 ghost use Rattle.records.specs.declared.change.TheConstants.{CHANGES_MAX};
+ghost use Rattle.records.specs.declared.geometry.TheConstants.{ENTRIES_PER_SECTOR};
 ghost use Rattle.records.specs.declared.row.Row.{Row};
 ghost use Rattle.records.specs.declared.pair.Pair.{Pair};
 ghost use Rattle.records.specs.declared.pair.Mark.{Mark};
 ghost use Rattle.model.specs.declared.life.Life.{Life};
+ghost use Rattle.model.specs.Table.{Table, Index};
 ghost use Rattle.model.specs.Cells.{Cells, with_list};
 ghost use Rattle.model.specs.Following.{ArePlaced, IsAdmitted};
 ghost use Rattle.model.specs.Inside.{IsLifeWithin};
-ghost use Rattle.image_half.specs.Layout.{InImage};
-ghost use Rattle.image_half.specs.Image.{IsImage, no_cells};
+ghost use Rattle.image_half.specs.Layout.{heads_at, InImage, InPage, InEntries};
+ghost use Rattle.image_half.specs.Image.{IsHeader, AreHeads, HoldsList, IsEntry, IsImage, entry_bytes, header_of, head_of, no_cells};
+ghost use Rattle.image_half.specs.Part.{IsImagePart, HasPage, IsWithPage};
 ghost use Rattle.image_half.specs.Source.{FitsImage};
 ghost use Rattle.image_half.specs.Damage.{IsDamagedAt, IsFirstDamaged};
 
@@ -59,4 +62,24 @@ pub fn fitting_cells()
     ensures entry { (g : GeometryValue) (cells : Cells) (p : Pair) (m : Mark) → FitsImage g cells → p.rid.page < g.pages → length (finite.entries cells.entries) < g.entries → FitsImage g (record cells { entries = set_at cells.entries p (Some m) }) }
     ensures list { (g : GeometryValue) (cells : Cells) (txn : ℕ) (changes : List ChangeValue) → FitsImage g cells → IsAdmitted cells.pending txn → ArePlaced g.pages 0 changes → length changes ≤ CHANGES_MAX
         → FitsImage g (record cells { pending = with_list cells.pending txn (Some changes) }) }
+{}
+
+/// A law: an image is written part by part. It begins with the heads and lists, without rows and entries; then come the pages
+/// in order, and entries behind those that fill their sectors, by `write_page` and `write_entries`; and with all pages and the
+/// header it is the image. While it is written it is told by its sectors.
+pub fn image_in_parts()
+    ensures began { (g : GeometryValue) (first : ℕ) (image : Image) (cells : Cells) → AreHeads (sector image (heads_at first)) (map head_of (finite.entries cells.pending))
+        → ((h : ℕ) (list : ℕ × List ChangeValue) → slice_get (finite.entries cells.pending) h ≡ Some list → HoldsList g first image h list.1)
+        → cells.rows ≡ finite.empty → cells.entries ≡ finite.empty → IsImagePart g first image 0 cells }
+    ensures page { (g : GeometryValue) (first : ℕ) (old new : Image) (page : ℕ) (cells : Cells) (rows : Table) → page < g.pages → IsImagePart g first old page cells → SameOutside (InPage first page) old new → HasPage first new page rows → IsWithPage page cells.rows rows
+        → IsImagePart g first new (page + 1) (record cells { rows = rows }) }
+    ensures entries { (g : GeometryValue) (first : ℕ) (old new : Image) (pages : ℕ) (cells : Cells) (index : Index) (more : List (Pair × Mark)) → IsImagePart g first old pages cells
+        → length (finite.entries cells.entries) % ENTRIES_PER_SECTOR ≡ 0 → finite.entries index ≡ finite.entries cells.entries ++ more → length (finite.entries cells.entries) + length more ≤ g.entries
+        → SameOutside (InEntries g first (length (finite.entries cells.entries)) (length more)) old new
+        → ((i : ℕ) (e : Pair × Mark) → slice_get more i ≡ Some e → IsEntry g (entry_bytes g new first (length (finite.entries cells.entries) + i)) e)
+        → IsImagePart g first new pages (record cells { entries = index }) }
+    ensures whole { (g : GeometryValue) (first : ℕ) (old new : Image) (base : ℕ) (cells : Cells) → IsImagePart g first old g.pages cells → SameOutside (λ n. n ≡ first) old new → IsHeader g (sector new first) (header_of base cells)
+        → IsImage g first new base cells }
+    ensures told { (g : GeometryValue) (first : ℕ) (old new : Image) → length new ≡ length old → ((n : ℕ) → InImage g first n → sector new n ≡ sector old n)
+        → (pages : ℕ) (cells : Cells) → IsImagePart g first old pages cells → IsImagePart g first new pages cells }
 {}

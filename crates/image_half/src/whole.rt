@@ -9,10 +9,11 @@ ghost use Rattle.records.specs.declared.pair.Pair.{Pair};
 ghost use Rattle.records.specs.declared.pair.Mark.{Mark};
 ghost use Rattle.records.specs.declared.number.TheConstants.{LAST_NUMBER};
 ghost use Rattle.image_parts.specs.declared.head.Head.{Head as HeadValue};
-ghost use Rattle.image_half.specs.Layout.{cut, heads_at, page_at, entries_at, image_end, InPages, InEntries};
-ghost use Rattle.image_half.specs.Image.{AreHeads, IsImage, IsEntry, entry_bytes, head_of, ZerosBehindEntries, ZerosBehind, InLists, InImageOf};
+ghost use Rattle.image_half.specs.Layout.{cut, heads_at, page_at, entries_at, image_end, InPage, InPages, InEntries};
+ghost use Rattle.image_half.specs.Image.{AreHeads, IsImage, IsEntry, entry_bytes, head_of, ZerosBehindEntries, ZerosBehindItems, ZerosBehind, InLists, InStart, InImageOf};
 ghost use Rattle.image_half.specs.Source.{FitsImage, IsPassed};
-ghost use Rattle.image_half.specs.Steps.{IsEntryPlace, IsReached, ShowsList, ShowsPage, WritesIn};
+ghost use Rattle.image_half.specs.Steps.{IsEntryPlace, IsReached, ShowsList, WritesIn};
+ghost use Rattle.image_half.specs.Part.{IsImagePart, HasPage};
 
 use crate::pieces::put_piece;
 use crate::read::page_at;
@@ -133,13 +134,12 @@ fn write_pages<D: Device, S: CellSource>(
 ) -> Result<(), Failed>
     requires inside { entries_at geometry first ≤ length (D.history device.old).disk.content }
     requires number { entries_at geometry first < 2 ^ 64 }
-    ensures written { OnOk result ((page : ℕ) → page < geometry.pages → ShowsPage first (D.history device.new).disk.content page (S.cells source.now).rows) }
+    ensures written { OnOk result ((page : ℕ) → page < geometry.pages → HasPage first (D.history device.new).disk.content page (S.cells source.now).rows) }
     ensures part { WritesIn (InPages geometry first) (D.history device.old) (D.history device.new) }
     ensures counts { CountsFailure (D.failures device.old) (D.failures device.new) result }
 {
     for page in 0..geometry.pages {
-        let rows = rows_of_page(source, page);
-        write_page(device, geometry, first, page, &rows)?;
+        write_rows(device, geometry, first, page, source)?;
     }
     Ok(())
 }
@@ -213,6 +213,48 @@ fn write_all_entries<D: Device, S: CellSource>(
         device.write(at + k, &bytes)?;
     }
     Ok(())
+}
+
+/// Begins the image of these cells that is written part by part from sector `first` on: writes undo items and heads. What is
+/// left of the sector of each transaction's last change is zeros then (`rest`). That no sector is written twice is only tested.
+pub fn write_start<D: Device, S: CellSource>(
+    device: &mut D,
+    geometry: Geometry,
+    first: u64,
+    source: &S,
+) -> Result<(), Failed>
+    requires fits { FitsImage geometry (S.cells source.now) }
+    requires inside { page_at first 0 ≤ length (D.history device.old).disk.content }
+    requires number { page_at first 0 < 2 ^ 64 }
+    ensures written { OnOk result (IsImagePart geometry first (D.history device.new).disk.content 0 (record (S.cells source.now) { rows = finite.empty; entries = finite.empty })) }
+    ensures rest { OnOk result ((h : ℕ) (list : ℕ × List ChangeValue) → slice_get (finite.entries (S.cells source.now).pending) h ≡ Some list → ZerosBehindItems first (D.history device.new).disk.content h (length list.1)) }
+    ensures outside { SameOutside (InStart first (S.cells source.now)) (D.history device.old).disk.content (D.history device.new).disk.content }
+    ensures within { RunsWithin (λ n. InStart first (S.cells source.now) n ⊎ ((D.history device.old).disk.unsynced n ≡ true)) (D.history device.old).disk.content (D.history device.old) (D.history device.new) }
+    ensures counts { CountsFailure (D.failures device.old) (D.failures device.new) result }
+{
+    write_lists(device, geometry, first, source)?;
+    write_all_heads(device, geometry, first, source)
+}
+
+/// Writes a page of the image that begins at sector `first`, with the rows that these cells have there. That each of its eight
+/// sectors is written once is only tested.
+pub fn write_rows<D: Device, S: CellSource>(
+    device: &mut D,
+    geometry: Geometry,
+    first: u64,
+    page: u32,
+    source: &S,
+) -> Result<(), Failed>
+    requires page { page < geometry.pages }
+    requires inside { entries_at geometry first ≤ length (D.history device.old).disk.content }
+    requires number { entries_at geometry first < 2 ^ 64 }
+    ensures written { OnOk result (HasPage first (D.history device.new).disk.content page (S.cells source.now).rows) }
+    ensures outside { SameOutside (InPage first page) (D.history device.old).disk.content (D.history device.new).disk.content }
+    ensures within { RunsWithin (λ n. InPage first page n ⊎ ((D.history device.old).disk.unsynced n ≡ true)) (D.history device.old).disk.content (D.history device.old) (D.history device.new) }
+    ensures counts { CountsFailure (D.failures device.old) (D.failures device.new) result }
+{
+    let rows = rows_of_page(source, page);
+    write_page(device, geometry, first, page, &rows)
 }
 
 /// Writes the image of these cells, which record `base` left, from sector `first` on: undo items, heads, every page, the

@@ -1,2 +1,3 @@
 pub mod Runs
 pub mod Steps
+pub mod Ordered

@@ -34,7 +34,7 @@ module _ {K X : Type 0} {R : K → K → Ordering} (o : IsExact R) where
   find_in_both [] fs q = refl
   find_in_both (e ∷ es) fs q = one_more e es fs q (find_in_both es fs q) (eq_by_cmp R q e.0)
 
-  get-joined : (m n : FinMap R X) (q : K) → finite.get (joined m n) q ≡ or_else (finite.get m q) (finite.get n q)
+  pub get-joined : (m n : FinMap R X) (q : K) → finite.get (joined m n) q ≡ or_else (finite.get m q) (finite.get n q)
   get-joined m n q =
       finite.get-from_entries o.total (finite.entries m ++ finite.entries n) q
       ∙ find_in_both (finite.entries m) (finite.entries n) q

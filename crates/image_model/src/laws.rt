@@ -1,8 +1,11 @@
 //! Laws of copied images.
-ghost use Rattle.std.specs.Prelude.{◌≡◌, ◌≤◌, ◌+◌, ℕ, List, take, Option, None};
+ghost use Rattle.std.specs.Prelude.{◌≡◌, ◌≤◌, ◌+◌, ◌++◌, ℕ, List, take, Option, Some, None};
+ghost use Rattle.std.specs.declared.cmp.Ordering.TheVariants.{Less};
 ghost use Rattle.std.specs.FinMap as map;
 ghost use Rattle.records.specs.RecordValue.{RecordValue};
+ghost use Rattle.records.specs.Orders.{pair_cmp};
 ghost use Rattle.records.specs.declared.pair.Pair.{Pair};
+ghost use Rattle.records.specs.declared.pair.Mark.{Mark};
 ghost use Rattle.model.specs.Table.{Table, Index};
 ghost use Rattle.model.specs.Cells.{Cells, cells_after};
 ghost use Rattle.model.specs.Following.{AreFollowing, IsWithin};
@@ -39,4 +42,15 @@ pub fn copied_in_steps()
     ensures last { (cells : Cells) (log : List RecordValue) (m n pages : ℕ) (above : Option Pair) (rows : Table) (entries more : Index) → IsPartlyCopied cells log m pages above rows entries → m ≤ n
         → AreLastEntries (cells_after cells (take n log)) above more → IsWithin pages cells.rows
         → IsCopied cells log n (record { rows = rows; entries = joined more entries; pending = cells.pending; life = cells.life }) }
+{}
+
+/// A law: where each pair of some entries is below each pair of others, both together are the entries of the first in order,
+/// and behind them those of the others (`both`). So it is where entries are copied above those that were copied (`next`, `last`).
+pub fn joined_in_order()
+    ensures both { (entries more : Index) → ((low high : Pair) (a b : Mark) → map.get entries low ≡ Some a → map.get more high ≡ Some b → pair_cmp low high ≡ Less)
+        → map.entries (joined more entries) ≡ map.entries entries ++ map.entries more }
+    ensures next { (cells now : Cells) (log : List RecordValue) (m pages : ℕ) (above highest : Option Pair) (rows : Table) (entries more : Index) → IsPartlyCopied cells log m pages above rows entries → AreNextEntries now above highest more
+        → map.entries (joined more entries) ≡ map.entries entries ++ map.entries more }
+    ensures last { (cells now : Cells) (log : List RecordValue) (m pages : ℕ) (above : Option Pair) (rows : Table) (entries more : Index) → IsPartlyCopied cells log m pages above rows entries → AreLastEntries now above more
+        → map.entries (joined more entries) ≡ map.entries entries ++ map.entries more }
 {}

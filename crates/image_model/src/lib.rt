@@ -6,4 +6,4 @@ mod chunk;
 mod laws;
 
 pub use chunk::{CHUNK_ENTRIES, Chunk, CopyPlace, Piece};
-pub use laws::{copied_in_steps, redone_image, whole_copy};
+pub use laws::{copied_in_steps, joined_in_order, redone_image, whole_copy};

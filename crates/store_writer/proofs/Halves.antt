@@ -8,11 +8,12 @@ use Rattle.model.specs.Following.{AreFollowing}
 use Rattle.model.proofs.CellsLaws.{cells_after-append}
 use Rattle.model.proofs.FollowingLaws.{following-append}
 use Rattle.gate_log.specs.Area.{HoldsGroups, records_of}
-use Rattle.gate_log.proofs.Readings.{records_of_one_more}
+use Rattle.gate_log.proofs.Readings.{records_of_one_more, told_by_its_sectors}
 use Rattle.flip_image.specs.declared.half.Half.{Half}
 use Rattle.flip_image.specs.declared.half.Half.TheVariants.{A, B}
-use Rattle.flip_image.specs.Layout.{InHalfImage, log_first}
-use Rattle.flip_image.specs.Store.{HoldsImage}
+use Rattle.flip_image.specs.Layout.{InHalf, InHalfImage, log_first}
+use Rattle.flip_image.specs.Store.{IsStore, HoldsImage}
+use Rattle.flip_image.proofs.Sides.{behind_front, image_inside, log_inside, store_in_front}
 use Rattle.image_half.proofs.Told.{stays}
 use Rattle.store_reader.specs.Contents.{log_area}
 use Rattle.store_writer.specs.Contents.{HalfHas}
@@ -62,3 +63,13 @@ module _ (g : GeometryValue) (half : Half) (image c : Image) where
       last-is = omega (arith, has.last-is, ap length (records_of_one_more has.groups group), length-append (records_of has.groups) group);
       cells-are = ap (λ (x : Cells). cells_after x group) has.cells-are ∙ sym (cells_after-append has.copied (records_of has.groups) group) ∙ ap (cells_after has.copied) (sym (records_of_one_more has.groups group));
     }
+
+-- what a half has is told by its sectors
+pub half_apart : (g : GeometryValue) (half : Half) (image c : Image) → SameIn (InHalf g half) image c → (last : ℕ) (cells : Cells) → HalfHas g half image last cells → HalfHas g half c last cells
+half_apart g half image c same last cells has =
+    same_groups g half image c last cells has (record { sectors = same.sectors; same = λ n inside. same.same n (image_inside g half n inside) })
+    (told_by_its_sectors (log_area g half) image c has.groups same.sectors (λ n inside. same.same n (log_inside g half n inside)) has.held)
+
+-- a store is told by the sectors in front of its halves, whatever is written into one
+pub store_apart : (g : GeometryValue) (current half : Half) (image c : Image) → SameOutside (InHalf g half) image c → IsStore g current image → IsStore g current c
+store_apart g current half image c same = store_in_front g current image c same.sectors (λ n few. same.same n (λ inside. omega (arith, few, behind_front g half n inside)))

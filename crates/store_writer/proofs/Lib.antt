@@ -1,5 +1,11 @@
 mod Numbers
 mod Halves
+mod Underway
 mod Writing
+mod CarryOn
+mod Idle
+mod Taking
+mod Copying
+mod Flipping
 mod Opening
 mod Given

@@ -1,16 +1,33 @@
 -- How a writer begins, and goes on where more records are made or handed in.
-use Rattle.std.proofs.Common.{Result, Ok, Err, OnOk, OnErr, ◌≡◌, ℕ, ◌+◌, ◌-◌, ◌≤◌, false, List, [], ◌++◌, length, take, drop, refl, sym, ap, subst, ◌∙◌, arith, length-append, length-drop}
+use Rattle.std.proofs.Common.{Result, Ok, Err, OnOk, OnErr, ◌≡◌, ℕ, ◌+◌, ◌-◌, ◌<◌, ◌≤◌, true, false, List, [], ◌∷◌, ◌++◌, length, take, drop, max, Option, Some, None, IfSome, refl, sym, ap, subst, ◌∙◌, arith, length-append, length-drop}
 use Rattle.std.proofs.lemmas.List.{take-append-le, drop-append-le}
 use Rattle.sector_device.specs.Disk.{Image, IsCrashImage}
 use Rattle.sector_device.specs.History.{History}
 use Rattle.sector_device.proofs.Sectors.{crash_synced}
 use Rattle.records.specs.RecordValue.{RecordValue}
 use Rattle.model.specs.Cells.{Cells, cells_after}
+use Rattle.gate_log.specs.Area.{Log}
 use Rattle.flip_image.specs.Layout.{HalvesValue}
 use Rattle.image_model.specs.Run.{Run, IsRun, end_of, cells_at, records_between}
 use Rattle.store_writer.specs.declared.writer.Writer.{Writer}
 use Rattle.store_writer.specs.Contents.{HalfHas, StoreHas, LeftBy}
 use Rattle.store_writer.specs.Writer.{StandsFor, IsWriter, IsOpenedAt, opened_run, longer, AreNext, IsSomewhere}
+use Rattle.std.proofs.lemmas.Bool.{false≢true}
+use Rattle.model.specs.Images.{IsCopied}
+use Rattle.std.specs.FinMap as map
+use Rattle.flip_image.specs.declared.half.Half.{Half}
+use Rattle.flip_image.specs.Layout.{other, header_sector}
+use Rattle.records.specs.declared.pair.Pair.{Pair}
+use Rattle.model.specs.Inside.{AreInside}
+use Rattle.model.specs.Table.{Table, Index}
+use Rattle.model.specs.declared.life.Life.{Life}
+use Rattle.image_half.specs.Part.{IsImagePart}
+use Rattle.image_model.specs.Partly.{IsPartlyCopied}
+use Rattle.store_writer.specs.declared.image.Stage.{Stage}
+use Rattle.store_writer.specs.declared.image.Stage.TheVariants.{Whole, Partly}
+use Rattle.image_model.specs.Run.{IsCopiedFrom, records_above}
+use Rattle.store_writer.specs.declared.image.NewImage.{NewImage}
+use Rattle.store_writer.specs.Image.{IsContent, IsUnderway, reach}
 use Rattle.store_writer.proofs.Numbers.{between_split, none_between}
 
 -- ---- more records are made
@@ -35,6 +52,65 @@ module _ (run : Run) (more : List RecordValue) where
     has = subst (StoreHas run.geometry image left.number) (sym (same_cells_at left.number (omega (arith, left.most, made)))) left.has;
   }
 
+  same_part : (base n : ℕ) → base ≤ end_of run → base + n ≤ end_of run → run.last ≤ base → take n (records_above (longer run more) base) ≡ take n (records_above run base)
+  same_part base n low made opened =
+      ap (take n) (drop-append-le (base - run.last) run.records more (omega (arith, low)))
+      ∙ take-append-le n (drop (base - run.last) run.records) more (omega (arith, made, opened, length-drop (base - run.last) run.records))
+
+  longer_copied : (base to : ℕ) (copied : Cells) → run.last ≤ base → base ≤ to → to ≤ end_of run → IsCopiedFrom run base to copied → IsCopiedFrom (longer run more) base to copied
+  longer_copied base to copied opened rise made is =
+      let low : base ≤ end_of run = omega (arith, rise, made) in
+      let same = same_cells_at base low in
+      record {
+        pending = is.pending ∙ sym (ap (λ (x : Cells). x.pending) same);
+        life = is.life ∙ sym (ap (λ (x : Cells). x.life) same);
+        rows = λ q. let (n, until, was) = is.rows q in (n, until, was ∙ sym (ap (λ (x : Cells). map.get (cells_after x (take n (records_above (longer run more) base))).rows q) same ∙ ap (λ (rs : List RecordValue). map.get (cells_after (cells_at run base) rs).rows q) (same_part base n low (omega (arith, until, rise, made)) opened)));
+        entries = λ p. let (n, until, was) = is.entries p in (n, until, was ∙ sym (ap (λ (x : Cells). map.get (cells_after x (take n (records_above (longer run more) base))).entries p) same ∙ ap (λ (rs : List RecordValue). map.get (cells_after (cells_at run base) rs).entries p) (same_part base n low (omega (arith, until, rise, made)) opened)));
+      }
+
+  longer_partly : (base to pages : ℕ) (highest : Option Pair) (rows : Table) (entries : Index) → run.last ≤ base → base ≤ to → to ≤ end_of run → IsPartlyCopied (cells_at run base) (records_above run base) (to - base) pages highest rows entries
+      → IsPartlyCopied (cells_at (longer run more) base) (records_above (longer run more) base) (to - base) pages highest rows entries
+  longer_partly base to pages highest rows entries opened rise made is =
+      let low : base ≤ end_of run = omega (arith, rise, made) in
+      let same = same_cells_at base low in
+      record {
+        rows-were = λ q below. let (n, until, was) = is.rows-were q below in (n, until, was ∙ sym (ap (λ (x : Cells). map.get (cells_after x (take n (records_above (longer run more) base))).rows q) same ∙ ap (λ (rs : List RecordValue). map.get (cells_after (cells_at run base) rs).rows q) (same_part base n low (omega (arith, until, rise, made)) opened)));
+        rows-rest = is.rows-rest;
+        entries-were = λ p up. let (n, until, was) = is.entries-were p up in (n, until, was ∙ sym (ap (λ (x : Cells). map.get (cells_after x (take n (records_above (longer run more) base))).entries p) same ∙ ap (λ (rs : List RecordValue). map.get (cells_after (cells_at run base) rs).entries p) (same_part base n low (omega (arith, until, rise, made)) opened)));
+        entries-rest = is.entries-rest;
+      }
+
+  longer_content : (half : Half) (image : Image) (base to : ℕ) (stage : Stage) → run.last ≤ base → base ≤ to → to ≤ end_of run → IsContent run half image base to stage → IsContent (longer run more) half image base to stage
+  longer_content half image base to Whole opened rise made is = record { copied = is.copied; imaged = is.imaged; copies = longer_copied base to is.copied opened rise made is.copies }
+  longer_content half image base to (Partly pages count highest life) opened rise made is =
+      let same = same_cells_at base (omega (arith, rise, made)) in
+      record {
+        rows = is.rows;
+        entries = is.entries;
+        copied = longer_partly base to pages highest is.rows is.entries opened rise made is.copied;
+        part = subst (λ (x : Cells). IsImagePart run.geometry (header_sector run.geometry half) image pages (record x { rows = is.rows; entries = is.entries })) (sym same) is.part;
+        life-is = is.life-is ∙ sym (ap (λ (x : Cells). x.life) same);
+        inside = subst (AreInside run.geometry.pages) (sym same) is.inside;
+        counted = is.counted;
+        full = is.full;
+      }
+
+  longer_underway : (half : Half) (image : Image) (synced : ℕ) (new : NewImage) → synced ≤ end_of run → IsUnderway run half image synced new → IsUnderway (longer run more) half image synced new
+  longer_underway half image synced new made is = record {
+    low = is.low;
+    rise = is.rise;
+    made = omega (arith, is.made, longer_end);
+    content = longer_content half image new.base new.number new.stage is.low is.rise is.made is.content;
+    area-is = is.area-is;
+    groups = is.groups;
+    stands = is.stands;
+    carried = is.carried ∙ sym (same_between new.base (reach new synced) is.low (omega (arith, is.rise, is.made)) (omega (arith, is.rise, is.made, made)));
+  }
+
+  if_underway : (half : Half) (image : Image) (synced : ℕ) (new : Option NewImage) → synced ≤ end_of run → IfSome new (IsUnderway run half image synced) → IfSome new (IsUnderway (longer run more) half image synced)
+  if_underway half image synced None made is = is
+  if_underway half image synced (Some new) made is = longer_underway half image synced new made is
+
   module _ {D M : Type 0} (history : D → History) where
     pub longer_writer : (handed : ℕ) (w : Writer D M) → IsWriter history run handed w → IsRun (longer run more) → IsWriter history (longer run more) handed w
     longer_writer handed w is run_is = record {
@@ -53,7 +129,8 @@ module _ (run : Run) (more : List RecordValue) where
             area-is = stood.area-is;
             groups = stood.groups;
             stands = stood.stands;
-            all_synced = stood.all_synced;
+            loose = stood.loose;
+            image = if_underway (other w.halves.current) (history w.device).disk.content w.synced w.image (omega (arith, is.reached, is.made)) stood.image;
           };
       images = λ image crash. longer_left w.synced handed image is.made (is.images image crash);
     }
@@ -83,9 +160,9 @@ module _ {D M : Type 0} (history : D → History) (run : Run) (handed : ℕ) (ol
 no_record : (n : ℕ) (cells : Cells) → cells ≡ cells_after cells (take (n - n) [])
 no_record n cells = let zero : 0 ≡ n - n = omega arith in ap (λ k. cells_after cells (take k [])) zero
 
-pub opened_writer : {D M : Type 0} (history : D → History) (cells : Cells) (w : Writer D M) → IsOpenedAt (history w.device) w.halves w.log w.synced cells → w.waiting.items ≡ []
+pub opened_writer : {D M : Type 0} (history : D → History) (cells : Cells) (w : Writer D M) → IsOpenedAt (history w.device) w.halves w.log w.synced cells → w.waiting.items ≡ [] → w.image ≡ None
     → IsWriter history (opened_run w.halves w.synced cells) w.synced w
-opened_writer history cells w is empty = record {
+opened_writer history cells w is empty none = record {
   run-is = record { following = tt; placed = is.placed };
   geometry-is = refl;
   opened = omega arith;
@@ -99,7 +176,8 @@ opened_writer history cells w is empty = record {
     area-is = is.area-is;
     groups = is.groups;
     stands = is.stands;
-    all_synced = is.all_synced;
+    loose = λ n unsynced. absurd (false≢true (sym (is.all_synced n) ∙ unsynced));
+    image = subst (λ (t : Option NewImage). IfSome t (IsUnderway (opened_run w.halves w.synced cells) (other w.halves.current) (history w.device).disk.content w.synced)) (sym none) tt;
   };
   images = λ image crash.
       let same : image ≡ (history w.device).disk.content = crash_synced (history w.device).disk image is.all_synced crash in

@@ -1,6 +1,5 @@
 -- What a flush leaves of the records that were handed in.
-use Rattle.std.proofs.Common.{◌≡◌, ◌≢◌, ⊎_elim, ℕ, ◌+◌, ◌<◌, ◌≤◌, false, List, [], ◌∷◌, ◌++◌, length, take, drop, sym, ap, subst, ◌∙◌, arith}
-use Rattle.std.proofs.lemmas.Bool.{false≢true}
+use Rattle.std.proofs.Common.{◌≡◌, ◌≢◌, ◌⊎◌, inl, inr, ⊎_elim, ℕ, ◌+◌, ◌<◌, ◌≤◌, Bool, true, false, List, [], ◌∷◌, ◌++◌, length, take, Option, IfSome, Result, Ok, OnOk, refl, sym, ap, subst, ◌∙◌, arith}
 use Rattle.records.specs.RecordValue.{RecordValue}
 use Rattle.records.specs.GeometryValue.{GeometryValue}
 use Rattle.model.specs.Cells.{Cells, cells_after}
@@ -8,22 +7,28 @@ use Rattle.model.specs.Following.{AreFollowing}
 use Rattle.sector_device.specs.Disk.{Image, Disk, IsSynced, SameOutside}
 use Rattle.sector_device.specs.History.{History, LeavesOnly}
 use Rattle.sector_device.proofs.Moments.{weaker, at_end}
-use Rattle.sector_device.proofs.Sectors.{crash_synced, same_outside_wider}
+use Rattle.sector_device.proofs.Sectors.{same_outside_wider}
 use Rattle.gate_log.specs.Area.{Area, InArea, InSlot, IsAreaInside, HoldsGroups, Stands, IsAppended}
 use Rattle.gate_log.proofs.Readings.{stands_for}
 use Rattle.flip_image.specs.declared.half.Half.{Half}
-use Rattle.flip_image.specs.Layout.{HalvesValue, InHalfImage, InLog}
+use Rattle.flip_image.specs.Layout.{HalvesValue, other, InHalf, InHalfImage, InLog}
 use Rattle.flip_image.specs.Store.{IsStore}
-use Rattle.flip_image.proofs.Sides.{parts_apart}
-use Rattle.flip_image.proofs.Stores.{store_apart}
+use Rattle.flip_image.proofs.Sides.{behind_front, image_inside, log_inside, other_apart, parts_apart, store_in_front}
 use Rattle.image_model.specs.Run.{Run, cells_at, records_between}
 use Rattle.image_model.proofs.Runs.{reached}
 use Rattle.store_reader.specs.Contents.{log_area}
 use Rattle.store_writer.specs.declared.writer.Writer.{Writer}
 use Rattle.store_writer.specs.Contents.{HalfHas, LeftBy}
-use Rattle.store_writer.specs.Writer.{StandsFor, IsWriter}
-use Rattle.store_writer.proofs.Numbers.{length_between, front_between, back_between, between_following}
+use Rattle.store_writer.specs.declared.image.NewImage.{NewImage}
+use Rattle.store_writer.specs.Image.{IsUnderway}
+use Rattle.store_writer.specs.Writer.{StandsFor, IsWriter, HasAppended}
+use Rattle.store_writer.proofs.Numbers.{length_between, front_between, between_following}
 use Rattle.store_writer.proofs.Halves.{SameIn, in_from_outside, log_room, same_groups, one_group_more}
+use Rattle.store_writer.proofs.Underway.{if_underway_apart}
+
+pub not_true : (b : Bool) → ¬ (b ≡ true) → b ≡ false
+not_true true not = absurd (not refl)
+not_true false not = refl
 
 module _ {D M : Type 0} (history : D → History) (run : Run) (handed : ℕ) (old : Writer D M) (is : IsWriter history run handed old) (sound : old.failed ≡ false) where
   abbrev disk : Disk
@@ -39,7 +44,7 @@ module _ {D M : Type 0} (history : D → History) (run : Run) (handed : ℕ) (ol
   stood = is.holds sound
 
   pub all_synced : (n : ℕ) → InArea old.log.area n → disk.unsynced n ≡ false
-  all_synced n inside = stood.all_synced n
+  all_synced n inside = not_true (disk.unsynced n) (λ unsynced. other_apart g half n (log_inside g half n (subst (λ (a : Area). InArea a n) stood.area-is inside)) (image_inside g (other half) n (stood.loose n unsynced)))
 
   pub has_room : IsAreaInside old.log.area disk.content
   has_room = subst (λ (a : Area). IsAreaInside a disk.content) (sym stood.area-is) (omega (arith, stood.store.room, log_room g half))
@@ -71,12 +76,24 @@ module _ {D M : Type 0} (history : D → History) (run : Run) (handed : ℕ) (ol
     in_log : (n : ℕ) → InSlot old.log.area old.log.open_slots n → InLog g half n
     in_log n slot = subst (λ (a : Area). InArea a n) stood.area-is (omega (arith, slot.0), omega (arith, slot.1, below))
 
-    module _ (c : Image) (same : SameOutside (InLog g half) disk.content c) where
+    -- a sector that an append may change
+    abbrev MayChange : ℕ → Type 0
+    MayChange n = InLog g half n ⊎ InHalfImage g (other half) n
+
+    not_front : (n : ℕ) → MayChange n → 2 ≤ n
+    not_front n (inl log) = behind_front g half n (log_inside g half n log)
+    not_front n (inr image) = behind_front g (other half) n (image_inside g (other half) n image)
+
+    not_image : (n : ℕ) → InHalfImage g half n → ¬ MayChange n
+    not_image n inside (inl log) = parts_apart g half n inside log
+    not_image n inside (inr image) = other_apart g half n (image_inside g half n inside) (image_inside g (other half) n image)
+
+    module _ (c : Image) (same : SameOutside MayChange disk.content c) where
       store_there : IsStore g half c
-      store_there = store_apart g half disk.content c same stood.store
+      store_there = store_in_front g half disk.content c same.sectors (λ n few. same.same n (λ may. omega (arith, few, not_front n may))) stood.store
 
       image_there : SameIn (InHalfImage g half) disk.content c
-      image_there = in_from_outside (InHalfImage g half) (InLog g half) disk.content c (parts_apart g half) same
+      image_there = in_from_outside (InHalfImage g half) MayChange disk.content c not_image same
 
       there : (groups : List (List RecordValue)) → HoldsGroups old.log.area c groups → HoldsGroups (log_area g half) c groups
       there groups held = subst (λ (a : Area). HoldsGroups a c groups) stood.area-is held
@@ -103,47 +120,47 @@ module _ {D M : Type 0} (history : D → History) (run : Run) (handed : ℕ) (ol
     pub left : (c : Image) → IsAppended old.log disk group c → LeftBy run old.synced handed c
     left c appended = ⊎_elim (left_without c same) (left_with c same old.synced (omega arith)) (appended.groups stood.has.groups stands)
       where
-        same : SameOutside (InLog g half) disk.content c
-        same = same_outside_wider _ (InLog g half) disk.content c (λ n either. ⊎_elim (in_log n) (λ unsynced. absurd (false≢true (sym (stood.all_synced n) ∙ unsynced))) either) appended.outside
+        same : SameOutside MayChange disk.content c
+        same = same_outside_wider _ MayChange disk.content c (λ n either. ⊎_elim (λ slot. inl (in_log n slot)) (λ unsynced. inr (stood.loose n unsynced)) either) appended.outside
 
     pub leaves : (new : History) → LeavesOnly (history old.device) new (IsAppended old.log disk group) → LeavesOnly (history old.device) new (LeftBy run old.synced handed)
     leaves new any_moment = weaker (history old.device) new (IsAppended old.log disk group) (LeftBy run old.synced handed) left any_moment
 
     -- after the append was done
-    module _ (new : Writer D M) (halves_is : new.halves ≡ old.halves) (same_area : new.log.area ≡ old.log.area) (synced_is : new.synced ≡ old.synced + count) (waiting_is : new.waiting.items ≡ drop count old.waiting.items)
+    module _ (new : Writer D M) (halves_is : new.halves ≡ old.halves) (same_area : new.log.area ≡ old.log.area) (synced_is : new.synced ≡ old.synced) (waiting_is : new.waiting.items ≡ old.waiting.items) (image_is : new.image ≡ old.image)
         (slot : SameOutside (InSlot old.log.area old.log.open_slots) disk.content (history new.device).disk.content) (stands_new : Stands new.log (history new.device).disk.content (stood.has.groups ++ group ∷ [])) (all : IsSynced (history new.device).disk) where
       abbrev content : Image
       content = (history new.device).disk.content
 
-      outside : SameOutside (InLog g half) disk.content content
-      outside = same_outside_wider _ (InLog g half) disk.content content in_log slot
+      outside : SameOutside MayChange disk.content content
+      outside = same_outside_wider _ MayChange disk.content content (λ n inside. inl (in_log n inside)) slot
 
       held_new : HoldsGroups old.log.area content (stood.has.groups ++ group ∷ [])
       held_new = subst (λ (a : Area). HoldsGroups a content (stood.has.groups ++ group ∷ [])) same_area stands_new.held
 
-      stood_new : StandsFor history run new
-      stood_new = record {
+      other_kept : SameIn (InHalf g (other half)) disk.content content
+      other_kept = in_from_outside (InHalf g (other half)) _ disk.content content (λ n there inside. other_apart g half n (log_inside g half n (in_log n inside)) there) slot
+
+      image_kept : IfSome old.image (IsUnderway run (other half) content old.synced)
+      image_kept = if_underway_apart run (other half) disk.content content old.synced old.image other_kept stood.image
+
+      pub has_appended : HasAppended history run handed count new
+      has_appended = record {
+        run-is = is.run-is;
+        geometry-is = ap (λ (h : HalvesValue). h.geometry) halves_is ∙ is.geometry-is;
+        opened = omega (arith, is.opened, synced_is);
+        made = is.made;
+        small = is.small;
+        within = omega (arith, total, synced_is);
+        waits = waiting_is ∙ is.waits ∙ ap (λ n. records_between run n handed) (sym synced_is);
         store = subst (λ (h : HalvesValue). IsStore g h.current content) (sym halves_is) (store_there content outside);
-        has = subst (λ n. HalfHas g new.halves.current content n (cells_at run n)) (sym synced_is) (subst (λ (h : HalvesValue). HalfHas g h.current content (old.synced + count) (cells_at run (old.synced + count))) (sym halves_is) (has_more content outside held_new));
+        has = subst (λ n. HalfHas g new.halves.current content (n + count) (cells_at run (n + count))) (sym synced_is) (subst (λ (h : HalvesValue). HalfHas g h.current content (old.synced + count) (cells_at run (old.synced + count))) (sym halves_is) (has_more content outside held_new));
         area-is = same_area ∙ stood.area-is ∙ ap (λ (h : HalvesValue). log_area g h.current) (sym halves_is);
         groups = stood.has.groups ++ group ∷ [];
         stands = stands_new;
         all_synced = all;
-      }
-
-      pub appended_one : IsWriter history run handed new
-      appended_one = record {
-        run-is = is.run-is;
-        geometry-is = ap (λ (h : HalvesValue). h.geometry) halves_is ∙ is.geometry-is;
-        opened = omega (arith, is.opened, synced_is);
-        reached = omega (arith, synced_is, total);
-        made = is.made;
-        small = is.small;
-        waits = waiting_is ∙ ap (drop count) is.waits ∙ back_between run old.synced handed is.opened is.reached is.made count (omega (arith, total)) ∙ ap (λ n. records_between run n handed) (sym synced_is);
-        holds = λ _. stood_new;
-        images = λ image crash.
-            let same : image ≡ content = crash_synced (history new.device).disk image all crash in
-            subst (LeftBy run new.synced handed) (sym same) (left_with content outside new.synced (omega (arith, synced_is)) held_new);
+        image = subst (λ (t : Option NewImage). IfSome t (IsUnderway run (other new.halves.current) content new.synced)) (sym image_is)
+        (subst (λ n. IfSome old.image (IsUnderway run (other new.halves.current) content n)) (sym synced_is) (subst (λ (h : HalvesValue). IfSome old.image (IsUnderway run (other h.current) content old.synced)) (sym halves_is) image_kept));
       }
 
 -- after a call that left records and numbers alone
@@ -161,3 +178,6 @@ module _ {D M : Type 0} (history : D → History) (run : Run) (handed : ℕ) (ol
     holds = holds;
     images = λ image crash. subst (λ n. LeftBy run n handed image) (sym synced_is) (at_end (history old.device) (history new.device) (LeftBy run old.synced handed) left image crash);
   }
+
+pub on_ok_at : {T E P : Type 0} {x : T} (r : Result T E) → r ≡ Ok x → OnOk r P → P
+on_ok_at {T} {E} {P} r is h = subst (λ (s : Result T E). OnOk s P) is h

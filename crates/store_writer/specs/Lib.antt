@@ -1,3 +1,4 @@
 pub mod Contents
+pub mod Image
 pub mod Parts
 pub mod Writer

@@ -1,8 +1,9 @@
 -- The parts of a writer.
-use Rattle.std.specs.Prelude.{ℕ, Bool, List}
+use Rattle.std.specs.Prelude.{ℕ, Bool, List, Option}
 use Rattle.records.specs.RecordValue.{RecordValue}
 use Rattle.gate_log.specs.Area.{Log}
 use Rattle.flip_image.specs.Layout.{HalvesValue}
+use Rattle.store_writer.specs.declared.image.NewImage.{NewImage}
 use Rattle.store_writer.specs.declared.writer.Writer.{Writer}
 
 module _ {D M : Type 0} where
@@ -27,3 +28,7 @@ module _ {D M : Type 0} where
   -- whether the device has failed
   abbrev pub has_failed : Writer D M → Bool
   has_failed w = w.failed
+
+  -- the image under way
+  abbrev pub image_of : Writer D M → Option NewImage
+  image_of w = w.image

@@ -1,17 +1,28 @@
--- What the writer keeps of the records that were handed to it.
-use Rattle.std.specs.Prelude.{◌≡◌, ◌≢◌, ◌⊎◌, ℕ, ◌+◌, ◌-◌, ◌≤◌, ◌<◌, true, false, List, [], ◌++◌, length, take}
+-- What the writer keeps of the records that were handed to it, and of the image under way.
+use Rattle.std.specs.Prelude.{◌≡◌, ◌≢◌, ◌⊎◌, ℕ, ◌+◌, ◌-◌, ◌≤◌, ◌<◌, true, false, List, [], ◌++◌, length, take, Option, Some, None, IfSome, slice_get}
+use Rattle.std.specs.Option.{option_map_or}
+use Rattle.std.specs.FinMap as map
 use Rattle.sector_device.specs.Disk.{Image, IsSynced, IsCrashImage}
 use Rattle.sector_device.specs.History.{History, Rises}
 use Rattle.records.specs.RecordValue.{RecordValue}
 use Rattle.records.specs.declared.number.TheConstants.{LAST_NUMBER}
 use Rattle.records.specs.declared.error.Error.{Error}
 use Rattle.records.specs.declared.error.Error.TheVariants.{NoMemory, DeviceFailed}
-use Rattle.model.specs.Cells.{Cells, list_of}
+use Rattle.model.specs.Cells.{Cells, Pending, list_of}
+use Rattle.model.specs.Inside.{AreInside}
+use Rattle.model.specs.Table.{Table, Index}
+use Rattle.model.specs.declared.life.Life.{Life}
+use Rattle.records.specs.Values.{Place}
+use Rattle.records.specs.declared.rid.TheConstants.{SLOTS_PER_PAGE}
+use Rattle.records.specs.declared.row.Row.{Row}
+use Rattle.records.specs.declared.pair.Pair.{Pair}
+use Rattle.records.specs.declared.pair.Mark.{Mark}
+use Rattle.image_model.specs.Partly.{ArePageRows, AreNextEntries, AreLastEntries}
 use Rattle.model.specs.Following.{ArePlaced}
 use Rattle.gate_log.specs.Area.{Log, Stands}
 use Rattle.gate_log.specs.Group.{FitsGroup, spellings}
 use Rattle.gate_log.specs.declared.group.TheConstants.{GROUP_MAX}
-use Rattle.flip_image.specs.Layout.{HalvesValue}
+use Rattle.flip_image.specs.Layout.{HalvesValue, other, InHalfImage}
 use Rattle.flip_image.specs.Store.{IsStore}
 use Rattle.image_model.specs.Run.{Run, IsRun, end_of, cells_at, records_between}
 use Rattle.store_reader.specs.Contents.{log_area}
@@ -19,18 +30,33 @@ use Rattle.store_writer.specs.declared.writer.Writer.{Writer}
 use Rattle.store_writer.specs.declared.writer.FlushReply.{FlushReply}
 use Rattle.store_writer.specs.declared.writer.FlushReply.TheVariants.{Flushed, Nothing, LogFull}
 use Rattle.store_writer.specs.Contents.{HalfHas, LeftBy}
+use Rattle.image_half.specs.Source.{FitsImage}
+use Rattle.store_writer.specs.declared.image.NewImage.{NewImage}
+use Rattle.store_writer.specs.declared.image.Stage.{Stage}
+use Rattle.store_writer.specs.declared.image.Stage.TheVariants as stage
+use Rattle.store_writer.specs.declared.writer.StepReply.{StepReply}
+use Rattle.store_writer.specs.declared.writer.StepReply.TheVariants.{Taken, StartAgain}
+use Rattle.image_model.specs.declared.chunk.TheConstants.{CHUNK_ENTRIES}
+use Rattle.image_model.specs.declared.chunk.Piece.{Piece}
+use Rattle.image_model.specs.declared.chunk.Piece.TheVariants.{Whole, Start, Page, Entries}
+use Rattle.model.specs.Redo.{cells_of}
+use Rattle.store_writer.specs.declared.writer.FlipReply.{FlipReply}
+use Rattle.store_writer.specs.declared.writer.FlipReply.TheVariants.{Flipped, Behind}
+use Rattle.store_writer.specs.Image.{IsUnderway, reach}
 
 -- ---- what it stands for
 
 module _ {D M : Type 0} (history : D → History) (run : Run) where
-  -- The disk is synced, its current half has the cells after the last synced record, and the log knows its open slots.
+  -- The current half has the cells after the last synced record, and the log knows its open slots. No sector is unsynced but
+  -- of the other half's image, and an image under way is in that half.
   pub record StandsFor (w : Writer D M) : Type 0 where
     pub store : IsStore run.geometry w.halves.current (history w.device).disk.content
     pub has : HalfHas run.geometry w.halves.current (history w.device).disk.content w.synced (cells_at run w.synced)
     pub area-is : w.log.area ≡ log_area run.geometry w.halves.current
     pub groups : List (List RecordValue)
     pub stands : Stands w.log (history w.device).disk.content groups
-    pub all_synced : IsSynced (history w.device).disk
+    pub loose : (n : ℕ) → (history w.device).disk.unsynced n ≡ true → InHalfImage run.geometry (other w.halves.current) n
+    pub image : IfSome w.image (IsUnderway run (other w.halves.current) (history w.device).disk.content w.synced)
 
   -- The records of the run up to number `handed` were handed in. The device stands for those up to the last synced one, unless
   -- it failed, and the others wait. A crash now leaves the cells after one of them, no earlier than the last synced one.
@@ -44,6 +70,25 @@ module _ {D M : Type 0} (history : D → History) (run : Run) where
     pub waits : w.waiting.items ≡ records_between run w.synced handed
     pub holds : w.failed ≡ false → StandsFor w
     pub images : (image : Image) → IsCrashImage (history w.device).disk image → LeftBy run w.synced handed image
+
+-- The first `count` waiting records are in the log of the current half, synced, and the writer doesn't count them yet. (No
+-- public clause cites this.)
+module _ {D M : Type 0} (history : D → History) (run : Run) where
+  pub record HasAppended (handed count : ℕ) (w : Writer D M) : Type 0 where
+    pub run-is : IsRun run
+    pub geometry-is : w.halves.geometry ≡ run.geometry
+    pub opened : run.last ≤ w.synced
+    pub made : handed ≤ end_of run
+    pub small : handed ≤ LAST_NUMBER
+    pub within : w.synced + count ≤ handed
+    pub waits : w.waiting.items ≡ records_between run w.synced handed
+    pub store : IsStore run.geometry w.halves.current (history w.device).disk.content
+    pub has : HalfHas run.geometry w.halves.current (history w.device).disk.content (w.synced + count) (cells_at run (w.synced + count))
+    pub area-is : w.log.area ≡ log_area run.geometry w.halves.current
+    pub groups : List (List RecordValue)
+    pub stands : Stands w.log (history w.device).disk.content groups
+    pub all_synced : IsSynced (history w.device).disk
+    pub image : IfSome w.image (IsUnderway run (other w.halves.current) (history w.device).disk.content w.synced)
 
 -- some records of some run were handed in
 abbrev pub IsSomewhere : {D M : Type 0} → (D → History) → Writer D M → Type 0
@@ -95,3 +140,138 @@ abbrev pub IsNotFlushed : {D M : Type 0} → (D → ℕ) → Error → Writer D 
 IsNotFlushed failures e old new =
     ((e ≡ NoMemory) × (old.failed ≡ false) × (old.waiting.items ≢ []) × (old.log.open_slots ≢ old.log.area.slots) × (new ≡ old))
     ⊎ ((e ≡ DeviceFailed) × (new.failed ≡ true) × (old.failed ≡ false → (old.waiting.items ≢ []) × Rises (failures old.device) (failures new.device)) × (old.failed ≡ true → new ≡ old))
+
+-- these are all cells as they were after the record `number`, and an image has room for them
+pub record IsWholeChunk (run : Run) (synced number : ℕ) (cells : Cells) : Type 0 where
+  pub late : synced ≤ number
+  pub made : number ≤ end_of run
+  pub small : number ≤ LAST_NUMBER
+  pub cells-are : cells ≡ cells_at run number
+  pub fits : FitsImage run.geometry cells
+
+-- these are life and lists as they were after the record `number`, whose cells are all of the store's pages, and an image has
+-- room for them
+pub record IsStartChunk (run : Run) (synced number : ℕ) (life : Life) (lists : Pending) : Type 0 where
+  pub late : synced ≤ number
+  pub made : number ≤ end_of run
+  pub small : number ≤ LAST_NUMBER
+  pub life-is : life ≡ (cells_at run number).life
+  pub lists-are : lists ≡ (cells_at run number).pending
+  pub inside : AreInside run.geometry.pages (cells_at run number)
+  pub fits : FitsImage run.geometry (record { rows = map.empty; entries = map.empty; pending = lists; life = life })
+
+-- these are the rows of the image's next page as they were after the record `number`
+pub record IsPageChunk (run : Run) (image : NewImage) (number page : ℕ) (rows : Table) : Type 0 where
+  pub next : (count : ℕ) × (highest : Option Pair) × (life : Life) × (image.stage ≡ stage.Partly page count highest life)
+  pub below : page < run.geometry.pages
+  pub later : image.number ≤ number
+  pub made : number ≤ end_of run
+  pub small : number ≤ LAST_NUMBER
+  pub rows-are : ArePageRows (cells_at run number) page rows
+  pub slots : (q : Place) (r : Row) → map.get rows q ≡ Some r → q.slot < SLOTS_PER_PAGE
+
+-- these are the image's next entries, behind all pages, as they were after the record `number`, in order: as many as a chunk
+-- takes, or all that are left
+pub record IsEntriesChunk (run : Run) (image : NewImage) (number : ℕ) (entries : List (Pair × Mark)) : Type 0 where
+  pub more : Index
+  pub count : ℕ
+  pub above : Option Pair
+  pub life : Life
+  pub next : image.stage ≡ stage.Partly run.geometry.pages count above life
+  pub later : image.number ≤ number
+  pub made : number ≤ end_of run
+  pub small : number ≤ LAST_NUMBER
+  pub listed : map.entries more ≡ entries
+  pub most : length entries ≤ CHUNK_ENTRIES
+  pub full : (last : Pair × Mark) → slice_get entries (CHUNK_ENTRIES - 1) ≡ Some last → AreNextEntries (cells_at run number) above (Some last.0) more
+  pub rest : slice_get entries (CHUNK_ENTRIES - 1) ≡ None → AreLastEntries (cells_at run number) above more
+  pub inside : (i : ℕ) (e : Pair × Mark) → slice_get entries i ≡ Some e → e.0.rid.page < run.geometry.pages
+
+-- What may be taken: at any time a whole image or the start of one; of the image under way its next piece. Where none is under
+-- way nothing is asked of other pieces, which are not taken.
+abbrev pub IsChunk : {A D M : Type 0} → Run → Writer D M → (number : ℕ) → Piece A → Type 0
+IsChunk run w number (Whole cells) = IsWholeChunk run w.synced number (cells_of cells)
+IsChunk run w number (Start life lists) = IsStartChunk run w.synced number life lists
+IsChunk run w number (Page page rows) = (image : NewImage) → w.image ≡ Some image → IsPageChunk run image number page rows
+IsChunk run w number (Entries entries) = (image : NewImage) → w.image ≡ Some image → IsEntriesChunk run image number entries.items
+
+-- an image is begun at the record `number`, at this stage, and its log is empty
+abbrev pub HasBegun : ℕ → Stage → NewImage → Type 0
+HasBegun number there image = (image.base ≡ number) × (image.number ≡ number) × (image.stage ≡ there) × (image.log.open_slots ≡ 0)
+
+-- how much there is of an image behind so many pages and entries, with these entries: all of it where they are fewer than a
+-- chunk takes
+abbrev pub stage_behind : (pages count : ℕ) → Life → List (Pair × Mark) → Stage
+stage_behind pages count life entries = option_map_or (λ last. stage.Partly pages (count + length entries) (Some last.0) life) (slice_get entries (CHUNK_ENTRIES - 1)) stage.Whole
+
+-- what the image is with these entries of the record `number`
+abbrev pub HaveEntries : {D M : Type 0} → ℕ → List (Pair × Mark) → Writer D M → NewImage → Type 0
+HaveEntries number entries old new = (image : NewImage) × (pages count : ℕ) × (above : Option Pair) × (life : Life) × (old.image ≡ Some image) × (image.stage ≡ stage.Partly pages count above life)
+    × (new ≡ record image { number = number; stage = stage_behind pages count life entries })
+
+-- and what it is with the rows of this page
+abbrev pub HasRows : {D M : Type 0} → ℕ → (page : ℕ) → Writer D M → NewImage → Type 0
+HasRows number page old new = (image : NewImage) × (count : ℕ) × (highest : Option Pair) × (life : Life) × (old.image ≡ Some image) × (image.stage ≡ stage.Partly page count highest life)
+    × (new ≡ record image { number = number; stage = stage.Partly (page + 1) count highest life })
+
+-- what the image is with a piece of the record `number`
+abbrev pub HasPiece : {A D M : Type 0} → ℕ → Piece A → Writer D M → NewImage → Type 0
+HasPiece number (Whole cells) old new = HasBegun number stage.Whole new
+HasPiece number (Start life lists) old new = HasBegun number (stage.Partly 0 0 None life) new
+HasPiece number (Page page rows) old new = HasRows number page old new
+HasPiece number (Entries entries) old new = HaveEntries number entries.items old new
+
+-- this is the image under way, and but for the device all else is as it was
+abbrev pub HasKept : {D M : Type 0} → NewImage → Writer D M → Writer D M → Type 0
+HasKept image old new = (new.image ≡ Some image) × (new.halves ≡ old.halves) × (new.log ≡ old.log) × (new.waiting ≡ old.waiting) × (new.synced ≡ old.synced) × (new.failed ≡ old.failed)
+
+-- every slot of the current half's log is open
+abbrev pub IsLogFull : {D M : Type 0} → Writer D M → Type 0
+IsLogFull w = w.log.open_slots ≡ w.halves.geometry.slots
+
+-- the image's entries with so many more pass the geometry's
+abbrev pub IsPast : {D M : Type 0} → Writer D M → (more : ℕ) → Type 0
+IsPast w more = (image : NewImage) × (pages count : ℕ) × (highest : Option Pair) × (life : Life) × (w.image ≡ Some image) × (image.stage ≡ stage.Partly pages count highest life) × (w.halves.geometry.entries < count + more)
+
+-- so many more entries can't be taken
+abbrev pub AreRefused : {D M : Type 0} → ℕ → Writer D M → Type 0
+AreRefused more w = (w.image ≡ None) ⊎ (IsLogFull w ⊎ IsPast w more)
+
+-- the rows of a page can't be
+abbrev pub IsPageRefused : {D M : Type 0} → Writer D M → Type 0
+IsPageRefused w = (w.image ≡ None) ⊎ IsLogFull w
+
+-- Why an image is to be copied from its start: every slot of the current log is open; or it was given up, and there is none; or
+-- its entries would pass the geometry's. A whole image is taken always.
+abbrev pub MustStartAgain : {A D M : Type 0} → Piece A → Writer D M → Type 0
+MustStartAgain (Whole cells) w = ⊥
+MustStartAgain (Start life lists) w = IsLogFull w
+MustStartAgain (Page page rows) w = IsPageRefused w
+MustStartAgain (Entries entries) w = AreRefused (length entries.items) w
+
+-- the piece is in the image, and all else but the device is as it was; or nothing changed
+abbrev pub IsStepReply : {A D M : Type 0} → ℕ → Piece A → StepReply → Writer D M → Writer D M → Type 0
+IsStepReply number piece Taken old new = (¬ MustStartAgain piece old) × ((image : NewImage) × HasKept image old new × HasPiece number piece old image)
+IsStepReply number piece StartAgain old new = (new ≡ old) × MustStartAgain piece old
+
+-- so it is of a page and of entries (no public clause cites these)
+abbrev pub IsPageAnswered : {D M : Type 0} → ℕ → (page : ℕ) → StepReply → Writer D M → Writer D M → Type 0
+IsPageAnswered number page Taken old new = (¬ IsPageRefused old) × ((image : NewImage) × HasKept image old new × HasRows number page old image)
+IsPageAnswered number page StartAgain old new = (new ≡ old) × IsPageRefused old
+
+abbrev pub AreEntriesAnswered : {D M : Type 0} → ℕ → List (Pair × Mark) → StepReply → Writer D M → Writer D M → Type 0
+AreEntriesAnswered number entries Taken old new = (¬ AreRefused (length entries) old) × ((image : NewImage) × HasKept image old new × HaveEntries number entries old image)
+AreEntriesAnswered number entries StartAgain old new = (new ≡ old) × AreRefused (length entries) old
+
+-- what a flip wants: there is a whole image, every record up to its last step was handed in, and those above its base are synced
+abbrev pub CanFlip : {D M : Type 0} → ℕ → Writer D M → Type 0
+CanFlip handed w = (image : NewImage) × (w.image ≡ Some image) × (image.stage ≡ stage.Whole) × (image.number ≤ handed) × (image.number ≤ reach image w.synced)
+
+-- the image is current, or there is none that can be
+abbrev pub IsFlipReply : {D M : Type 0} → ℕ → FlipReply → Writer D M → Writer D M → Type 0
+IsFlipReply handed (Flipped n) old new = (n ≡ new.synced) × (old.synced ≤ n) × CanFlip handed old × ((image : NewImage) → old.image ≡ Some image → n ≡ reach image old.synced) × (new.image ≡ None)
+IsFlipReply handed Behind old new = (new ≡ old) × (¬ CanFlip handed old)
+
+-- the device failed, now or earlier, and is left alone from then on
+abbrev pub HasFailed : {D M : Type 0} → (D → ℕ) → Error → Writer D M → Writer D M → Type 0
+HasFailed failures e old new = (e ≡ DeviceFailed) × (new.failed ≡ true) × (old.failed ≡ false → Rises (failures old.device) (failures new.device)) × (old.failed ≡ true → new ≡ old)

@@ -2,10 +2,11 @@
 //! that was opened. It knows records as bytes of a log and as what they set, and no more of what they mean.
 #![tactic(auto)]
 
+mod image;
 mod laws;
 mod store;
 mod writer;
 
 pub use laws::{given_by_cells, longer_run, opened_by_reader};
 pub use store::StoreWriter;
-pub use writer::FlushReply;
+pub use writer::{FlipReply, FlushReply, StepReply};

@@ -1,17 +1,19 @@
 //! The writer of a store.
-ghost use Rattle.std.specs.Prelude.{◌≡◌, ◌+◌, ◌≤◌, ◌++◌, ℕ, List, [], length, false, OnOk, OnErr, IfOk, IfErr};
+ghost use Rattle.std.specs.Prelude.{◌≡◌, ◌+◌, ◌-◌, ◌≤◌, ◌++◌, ℕ, List, [], length, false, OnOk, OnErr, IfOk, IfErr};
 ghost use Rattle.sector_device.specs.Disk.{Image, IsCrashImage};
 ghost use Rattle.sector_device.specs.History.{LeavesOnly};
 ghost use Rattle.records.specs.RecordValue.{RecordValue};
 ghost use Rattle.model.specs.Cells.{Cells};
 ghost use Rattle.image_model.specs.Run.{Run, IsRun};
 ghost use Rattle.store_writer.specs.Contents.{LeftBy};
-ghost use Rattle.store_writer.specs.Parts.{device_of, halves_of, log_of, waiting_of, synced_of, has_failed};
+ghost use Rattle.store_writer.specs.Image.{BecomesImage};
+ghost use Rattle.store_writer.specs.Parts.{device_of, halves_of, log_of, waiting_of, synced_of, has_failed, image_of};
 
-use crate::FlushReply;
+use crate::{FlipReply, FlushReply, StepReply};
 use crate::writer::Writer;
 use flip_image::Halves;
 use gate_log::LogArea;
+use image_model::Chunk;
 use records::{Error, Record};
 use sector_device::Device;
 use std::alloc::Allocator;
@@ -45,7 +47,7 @@ impl<D: Device, A: Allocator> Model for StoreWriter<D, A> {
 }
 
 impl<D: Device, A: Allocator + Copy> StoreWriter<D, A> {
-    ghost use Rattle.store_writer.specs.Writer.{IsWriter, IsOpenedAt, opened_run, longer, AreNext, IsFlushReply, IsNotFlushed};
+    ghost use Rattle.store_writer.specs.Writer.{IsWriter, IsOpenedAt, opened_run, longer, AreNext, IsFlushReply, IsNotFlushed, IsChunk, IsStepReply, IsFlipReply, HasFailed};
 
     /// A writer to which nothing was handed, over a device that is synced. The log is that of the current half, as a reader
     /// or `LogArea::clear` left it, and the current half has the cells after the record `synced`. Nothing is read, and no
@@ -101,6 +103,7 @@ impl<D: Device, A: Allocator + Copy> StoreWriter<D, A> {
         ensures images { (run : Run) (handed : ℕ) → IsWriter D.history run handed self.old
             → LeavesOnly (D.history (device_of self.old)) (D.history (device_of self.new)) (LeftBy run (synced_of self.old) handed) }
         ensures flushed { IfOk result (λ reply. IsFlushReply reply self.old self.new) }
+        ensures image { (n : ℕ) → result ≡ Ok (FlushReply.Flushed n) → BecomesImage (halves_of self.old).geometry.slots (synced_of self.old) (n - synced_of self.old) (image_of self.old) (image_of self.new) }
         ensures nothing { result ≡ Ok FlushReply.Nothing → (run : Run) (handed : ℕ) → IsWriter D.history run handed self.old → synced_of self.old ≡ handed }
         ensures idle { (run : Run) (handed : ℕ) → IsWriter D.history run handed self.old → has_failed self.old ≡ false → synced_of self.old ≡ handed → result ≡ Ok FlushReply.Nothing }
         ensures sound { OnOk result ((has_failed self.old ≡ false) × (has_failed self.new ≡ false)) }
@@ -110,6 +113,44 @@ impl<D: Device, A: Allocator + Copy> StoreWriter<D, A> {
         ensures later { D.failures (device_of self.old) ≤ D.failures (device_of self.new) }
     {
         self.writer.flush_group(alloc)
+    }
+
+    /// Takes what was copied into an image, into the half that isn't current. All cells, as the record of the chunk's number
+    /// left them, make a whole image; life and lists begin one that is copied in steps; either gives up an image that was under
+    /// way, and its log is empty. Then come the rows of each page in order, and the entries in order, the last ones fewer than a
+    /// chunk takes: with them the image is whole.
+    ///
+    /// `StartAgain` where the image is copied in steps and every slot of the current log is open, or it was given up, or its
+    /// entries would pass the geometry's: nothing changes, and a whole image is wanted. `DeviceFailed` comes where the device
+    /// fails in the call, and from then on.
+    pub fn checkpoint_step(&mut self, chunk: Chunk<A>) -> Result<StepReply, Error>
+        requires { (run : Run) × (handed : ℕ) × IsWriter D.history run handed self.old × IsChunk run self.old chunk.number chunk.piece }
+        ensures writer { (run : Run) (handed : ℕ) → IsWriter D.history run handed self.old → IsChunk run self.old chunk.number chunk.piece → IsWriter D.history run handed self.new }
+        ensures images { (run : Run) (handed : ℕ) → IsWriter D.history run handed self.old
+            → LeavesOnly (D.history (device_of self.old)) (D.history (device_of self.new)) (LeftBy run (synced_of self.old) handed) }
+        ensures stepped { IfOk result (λ reply. IsStepReply chunk.number chunk.piece reply self.old self.new) }
+        ensures sound { OnOk result ((has_failed self.old ≡ false) × (has_failed self.new ≡ false)) }
+        ensures err { IfErr result (λ e. HasFailed D.failures e self.old self.new) }
+        ensures kept { synced_of self.new ≡ synced_of self.old }
+    {
+        self.writer.checkpoint_step(chunk)
+    }
+
+    /// Makes the image current, and drops the records that wait and are in it. From then on what a crash leaves has every
+    /// record up to the image's base, and those of its log.
+    ///
+    /// `Behind` where there is no image, or a record up to its last step isn't handed in, or one of them above its base
+    /// isn't synced; nothing changes. `DeviceFailed` comes where the device fails in the call, and from then on.
+    pub fn checkpoint_flip(&mut self) -> Result<FlipReply, Error>
+        ensures writer { (run : Run) (handed : ℕ) → IsWriter D.history run handed self.old → IsWriter D.history run handed self.new }
+        ensures images { (run : Run) (handed : ℕ) → IsWriter D.history run handed self.old
+            → LeavesOnly (D.history (device_of self.old)) (D.history (device_of self.new)) (LeftBy run (synced_of self.old) handed) }
+        ensures flipped { (run : Run) (handed : ℕ) → IsWriter D.history run handed self.old → IfOk result (λ reply. IsFlipReply handed reply self.old self.new) }
+        ensures sound { OnOk result ((has_failed self.old ≡ false) × (has_failed self.new ≡ false)) }
+        ensures err { IfErr result (λ e. HasFailed D.failures e self.old self.new) }
+        ensures kept { OnErr result (synced_of self.new ≡ synced_of self.old) }
+    {
+        self.writer.checkpoint_flip()
     }
 
     /// The number of the last synced record: what a crash leaves from now on has it.

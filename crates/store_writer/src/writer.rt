@@ -1,14 +1,23 @@
 //! A device, its log, and the records that wait for it.
-ghost use Rattle.std.specs.Prelude.{◌≡◌, ◌+◌, ◌≤◌, ◌++◌, List, [], ℕ, length, false, OnOk, OnErr, IfOk, IfErr};
-ghost use Rattle.sector_device.specs.History.{LeavesOnly};
+ghost use Rattle.std.specs.Prelude.{◌≡◌, ◌↔◌, ◌+◌, ◌-◌, ◌≤◌, ◌<◌, ◌++◌, List, [], ℕ, length, take, true, false, Some, None, IsTrue, OnOk, OnErr, IfOk, IfErr};
+ghost use Rattle.sector_device.specs.History.{LeavesOnly, Rises};
 ghost use Rattle.records.specs.RecordValue.{RecordValue};
 ghost use Rattle.model.specs.Cells.{Cells};
+ghost use Rattle.model.specs.Redo.{cells_of};
 ghost use Rattle.image_model.specs.Run.{Run, IsRun};
 ghost use Rattle.store_writer.specs.Contents.{LeftBy};
+ghost use Rattle.store_writer.specs.Image.{IsPlan, BecomesImage};
 
+use crate::image::{
+    NewImage, Plan, Stage, carry, lists_alone, plan_for, rows_alone, stage_behind, write_first,
+    write_next, write_whole,
+};
 use flip_image::Halves;
-use gate_log::{Appended, LogArea, group_len};
-use records::{Error, Record};
+use image_model::{Chunk, Piece};
+use image_parts::Header;
+use gate_log::{Appended, LogArea, group_len, spell};
+use model::{CellMaps, Life, ListMap, RowMap};
+use records::{Error, Geometry, Mark, Pair, Record};
 use sector_device::Device;
 use std::alloc::Allocator;
 
@@ -23,6 +32,24 @@ pub enum FlushReply {
     LogFull,
 }
 
+/// What became of a step of an image.
+#[derive(Clone, Copy, Debug, PartialEq, Eq)]
+pub enum StepReply {
+    /// What was copied is in the image.
+    Taken,
+    /// It isn't, and the image has to be copied from its start.
+    StartAgain,
+}
+
+/// What became of a flip.
+#[derive(Clone, Copy, Debug, PartialEq, Eq)]
+pub enum FlipReply {
+    /// The image is current, and the records up to this number are synced.
+    Flipped(u64),
+    /// There is no whole image, or a record up to its last step isn't handed in, or one of them above its base isn't synced.
+    Behind,
+}
+
 /// The one that owns a store's device.
 #[derive(Drop)]
 pub(crate) struct Writer<D, A: Allocator> {
@@ -34,12 +61,29 @@ pub(crate) struct Writer<D, A: Allocator> {
     pub(crate) waiting: Vec<Record, A>,
     // The number of the last synced record.
     pub(crate) synced: u64,
+    // The image in the half that isn't current, if one is under way.
+    pub(crate) image: Option<NewImage>,
     // Whether the device has failed.
     pub(crate) failed: bool,
 }
 
+// Whether every slot of a log of this geometry is open.
+fn is_full(log: LogArea, geometry: Geometry) -> bool
+    ensures { IsTrue result ↔ (log.open_slots ≡ geometry.slots) }
+{
+    log.open_slots() == u64::from(geometry.slots)
+}
+
+// Whether so many entries and so many more pass those that there is room for.
+fn has_no_room(geometry: Geometry, count: u32, more: usize) -> bool
+    ensures { IsTrue result ↔ (geometry.entries < count + more) }
+{
+    u64::from(geometry.entries) - u64::from(count.min(geometry.entries)) < more as u64
+        || geometry.entries < count
+}
+
 impl<D: Device, A: Allocator + Copy> Writer<D, A> {
-    ghost use Rattle.store_writer.specs.Writer.{IsWriter, IsOpenedAt, opened_run, longer, AreNext, IsFlushReply, IsNotFlushed};
+    ghost use Rattle.store_writer.specs.Writer.{IsWriter, HasAppended, IsOpenedAt, opened_run, longer, AreNext, IsWholeChunk, IsStartChunk, IsPageChunk, IsEntriesChunk, IsFlushReply, IsNotFlushed, IsFlipReply, HasKept, HasBegun, IsPageAnswered, AreEntriesAnswered, IsChunk, IsStepReply, HasFailed};
 
     /// A writer to which nothing was handed.
     pub(crate) fn new(alloc: A, device: D, halves: Halves, log: LogArea, synced: u64) -> Self
@@ -57,6 +101,7 @@ impl<D: Device, A: Allocator + Copy> Writer<D, A> {
             log,
             waiting: Vec::new(alloc),
             synced,
+            image: None,
             failed: false,
         }
     }
@@ -92,6 +137,7 @@ impl<D: Device, A: Allocator + Copy> Writer<D, A> {
         ensures images { (run : Run) (handed : ℕ) → IsWriter D.history run handed self.old
             → LeavesOnly (D.history self.old.device) (D.history self.new.device) (LeftBy run self.old.synced handed) }
         ensures flushed { IfOk result (λ reply. IsFlushReply reply self.old self.new) }
+        ensures image { (n : ℕ) → result ≡ Ok (FlushReply.Flushed n) → BecomesImage self.old.halves.geometry.slots self.old.synced (n - self.old.synced) self.old.image self.new.image }
         ensures nothing { result ≡ Ok FlushReply.Nothing → (run : Run) (handed : ℕ) → IsWriter D.history run handed self.old → self.old.synced ≡ handed }
         ensures idle { (run : Run) (handed : ℕ) → IsWriter D.history run handed self.old → self.old.failed ≡ false → self.old.synced ≡ handed → result ≡ Ok FlushReply.Nothing }
         ensures sound { OnOk result ((self.old.failed ≡ false) × (self.new.failed ≡ false)) }
@@ -107,22 +153,289 @@ impl<D: Device, A: Allocator + Copy> Writer<D, A> {
         if count == 0 {
             return Ok(FlushReply::Nothing);
         }
-        match self
-            .log
-            .append(alloc, &mut self.device, &self.waiting[..count])
-        {
-            Ok(Appended::Done) => {
+        if is_full(self.log, self.halves.geometry()) {
+            return Ok(FlushReply::LogFull);
+        }
+        let body = spell(alloc, &self.waiting[..count])?;
+        let plan = plan_for(
+            alloc,
+            self.image,
+            self.halves.geometry(),
+            self.synced,
+            &self.waiting[..count],
+        )?;
+        match self.log.append_spelled(&mut self.device, &body) {
+            Ok(Appended::Done) => self.carry_on(count, plan),
+            Ok(Appended::Full) => Ok(FlushReply::LogFull),
+            Err(_) => {
+                self.failed = true;
+                Err(Error::DeviceFailed)
+            }
+        }
+    }
+
+    // The first waiting records, a group, were added to the current half's log: those above the base of an image go into the
+    // log of its half, as planned.
+    fn carry_on(&mut self, count: usize, plan: Plan<A>) -> Result<FlushReply, Error>
+        requires appended { (run : Run) × (handed : ℕ) × HasAppended D.history run handed count self.old }
+        requires planned { (slots : ℕ) × IsPlan self.old.image slots self.old.synced (take count self.old.waiting.items) plan }
+        requires sound { self.old.failed ≡ false }
+        ensures writer { (run : Run) (handed : ℕ) → HasAppended D.history run handed count self.old → IsWriter D.history run handed self.new }
+        ensures images { (run : Run) (handed : ℕ) → HasAppended D.history run handed count self.old
+            → LeavesOnly (D.history self.old.device) (D.history self.new.device) (LeftBy run self.old.synced handed) }
+        ensures flushed { IfOk result (λ reply. (reply ≡ FlushReply.Flushed self.new.synced) × (self.new.synced ≡ self.old.synced + count) × (self.new.failed ≡ self.old.failed)) }
+        ensures image { OnOk result ((run : Run) (handed slots : ℕ) → HasAppended D.history run handed count self.old → slots ≡ run.geometry.slots → 0 < count
+            → IsPlan self.old.image slots self.old.synced (take count self.old.waiting.items) plan → BecomesImage slots self.old.synced count self.old.image self.new.image) }
+        ensures err { IfErr result (λ e. (e ≡ Error.DeviceFailed) × (self.new.failed ≡ true) × (self.new.synced ≡ self.old.synced) × Rises (D.failures self.old.device) (D.failures self.new.device)) }
+        ensures quiet { OnOk result (D.failures self.new.device ≡ D.failures self.old.device) }
+        ensures later { D.failures self.old.device ≤ D.failures self.new.device }
+    {
+        match carry(&mut self.device, self.image, plan) {
+            Ok(image) => {
+                self.image = image;
                 self.synced += count as u64;
                 self.waiting.drain(..count);
                 Ok(FlushReply::Flushed(self.synced))
             }
-            Ok(Appended::Full) => Ok(FlushReply::LogFull),
-            Err(Error::NoMemory) => Err(Error::NoMemory),
-            Err(error) => {
+            Err(_) => {
                 self.failed = true;
-                Err(error)
+                Err(Error::DeviceFailed)
             }
         }
+    }
+
+    /// Writes the image of these cells, which the record `number` left, into the half that isn't current, whose log is then
+    /// empty. An image that was under way is given up.
+    fn take_whole(&mut self, number: u64, cells: &CellMaps<A>) -> Result<(), Error>
+        requires sound { self.old.failed ≡ false }
+        requires whole { (run : Run) × (handed : ℕ) × IsWriter D.history run handed self.old × IsWholeChunk run self.old.synced number (cells_of cells.now) }
+        ensures writer { (run : Run) (handed : ℕ) → IsWriter D.history run handed self.old → IsWholeChunk run self.old.synced number (cells_of cells.now) → IsWriter D.history run handed self.new }
+        ensures images { (run : Run) (handed : ℕ) → IsWriter D.history run handed self.old
+            → LeavesOnly (D.history self.old.device) (D.history self.new.device) (LeftBy run self.old.synced handed) }
+        ensures taken { OnOk result ((image : NewImage) × HasKept image self.old self.new × HasBegun number Stage.Whole image) }
+        ensures synced { self.new.synced ≡ self.old.synced }
+        ensures err { IfErr result (λ e. HasFailed D.failures e self.old self.new) }
+    {
+        match write_whole(&mut self.device, self.halves, number, cells) {
+            Ok(log) => {
+                self.image = Some(NewImage {
+                    base: number,
+                    number,
+                    stage: Stage::Whole,
+                    log,
+                });
+                Ok(())
+            }
+            Err(_) => {
+                self.failed = true;
+                Err(Error::DeviceFailed)
+            }
+        }
+    }
+
+    /// Begins an image that is copied in steps with life and lists as the record `number` left them. An image that was under
+    /// way is given up.
+    fn take_start(&mut self, number: u64, life: Life, lists: ListMap<A>) -> Result<(), Error>
+        requires sound { self.old.failed ≡ false }
+        requires start { (run : Run) × (handed : ℕ) × IsWriter D.history run handed self.old × IsStartChunk run self.old.synced number life lists }
+        ensures writer { (run : Run) (handed : ℕ) → IsWriter D.history run handed self.old → IsStartChunk run self.old.synced number life lists → IsWriter D.history run handed self.new }
+        ensures images { (run : Run) (handed : ℕ) → IsWriter D.history run handed self.old
+            → LeavesOnly (D.history self.old.device) (D.history self.new.device) (LeftBy run self.old.synced handed) }
+        ensures taken { OnOk result ((image : NewImage) × HasKept image self.old self.new × HasBegun number (Stage.Partly 0 0 None life) image) }
+        ensures synced { self.new.synced ≡ self.old.synced }
+        ensures err { IfErr result (λ e. HasFailed D.failures e self.old self.new) }
+    {
+        let alloc = *self.waiting.allocator();
+        let cells = lists_alone(alloc, life, lists);
+        match write_first(&mut self.device, self.halves, &cells) {
+            Ok(log) => {
+                let life = cells.life;
+                let stage = Stage::Partly {
+                    pages: 0,
+                    entries: 0,
+                    highest: None,
+                    life,
+                };
+                self.image = Some(NewImage {
+                    base: number,
+                    number,
+                    stage,
+                    log,
+                });
+                Ok(())
+            }
+            Err(_) => {
+                self.failed = true;
+                Err(Error::DeviceFailed)
+            }
+        }
+    }
+
+    /// Takes the rows of the image's next page, as they are after the record `number`.
+    fn take_page(&mut self, number: u64, page: u32, rows: RowMap<A>) -> Result<StepReply, Error>
+        requires sound { self.old.failed ≡ false }
+        requires page { (run : Run) × (handed : ℕ) × IsWriter D.history run handed self.old × ((image : NewImage) → self.old.image ≡ Some image → IsPageChunk run image number page rows) }
+        ensures writer { (run : Run) (handed : ℕ) → IsWriter D.history run handed self.old → ((image : NewImage) → self.old.image ≡ Some image → IsPageChunk run image number page rows) → IsWriter D.history run handed self.new }
+        ensures images { (run : Run) (handed : ℕ) → IsWriter D.history run handed self.old
+            → LeavesOnly (D.history self.old.device) (D.history self.new.device) (LeftBy run self.old.synced handed) }
+        ensures stepped { IfOk result (λ reply. IsPageAnswered number page reply self.old self.new) }
+        ensures synced { self.new.synced ≡ self.old.synced }
+        ensures err { IfErr result (λ e. HasFailed D.failures e self.old self.new) }
+    {
+        let Some(image) = self.image else {
+            return Ok(StepReply::StartAgain);
+        };
+        let NewImage {
+            base, stage, log, ..
+        } = image;
+        let Stage::Partly {
+            entries,
+            highest,
+            life,
+            ..
+        } = stage
+        else {
+            unreachable!()
+        };
+        if is_full(self.log, self.halves.geometry()) {
+            return Ok(StepReply::StartAgain);
+        }
+        let alloc = *self.waiting.allocator();
+        let cells = rows_alone(alloc, rows);
+        if self.halves.write_rows(&mut self.device, page, &cells).is_err() {
+            self.failed = true;
+            return Err(Error::DeviceFailed);
+        }
+        let stage = Stage::Partly {
+            pages: page + 1,
+            entries,
+            highest,
+            life,
+        };
+        self.image = Some(NewImage {
+            base,
+            number,
+            stage,
+            log,
+        });
+        Ok(StepReply::Taken)
+    }
+
+    /// Takes the image's next entries, as they are after the record `number`: behind the last ones it is whole.
+    fn take_entries(&mut self, number: u64, entries: &[(Pair, Mark)]) -> Result<StepReply, Error>
+        requires sound { self.old.failed ≡ false }
+        requires entries { (run : Run) × (handed : ℕ) × IsWriter D.history run handed self.old × ((image : NewImage) → self.old.image ≡ Some image → IsEntriesChunk run image number entries.now) }
+        ensures writer { (run : Run) (handed : ℕ) → IsWriter D.history run handed self.old → ((image : NewImage) → self.old.image ≡ Some image → IsEntriesChunk run image number entries.now) → IsWriter D.history run handed self.new }
+        ensures images { (run : Run) (handed : ℕ) → IsWriter D.history run handed self.old
+            → LeavesOnly (D.history self.old.device) (D.history self.new.device) (LeftBy run self.old.synced handed) }
+        ensures stepped { IfOk result (λ reply. AreEntriesAnswered number entries.now reply self.old self.new) }
+        ensures synced { self.new.synced ≡ self.old.synced }
+        ensures err { IfErr result (λ e. HasFailed D.failures e self.old self.new) }
+    {
+        let Some(image) = self.image else {
+            return Ok(StepReply::StartAgain);
+        };
+        let NewImage {
+            base, stage, log, ..
+        } = image;
+        let Stage::Partly {
+            pages,
+            entries: count,
+            life,
+            ..
+        } = stage
+        else {
+            unreachable!()
+        };
+        let geometry = self.halves.geometry();
+        if is_full(self.log, geometry) || has_no_room(geometry, count, entries.len()) {
+            return Ok(StepReply::StartAgain);
+        }
+        let header = Header {
+            life,
+            base,
+            entries: count,
+        };
+        if write_next(&mut self.device, self.halves, &header, entries).is_err() {
+            self.failed = true;
+            return Err(Error::DeviceFailed);
+        }
+        let stage = stage_behind(pages, count, header.life, entries);
+        self.image = Some(NewImage {
+            base,
+            number,
+            stage,
+            log,
+        });
+        Ok(StepReply::Taken)
+    }
+
+    /// Takes what was copied into an image: the whole of it, or its next piece.
+    pub(crate) fn checkpoint_step(&mut self, chunk: Chunk<A>) -> Result<StepReply, Error>
+        requires { (run : Run) × (handed : ℕ) × IsWriter D.history run handed self.old × IsChunk run self.old chunk.number chunk.piece }
+        ensures writer { (run : Run) (handed : ℕ) → IsWriter D.history run handed self.old → IsChunk run self.old chunk.number chunk.piece → IsWriter D.history run handed self.new }
+        ensures images { (run : Run) (handed : ℕ) → IsWriter D.history run handed self.old
+            → LeavesOnly (D.history self.old.device) (D.history self.new.device) (LeftBy run self.old.synced handed) }
+        ensures stepped { IfOk result (λ reply. IsStepReply chunk.number chunk.piece reply self.old self.new) }
+        ensures sound { OnOk result ((self.old.failed ≡ false) × (self.new.failed ≡ false)) }
+        ensures err { IfErr result (λ e. HasFailed D.failures e self.old self.new) }
+        ensures kept { self.new.synced ≡ self.old.synced }
+    {
+        if self.failed {
+            return Err(Error::DeviceFailed);
+        }
+        let Chunk { number, piece } = chunk;
+        match piece {
+            Piece::Whole { cells } => {
+                self.take_whole(number, &cells)?;
+                Ok(StepReply::Taken)
+            }
+            Piece::Start { life, lists } => {
+                if is_full(self.log, self.halves.geometry()) {
+                    return Ok(StepReply::StartAgain);
+                }
+                self.take_start(number, life, lists)?;
+                Ok(StepReply::Taken)
+            }
+            Piece::Page { page, rows } => self.take_page(number, page, rows),
+            Piece::Entries { entries } => self.take_entries(number, &entries),
+        }
+    }
+
+    /// Makes the image current, and drops the records that wait and are in it.
+    pub(crate) fn checkpoint_flip(&mut self) -> Result<FlipReply, Error>
+        requires { (run : Run) × (handed : ℕ) × IsWriter D.history run handed self.old }
+        ensures writer { (run : Run) (handed : ℕ) → IsWriter D.history run handed self.old → IsWriter D.history run handed self.new }
+        ensures images { (run : Run) (handed : ℕ) → IsWriter D.history run handed self.old
+            → LeavesOnly (D.history self.old.device) (D.history self.new.device) (LeftBy run self.old.synced handed) }
+        ensures flipped { (run : Run) (handed : ℕ) → IsWriter D.history run handed self.old → IfOk result (λ reply. IsFlipReply handed reply self.old self.new) }
+        ensures sound { OnOk result ((self.old.failed ≡ false) × (self.new.failed ≡ false)) }
+        ensures err { IfErr result (λ e. HasFailed D.failures e self.old self.new) }
+        ensures kept { OnErr result (self.new.synced ≡ self.old.synced) }
+    {
+        if self.failed {
+            return Err(Error::DeviceFailed);
+        }
+        let Some(image) = self.image else {
+            return Ok(FlipReply::Behind);
+        };
+        let Stage::Whole = image.stage else {
+            return Ok(FlipReply::Behind);
+        };
+        let reached = image.base.max(self.synced);
+        let handed = self.synced + self.waiting.len() as u64;
+        if handed < image.number || reached < image.number {
+            return Ok(FlipReply::Behind);
+        }
+        if self.halves.flip(&mut self.device).is_err() {
+            self.failed = true;
+            return Err(Error::DeviceFailed);
+        }
+        self.waiting.drain(..(reached - self.synced) as usize);
+        self.log = image.log;
+        self.image = None;
+        self.synced = reached;
+        Ok(FlipReply::Flipped(reached))
     }
 
     /// The device as it is now.

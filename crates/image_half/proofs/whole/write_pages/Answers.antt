@@ -6,19 +6,19 @@ use Rattle.std.proofs.lemmas.Option.{slice_get-get_or}
 use Rattle.records.specs.GeometryValue.{GeometryValue}
 use Rattle.records.specs.declared.row.Row.{Row}
 use Rattle.image_half.specs.Layout.{InPage, InPages}
-use Rattle.image_half.specs.Steps.{ShowsPage}
+use Rattle.image_half.specs.Part.{HasPage}
 use Rattle.image_half.proofs.Joined.{writes_then}
 use Rattle.image_half.proofs.Kept.{page_kept}
 use Rattle.image_half.proofs.whole.write_pages.Goals as goal
 
-pub returns-in_err-write_page-clause-part : goal.returns-in_err-write_page-clause-part
-returns-in_err-write_page-clause-part g c =
+pub returns-in_err-write_rows-clause-part : goal.returns-in_err-write_rows-clause-part
+returns-in_err-write_rows-clause-part g c =
     let hist = g.D.Device.history in
     let first = c.args.first in
     let page = c.loop-page.page in
     let below : page < c.args.geometry.pages = omega (arith, c.loop-page-test.true, ap (λ (x : GeometryValue). x.pages) c.geometry.view_is) in
-    writes_then (InPages c.args.geometry first) (InPage first page) (hist c.args.device.now) (hist c.loop-page.device) (hist c.write_page.new.device)
-    (λ n is. (omega (arith, is.0), omega (arith, is.1, below))) c.loop-page.invariant.part (record { outside = c.write_page.ensures.outside; within = c.write_page.ensures.within })
+    writes_then (InPages c.args.geometry first) (InPage first page) (hist c.args.device.now) (hist c.loop-page.device) (hist c.write_rows.new.device)
+    (λ n is. (omega (arith, is.0), omega (arith, is.1, below))) c.loop-page.invariant.part (record { outside = c.write_rows.ensures.outside; within = c.write_rows.ensures.within })
 
 pub loop-page-preserved : goal.loop-page-preserved
 loop-page-preserved g c =
@@ -27,22 +27,14 @@ loop-page-preserved g c =
     let page = c.loop-page.page in
     let all = (g.S.CellSource.cells c.args.source.now).rows in
     let below : page < c.args.geometry.pages = omega (arith, c.loop-page-test.true, ap (λ (x : GeometryValue). x.pages) c.geometry.view_is) in
-    let rows : List (Option Row) = c.rows_of_page-rows.result in
-    let long : length rows ≡ 63 = c.rows_of_page-rows.ensures.count in
-    let shown : ShowsPage first (hist c.write_page.new.device).disk.content page all = record {
-      front = c.in_ok-write_page.ensures.written 0 None refl;
-      slots = λ slot low. c.in_ok-write_page.ensures.written (slot + 1) (get all (record { page = page; slot = slot }))
-          (subst (λ n. slice_get (None ∷ rows) n ≡ Some (get all (record { page = page; slot = slot }))) (let e : suc slot ≡ slot + 1 = omega arith in e)
-          (slice_get-get_or rows slot None (omega (arith, low, long)) ∙ ap (λ (o : Option Row). Some o) (c.rows_of_page-rows.ensures.rows slot low)));
-    } in
     record {
       written = λ p less. ⊎_elim
-          (λ (same : p ≡ page). subst (λ n. ShowsPage first (hist c.write_page.new.device).disk.content n all) (sym same) shown)
-          (λ other. page_kept (InPage first page) _ _ c.write_page.ensures.outside first p all (λ k low is. omega (arith, is.0, less, other, low)) (c.loop-page.invariant.written p (omega (arith, less, other))))
+          (λ (same : p ≡ page). subst (λ n. HasPage first (hist c.write_rows.new.device).disk.content n all) (sym same) c.in_ok-write_rows.ensures.written)
+          (λ other. page_kept (InPage first page) _ _ c.write_rows.ensures.outside first p all (λ k low is. omega (arith, is.0, less, other, low)) (c.loop-page.invariant.written p (omega (arith, less, other))))
           (cases_eq p page);
-      part = writes_then (InPages c.args.geometry first) (InPage first page) (hist c.args.device.now) (hist c.loop-page.device) (hist c.write_page.new.device)
-          (λ n is. (omega (arith, is.0), omega (arith, is.1, below))) c.loop-page.invariant.part (record { outside = c.write_page.ensures.outside; within = c.write_page.ensures.within });
-      failures = c.in_ok-write_page.ensures.counts.none ∙ c.loop-page.invariant.failures;
+      part = writes_then (InPages c.args.geometry first) (InPage first page) (hist c.args.device.now) (hist c.loop-page.device) (hist c.write_rows.new.device)
+          (λ n is. (omega (arith, is.0), omega (arith, is.1, below))) c.loop-page.invariant.part (record { outside = c.write_rows.ensures.outside; within = c.write_rows.ensures.within });
+      failures = c.in_ok-write_rows.ensures.counts.none ∙ c.loop-page.invariant.failures;
     }
 
 pub returns-clause-written : goal.returns-clause-written

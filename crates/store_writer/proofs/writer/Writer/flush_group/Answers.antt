@@ -1,22 +1,76 @@
-use Rattle.std.proofs.Common.{rules, ⊎_elim, true, ◌≡◌, ◌≢◌, ◌≤◌, ◌+◌, ◌<◌, ◌-◌, List, [], Ok, refl, sym, ap, subst, ◌∙◌, take, length, length-take, arith, inl, inr}
+use Rattle.std.proofs.Common.{rules, ⊎_elim, true, ◌≡◌, ◌≢◌, ◌≤◌, ◌+◌, ◌<◌, ◌-◌, List, [], Ok, refl, sym, ap, subst, ◌∙◌, take, length, length-take, arith, inl, inr, ℕ}
 use Rattle.std.proofs.lemmas.Bool.{false≢true, cases_lt}
 use Rattle.std.proofs.lemmas.List.{nil_from_length}
 use Rattle.records.specs.RecordValue.{RecordValue}
-use Rattle.sector_device.specs.History.{LeavesOnly, Rises}
-use Rattle.records.specs.declared.error.Error.TheVariants.{DeviceFailed}
-use Rattle.sector_device.proofs.Moments.{started}
-use Rattle.gate_log.specs.declared.area.Appended.TheVariants.{Done, Full}
+use Rattle.sector_device.specs.History.{LeavesOnly}
+use Rattle.sector_device.proofs.Moments.{started, joined}
+use Rattle.gate_log.specs.Group.{IsGroup}
+use Rattle.gate_log.specs.declared.area.Appended.TheVariants.{Done}
 use Rattle.store_writer.specs.declared.writer.Writer.{Writer}
 use Rattle.store_writer.specs.Contents.{LeftBy}
-use Rattle.store_writer.specs.Writer.{FillsGroup, IsWriter}
-use Rattle.store_writer.proofs.Writing.{stands, leaves, appended_one, carried_on}
+use Rattle.records.specs.GeometryValue.{GeometryValue}
+use Rattle.store_writer.specs.declared.writer.FlushReply.TheVariants.{Flushed}
+use Rattle.std.proofs.lemmas.Result.{IfErr-weaker, IfOk-at_ok}
+use Rattle.store_writer.specs.Image.{IsPlan, BecomesImage}
+use Rattle.store_writer.specs.Writer.{IsWriter, HasAppended}
+use Rattle.store_writer.proofs.Numbers.{length_between}
+use Rattle.store_writer.proofs.Writing.{stands, leaves, has_appended, carried_on, on_ok_at}
 use Rattle.store_writer.proofs.writer.Writer.flush_group.Goals as goal
 
-pub returns-in-Ok-Done-clause-images : goal.returns-in-Ok-Done-clause-images
-returns-in-Ok-Done-clause-images g c = λ run handed is.
+pub returns-then-count-eq0-clause-images : goal.returns-then-count-eq0-clause-images
+returns-then-count-eq0-clause-images g c = λ run handed is. started (g.D.Device.history c.args.self.now.device) (LeftBy run c.args.self.now.synced handed) is.images
+
+pub returns-then-is_full-clause-images : goal.returns-then-is_full-clause-images
+returns-then-is_full-clause-images g c = λ run handed is. started (g.D.Device.history c.args.self.now.device) (LeftBy run c.args.self.now.synced handed) is.images
+
+pub returns-in_err-body-clause-images : goal.returns-in_err-body-clause-images
+returns-in_err-body-clause-images g c = λ run handed is. started (g.D.Device.history c.args.self.now.device) (LeftBy run c.args.self.now.synced handed) is.images
+
+pub returns-in_err-plan-clause-images : goal.returns-in_err-plan-clause-images
+returns-in_err-plan-clause-images g c = λ run handed is. started (g.D.Device.history c.args.self.now.device) (LeftBy run c.args.self.now.synced handed) is.images
+
+pub returns-then-count-eq0-clause-flushed : goal.returns-then-count-eq0-clause-flushed
+returns-then-count-eq0-clause-flushed g c =
+    let none : length c.deref.result.now ≡ 0 = ⊎_elim (λ some. absurd (omega (arith, (c.group_len-count.ensures.fits some).some, length-take c.group_len-count.result c.deref.result.now, c.if-count-eq0.true))) (λ none. omega (arith, none)) (cases_lt 0 (length c.deref.result.now)) in
+    (refl, nil_from_length c.args.self.now.waiting.items (omega (arith, ap length c.deref.ensures.value, none)))
+
+pub returns-then-count-eq0-clause-nothing : goal.returns-then-count-eq0-clause-nothing
+returns-then-count-eq0-clause-nothing g c = λ _ run handed is.
+    let none : length c.deref.result.now ≡ 0 = ⊎_elim (λ some. absurd (omega (arith, (c.group_len-count.ensures.fits some).some, length-take c.group_len-count.result c.deref.result.now, c.if-count-eq0.true))) (λ none. omega (arith, none)) (cases_lt 0 (length c.deref.result.now)) in
+    omega (arith, none, ap length c.deref.ensures.value, ap length is.waits, length_between run c.args.self.now.synced handed is.opened is.reached is.made, is.reached)
+
+pub carry_on-requires-clause-planned : goal.carry_on-requires-clause-planned
+carry_on-requires-clause-planned g c =
+    (c.geometry-2.result.slots, subst (λ (rs : List RecordValue). IsPlan c.args.self.now.image c.geometry-2.result.slots c.args.self.now.synced rs c.in_ok-plan.plan) (ap (take c.group_len-count.result) c.deref-3.ensures.value) c.in_ok-plan.ensures.planned)
+
+pub returns-in-Ok-Done-clause-err : goal.returns-in-Ok-Done-clause-err
+returns-in-Ok-Done-clause-err g c =
+    let waits : c.args.self.now.waiting.items ≢ [] = λ none. c.if-count-eq0.false (omega (arith, c.group_len-count.ensures.within, ap length c.deref.ensures.value, ap length none)) in
+    let done : c.append_spelled.result ≡ Ok Done = cc (c.in-Ok-Done.is, c.in-Ok-Done.field-0-is) in
+    let quiet = on_ok_at c.append_spelled.result done c.append_spelled.ensures.quiet in
+    IfErr-weaker c.carry_on.result _ _ (λ e failed. inr (failed.0, failed.1, (λ _. (waits, λ few. omega (arith, quiet, failed.3 (omega (arith, quiet, few))))), λ was. absurd (false≢true (sym c.if-self.false ∙ was)))) c.carry_on.ensures.err
+
+pub returns-clause-err : goal.returns-clause-err
+returns-clause-err g c =
+    let waits : c.args.self.now.waiting.items ≢ [] = λ none. c.if-count-eq0.false (omega (arith, c.group_len-count.ensures.within, ap length c.deref.ensures.value, ap length none)) in
+    inr (refl, refl, λ _. (waits, c.in-Err.ensures.refused.1), λ was. absurd (false≢true (sym c.if-self.false ∙ was)))
+
+pub carry_on-requires-clause-appended : goal.carry_on-requires-clause-appended
+carry_on-requires-clause-appended g c =
+    let (run, handed, is) = c.requires in
+    let history = g.D.Device.history in
+    let old = c.args.self.now in
     let count = c.group_len-count.result in
-    let within : count ≤ length c.args.self.now.waiting.items = omega (arith, ap length c.deref.ensures.value, c.group_len-count.ensures.within) in
-    leaves g.D.Device.history run handed c.args.self.now is c.if-self.false count _ (ap (take count) c.deref-2.ensures.value) within (λ all. cc (c.append.ensures.full.1 all, c.in-Ok-Done.is, c.in-Ok-Done.field-0-is)) _ c.append.ensures.any_moment
+    let within : count ≤ length old.waiting.items = omega (arith, ap length c.deref.ensures.value, c.group_len-count.ensures.within) in
+    let done : c.append_spelled.result ≡ Ok Done = cc (c.in-Ok-Done.is, c.in-Ok-Done.field-0-is) in
+    let mid : Writer g.row.D.Denot g.row.A.Denot = record { device = c.append_spelled.new.device; halves = old.halves; log = c.append_spelled.new.self; waiting = old.waiting; synced = old.synced; image = old.image; failed = old.failed } in
+    let closed : old.log.open_slots ≢ old.log.area.slots = λ all. cc (c.append_spelled.ensures.full.1 all, done) in
+    let group : List RecordValue = take count c.deref-2.result.now in
+    let spelled : IsGroup group c.deref-4.result.now = subst (IsGroup group) (sym c.deref-4.ensures.value) (c.in_ok-body.ensures.ok) in
+    let has : HasAppended history run handed count mid =
+    has_appended history run handed old is c.if-self.false count group (ap (take count) c.deref-2.ensures.value) within closed mid refl c.append_spelled.ensures.area refl refl refl c.append_spelled.ensures.outside
+    (c.append_spelled.ensures.done done group _ spelled (stands history run handed old is c.if-self.false)) (c.append_spelled.ensures.synced done) in
+    (run, handed, has)
 
 pub returns-in-Ok-Done-clause-writer : goal.returns-in-Ok-Done-clause-writer
 returns-in-Ok-Done-clause-writer g c = λ run handed is.
@@ -24,91 +78,75 @@ returns-in-Ok-Done-clause-writer g c = λ run handed is.
     let old = c.args.self.now in
     let count = c.group_len-count.result in
     let within : count ≤ length old.waiting.items = omega (arith, ap length c.deref.ensures.value, c.group_len-count.ensures.within) in
-    let done : c.append.result ≡ Ok Done = cc (c.in-Ok-Done.is, c.in-Ok-Done.field-0-is) in
-    let new : Writer g.row.D.Denot g.row.A.Denot = record { device = c.append.new.device; halves = old.halves; log = c.append.new.self; waiting = c.drop-drain.new.self.0; synced = old.synced + count; failed = old.failed } in
-    appended_one history run handed old is c.if-self.false count _ (ap (take count) c.deref-2.ensures.value) within (λ all. cc (c.append.ensures.full.1 all, done)) new refl c.append.ensures.area refl (c.drop-drain.ensures.items ∙ c.drain.ensures.kept) c.append.ensures.outside
-    (c.append.ensures.done done _ (stands history run handed old is c.if-self.false)) (c.append.ensures.synced done)
+    let done : c.append_spelled.result ≡ Ok Done = cc (c.in-Ok-Done.is, c.in-Ok-Done.field-0-is) in
+    let mid : Writer g.row.D.Denot g.row.A.Denot = record { device = c.append_spelled.new.device; halves = old.halves; log = c.append_spelled.new.self; waiting = old.waiting; synced = old.synced; image = old.image; failed = old.failed } in
+    let closed : old.log.open_slots ≢ old.log.area.slots = λ all. cc (c.append_spelled.ensures.full.1 all, done) in
+    let group : List RecordValue = take count c.deref-2.result.now in
+    let spelled : IsGroup group c.deref-4.result.now = subst (IsGroup group) (sym c.deref-4.ensures.value) (c.in_ok-body.ensures.ok) in
+    let has : HasAppended history run handed count mid =
+    has_appended history run handed old is c.if-self.false count group (ap (take count) c.deref-2.ensures.value) within closed mid refl c.append_spelled.ensures.area refl refl refl c.append_spelled.ensures.outside
+    (c.append_spelled.ensures.done done group _ spelled (stands history run handed old is c.if-self.false)) (c.append_spelled.ensures.synced done) in
+    c.carry_on.ensures.writer run handed has
 
-pub returns-in-Ok-Done-clause-flushed : goal.returns-in-Ok-Done-clause-flushed
-returns-in-Ok-Done-clause-flushed g c =
-    let count = c.group_len-count.result in
-    let old = c.args.self.now in
-    let is_count : (old.synced + count) - old.synced ≡ count = omega arith in
-    let length_is : length c.deref.result.now ≡ length old.waiting.items = ap length c.deref.ensures.value in
-    let some : 0 < length c.deref.result.now = omega (arith, ⊎_elim (λ s. s) (λ none. absurd (c.if-count-eq0.false (omega (arith, none, c.group_len-count.ensures.within)))) (cases_lt 0 (length c.deref.result.now))) in
-    let filled : FillsGroup c.deref.result.now count = record { fits = c.group_len-count.ensures.fits some; full = c.group_len-count.ensures.most } in
-    let most : FillsGroup old.waiting.items count = subst (λ (rs : List RecordValue). FillsGroup rs count) c.deref.ensures.value filled in
-    (refl, omega (arith, c.if-count-eq0.false), subst (FillsGroup old.waiting.items) (sym is_count) most)
-
-pub append-requires-clause-fits : goal.append-requires-clause-fits
-append-requires-clause-fits g c = search rules
-
-pub returns-then-count-eq0-clause-flushed : goal.returns-then-count-eq0-clause-flushed
-returns-then-count-eq0-clause-flushed g c =
-    let none : length c.deref.result.now ≡ 0 = ⊎_elim (λ some. absurd (omega (arith, (c.group_len-count.ensures.fits some).some, length-take c.group_len-count.result c.deref.result.now, c.if-count-eq0.true))) (λ none. omega (arith, none)) (cases_lt 0 (length c.deref.result.now)) in
-    (refl, nil_from_length c.args.self.now.waiting.items (omega (arith, ap length c.deref.ensures.value, none)))
-
-pub returns-in-Ok-Full-clause-images : goal.returns-in-Ok-Full-clause-images
-returns-in-Ok-Full-clause-images g c = λ run handed is.
+pub returns-in-Ok-Done-clause-image : goal.returns-in-Ok-Done-clause-image
+returns-in-Ok-Done-clause-image g c = λ n replies.
+    let (run, handed, is) = c.requires in
     let history = g.D.Device.history in
     let old = c.args.self.now in
-    let full : c.append.result ≡ Ok Full = cc (c.in-Ok-Full.is, c.in-Ok-Full.field-0-is) in
-    subst (λ d. LeavesOnly (history old.device) (history d) (LeftBy run old.synced handed)) (sym (c.append.ensures.unchanged (inl full)).1) (started (history old.device) (LeftBy run old.synced handed) is.images)
-
-pub returns-in-Err-NoMemory-clause-images : goal.returns-in-Err-NoMemory-clause-images
-returns-in-Err-NoMemory-clause-images g c = λ run handed is.
     let count = c.group_len-count.result in
-    let within : count ≤ length c.args.self.now.waiting.items = omega (arith, ap length c.deref.ensures.value, c.group_len-count.ensures.within) in
-    leaves g.D.Device.history run handed c.args.self.now is c.if-self.false count _ (ap (take count) c.deref-2.ensures.value) within (λ all. cc (c.append.ensures.full.1 all, c.in-Err-NoMemory.is)) _ c.append.ensures.any_moment
+    let slots = c.geometry-2.result.slots in
+    let within : count ≤ length old.waiting.items = omega (arith, ap length c.deref.ensures.value, c.group_len-count.ensures.within) in
+    let done : c.append_spelled.result ≡ Ok Done = cc (c.in-Ok-Done.is, c.in-Ok-Done.field-0-is) in
+    let mid : Writer g.row.D.Denot g.row.A.Denot = record { device = c.append_spelled.new.device; halves = old.halves; log = c.append_spelled.new.self; waiting = old.waiting; synced = old.synced; image = old.image; failed = old.failed } in
+    let closed : old.log.open_slots ≢ old.log.area.slots = λ all. cc (c.append_spelled.ensures.full.1 all, done) in
+    let group : List RecordValue = take count c.deref-2.result.now in
+    let spelled : IsGroup group c.deref-4.result.now = subst (IsGroup group) (sym c.deref-4.ensures.value) (c.in_ok-body.ensures.ok) in
+    let has : HasAppended history run handed count mid =
+    has_appended history run handed old is c.if-self.false count group (ap (take count) c.deref-2.ensures.value) within closed mid refl c.append_spelled.ensures.area refl refl refl c.append_spelled.ensures.outside
+    (c.append_spelled.ensures.done done group _ spelled (stands history run handed old is c.if-self.false)) (c.append_spelled.ensures.synced done) in
+    let planned : IsPlan old.image slots old.synced (take count old.waiting.items) c.in_ok-plan.plan =
+    subst (λ (rs : List RecordValue). IsPlan old.image slots old.synced rs c.in_ok-plan.plan) (ap (take count) c.deref-3.ensures.value) c.in_ok-plan.ensures.planned in
+    let flushed = IfOk-at_ok _ replies c.carry_on.ensures.flushed in
+    let number : Flushed n ≡ Flushed c.carry_on.new.self.synced = flushed.0 in
+    let same : n ≡ c.carry_on.new.self.synced = cc number in
+    let counted : count ≡ n - old.synced = omega (arith, same, flushed.1) in
+    let slots_are : slots ≡ old.halves.geometry.slots = ap (λ (x : GeometryValue). x.slots) c.geometry-2.ensures in
+    let becomes : BecomesImage slots old.synced count old.image c.carry_on.new.self.image =
+    on_ok_at c.carry_on.result replies c.carry_on.ensures.image run handed slots has (slots_are ∙ ap (λ (x : GeometryValue). x.slots) is.geometry-is) (omega (arith, c.if-count-eq0.false)) planned in
+    subst (λ (k : ℕ). BecomesImage old.halves.geometry.slots old.synced k old.image c.carry_on.new.self.image) counted
+    (subst (λ (k : ℕ). BecomesImage k old.synced count old.image c.carry_on.new.self.image) slots_are becomes)
 
-pub returns-in-Err-NoMemory-clause-err : goal.returns-in-Err-NoMemory-clause-err
-returns-in-Err-NoMemory-clause-err g c =
-    let waits : c.args.self.now.waiting.items ≢ [] = λ none. c.if-count-eq0.false (omega (arith, c.group_len-count.ensures.within, ap length c.deref.ensures.value, ap length none)) in
-    let closed : c.args.self.now.log.open_slots ≢ c.args.self.now.log.area.slots = λ all. cc (c.append.ensures.full.1 all, c.in-Err-NoMemory.is) in
+pub returns-in-Ok-Done-clause-images : goal.returns-in-Ok-Done-clause-images
+returns-in-Ok-Done-clause-images g c = λ run handed is.
+    let history = g.D.Device.history in
     let old = c.args.self.now in
-    let same = c.append.ensures.unchanged (inr (cc (c.in-Err-NoMemory.is, c.in-Err-NoMemory.field-0-is))) in
-    inl (refl, c.if-self.false, waits, closed, ap (λ d. record old { device = d; log = c.append.new.self }) same.1 ∙ ap (λ l. record old { log = l }) same.0)
-
-pub returns-in-Err-clause-images : goal.returns-in-Err-clause-images
-returns-in-Err-clause-images g c = λ run handed is.
     let count = c.group_len-count.result in
-    let within : count ≤ length c.args.self.now.waiting.items = omega (arith, ap length c.deref.ensures.value, c.group_len-count.ensures.within) in
-    leaves g.D.Device.history run handed c.args.self.now is c.if-self.false count _ (ap (take count) c.deref-2.ensures.value) within (λ all. cc (c.append.ensures.full.1 all, c.in-Err.is)) _ c.append.ensures.any_moment
+    let within : count ≤ length old.waiting.items = omega (arith, ap length c.deref.ensures.value, c.group_len-count.ensures.within) in
+    let done : c.append_spelled.result ≡ Ok Done = cc (c.in-Ok-Done.is, c.in-Ok-Done.field-0-is) in
+    let mid : Writer g.row.D.Denot g.row.A.Denot = record { device = c.append_spelled.new.device; halves = old.halves; log = c.append_spelled.new.self; waiting = old.waiting; synced = old.synced; image = old.image; failed = old.failed } in
+    let closed : old.log.open_slots ≢ old.log.area.slots = λ all. cc (c.append_spelled.ensures.full.1 all, done) in
+    let group : List RecordValue = take count c.deref-2.result.now in
+    let spelled : IsGroup group c.deref-4.result.now = subst (IsGroup group) (sym c.deref-4.ensures.value) (c.in_ok-body.ensures.ok) in
+    let has : HasAppended history run handed count mid =
+    has_appended history run handed old is c.if-self.false count group (ap (take count) c.deref-2.ensures.value) within closed mid refl c.append_spelled.ensures.area refl refl refl c.append_spelled.ensures.outside
+    (c.append_spelled.ensures.done done group _ spelled (stands history run handed old is c.if-self.false)) (c.append_spelled.ensures.synced done) in
+    joined (history old.device) (history mid.device) (history c.carry_on.new.self.device) (LeftBy run old.synced handed)
+    (leaves history run handed old is c.if-self.false count group (ap (take count) c.deref-2.ensures.value) within closed (history mid.device) (c.append_spelled.ensures.any_moment group spelled))
+    (c.carry_on.ensures.images run handed has)
 
-pub returns-in-Err-clause-writer : goal.returns-in-Err-clause-writer
-returns-in-Err-clause-writer g c = λ run handed is.
+pub returns-clause-images : goal.returns-clause-images
+returns-clause-images g c = λ run handed is.
+    let history = g.D.Device.history in
     let old = c.args.self.now in
-    let new : Writer g.row.D.Denot g.row.A.Denot = record { device = c.append.new.device; halves = old.halves; log = c.append.new.self; waiting = old.waiting; synced = old.synced; failed = true } in
-    carried_on g.D.Device.history run handed old new is refl refl refl (λ sound. absurd (false≢true (sym sound))) (returns-in-Err-clause-images g c run handed is)
+    let count = c.group_len-count.result in
+    let within : count ≤ length old.waiting.items = omega (arith, ap length c.deref.ensures.value, c.group_len-count.ensures.within) in
+    let closed : old.log.open_slots ≢ old.log.area.slots = λ all. cc (c.append_spelled.ensures.full.1 all, c.in-Err.is) in
+    let group : List RecordValue = take count c.deref-2.result.now in
+    let spelled : IsGroup group c.deref-4.result.now = subst (IsGroup group) (sym c.deref-4.ensures.value) (c.in_ok-body.ensures.ok) in
+    leaves history run handed old is c.if-self.false count group (ap (take count) c.deref-2.ensures.value) within closed (history c.append_spelled.new.device) (c.append_spelled.ensures.any_moment group spelled)
 
-pub returns-in-Err-clause-err : goal.returns-in-Err-clause-err
-returns-in-Err-clause-err g c =
-    let waits : c.args.self.now.waiting.items ≢ [] = λ none. c.if-count-eq0.false (omega (arith, c.group_len-count.ensures.within, ap length c.deref.ensures.value, ap length none)) in
-    let failed : (c.in-Err.error ≡ DeviceFailed) × Rises (g.D.Device.failures c.args.self.now.device) (g.D.Device.failures c.append.new.device) = search rules in
-    inr (failed.0, refl, λ _. (waits, failed.1), λ was. absurd (false≢true (sym c.if-self.false ∙ was)))
-
-pub returns-then-count-eq0-clause-images : goal.returns-then-count-eq0-clause-images
-returns-then-count-eq0-clause-images g c = λ run handed is. started (g.D.Device.history c.args.self.now.device) (LeftBy run c.args.self.now.synced handed) is.images
-
-pub returns-in-Ok-Full-clause-writer : goal.returns-in-Ok-Full-clause-writer
-returns-in-Ok-Full-clause-writer g c = λ run handed is.
+pub returns-clause-writer : goal.returns-clause-writer
+returns-clause-writer g c = λ run handed is.
     let old = c.args.self.now in
-    let full : c.append.result ≡ Ok Full = cc (c.in-Ok-Full.is, c.in-Ok-Full.field-0-is) in
-    let same = c.append.ensures.unchanged (inl full) in
-    subst (IsWriter g.D.Device.history run handed) (sym (ap (λ d. record old { device = d; log = c.append.new.self }) same.1 ∙ ap (λ l. record old { log = l }) same.0)) is
-
-pub returns-in-Ok-Full-clause-flushed : goal.returns-in-Ok-Full-clause-flushed
-returns-in-Ok-Full-clause-flushed g c =
-    let old = c.args.self.now in
-    let full : c.append.result ≡ Ok Full = cc (c.in-Ok-Full.is, c.in-Ok-Full.field-0-is) in
-    let same = c.append.ensures.unchanged (inl full) in (
-      ap (λ d. record old { device = d; log = c.append.new.self }) same.1 ∙ ap (λ l. record old { log = l }) same.0,
-      c.append.ensures.full.0 full,
-      λ none. c.if-count-eq0.false (omega (arith, c.group_len-count.ensures.within, ap length c.deref.ensures.value, ap length none)),
-    )
-
-pub returns-in-Err-NoMemory-clause-writer : goal.returns-in-Err-NoMemory-clause-writer
-returns-in-Err-NoMemory-clause-writer g c = λ run handed is.
-    let old = c.args.self.now in
-    let same = c.append.ensures.unchanged (inr (cc (c.in-Err-NoMemory.is, c.in-Err-NoMemory.field-0-is))) in
-    subst (IsWriter g.D.Device.history run handed) (sym (ap (λ d. record old { device = d; log = c.append.new.self }) same.1 ∙ ap (λ l. record old { log = l }) same.0)) is
+    let new : Writer g.row.D.Denot g.row.A.Denot = record { device = c.append_spelled.new.device; halves = old.halves; log = c.append_spelled.new.self; waiting = old.waiting; synced = old.synced; image = old.image; failed = true } in
+    carried_on g.D.Device.history run handed old new is refl refl refl (λ sound. absurd (false≢true (sym sound))) (returns-clause-images g c run handed is)

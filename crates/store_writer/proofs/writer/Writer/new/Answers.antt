@@ -1,9 +1,9 @@
-use Rattle.std.proofs.Common.{false}
+use Rattle.std.proofs.Common.{false, None, refl}
 use Rattle.store_writer.specs.declared.writer.Writer.{Writer}
 use Rattle.store_writer.proofs.Opening.{opened_writer}
 use Rattle.store_writer.proofs.writer.Writer.new.Goals as goal
 
 pub returns-clause-writer : goal.returns-clause-writer
 returns-clause-writer g c = λ cells is.
-    let w : Writer g.row.D.Denot g.row.A.Denot = record { device = c.args.device; halves = c.args.halves; log = c.args.log; waiting = c.new.result; synced = c.args.synced; failed = false } in
-    opened_writer g.D.Device.history cells w is c.new.ensures.items
+    let w : Writer g.row.D.Denot g.row.A.Denot = record { device = c.args.device; halves = c.args.halves; log = c.args.log; waiting = c.new.result; synced = c.args.synced; image = None; failed = false } in
+    opened_writer g.D.Device.history cells w is c.new.ensures.items refl

@@ -1,0 +1,140 @@
+-- What a flip leaves.
+use Rattle.std.proofs.Common.{◌≡◌, ◌⊎◌, inl, inr, ⊎_elim, ℕ, ◌+◌, ◌-◌, ◌<◌, ◌≤◌, max, true, false, List, [], length, drop, Option, Some, None, IfSome, refl, sym, ap, subst, ◌∙◌, arith}
+use Rattle.std.proofs.lemmas.Bool.{false≢true}
+use Rattle.sector_device.specs.Disk.{Image, sector, IsSynced, SameOutside}
+use Rattle.sector_device.specs.History.{History, LeavesOnly}
+use Rattle.sector_device.proofs.Moments.{weaker}
+use Rattle.sector_device.proofs.Sectors.{crash_synced, same_outside_wider}
+use Rattle.records.specs.GeometryValue.{GeometryValue}
+use Rattle.records.specs.RecordValue.{RecordValue}
+use Rattle.model.specs.Following.{AreFollowing}
+use Rattle.model.specs.Cells.{Cells, cells_after}
+use Rattle.gate_log.specs.Area.{Area, Log, InArea, HoldsGroups, Stands, records_of}
+use Rattle.gate_log.proofs.Readings.{told_by_its_sectors}
+use Rattle.flip_image.specs.declared.half.Half.{Half}
+use Rattle.flip_image.specs.Layout.{HalvesValue, other, InHalf}
+use Rattle.flip_image.specs.Store.{Names, IsSuperblock, IsStore, IsFlipping}
+use Rattle.flip_image.proofs.Sides.{behind_front, image_inside, log_inside, either_store}
+use Rattle.image_model.specs.Run.{Run, IsRun, end_of, cells_at, records_between}
+use Rattle.image_model.proofs.Runs.{redone, redone_following}
+use Rattle.store_reader.specs.Contents.{log_area}
+use Rattle.store_writer.specs.declared.writer.Writer.{Writer}
+use Rattle.store_writer.specs.declared.image.NewImage.{NewImage}
+use Rattle.store_writer.specs.Contents.{HalfHas, LeftBy}
+use Rattle.store_writer.specs.declared.image.Stage.TheVariants.{Whole}
+use Rattle.store_writer.specs.Image.{IsWhole, IsContent, IsUnderway, reach}
+use Rattle.store_writer.specs.Writer.{StandsFor, IsWriter}
+use Rattle.store_writer.proofs.Numbers.{back_between, last_between}
+use Rattle.store_writer.proofs.Halves.{SameIn, in_from_outside, half_apart}
+use Rattle.store_writer.proofs.Taking.{stand, left_kept}
+
+-- An image whose log reaches its last step gives the cells after the last record of that log.
+pub underway_has : (run : Run) (half : Half) (image : Image) (synced : ℕ) (new : NewImage) → IsRun run → IsUnderway run half image synced new → new.stage ≡ Whole → new.number ≤ reach new synced → reach new synced ≤ end_of run
+    → HalfHas run.geometry half image (reach new synced) (cells_at run (reach new synced))
+underway_has run half image synced new is there whole up made = let content : IsWhole run half image new.base new.number = subst (IsContent run half image new.base new.number) whole there.content in record {
+  base = new.base;
+  copied = content.copied;
+  imaged = content.imaged;
+  groups = there.groups;
+  held = subst (λ (a : Area). HoldsGroups a image there.groups) there.area-is there.stands.held;
+  following = subst (AreFollowing run.geometry.pages new.base content.copied) (sym there.carried)
+  (redone_following run new.base new.number (reach new synced) content.copied content.copies is there.low (omega (arith, there.rise, up, made)));
+  last-is = sym (last_between run new.base (reach new synced) there.low (omega arith) made) ∙ ap (λ (rs : List RecordValue). new.base + length rs) (sym there.carried);
+  cells-are = sym (ap (cells_after content.copied) there.carried ∙ redone run new.base new.number (reach new synced) content.copied content.copies there.low (omega arith) up);
+}
+
+module _ {D M : Type 0} (history : D → History) (run : Run) (handed : ℕ) (old : Writer D M) (is : IsWriter history run handed old) (sound : old.failed ≡ false) (image : NewImage) (there : IsUnderway run (other old.halves.current) (history old.device).disk.content old.synced image) (whole : image.stage ≡ Whole)
+    (reaches : image.number ≤ reach image old.synced) (within : image.number ≤ handed) where
+  abbrev content : Image
+  content = (history old.device).disk.content
+
+  abbrev g : GeometryValue
+  g = run.geometry
+
+  abbrev from : Half
+  from = old.halves.current
+
+  abbrev to : Half
+  to = other old.halves.current
+
+  abbrev n : ℕ
+  n = reach image old.synced
+
+  pub up : old.synced ≤ n
+  up = omega arith
+
+  pub handed_in : n ≤ handed
+  handed_in = omega (arith, is.reached, within, there.rise)
+
+  not_front : (half : Half) (k : ℕ) → InHalf g half k → ¬ (k ≡ 1)
+  not_front half k inside is_flip = omega (arith, is_flip, behind_front g half k inside)
+
+  -- the other half has the cells after the last record of its log
+  other_has : (c : Image) → SameOutside (λ k. k ≡ 1) content c → HalfHas g to c n (cells_at run n)
+  other_has c same = half_apart g to content c (in_from_outside (InHalf g to) _ content c (not_front to) same) n (cells_at run n)
+      (underway_has run to content old.synced image is.run-is there whole reaches (omega (arith, handed_in, is.made)))
+
+  this_has : (c : Image) → SameOutside (λ k. k ≡ 1) content c → HalfHas g from c old.synced (cells_at run old.synced)
+  this_has c same = half_apart g from content c (in_from_outside (InHalf g from) _ content c (not_front from) same) old.synced (cells_at run old.synced) (stand history run handed old is sound).has
+
+  left_flipping : (c : Image) → IsFlipping (history old.device).disk c → LeftBy run old.synced handed c
+  left_flipping c (inl loose) = left_kept history run handed old is sound c
+      (same_outside_wider _ (InHalf g to) content c (λ k unsynced. image_inside g to k ((stand history run handed old is sound).loose k unsynced)) loose)
+  left_flipping c (inr same) = ⊎_elim
+      (λ store. record { number = old.synced; least = omega arith; most = is.reached; has = record { half = from; store = store; has = this_has c same } })
+      (λ store. record { number = n; least = up; most = handed_in; has = record { half = to; store = store; has = other_has c same } })
+      (either_store g from content c same (stand history run handed old is sound).store)
+
+  pub leaves_flipping : (new : History) → LeavesOnly (history old.device) new (IsFlipping (history old.device).disk) → LeavesOnly (history old.device) new (LeftBy run old.synced handed)
+  leaves_flipping new run_ = weaker (history old.device) new (IsFlipping (history old.device).disk) (LeftBy run old.synced handed) left_flipping run_
+
+  -- the flip was done
+  module _ (new : Writer D M) (halves_is : new.halves ≡ record { geometry = old.halves.geometry; current = to }) (log_is : new.log ≡ image.log) (synced_is : new.synced ≡ n) (waiting_is : new.waiting.items ≡ drop (n - old.synced) old.waiting.items) (none : new.image ≡ None)
+      (same : SameOutside (λ k. k ≡ 1) content (history new.device).disk.content) (named : Names (sector (history new.device).disk.content 1) to) (all : IsSynced (history new.device).disk) where
+    abbrev now : Image
+    now = (history new.device).disk.content
+
+    current_is : new.halves.current ≡ to
+    current_is = ap (λ (h : HalvesValue). h.current) halves_is
+
+    store_now : IsStore g to now
+    store_now =
+        let store = (stand history run handed old is sound).store in
+        record {
+          limits = store.limits;
+          room = omega (arith, store.room, same.sectors);
+          superblock-is = subst (IsSuperblock g) (sym (same.same 0 (λ e. omega (arith, e)))) store.superblock-is;
+          current = named;
+        }
+
+    log_now : Stands image.log now there.groups
+    log_now = record {
+      held = told_by_its_sectors image.log.area content now there.groups same.sectors (λ k inside. same.same k (not_front to k (log_inside g to k (subst (λ (a : Area). InArea a k) there.area-is inside)))) there.stands.held;
+      counted = there.stands.counted;
+    }
+
+    stood_now : StandsFor history run new
+    stood_now = record {
+      store = subst (λ (h : Half). IsStore g h now) (sym current_is) store_now;
+      has = subst (λ k. HalfHas g new.halves.current now k (cells_at run k)) (sym synced_is) (subst (λ (h : Half). HalfHas g h now n (cells_at run n)) (sym current_is) (other_has now same));
+      area-is = ap (λ (l : Log). l.area) log_is ∙ there.area-is ∙ ap (log_area g) (sym current_is);
+      groups = there.groups;
+      stands = subst (λ (l : Log). Stands l now there.groups) (sym log_is) log_now;
+      loose = λ k unsynced. absurd (false≢true (sym (all k) ∙ unsynced));
+      image = subst (λ (t : Option NewImage). IfSome t (IsUnderway run (other new.halves.current) now new.synced)) (sym none) tt;
+    }
+
+    pub flipped_one : IsWriter history run handed new
+    flipped_one = record {
+      run-is = is.run-is;
+      geometry-is = ap (λ (h : HalvesValue). h.geometry) halves_is ∙ is.geometry-is;
+      opened = omega (arith, is.opened, synced_is, up);
+      reached = omega (arith, synced_is, handed_in);
+      made = is.made;
+      small = is.small;
+      waits = waiting_is ∙ ap (drop (n - old.synced)) is.waits ∙ back_between run old.synced handed is.opened is.reached is.made (n - old.synced) (omega (arith, handed_in)) ∙ ap (λ k. records_between run k handed) (let e : old.synced + (n - old.synced) ≡ new.synced = omega (arith, up, synced_is) in e);
+      holds = λ _. stood_now;
+      images = λ image crash.
+          let is_now : image ≡ now = crash_synced (history new.device).disk image all crash in
+          subst (LeftBy run new.synced handed) (sym is_now) (record { number = n; least = omega (arith, synced_is); most = handed_in; has = record { half = to; store = store_now; has = other_has now same } });
+    }

@@ -1,0 +1,92 @@
+use Rattle.std.proofs.Common.{true, false, ◌≡◌, ◌≤◌, ◌+◌, ◌-◌, drop, ℕ, Option, Some, None, IfSome, refl, sym, ap, subst, ◌∙◌, length, arith}
+use Rattle.std.proofs.lemmas.Bool.{false≢true}
+use Rattle.sector_device.specs.Disk.{sector}
+use Rattle.sector_device.proofs.Moments.{started}
+use Rattle.flip_image.specs.Layout.{HalvesValue, other}
+use Rattle.flip_image.specs.Store.{Names}
+use Rattle.store_writer.specs.declared.writer.Writer.{Writer}
+use Rattle.store_writer.specs.declared.image.NewImage.{NewImage}
+use Rattle.store_writer.specs.declared.image.Stage.TheVariants.{Whole}
+use Rattle.store_writer.specs.Contents.{LeftBy}
+use Rattle.store_writer.specs.Image.{IsUnderway, reach}
+use Rattle.store_writer.proofs.Numbers.{length_between}
+use Rattle.store_writer.proofs.Writing.{stood, carried_on}
+use Rattle.store_writer.proofs.Idle.{from_ok, from_err}
+use Rattle.store_writer.proofs.Flipping.{leaves_flipping, flipped_one}
+use Rattle.store_writer.proofs.writer.Writer.checkpoint_flip.Goals as goal
+use Rattle.store_writer.proofs.writer.Writer.checkpoint_flip.Goals.{then-handed-image-via-then-handed-image, then-handed-image-via-else-handed-image+then-reached-image}
+
+pub returns-in_default-clause-images : goal.returns-in_default-clause-images
+returns-in_default-clause-images g c = λ run handed is. started (g.D.Device.history c.args.self.now.device) (LeftBy run c.args.self.now.synced handed) is.images
+
+pub returns-then-handed-image-clause-images : goal.returns-then-handed-image-clause-images
+returns-then-handed-image-clause-images g c = λ run handed is. started (g.D.Device.history c.args.self.now.device) (LeftBy run c.args.self.now.synced handed) is.images
+
+pub returns-then-handed-image-clause-flipped : goal.returns-then-handed-image-clause-flipped
+returns-then-handed-image-clause-flipped g c = λ run handed is. (refl, λ can.
+    let old = c.args.self.now in
+    let (image, there, whole, most, reaches) = can in
+    let same : c.in-Some.image ≡ image = cc (c.in-Some.is, there) in
+    let number : c.in-Some.image.number ≡ image.number = ap (λ (x : NewImage). x.number) same in
+    let base : c.in-Some.image.base ≡ image.base = ap (λ (x : NewImage). x.base) same in
+    let count = length_between run old.synced handed is.opened is.reached is.made in
+    elim c.then-handed-image.branch [
+      | then-handed-image-via-then-handed-image w ↦ absurd (omega (arith, w.if-handed-image.true, c.len.ensures, ap length is.waits, count, is.reached, number, most))
+      | then-handed-image-via-else-handed-image+then-reached-image w ↦ absurd (omega (arith, w.if-reached-image.true, c.max-reached.ensures, number, base, reaches))
+    ])
+
+pub returns-then-is_err-clause-images : goal.returns-then-is_err-clause-images
+returns-then-is_err-clause-images g c = λ run handed is.
+    let history = g.D.Device.history in
+    let old = c.args.self.now in
+    let image : NewImage = c.in-Some.image in
+    let there : IsUnderway run (other old.halves.current) (history old.device).disk.content old.synced image = subst (λ (t : Option NewImage). IfSome t (IsUnderway run (other old.halves.current) (history old.device).disk.content old.synced)) c.in-Some.is (stood history run handed old is c.if-self.false).image in
+    let count = length_between run old.synced handed is.opened is.reached is.made in
+    let whole : image.stage ≡ Whole = c.in-Whole.is in
+    leaves_flipping history run handed old is c.if-self.false image there whole (omega (arith, c.if-reached-image.false, c.max-reached.ensures)) (omega (arith, c.if-handed-image.false, c.len.ensures, ap length is.waits, count, is.reached)) (history c.flip.new.device) c.flip.ensures.any_moment
+
+pub returns-then-is_err-clause-writer : goal.returns-then-is_err-clause-writer
+returns-then-is_err-clause-writer g c = λ run handed is.
+    let old = c.args.self.now in
+    let new : Writer g.row.D.Denot g.row.A.Denot = record { device = c.flip.new.device; halves = c.flip.new.self; log = old.log; waiting = old.waiting; synced = old.synced; image = old.image; failed = true } in
+    carried_on g.D.Device.history run handed old new is (from_err _ _ (sym c.is_err.ensures.value ∙ c.if-is_err.true) c.flip.ensures.err) refl refl (λ sound. absurd (false≢true (sym sound))) (returns-then-is_err-clause-images g c run handed is)
+
+pub returns-clause-images : goal.returns-clause-images
+returns-clause-images g c = λ run handed is.
+    let history = g.D.Device.history in
+    let old = c.args.self.now in
+    let image : NewImage = c.in-Some.image in
+    let there : IsUnderway run (other old.halves.current) (history old.device).disk.content old.synced image = subst (λ (t : Option NewImage). IfSome t (IsUnderway run (other old.halves.current) (history old.device).disk.content old.synced)) c.in-Some.is (stood history run handed old is c.if-self.false).image in
+    let count = length_between run old.synced handed is.opened is.reached is.made in
+    let whole : image.stage ≡ Whole = c.in-Whole.is in
+    leaves_flipping history run handed old is c.if-self.false image there whole (omega (arith, c.if-reached-image.false, c.max-reached.ensures)) (omega (arith, c.if-handed-image.false, c.len.ensures, ap length is.waits, count, is.reached)) (history c.flip.new.device) c.flip.ensures.any_moment
+
+pub returns-clause-writer : goal.returns-clause-writer
+returns-clause-writer g c = λ run handed is.
+    let history = g.D.Device.history in
+    let old = c.args.self.now in
+    let image : NewImage = c.in-Some.image in
+    let there : IsUnderway run (other old.halves.current) (history old.device).disk.content old.synced image = subst (λ (t : Option NewImage). IfSome t (IsUnderway run (other old.halves.current) (history old.device).disk.content old.synced)) c.in-Some.is (stood history run handed old is c.if-self.false).image in
+    let count = length_between run old.synced handed is.opened is.reached is.made in
+    let new : Writer g.row.D.Denot g.row.A.Denot = record { device = c.flip.new.device; halves = c.flip.new.self; log = image.log; waiting = c.drop-drain.new.self.0; synced = c.max-reached.result; image = None; failed = old.failed } in
+    let whole : image.stage ≡ Whole = c.in-Whole.is in
+    let good = sym c.is_err.ensures.value ∙ c.if-is_err.false in
+    let halves_is : c.flip.new.self ≡ record { geometry = old.halves.geometry; current = other old.halves.current } = from_ok _ _ good c.flip.ensures.flipped in
+    let named : Names (sector (history new.device).disk.content 1) (other old.halves.current) = subst (λ (h : HalvesValue). Names (sector (history new.device).disk.content 1) h.current) halves_is (from_ok _ _ good c.flip.ensures.named) in
+    flipped_one history run handed old is c.if-self.false image there whole (omega (arith, c.if-reached-image.false, c.max-reached.ensures)) (omega (arith, c.if-handed-image.false, c.len.ensures, ap length is.waits, count, is.reached)) new halves_is refl c.max-reached.ensures (c.drop-drain.ensures.items ∙ c.drain.ensures.kept ∙ ap (λ (k : ℕ). drop (k - old.synced) old.waiting.items) c.max-reached.ensures) refl
+    c.flip.ensures.outside named (from_ok _ _ good c.flip.ensures.synced)
+
+pub returns-clause-flipped : goal.returns-clause-flipped
+returns-clause-flipped g c = λ run handed is.
+    let old = c.args.self.now in
+    let image : NewImage = c.in-Some.image in
+    let count = length_between run old.synced handed is.opened is.reached is.made in (
+      refl,
+      omega (arith, c.max-reached.ensures),
+      (image, c.in-Some.is, c.in-Whole.is, omega (arith, c.if-handed-image.false, c.len.ensures, ap length is.waits, count, is.reached), omega (arith, c.if-reached-image.false, c.max-reached.ensures)),
+      (λ t it. let same : image ≡ t = cc (c.in-Some.is, it) in c.max-reached.ensures ∙ ap (λ (x : NewImage). reach x old.synced) same),
+      refl,
+    )
+
+pub returns-in_default-stage-clause-images : goal.returns-in_default-stage-clause-images
+returns-in_default-stage-clause-images g c = λ run handed is. started (g.D.Device.history c.args.self.now.device) (LeftBy run c.args.self.now.synced handed) is.images

@@ -1,0 +1,44 @@
+use Rattle.std.proofs.Common.{List, sym, subst}
+use Rattle.sector_device.proofs.Moments.{started}
+use Rattle.records.specs.declared.pair.Pair.{Pair}
+use Rattle.records.specs.declared.pair.Mark.{Mark}
+use Rattle.image_model.specs.declared.chunk.Piece.{Piece}
+use Rattle.store_writer.specs.Contents.{LeftBy}
+use Rattle.store_writer.specs.Writer.{IsChunk, IsEntriesChunk}
+use Rattle.store_writer.proofs.Copying.{entries_answered}
+use Rattle.store_writer.proofs.writer.Writer.checkpoint_step.Goals as goal
+
+pub take_whole-requires-clause-whole : goal.take_whole-requires-clause-whole
+take_whole-requires-clause-whole g c =
+    let (run, handed, is, chunk) = c.requires in
+    (run, handed, is, subst (λ (p : Piece g.row.A.Denot). IsChunk run c.args.self.now c.args.chunk.number p) c.in-Whole.is chunk)
+
+pub returns-then-is_full-clause-images : goal.returns-then-is_full-clause-images
+returns-then-is_full-clause-images g c = λ run handed is. started (g.D.Device.history c.args.self.now.device) (LeftBy run c.args.self.now.synced handed) is.images
+
+pub take_start-requires-clause-start : goal.take_start-requires-clause-start
+take_start-requires-clause-start g c =
+    let (run, handed, is, chunk) = c.requires in
+    (run, handed, is, subst (λ (p : Piece g.row.A.Denot). IsChunk run c.args.self.now c.args.chunk.number p) c.in-Start.is chunk)
+
+pub take_page-requires-clause-page : goal.take_page-requires-clause-page
+take_page-requires-clause-page g c =
+    let (run, handed, is, chunk) = c.requires in
+    (run, handed, is, subst (λ (p : Piece g.row.A.Denot). IsChunk run c.args.self.now c.args.chunk.number p) c.in-Page.is chunk)
+
+pub take_entries-requires-clause-entries : goal.take_entries-requires-clause-entries
+take_entries-requires-clause-entries g c =
+    let (run, handed, is, chunk) = c.requires in
+    let asked = subst (λ (p : Piece g.row.A.Denot). IsChunk run c.args.self.now c.args.chunk.number p) c.in-Entries.is chunk in
+    (run, handed, is, λ image there. subst (λ (l : List (Pair × Mark)). IsEntriesChunk run image c.args.chunk.number l) (sym c.deref.ensures.value) (asked image there))
+
+pub returns-in-Page-clause-writer : goal.returns-in-Page-clause-writer
+returns-in-Page-clause-writer g c = λ run handed is chunk. c.take_page.ensures.writer run handed is (subst (λ (p : Piece g.row.A.Denot). IsChunk run c.args.self.now c.args.chunk.number p) c.in-Page.is chunk)
+
+pub returns-in-Entries-clause-writer : goal.returns-in-Entries-clause-writer
+returns-in-Entries-clause-writer g c = λ run handed is chunk.
+    let asked = subst (λ (p : Piece g.row.A.Denot). IsChunk run c.args.self.now c.args.chunk.number p) c.in-Entries.is chunk in
+    c.take_entries.ensures.writer run handed is (λ image there. subst (λ (l : List (Pair × Mark)). IsEntriesChunk run image c.args.chunk.number l) (sym c.deref.ensures.value) (asked image there))
+
+pub returns-in-Entries-clause-stepped : goal.returns-in-Entries-clause-stepped
+returns-in-Entries-clause-stepped g c = entries_answered c.args.chunk.number c.in-Entries.entries c.deref.result.now c.args.chunk.piece c.args.self.now c.take_entries.new.self c.take_entries.result c.deref.ensures.value c.in-Entries.is c.take_entries.ensures.stepped

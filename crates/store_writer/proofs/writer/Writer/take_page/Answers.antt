@@ -1,0 +1,81 @@
+use Rattle.std.proofs.Common.{true, ◌≡◌, ◌⊎◌, ◌+◌, Option, Some, IfSome, refl, sym, ap, subst, ◌∙◌}
+use Rattle.std.proofs.lemmas.Bool.{false≢true}
+use Rattle.sector_device.specs.Disk.{SameOutside}
+use Rattle.sector_device.specs.History.{RunsWithin}
+use Rattle.sector_device.proofs.Moments.{started}
+use Rattle.records.specs.GeometryValue.{GeometryValue}
+use Rattle.model.specs.Table.{Table}
+use Rattle.model.specs.Cells.{Cells}
+use Rattle.image_half.specs.Layout.{InPage}
+use Rattle.image_half.specs.Part.{HasPage}
+use Rattle.flip_image.specs.Layout.{other, header_sector, InHalfImage}
+use Rattle.store_writer.specs.declared.writer.Writer.{Writer}
+use Rattle.store_writer.specs.declared.image.NewImage.{NewImage}
+use Rattle.store_writer.specs.declared.image.Stage.TheVariants.{Partly}
+use Rattle.store_writer.specs.Contents.{LeftBy}
+use Rattle.store_writer.specs.Image.{IsPart, IsContent, IsUnderway}
+use Rattle.store_writer.proofs.Idle.{from_ok, writing, written_outside, written_loose, written_log}
+use Rattle.store_writer.proofs.Copying.{at_stage, page_part}
+use Rattle.store_writer.proofs.Writing.{stood, carried_on}
+use Rattle.store_writer.proofs.Taking.{leaves_kept, stands_with}
+use Rattle.store_writer.proofs.writer.Writer.take_page.Goals as goal
+
+pub returns-in_default-clause-images : goal.returns-in_default-clause-images
+returns-in_default-clause-images g c = λ run handed is. started (g.D.Device.history c.args.self.now.device) (LeftBy run c.args.self.now.synced handed) is.images
+
+pub returns-then-is_full-clause-images : goal.returns-then-is_full-clause-images
+returns-then-is_full-clause-images g c = λ run handed is. started (g.D.Device.history c.args.self.now.device) (LeftBy run c.args.self.now.synced handed) is.images
+
+pub returns-then-is_err-clause-images : goal.returns-then-is_err-clause-images
+returns-then-is_err-clause-images g c = λ run handed is.
+    let history = g.D.Device.history in
+    let old = c.args.self.now in
+    let within = subst (λ (x : GeometryValue). RunsWithin (λ n. InHalfImage x (other old.halves.current) n ⊎ ((history old.device).disk.unsynced n ≡ true)) (history old.device).disk.content (history old.device) (history c.write_rows.new.device)) is.geometry-is c.write_rows.ensures.within in
+    leaves_kept history run handed old is c.requires.sound (history c.write_rows.new.device)
+    (writing run.geometry (other old.halves.current) (history old.device) (history c.write_rows.new.device) (stood history run handed old is c.requires.sound).loose within)
+
+pub returns-then-is_err-clause-writer : goal.returns-then-is_err-clause-writer
+returns-then-is_err-clause-writer g c = λ run handed is page.
+    let old = c.args.self.now in
+    let new : Writer g.row.D.Denot g.row.A.Denot = record { device = c.write_rows.new.device; halves = old.halves; log = old.log; waiting = old.waiting; synced = old.synced; image = old.image; failed = true } in
+    carried_on g.D.Device.history run handed old new is refl refl refl (λ sound. absurd (false≢true (sym sound))) (returns-then-is_err-clause-images g c run handed is)
+
+pub returns-clause-images : goal.returns-clause-images
+returns-clause-images g c = λ run handed is.
+    let history = g.D.Device.history in
+    let old = c.args.self.now in
+    let within = subst (λ (x : GeometryValue). RunsWithin (λ n. InHalfImage x (other old.halves.current) n ⊎ ((history old.device).disk.unsynced n ≡ true)) (history old.device).disk.content (history old.device) (history c.write_rows.new.device)) is.geometry-is c.write_rows.ensures.within in
+    leaves_kept history run handed old is c.requires.sound (history c.write_rows.new.device)
+    (writing run.geometry (other old.halves.current) (history old.device) (history c.write_rows.new.device) (stood history run handed old is c.requires.sound).loose within)
+
+pub returns-clause-writer : goal.returns-clause-writer
+returns-clause-writer g c = λ run handed is asked.
+    let history = g.D.Device.history in
+    let old = c.args.self.now in
+    let half = other old.halves.current in
+    let image : NewImage = c.in-Some.image in
+    let stand = stood history run handed old is c.requires.sound in
+    let within = subst (λ (x : GeometryValue). RunsWithin (λ n. InHalfImage x half n ⊎ ((history old.device).disk.unsynced n ≡ true)) (history old.device).disk.content (history old.device) (history c.write_rows.new.device)) is.geometry-is c.write_rows.ensures.within in
+    let before = (history old.device).disk.content in
+    let after = (history c.write_rows.new.device).disk.content in
+    let there : IsUnderway run half before old.synced image = subst (λ (t : Option NewImage). IfSome t (IsUnderway run half before old.synced)) c.in-Some.is stand.image in
+    let chunk = asked image c.in-Some.is in
+    let (count, highest, life, at) = chunk.next in
+    let part : IsPart run half before image.base image.number c.args.page count highest life = subst (IsContent run half before image.base image.number) at there.content in
+    let good = sym c.is_err.ensures.value ∙ c.if-is_err.false in
+    let same : SameOutside (InPage (header_sector run.geometry half) c.args.page) before after = subst (λ (x : GeometryValue). SameOutside (InPage (header_sector x half) c.args.page) before after) is.geometry-is c.write_rows.ensures.outside in
+    let rows_are : c.rows_alone-cells.result.rows ≡ c.args.rows = ap (λ (x : Cells). x.rows) c.rows_alone-cells.ensures in
+    let has : HasPage (header_sector run.geometry half) after c.args.page c.args.rows = subst (λ (t : Table). HasPage (header_sector run.geometry half) after c.args.page t) rows_are
+        (subst (λ (x : GeometryValue). HasPage (header_sector x half) after c.args.page c.rows_alone-cells.result.rows) is.geometry-is (from_ok _ _ good c.write_rows.ensures.written)) in
+    let next : IsPart run half after image.base c.args.number (c.args.page + 1) count highest life = page_part run half before after image.base image.number c.args.number there.low there.rise chunk.later c.args.page count highest life c.args.rows part chunk.below chunk.rows-are chunk.slots same has in
+    let log = written_log run.geometry half (history old.device) (history c.write_rows.new.device) stand.loose within image.log there.groups there.area-is there.stands in
+    let taken : NewImage = record { base = image.base; number = c.args.number; stage = Partly (c.args.page + 1) c.in-Partly.entries c.in-Partly.highest c.in-Partly.life; log = image.log } in
+    let stage_is : Partly (c.args.page + 1) count highest life ≡ taken.stage = cc (at, c.in-Partly.is) in
+    let new : Writer g.row.D.Denot g.row.A.Denot = record { device = c.write_rows.new.device; halves = old.halves; log = old.log; waiting = old.waiting; synced = old.synced; image = Some taken; failed = old.failed } in
+    carried_on history run handed old new is refl refl refl
+    (λ sound. stands_with history run handed old is c.requires.sound new refl refl refl
+        (written_outside run.geometry half (history old.device) (history c.write_rows.new.device) stand.loose within)
+        (written_loose run.geometry half (history old.device) (history c.write_rows.new.device) stand.loose within)
+        (at_stage run half before after old.synced image there c.args.number taken.stage chunk.later chunk.made log
+        (subst (IsContent run half after image.base c.args.number) stage_is next)))
+    (returns-clause-images g c run handed is)

@@ -1,0 +1,59 @@
+use Rattle.std.proofs.Common.{true, ◌≡◌, ℕ, Some, None, refl, sym, ap, subst}
+use Rattle.std.proofs.lemmas.Bool.{false≢true}
+use Rattle.std.specs.FinMap as map
+use Rattle.sector_device.specs.Disk.{SameOutside}
+use Rattle.sector_device.specs.History.{LeavesOnly}
+use Rattle.records.specs.GeometryValue.{GeometryValue}
+use Rattle.model.specs.Cells.{Cells}
+use Rattle.model.specs.Redo.{cells_of}
+use Rattle.model.specs.declared.life.Life.{Life}
+use Rattle.image_half.specs.Part.{IsImagePart}
+use Rattle.flip_image.specs.Layout.{other, header_sector, InHalf, InHalfImage}
+use Rattle.store_reader.specs.Contents.{log_area}
+use Rattle.store_writer.specs.declared.writer.Writer.{Writer}
+use Rattle.store_writer.specs.declared.image.NewImage.{NewImage}
+use Rattle.store_writer.specs.declared.image.Stage.TheVariants.{Partly}
+use Rattle.store_writer.proofs.Copying.{start_taken}
+use Rattle.store_writer.proofs.Writing.{carried_on}
+use Rattle.store_writer.proofs.Taking.{leaves_kept, stands_with}
+use Rattle.store_writer.proofs.writer.Writer.take_start.Goals as goal
+
+pub returns-in-Ok-clause-images : goal.returns-in-Ok-clause-images
+returns-in-Ok-clause-images g c = λ run handed is.
+    let history = g.D.Device.history in
+    let old = c.args.self.now in
+    leaves_kept history run handed old is c.requires.sound (history c.write_first.new.device)
+    (subst (λ (x : GeometryValue). LeavesOnly (history old.device) (history c.write_first.new.device) (SameOutside (InHalf x (other old.halves.current)) (history old.device).disk.content)) is.geometry-is c.write_first.ensures.any_moment)
+
+pub returns-clause-images : goal.returns-clause-images
+returns-clause-images g c = λ run handed is.
+    let history = g.D.Device.history in
+    let old = c.args.self.now in
+    leaves_kept history run handed old is c.requires.sound (history c.write_first.new.device)
+    (subst (λ (x : GeometryValue). LeavesOnly (history old.device) (history c.write_first.new.device) (SameOutside (InHalf x (other old.halves.current)) (history old.device).disk.content)) is.geometry-is c.write_first.ensures.any_moment)
+
+pub returns-clause-writer : goal.returns-clause-writer
+returns-clause-writer g c = λ run handed is start.
+    let old = c.args.self.now in
+    let new : Writer g.row.D.Denot g.row.A.Denot = record { device = c.write_first.new.device; halves = old.halves; log = old.log; waiting = old.waiting; synced = old.synced; image = old.image; failed = true } in
+    carried_on g.D.Device.history run handed old new is refl refl refl (λ sound. absurd (false≢true (sym sound))) (returns-clause-images g c run handed is)
+
+pub returns-in-Ok-clause-writer : goal.returns-in-Ok-clause-writer
+returns-in-Ok-clause-writer g c = λ run handed is start.
+    let history = g.D.Device.history in
+    let old = c.args.self.now in
+    let half = other old.halves.current in
+    let now = (history c.write_first.new.device).disk in
+    let life : Life = c.lists_alone-cells.result.life in
+    let image : NewImage = record { base = c.args.number; number = c.args.number; stage = Partly 0 0 None life; log = c.in-Ok.log } in
+    let new : Writer g.row.D.Denot g.row.A.Denot = record { device = c.write_first.new.device; halves = old.halves; log = old.log; waiting = old.waiting; synced = old.synced; image = Some image; failed = old.failed } in
+    let cells_are = c.lists_alone-cells.ensures in
+    let part = subst (λ (x : Cells). IsImagePart run.geometry (header_sector run.geometry half) now.content 0 (record x { rows = map.empty; entries = map.empty })) cells_are
+        (subst (λ (x : GeometryValue). IsImagePart x (header_sector x half) now.content 0 (record (cells_of c.lists_alone-cells.result) { rows = map.empty; entries = map.empty })) is.geometry-is c.in-Ok.ensures.written) in
+    let area : image.log.area ≡ log_area run.geometry half = subst (λ (x : GeometryValue). image.log.area ≡ log_area x half) is.geometry-is c.in-Ok.ensures.area in
+    carried_on history run handed old new is refl refl refl
+    (λ sound. stands_with history run handed old is c.requires.sound new refl refl refl
+        (subst (λ (x : GeometryValue). SameOutside (InHalf x half) (history old.device).disk.content now.content) is.geometry-is c.write_first.ensures.outside)
+        (subst (λ (x : GeometryValue). (n : ℕ) → now.unsynced n ≡ true → InHalfImage x half n) is.geometry-is c.in-Ok.ensures.loose)
+        (start_taken run half now.content old.synced image c.args.life c.args.lists is.opened refl (ap (λ (l : Life). Partly 0 0 None l) (ap (λ (x : Cells). x.life) cells_are)) start part area c.in-Ok.ensures.empty))
+    (returns-in-Ok-clause-images g c run handed is)
