@@ -1,4 +1,4 @@
-use Rattle.std.proofs.Common.{◌≡◌, Some, length, map, sym, ap, ◌∙◌, subst}
+use Rattle.std.proofs.Common.{◌≡◌, Some, length, map, sym, ap, ◌∙◌, subst, rules}
 use Rattle.std.proofs.Math.Logic.{∥∥₁_map}
 use Rattle.std.specs.Prelude.{slice_get, slice_set}
 use Rattle.nsf_core.specs.Value.{value_of}
@@ -45,3 +45,6 @@ returns-clause-book g c =
     let items = c.args.self.now.book.items in
     shown_set z.table z.seats items c.seat.inside.number c.index_mut.result.now c.args.self.now.seats c.seat.invariant.1 c.index_mut.ensures.value c.args.self.now.halves c.change.new.theirs c.create_index-created.new.self c.change.ensures.theirs
     ∙ ap (λ (s : SeatValue). slice_set (map shown items) s.number c.create_index-created.new.self) c.seat.view_is
+
+pub returns-clause-ok : goal.returns-clause-ok
+returns-clause-ok g c = search rules
