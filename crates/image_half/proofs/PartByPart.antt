@@ -82,7 +82,7 @@ module _ (g : GeometryValue) (first : ℕ) (image c : Image) where
       → IsImagePart g first c (page + 1) (record cells { rows = rows })
   part_page page cells rows below is same has more =
       let kept = part_kept g first image c page cells (InPage first page) same is
-          (λ n low high in_it. omega (arith, high, in_it.0)) (λ n low high in_it. omega (arith, high, in_it.0)) (λ i few in_it. omega (arith, below, in_it.1)) in
+      (λ n low high in_it. omega (arith, high, in_it.0)) (λ n low high in_it. omega (arith, high, in_it.0)) (λ i few in_it. omega (arith, below, in_it.1)) in
       record {
         low = omega (arith, below);
         room = kept.room;
@@ -105,7 +105,7 @@ module _ (g : GeometryValue) (first : ℕ) (image c : Image) where
   part_entries pages cells index more is full all room same written =
       let old = entries cells.entries in
       let kept = part_kept g first image c pages cells (InEntries g first (length old) (length more)) same is
-          (λ n low high in_it. omega (arith, high, in_it.0)) (λ n low high in_it. omega (arith, high, is.low, in_it.0)) (λ i few in_it. omega (arith, few, full, in_it.0)) in
+      (λ n low high in_it. omega (arith, high, in_it.0)) (λ n low high in_it. omega (arith, high, is.low, in_it.0)) (λ i few in_it. omega (arith, few, full, in_it.0)) in
       record {
         low = kept.low;
         room = omega (arith, ap length all, length-append old more, room);
@@ -126,7 +126,7 @@ module _ (g : GeometryValue) (first : ℕ) (image c : Image) where
   pub part_whole : (base : ℕ) (cells : Cells) → IsImagePart g first image g.pages cells → SameOutside (λ n. n ≡ first) image c → IsHeader g (sector c first) (header_of base cells) → IsImage g first c base cells
   part_whole base cells is same header =
       let kept = part_kept g first image c g.pages cells (λ n. n ≡ first) same is
-          (λ n low high in_it. omega (arith, low, in_it)) (λ n low high in_it. omega (arith, low, in_it)) (λ i few in_it. omega (arith, in_it)) in
+      (λ n low high in_it. omega (arith, low, in_it)) (λ n low high in_it. omega (arith, low, in_it)) (λ i few in_it. omega (arith, in_it)) in
       record {
         header-is = header;
         heads-are = kept.heads-are;

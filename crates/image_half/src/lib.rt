@@ -11,7 +11,9 @@ mod source;
 mod whole;
 mod write;
 
-pub use laws::{fitting_cells, image_in_parts, one_damage, one_image, slots_inside, told_by_its_sectors};
+pub use laws::{
+    fitting_cells, image_in_parts, one_damage, one_image, slots_inside, told_by_its_sectors,
+};
 pub use read::read_image;
 pub use sink::CellSink;
 pub use source::{CellSource, SECTOR_ENTRIES};

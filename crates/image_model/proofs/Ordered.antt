@@ -78,13 +78,13 @@ module _ {K X : Type 0} {R : K → K → Ordering} (o : IsExact R) where
       let es = finite.entries m ++ finite.entries n in
       let below : (p q : K) → is_some (finite.get m p) ≡ true → is_some (finite.get n q) ≡ true → R p q ≡ Less = λ p q here there. let one = value (finite.get m p) here in let two = value (finite.get n q) there in apart p q one.0 two.0 one.1 two.1 in
       let sorted : T (is_sorted R es) = in_order (finite.entries m) (finite.entries n) (entries_sorted m) (entries_sorted n)
-          (λ p q here there. below p q (ap is_some (finite.get-entries m p) ∙ here) (ap is_some (finite.get-entries n q) ∙ there)) in
+      (λ p q here there. below p q (ap is_some (finite.get-entries m p) ∙ here) (ap is_some (finite.get-entries n q) ∙ there)) in
       ap finite.entries (alike o (joined n m) (from_sorted es) (λ q.
-          get-joined o n m q
-          ∙ either_way (finite.get n q) (finite.get m q) (λ there here. false≢true (ap is_lt (sym (tied_itself o.total q)) ∙ ap is_lt (below q q here there)))
-          ∙ sym (get-joined o m n q)
-          ∙ finite.get-from_entries o.total es q
-          ∙ sym (get-from_sorted R es q sorted)))
+      get-joined o n m q
+      ∙ either_way (finite.get n q) (finite.get m q) (λ there here. false≢true (ap is_lt (sym (tied_itself o.total q)) ∙ ap is_lt (below q q here there)))
+      ∙ sym (get-joined o m n q)
+      ∙ finite.get-from_entries o.total es q
+      ∙ sym (get-from_sorted R es q sorted)))
       ∙ entries-from_sorted R es sorted
 
 -- ---- entries above those that were copied

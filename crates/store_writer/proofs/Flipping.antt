@@ -38,7 +38,7 @@ underway_has run half image synced new is there whole up made = let content : Is
   groups = there.groups;
   held = subst (λ (a : Area). HoldsGroups a image there.groups) there.area-is there.stands.held;
   following = subst (AreFollowing run.geometry.pages new.base content.copied) (sym there.carried)
-  (redone_following run new.base new.number (reach new synced) content.copied content.copies is there.low (omega (arith, there.rise, up, made)));
+      (redone_following run new.base new.number (reach new synced) content.copied content.copies is there.low (omega (arith, there.rise, up, made)));
   last-is = sym (last_between run new.base (reach new synced) there.low (omega arith) made) ∙ ap (λ (rs : List RecordValue). new.base + length rs) (sym there.carried);
   cells-are = sym (ap (cells_after content.copied) there.carried ∙ redone run new.base new.number (reach new synced) content.copied content.copies there.low (omega arith) up);
 }

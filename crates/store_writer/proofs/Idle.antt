@@ -72,7 +72,7 @@ module _ (g : GeometryValue) (half : Half) (old mid : History) (area : Area) (ar
     pub imaged_log : (log : Log) (groups : List (List RecordValue)) → log.area ≡ area → Stands log mid.disk.content groups → Stands log new.disk.content groups
     imaged_log log groups same stands = record {
       held = told_by_its_sectors log.area mid.disk.content new.disk.content groups written.now.content.sectors
-      (λ n inside. written.now.content.same n (λ either. let there = subst (λ (a : Area). InArea a n) (same ∙ area_is) inside in omega (arith, there.0, (in_the_image n either).1))) stands.held;
+          (λ n inside. written.now.content.same n (λ either. let there = subst (λ (a : Area). InArea a n) (same ∙ area_is) inside in omega (arith, there.0, (in_the_image n either).1))) stands.held;
       counted = stands.counted;
     }
 
@@ -117,6 +117,6 @@ module _ (g : GeometryValue) (half : Half) (old new : History) (loose : (n : ℕ
   pub written_log : (log : Log) (groups : List (List RecordValue)) → log.area ≡ log_area g half → Stands log old.disk.content groups → Stands log new.disk.content groups
   written_log log groups area_is stands = record {
     held = told_by_its_sectors log.area old.disk.content new.disk.content groups written.now.content.sectors
-    (λ n inside. written.now.content.same n (λ either. let there = subst (λ (a : Area). InArea a n) area_is inside in omega (arith, there.0, (in_image n either).1))) stands.held;
+        (λ n inside. written.now.content.same n (λ either. let there = subst (λ (a : Area). InArea a n) area_is inside in omega (arith, there.0, (in_image n either).1))) stands.held;
     counted = stands.counted;
   }

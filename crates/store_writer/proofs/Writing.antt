@@ -160,7 +160,7 @@ module _ {D M : Type 0} (history : D → History) (run : Run) (handed : ℕ) (ol
         stands = stands_new;
         all_synced = all;
         image = subst (λ (t : Option NewImage). IfSome t (IsUnderway run (other new.halves.current) content new.synced)) (sym image_is)
-        (subst (λ n. IfSome old.image (IsUnderway run (other new.halves.current) content n)) (sym synced_is) (subst (λ (h : HalvesValue). IfSome old.image (IsUnderway run (other h.current) content old.synced)) (sym halves_is) image_kept));
+            (subst (λ n. IfSome old.image (IsUnderway run (other new.halves.current) content n)) (sym synced_is) (subst (λ (h : HalvesValue). IfSome old.image (IsUnderway run (other h.current) content old.synced)) (sym halves_is) image_kept));
       }
 
 -- after a call that left records and numbers alone

@@ -9,8 +9,8 @@ ghost use Rattle.store_writer.specs.Contents.{LeftBy};
 ghost use Rattle.store_writer.specs.Image.{BecomesImage};
 ghost use Rattle.store_writer.specs.Parts.{device_of, halves_of, log_of, waiting_of, synced_of, has_failed, image_of};
 
-use crate::{FlipReply, FlushReply, StepReply};
 use crate::writer::Writer;
+use crate::{FlipReply, FlushReply, StepReply};
 use flip_image::Halves;
 use gate_log::LogArea;
 use image_model::Chunk;

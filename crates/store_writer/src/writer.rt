@@ -13,9 +13,9 @@ use crate::image::{
     write_next, write_whole,
 };
 use flip_image::Halves;
+use gate_log::{Appended, LogArea, group_len, spell};
 use image_model::{Chunk, Piece};
 use image_parts::Header;
-use gate_log::{Appended, LogArea, group_len, spell};
 use model::{CellMaps, Life, ListMap, RowMap};
 use records::{Error, Geometry, Mark, Pair, Record};
 use sector_device::Device;
@@ -286,7 +286,10 @@ impl<D: Device, A: Allocator + Copy> Writer<D, A> {
             return Ok(StepReply::StartAgain);
         };
         let NewImage {
-            base, stage, log, ..
+            base,
+            stage,
+            log,
+            ..
         } = image;
         let Stage::Partly {
             entries,
@@ -302,7 +305,11 @@ impl<D: Device, A: Allocator + Copy> Writer<D, A> {
         }
         let alloc = *self.waiting.allocator();
         let cells = rows_alone(alloc, rows);
-        if self.halves.write_rows(&mut self.device, page, &cells).is_err() {
+        if self
+            .halves
+            .write_rows(&mut self.device, page, &cells)
+            .is_err()
+        {
             self.failed = true;
             return Err(Error::DeviceFailed);
         }
@@ -336,7 +343,10 @@ impl<D: Device, A: Allocator + Copy> Writer<D, A> {
             return Ok(StepReply::StartAgain);
         };
         let NewImage {
-            base, stage, log, ..
+            base,
+            stage,
+            log,
+            ..
         } = image;
         let Stage::Partly {
             pages,

@@ -101,9 +101,14 @@ returns-in-Ok-Done-clause-becomes g c = λ slots synced group plan run half is s
       stays = λ i it below. absurd (let it_is : new ≡ i = cc (c.in-Some.is, it) in let low : new.base ≡ i.base = ap (λ (x : NewImage). x.base) it_is in omega (arith, planned.2, base, low, below));
       given-up = λ i it above late. absurd (let it_is : new ≡ i = cc (c.in-Some.is, it) in let many : new.log.open_slots ≡ i.log.open_slots = ap (λ (x : NewImage). x.log.open_slots) it_is in omega (arith, planned.3, opens, many, late));
       carried = λ i it above early.
-          let it_is : new ≡ i = cc (c.in-Some.is, it) in
-          (record { base = new.base; number = new.number; stage = new.stage; log = c.append_spelled.new.self }, refl, ap (λ (x : NewImage). x.base) it_is, ap (λ (x : NewImage). x.number) it_is, ap (λ (x : NewImage). x.stage) it_is,
-          counted ∙ length-append there.groups (records ∷ []) ∙ ap (λ (k : ℕ). k + 1) (sym there.stands.counted) ∙ ap (λ (x : NewImage). x.log.open_slots + 1) it_is);
+          let it_is : new ≡ i = cc (c.in-Some.is, it) in (
+            record { base = new.base; number = new.number; stage = new.stage; log = c.append_spelled.new.self },
+            refl,
+            ap (λ (x : NewImage). x.base) it_is,
+            ap (λ (x : NewImage). x.number) it_is,
+            ap (λ (x : NewImage). x.stage) it_is,
+            counted ∙ length-append there.groups (records ∷ []) ∙ ap (λ (k : ℕ). k + 1) (sym there.stands.counted) ∙ ap (λ (x : NewImage). x.log.open_slots + 1) it_is,
+          );
     }
 
 pub append_spelled-requires-clause-stands : goal.append_spelled-requires-clause-stands

@@ -10,6 +10,9 @@ checkpoint_step-requires g c =
 
 pub invariant_of-self : goal.invariant_of-self
 invariant_of-self g c =
-    let (run, handed, is, chunk) = c.requires in
-    (run, handed, c.checkpoint_step.ensures.writer run handed (subst (IsWriter g.D.Device.history run handed) (sym c.self.view_is) is)
-    (subst (λ (w : Writer g.row.D.Denot g.row.A.Denot). IsChunk run w c.args.chunk.number c.args.chunk.piece) (sym c.self.view_is) chunk))
+    let (run, handed, is, chunk) = c.requires in (
+      run,
+      handed,
+      c.checkpoint_step.ensures.writer run handed (subst (IsWriter g.D.Device.history run handed) (sym c.self.view_is) is)
+          (subst (λ (w : Writer g.row.D.Denot g.row.A.Denot). IsChunk run w c.args.chunk.number c.args.chunk.piece) (sym c.self.view_is) chunk),
+    )

@@ -23,17 +23,20 @@ pub returns-then-handed-image-clause-images : goal.returns-then-handed-image-cla
 returns-then-handed-image-clause-images g c = λ run handed is. started (g.D.Device.history c.args.self.now.device) (LeftBy run c.args.self.now.synced handed) is.images
 
 pub returns-then-handed-image-clause-flipped : goal.returns-then-handed-image-clause-flipped
-returns-then-handed-image-clause-flipped g c = λ run handed is. (refl, λ can.
-    let old = c.args.self.now in
-    let (image, there, whole, most, reaches) = can in
-    let same : c.in-Some.image ≡ image = cc (c.in-Some.is, there) in
-    let number : c.in-Some.image.number ≡ image.number = ap (λ (x : NewImage). x.number) same in
-    let base : c.in-Some.image.base ≡ image.base = ap (λ (x : NewImage). x.base) same in
-    let count = length_between run old.synced handed is.opened is.reached is.made in
-    elim c.then-handed-image.branch [
-      | then-handed-image-via-then-handed-image w ↦ absurd (omega (arith, w.if-handed-image.true, c.len.ensures, ap length is.waits, count, is.reached, number, most))
-      | then-handed-image-via-else-handed-image+then-reached-image w ↦ absurd (omega (arith, w.if-reached-image.true, c.max-reached.ensures, number, base, reaches))
-    ])
+returns-then-handed-image-clause-flipped g c = λ run handed is. (
+  refl,
+  λ can.
+      let old = c.args.self.now in
+      let (image, there, whole, most, reaches) = can in
+      let same : c.in-Some.image ≡ image = cc (c.in-Some.is, there) in
+      let number : c.in-Some.image.number ≡ image.number = ap (λ (x : NewImage). x.number) same in
+      let base : c.in-Some.image.base ≡ image.base = ap (λ (x : NewImage). x.base) same in
+      let count = length_between run old.synced handed is.opened is.reached is.made in
+      elim c.then-handed-image.branch [
+        | then-handed-image-via-then-handed-image w ↦ absurd (omega (arith, w.if-handed-image.true, c.len.ensures, ap length is.waits, count, is.reached, number, most))
+        | then-handed-image-via-else-handed-image+then-reached-image w ↦ absurd (omega (arith, w.if-reached-image.true, c.max-reached.ensures, number, base, reaches))
+      ],
+)
 
 pub returns-then-is_err-clause-images : goal.returns-then-is_err-clause-images
 returns-then-is_err-clause-images g c = λ run handed is.

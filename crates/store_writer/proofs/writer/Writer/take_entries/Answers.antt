@@ -33,10 +33,13 @@ pub returns-then-is_full-clause-images : goal.returns-then-is_full-clause-images
 returns-then-is_full-clause-images g c = λ run handed is. started (g.D.Device.history c.args.self.now.device) (LeftBy run c.args.self.now.synced handed) is.images
 
 pub returns-then-is_full-clause-stepped : goal.returns-then-is_full-clause-stepped
-returns-then-is_full-clause-stepped g c = (refl, elim c.then-is_full.branch [
-  | then-is_full-via-then-is_full w ↦ inr (inl (w.if-is_full.ensures.0 refl ∙ ap (λ (x : GeometryValue). x.slots) c.geometry-geometry.ensures))
-  | then-is_full-via-else-is_full+then-has_no_room w ↦ inr (inr (c.in-Some.image, c.in-Partly.pages, c.in-Partly.count, c.in-Partly.highest, c.in-Partly.life, c.in-Some.is, c.in-Partly.is, subst (λ (x : GeometryValue). x.entries < c.in-Partly.count + length c.args.entries.now) c.geometry-geometry.ensures (w.if-has_no_room.ensures.0 refl)))
-])
+returns-then-is_full-clause-stepped g c = (
+  refl,
+  elim c.then-is_full.branch [
+    | then-is_full-via-then-is_full w ↦ inr (inl (w.if-is_full.ensures.0 refl ∙ ap (λ (x : GeometryValue). x.slots) c.geometry-geometry.ensures))
+    | then-is_full-via-else-is_full+then-has_no_room w ↦ inr (inr (c.in-Some.image, c.in-Partly.pages, c.in-Partly.count, c.in-Partly.highest, c.in-Partly.life, c.in-Some.is, c.in-Partly.is, subst (λ (x : GeometryValue). x.entries < c.in-Partly.count + length c.args.entries.now) c.geometry-geometry.ensures (w.if-has_no_room.ensures.0 refl)))
+  ],
+)
 
 pub write_next-requires-clause-pages : goal.write_next-requires-clause-pages
 write_next-requires-clause-pages g c =
@@ -96,7 +99,7 @@ returns-clause-writer g c = λ run handed is asked.
     let new : Writer g.row.D.Denot g.row.A.Denot = record { device = c.write_next.new.device; halves = old.halves; log = old.log; waiting = old.waiting; synced = old.synced; image = Some taken; failed = old.failed } in
     carried_on history run handed old new is refl refl refl
     (λ sound. stands_with history run handed old is c.requires.sound new refl refl refl
-        (written_outside run.geometry half (history old.device) (history c.write_next.new.device) stand.loose within)
-        (written_loose run.geometry half (history old.device) (history c.write_next.new.device) stand.loose within)
-        (at_stage run half before after old.synced image there c.args.number taken.stage chunk.later chunk.made log content))
+    (written_outside run.geometry half (history old.device) (history c.write_next.new.device) stand.loose within)
+    (written_loose run.geometry half (history old.device) (history c.write_next.new.device) stand.loose within)
+    (at_stage run half before after old.synced image there c.args.number taken.stage chunk.later chunk.made log content))
     (returns-clause-images g c run handed is)

@@ -66,7 +66,7 @@ returns-clause-writer g c = λ run handed is asked.
     let same : SameOutside (InPage (header_sector run.geometry half) c.args.page) before after = subst (λ (x : GeometryValue). SameOutside (InPage (header_sector x half) c.args.page) before after) is.geometry-is c.write_rows.ensures.outside in
     let rows_are : c.rows_alone-cells.result.rows ≡ c.args.rows = ap (λ (x : Cells). x.rows) c.rows_alone-cells.ensures in
     let has : HasPage (header_sector run.geometry half) after c.args.page c.args.rows = subst (λ (t : Table). HasPage (header_sector run.geometry half) after c.args.page t) rows_are
-        (subst (λ (x : GeometryValue). HasPage (header_sector x half) after c.args.page c.rows_alone-cells.result.rows) is.geometry-is (from_ok _ _ good c.write_rows.ensures.written)) in
+    (subst (λ (x : GeometryValue). HasPage (header_sector x half) after c.args.page c.rows_alone-cells.result.rows) is.geometry-is (from_ok _ _ good c.write_rows.ensures.written)) in
     let next : IsPart run half after image.base c.args.number (c.args.page + 1) count highest life = page_part run half before after image.base image.number c.args.number there.low there.rise chunk.later c.args.page count highest life c.args.rows part chunk.below chunk.rows-are chunk.slots same has in
     let log = written_log run.geometry half (history old.device) (history c.write_rows.new.device) stand.loose within image.log there.groups there.area-is there.stands in
     let taken : NewImage = record { base = image.base; number = c.args.number; stage = Partly (c.args.page + 1) c.in-Partly.entries c.in-Partly.highest c.in-Partly.life; log = image.log } in
@@ -74,8 +74,8 @@ returns-clause-writer g c = λ run handed is asked.
     let new : Writer g.row.D.Denot g.row.A.Denot = record { device = c.write_rows.new.device; halves = old.halves; log = old.log; waiting = old.waiting; synced = old.synced; image = Some taken; failed = old.failed } in
     carried_on history run handed old new is refl refl refl
     (λ sound. stands_with history run handed old is c.requires.sound new refl refl refl
-        (written_outside run.geometry half (history old.device) (history c.write_rows.new.device) stand.loose within)
-        (written_loose run.geometry half (history old.device) (history c.write_rows.new.device) stand.loose within)
-        (at_stage run half before after old.synced image there c.args.number taken.stage chunk.later chunk.made log
-        (subst (IsContent run half after image.base c.args.number) stage_is next)))
+    (written_outside run.geometry half (history old.device) (history c.write_rows.new.device) stand.loose within)
+    (written_loose run.geometry half (history old.device) (history c.write_rows.new.device) stand.loose within)
+    (at_stage run half before after old.synced image there c.args.number taken.stage chunk.later chunk.made log
+    (subst (IsContent run half after image.base c.args.number) stage_is next)))
     (returns-clause-images g c run handed is)

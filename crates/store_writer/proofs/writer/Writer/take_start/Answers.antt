@@ -49,11 +49,11 @@ returns-in-Ok-clause-writer g c = λ run handed is start.
     let new : Writer g.row.D.Denot g.row.A.Denot = record { device = c.write_first.new.device; halves = old.halves; log = old.log; waiting = old.waiting; synced = old.synced; image = Some image; failed = old.failed } in
     let cells_are = c.lists_alone-cells.ensures in
     let part = subst (λ (x : Cells). IsImagePart run.geometry (header_sector run.geometry half) now.content 0 (record x { rows = map.empty; entries = map.empty })) cells_are
-        (subst (λ (x : GeometryValue). IsImagePart x (header_sector x half) now.content 0 (record (cells_of c.lists_alone-cells.result) { rows = map.empty; entries = map.empty })) is.geometry-is c.in-Ok.ensures.written) in
+    (subst (λ (x : GeometryValue). IsImagePart x (header_sector x half) now.content 0 (record (cells_of c.lists_alone-cells.result) { rows = map.empty; entries = map.empty })) is.geometry-is c.in-Ok.ensures.written) in
     let area : image.log.area ≡ log_area run.geometry half = subst (λ (x : GeometryValue). image.log.area ≡ log_area x half) is.geometry-is c.in-Ok.ensures.area in
     carried_on history run handed old new is refl refl refl
     (λ sound. stands_with history run handed old is c.requires.sound new refl refl refl
-        (subst (λ (x : GeometryValue). SameOutside (InHalf x half) (history old.device).disk.content now.content) is.geometry-is c.write_first.ensures.outside)
-        (subst (λ (x : GeometryValue). (n : ℕ) → now.unsynced n ≡ true → InHalfImage x half n) is.geometry-is c.in-Ok.ensures.loose)
-        (start_taken run half now.content old.synced image c.args.life c.args.lists is.opened refl (ap (λ (l : Life). Partly 0 0 None l) (ap (λ (x : Cells). x.life) cells_are)) start part area c.in-Ok.ensures.empty))
+    (subst (λ (x : GeometryValue). SameOutside (InHalf x half) (history old.device).disk.content now.content) is.geometry-is c.write_first.ensures.outside)
+    (subst (λ (x : GeometryValue). (n : ℕ) → now.unsynced n ≡ true → InHalfImage x half n) is.geometry-is c.in-Ok.ensures.loose)
+    (start_taken run half now.content old.synced image c.args.life c.args.lists is.opened refl (ap (λ (l : Life). Partly 0 0 None l) (ap (λ (x : Cells). x.life) cells_are)) start part area c.in-Ok.ensures.empty))
     (returns-in-Ok-clause-images g c run handed is)

@@ -47,9 +47,9 @@ returns-in-Ok-clause-writer g c = λ run handed is whole.
     let area : image.log.area ≡ log_area run.geometry half = subst (λ (x : GeometryValue). image.log.area ≡ log_area x half) is.geometry-is c.in-Ok.ensures.area in
     carried_on history run handed old new is refl refl refl
     (λ sound. stands_with history run handed old is c.requires.sound new refl refl refl
-        (subst (λ (x : GeometryValue). SameOutside (InHalf x half) (history old.device).disk.content now.content) is.geometry-is c.write_whole.ensures.outside)
-        (subst (λ (x : GeometryValue). (n : ℕ) → now.unsynced n ≡ true → InHalfImage x half n) is.geometry-is c.in-Ok.ensures.loose)
-        (whole_taken run half now.content old.synced image cells is.opened whole.late refl refl whole.made whole.cells-are holds area c.in-Ok.ensures.empty))
+    (subst (λ (x : GeometryValue). SameOutside (InHalf x half) (history old.device).disk.content now.content) is.geometry-is c.write_whole.ensures.outside)
+    (subst (λ (x : GeometryValue). (n : ℕ) → now.unsynced n ≡ true → InHalfImage x half n) is.geometry-is c.in-Ok.ensures.loose)
+    (whole_taken run half now.content old.synced image cells is.opened whole.late refl refl whole.made whole.cells-are holds area c.in-Ok.ensures.empty))
     (returns-in-Ok-clause-images g c run handed is)
 
 pub returns-in-Ok-clause-taken : goal.returns-in-Ok-clause-taken
