@@ -90,10 +90,10 @@ impl<D: Device, A: Allocator + Copy> Engine<D, A> {
     ///
     /// With no transaction active and the answer `Ok`, the rows are as they were, and the visible entries are just their
     /// pairs (`whole`). This is promised of an engine that a run left, and of one that was opened over what a run left; of
-    /// one that was opened over any other store it is where the index that the store gave had, as far as it was built, a
-    /// visible entry for the pair of each row, nowhere one for another pair, and nowhere a marked one for the pair of a row
-    /// (`CanOpen`): a builder leaves a marked entry as it is. It stays so whatever the answer is (`come`), so that a build
-    /// may be gone on with. An engine that only reads builds too, in memory alone: nothing of that is ever written.
+    /// one that was opened over any other store it is where, in what the store gave, each visible entry named a row, the
+    /// pair of each row was visible as far as the index was built and nowhere marked, and without an index there was no
+    /// entry (`CanOpen`): a builder leaves a marked entry as it is. It stays so whatever the answer is (`come`), so that a
+    /// build may be gone on with. An engine that only reads builds too, in memory alone: nothing of that is ever written.
     pub fn build_to_end(&mut self) -> Result<Ticket, Error>
         ensures built { IsBuiltToEnd D.history result self.old self.new }
         ensures whole { OnOk result (BuildsWhole (core_of self.old) (core_of self.new)) }

@@ -1,5 +1,5 @@
-//! The definitions that several crates speak of, with the plain slow program
-//! that computes them.
+//! The definitions that several crates speak of, with a plain program over maps
+//! that computes them: a restart runs on it, and its maps give images their cells.
 #![tactic(auto)]
 
 mod cell_maps;
