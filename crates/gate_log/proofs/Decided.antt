@@ -1,6 +1,6 @@
 -- An image is read in one way or another: whether bytes are a group is decided, and so slot by slot is where an area is damaged.
 use Rattle.std.specs.Prelude.{◌⊎◌}
-use Rattle.std.proofs.Common.{◌≡◌, inl, inr, ⊎_elim, ℕ, zero, suc, ◌+◌, ◌-◌, ◌*◌, ◌^◌, ◌<◌, ◌≤◌, List, [], ◌∷◌, ◌++◌, length, slice_index, slice_index_or, slice_range, take, drop, All, refl, sym, ap, subst, ◌∙◌, arith, length-append}
+use Rattle.std.proofs.Common.{◌≡◌, inl, inr, ⊎_elim, ℕ, zero, suc, ◌+◌, ◌-◌, ◌*◌, ◌<◌, ◌≤◌, List, [], ◌∷◌, ◌++◌, length, slice_index, slice_range, take, drop, All, refl, sym, ap, subst, ◌∙◌, arith, length-append}
 use Rattle.std.specs.List.{concat}
 use Rattle.std.proofs.lemmas.Bool.{cases_eq, cases_lt}
 use Rattle.std.proofs.lemmas.List.{get_or_append_left, get_or-append_right, drop_at}
@@ -16,7 +16,7 @@ use Rattle.records.proofs.Spellings.{one_spelling, begins_or_not}
 use Rattle.records.proofs.Numbers.{IsBytes-drop, IsBytes-take}
 use Rattle.gate_log.specs.Group.{spellings, header, IsGroup}
 use Rattle.gate_log.specs.Steps.{AreSpelled}
-use Rattle.gate_log.specs.Area.{Area, gate, body, IsOpen, IsAreaInside, HoldsGroups, IsFirstDamagedSlot}
+use Rattle.gate_log.specs.Area.{Area, body, IsAreaInside, HoldsGroups, IsFirstDamagedSlot}
 use Rattle.gate_log.proofs.Groups.{spellings-nil, spellings-cons, none_spelled, more_spelled, header_front, IsParted, parted, from_parts}
 use Rattle.gate_log.proofs.Areas.{one_closed, one_open, first_damaged}
 

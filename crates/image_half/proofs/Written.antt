@@ -12,7 +12,7 @@ use Rattle.records.specs.declared.pair.Pair.{Pair}
 use Rattle.records.specs.declared.pair.Mark.{Mark}
 use Rattle.model.specs.Cells.{Cells}
 use Rattle.image_parts.specs.Spelling.{zeros}
-use Rattle.image_half.specs.Layout.{heads_at, entries_at, InImage, InPages, InList, InEntries}
+use Rattle.image_half.specs.Layout.{heads_at, entries_at, InImage, InPages, InEntries}
 use Rattle.image_half.specs.Image.{IsHeader, AreHeads, IsEntry, IsImage, entry_bytes, header_of, head_of, ZerosBehind, ZerosBehindEntries, InLists, InImageOf}
 use Rattle.image_half.specs.Source.{FitsImage}
 use Rattle.image_half.specs.Steps.{ShowsList, WritesIn, InUndo}

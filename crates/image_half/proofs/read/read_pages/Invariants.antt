@@ -1,4 +1,4 @@
-use Rattle.std.proofs.Common.{◌≡◌, []}
+use Rattle.std.proofs.Common.{◌≡◌}
 use Rattle.sector_device.specs.History.{OnlyReads}
 use Rattle.image_half.specs.Steps.{HoldsPages, table_of}
 use Rattle.image_half.proofs.read.read_pages.Given as goal

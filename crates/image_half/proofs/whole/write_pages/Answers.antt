@@ -1,10 +1,6 @@
-use Rattle.std.proofs.Common.{◌≡◌, ⊎_elim, suc, ◌+◌, ◌<◌, ◌∷◌, List, Option, Some, None, length, refl, sym, ap, ◌∙◌, subst, arith}
-use Rattle.std.specs.Prelude.{slice_get}
-use Rattle.std.specs.FinMap.{get}
+use Rattle.std.proofs.Common.{◌≡◌, ⊎_elim, ◌<◌, sym, ap, ◌∙◌, subst, arith}
 use Rattle.std.proofs.lemmas.Bool.{cases_eq}
-use Rattle.std.proofs.lemmas.Option.{slice_get-get_or}
 use Rattle.records.specs.GeometryValue.{GeometryValue}
-use Rattle.records.specs.declared.row.Row.{Row}
 use Rattle.image_half.specs.Layout.{InPage, InPages}
 use Rattle.image_half.specs.Part.{HasPage}
 use Rattle.image_half.proofs.Joined.{writes_then}

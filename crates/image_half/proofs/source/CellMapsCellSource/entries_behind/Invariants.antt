@@ -1,4 +1,4 @@
-use Rattle.std.proofs.Common.{◌≡◌, ℕ, ◌<◌, List, Option, None, drop, length, get_or}
+use Rattle.std.proofs.Common.{◌≡◌, ℕ, ◌<◌, None, drop, length, get_or}
 use Rattle.std.specs.Prelude.{slice_get}
 use Rattle.model.specs.Above.{entries_above}
 use Rattle.image_half.proofs.source.CellMapsCellSource.entries_behind.Given as goal
