@@ -9,7 +9,7 @@ use Rattle.first.specs.declared.event.Event.TheVariants as event
 use Rattle.first.specs.declared.event.Reply.{Reply}
 use Rattle.first.specs.declared.event.Reply.TheVariants as reply
 use Rattle.first.specs.History.{acknowledged, answered, asked}
-use Rattle.first.specs.Lawful.{IsAnswer, IsAnswerTo, IsFlushAnswer, IsInCore, IsInCoreBy, IsLawful, ServesInCore, is_read}
+use Rattle.first.specs.Lawful.{IsAnswerTo, IsFlushAnswer, IsInCore, IsInCoreBy, IsLawful, ServesInCore, is_read}
 use Rattle.first.specs.Parts.{is_read_only}
 use Rattle.first.specs.Store.{CanRun, IsSomewhere, ServesOn, KeepsAround, WritesLogAlone}
 use Rattle.first.proofs.Runs.{can_run_after, is_serving}
@@ -44,7 +44,7 @@ module _ {D M : Type 0} (history : D → History) (failures : D → ℕ) (x : Ev
     pub served_by_core : ServesOn history x r old new
     served_by_core = let by = by_core (asked x) refl in_core in served history x by.0 r old new by.1 by.2 (quiet r by.2.reply by.2.reply_is)
 
-    pub answered_by_core : IsAnswer failures x r old new
+    pub answered_by_core : IsAnswerTo failures (asked x) r old new
     answered_by_core = let by = by_core (asked x) refl in_core in subst (λ o. IsAnswerTo failures o r old new) (sym by.1) by.2
 
     pub around_by_core : WritesLogAlone history old new
@@ -92,7 +92,7 @@ module _ {D M : Type 0} (history : D → History) (failures : D → ℕ) (x : Ev
   flush_around keeps past at = subst (λ (e : Parts D M). KeepsAround history e new) same keeps
 
   pub flush_lawful : IsFlushAnswer failures r mid new → IsLawful failures x r old new
-  flush_lawful answer = inr (inl not_only, subst (λ e. IsAnswer failures e r old new) (sym is) (subst (λ e. IsFlushAnswer failures r e new) same answer))
+  flush_lawful answer = inr (inl not_only, subst (λ e. IsAnswerTo failures (asked e) r old new) (sym is) (subst (λ e. IsFlushAnswer failures r e new) same answer))
 
   pub flush_can_run : CanRun history old → ServesOn history event.Flush r mid new → CanRun history new
   flush_can_run can serves = can_run_after history x r old new not_only can (flush_serves serves)

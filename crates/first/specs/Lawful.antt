@@ -84,14 +84,11 @@ abbrev pub IsAnswerTo : {D M : Type 0} → (D → ℕ) → Option core.Event →
 IsAnswerTo failures None answer old new = IsFlushAnswer failures answer old new
 IsAnswerTo failures (Some e) answer old new = ServesInCore e answer old new
 
-abbrev pub IsAnswer : {D M : Type 0} → (D → ℕ) → Event → Reply M → Parts D M → Parts D M → Type 0
-IsAnswer failures request answer old new = IsAnswerTo failures (asked request) answer old new
-
 -- An engine that only reads skips each request that would change something; any other request is answered.
 abbrev pub IsLawful : {D M : Type 0} → (D → ℕ) → Event → Reply M → Parts D M → Parts D M → Type 0
 IsLawful failures request answer old new =
     ((is_read_only old ≡ true) × (is_read request ≡ false) × (answer ≡ reply.Skipped) × (new ≡ old))
-    ⊎ (((is_read_only old ≡ false) ⊎ (is_read request ≡ true)) × IsAnswer failures request answer old new)
+    ⊎ (((is_read_only old ≡ false) ⊎ (is_read request ≡ true)) × IsAnswerTo failures (asked request) answer old new)
 
 -- each request in turn was answered lawfully
 abbrev pub AreLawful : {D M : Type 0} → (D → ℕ) → List Event → List (Reply M) → Parts D M → Parts D M → Type 0

@@ -92,7 +92,6 @@ impl<A: Allocator + Copy> StoreCells<A> {
         ensures inside { IfErr result (λ s. s.index < length records.now) }
         ensures unfit { IfErr result (λ s. s.why ≡ Refusal.Unfit → IsFirstUnfit self.old.geometry.pages self.old.last self.old.cells records.now s.index) }
         ensures no_memory { IfErr result (λ s. s.why ≡ Refusal.NoMemory → AreFollowing self.old.geometry.pages self.old.last self.old.cells (take (s.index + 1) records.now)) }
-        ensures index { IfErr result (λ s. s.index < length records.now) }
         ensures before { IfErr result (λ s. self.new ≡ after_records self.old (take s.index records.now)) }
     {
         for (index, record) in records.iter().enumerate() {
