@@ -36,7 +36,7 @@ use Rattle.core_contracts.specs.Events.{Event, Refused, Reply, Standing, standin
 use Rattle.core_contracts.specs.Replies.{HasNoPlace, IsBetween, IsDue, IsFirst, IsNextPair, accepted, refusals, refused, refused_last}
 use Rattle.nsf_core.specs.View.{Answers, CoreValue, IsSafe, IsScan, IsState, Serves, Shows}
 use Rattle.nsf_core.specs.Builds as builds
-use Rattle.nsf_core.specs.Builds.{HasAttempted, HasPassed, HasTaken, HasNextNumber, IsUnplaced, IsUnrecorded, checkpointed, completed, placed}
+use Rattle.nsf_core.specs.Private.{HasAttempted, HasPassed, HasTaken, HasNextNumber, IsUnplaced, IsUnrecorded, checkpointed, completed, placed}
 use Rattle.nsf_core.specs.Replies.{reply_by}
 use Rattle.nsf_core.specs.declared.parts.Ticket.{Ticket}
 use Rattle.nsf_core.specs.declared.reply.BuildReply.{BuildReply}

@@ -32,7 +32,8 @@ use Rattle.core_contracts.specs.Replies.{HasNoMoreChanges, IsDue, IsFirst, IsHel
 use Rattle.nsf_core.specs.Asked.{IsFine, IsRefused}
 use Rattle.nsf_core.proofs.Checking.{unchangeable_by_state}
 use Rattle.nsf_core.specs.View.{Answers, CoreValue, IsState, Serves, Shows}
-use Rattle.nsf_core.specs.Moves.{IsAble, IsMine, IsReadyOrNone, IsUnchangeable, IsUnroomy, MayStart, first_made, is_busy, is_full, is_missing, is_unable, is_unknown, is_unroomy, next_change, txn_shown}
+use Rattle.nsf_core.specs.Moves.{IsReadyOrNone, txn_shown}
+use Rattle.nsf_core.specs.Private.{IsAble, IsMine, IsUnchangeable, IsUnroomy, MayStart, first_made, is_busy, is_full, is_missing, is_unable, is_unknown, is_unroomy, next_change}
 use Rattle.nsf_core.proofs.Due.{made, no_number, refusal, wants_memory}
 use Rattle.nsf_core.proofs.Inserting.{able, full, has_places, lacks_places, no_txn, not_full, same_position, some_is, unable}
 use Rattle.nsf_core.proofs.Moved.{is_ready, known}

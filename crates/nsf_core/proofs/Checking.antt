@@ -4,8 +4,7 @@ use Rattle.records.specs.declared.error.Error.{Error}
 use Rattle.records.specs.declared.error.Error.TheVariants.{Exhausted, IndexExists, IndexFull, NoMemory, NoSuchRow, NoSuchTxn, RowBusy, TooManyChanges, TxnsActive}
 use Rattle.records.specs.Values.{Place}
 use Rattle.nsf_core.specs.View.{CoreValue}
-use Rattle.nsf_core.specs.Creation.{IsUncreatable}
-use Rattle.nsf_core.specs.Moves.{HasNoRecord, IsUnable, IsUnchangeable, IsUnroomy, is_busy, is_full, is_missing, is_unable, is_unknown, is_unroomy}
+use Rattle.nsf_core.specs.Private.{IsUncreatable, HasNoRecord, IsUnable, IsUnchangeable, IsUnroomy, is_busy, is_full, is_missing, is_unable, is_unknown, is_unroomy}
 
 module _ (v : CoreValue) (e : Error) where
   pub unable_by_state : (t : ℕ) → IsUnable v t e → e ≢ NoMemory

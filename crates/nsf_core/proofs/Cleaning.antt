@@ -22,8 +22,7 @@ use Rattle.core_contracts.specs.Events as events
 use Rattle.core_contracts.specs.Events.{Event, Refused, Reply, Standing, standing_after}
 use Rattle.core_contracts.specs.Replies.{IsDue, IsFirst, IsNextEntry, refusals, refused}
 use Rattle.nsf_core.specs.View.{Answers, CoreValue, IsScan, IsState, Serves, Shows}
-use Rattle.nsf_core.specs.Builds.{HasNextNumber, IsUnrecorded}
-use Rattle.nsf_core.specs.Cleaning.{MayClean, taken_out}
+use Rattle.nsf_core.specs.Private.{HasNextNumber, IsUnrecorded, MayClean, taken_out}
 use Rattle.nsf_core.proofs.Due.{made, no_number, refusal, wants_memory}
 
 absent_is : (life : Life) → is_indexed life ≡ false → life ≡ Absent

@@ -15,8 +15,7 @@ use Rattle.nsf_core.specs.Asked.{IsFine, IsRefused}
 use Rattle.records.specs.declared.number.TheConstants.{LAST_NUMBER}
 use Rattle.nsf_core.specs.View.{Answers, AreOne, CoreValue, IsState, Serves, Shows}
 use Rattle.nsf_core.specs.Replies.{reply_by, reply_of_ticket}
-use Rattle.nsf_core.specs.Builds.{HasNextNumber, IsUnrecorded}
-use Rattle.nsf_core.specs.Creation.{IsUncreatable, index_created}
+use Rattle.nsf_core.specs.Private.{HasNextNumber, IsUnrecorded, IsUncreatable, index_created}
 use Rattle.nsf_core.specs.declared.parts.Ticket.{Ticket}
 use Rattle.nsf_core.proofs.Due.{made, no_number, refusal, ticket_answers, wants_memory}
 use Rattle.nsf_core.proofs.Moved.{same_number}

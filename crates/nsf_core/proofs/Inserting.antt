@@ -34,7 +34,8 @@ use Rattle.core_contracts.specs.Events.{Event, Refused, Reply, Standing}
 use Rattle.core_contracts.specs.Replies.{HasNoMoreChanges, IsDue, IsFirst, IsFree, IsLeastFree, change_of, refusals, refused, refused_last, unknown}
 use Rattle.nsf_core.specs.Asked.{IsFine}
 use Rattle.nsf_core.specs.View.{Answers, AreOne, CoreValue, IsState, Serves, Shows}
-use Rattle.nsf_core.specs.Moves.{is_full, is_unknown, HasPlacesLeft, IsAble, IsFreePlace, IsPlaceFor, IsReadyOrNone, IsUnable, IsUnroomy, MayStart, changes_of, next_change, row_first, txn_shown}
+use Rattle.nsf_core.specs.Moves.{IsReadyOrNone, txn_shown}
+use Rattle.nsf_core.specs.Private.{is_full, is_unknown, HasPlacesLeft, IsAble, IsFreePlace, IsPlaceFor, IsUnable, IsUnroomy, MayStart, changes_of, next_change, row_first}
 use Rattle.nsf_core.proofs.Due.{made, no_number, refusal, wants_memory}
 use Rattle.nsf_core.proofs.Moved.{is_ready, known, many}
 use Rattle.nsf_core.proofs.Started.{row_shown}

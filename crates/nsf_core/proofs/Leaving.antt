@@ -20,7 +20,8 @@ use Rattle.model.specs.Table.{Table}
 use Rattle.core_contracts.specs.Events.{Ended, Event, Refused, Reply, Standing}
 use Rattle.core_contracts.specs.Replies.{unknown}
 use Rattle.nsf_core.specs.View.{Answers, AreOne, CoreValue, Serves, Shows}
-use Rattle.nsf_core.specs.Moves.{HasNoChange, HasNoRecord, HasRecord, IsReadyOrNone, ended, reserved_of, txn_shown}
+use Rattle.nsf_core.specs.Moves.{HasNoChange, IsReadyOrNone, txn_shown}
+use Rattle.nsf_core.specs.Private.{HasNoRecord, HasRecord, ended, reserved_of}
 use Rattle.nsf_core.proofs.Due.{made, no_number, refusal, wants_memory}
 use Rattle.nsf_core.proofs.Inserting.{no_txn, some_is}
 use Rattle.nsf_core.proofs.Moved.{is_ready, known, listed, other_number, places_are, same_number, unchanged}

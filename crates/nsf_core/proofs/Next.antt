@@ -31,7 +31,8 @@ use Rattle.core_model.specs.Steps.{Next, after, carried_on, reserved, row_made, 
 use Rattle.core_contracts.specs.Events.{Event, Refused, Standing, Stepped}
 use Rattle.core_contracts.specs.Replies.{Owes, unknown}
 use Rattle.nsf_core.specs.View.{Answers, CoreValue, IsProgressOf, IsSafe, IsState, Serves, Shows}
-use Rattle.nsf_core.specs.Moves.{HasNoRecord, HasRecord, OwesOrNone, entry_stepped, reserved_of, row_progress, row_stepped, txn_shown}
+use Rattle.nsf_core.specs.Moves.{OwesOrNone, txn_shown}
+use Rattle.nsf_core.specs.Private.{HasNoRecord, HasRecord, entry_stepped, reserved_of, row_progress, row_stepped}
 use Rattle.nsf_core.proofs.Due.{made, no_number, refusal, wants_memory}
 use Rattle.nsf_core.proofs.Inserting.{no_txn}
 use Rattle.nsf_core.proofs.Leaving.{there}

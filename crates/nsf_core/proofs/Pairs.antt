@@ -17,7 +17,7 @@ use Rattle.core_steps.specs.Keys.{moved_pair}
 use Rattle.core_steps.specs.Steps.{marks_new, marks_old, puts_new, puts_old}
 use Rattle.core_steps.specs.declared.step.Step.{Step}
 use Rattle.txn_table.specs.declared.progress.Progress.TheVariants.{OwesEntry, Ready}
-use Rattle.nsf_core.specs.Moves.{entry_in, row_progress}
+use Rattle.nsf_core.specs.Private.{entry_in, row_progress}
 use Rattle.std.specs.Prelude.{option_and_then}
 use Rattle.records.specs.declared.record.Part.TheVariants.{NewEntry, OldEntry}
 use Rattle.records.specs.declared.record.TxnAction.{TxnAction}

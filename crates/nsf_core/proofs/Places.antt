@@ -6,7 +6,8 @@ use Rattle.core_model.proofs.Laws.{reserved_insert}
 use Rattle.core_model.specs.States.{Pledges}
 use Rattle.core_model.specs.Steps.{all_reserved, reserved}
 use Rattle.nsf_core.specs.View.{CoreValue, IsSafe, Shows}
-use Rattle.nsf_core.specs.Moves.{reserved_of, txn_shown}
+use Rattle.nsf_core.specs.Moves.{txn_shown}
+use Rattle.nsf_core.specs.Private.{reserved_of}
 use Rattle.nsf_core.proofs.Moved.{places_are}
 
 within : (m : Pledges) (t : ℕ) → reserved m t ≤ all_reserved m

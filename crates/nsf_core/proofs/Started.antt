@@ -17,7 +17,6 @@ use Rattle.marked_index.specs.Index.{pledges_used}
 use Rattle.model.specs.Table.{Index}
 use Rattle.core_model.specs.States.{OldMarked}
 use Rattle.txn_table.specs.declared.progress.Progress.TheVariants.{OwesRow}
-use Rattle.nsf_core.specs.Moves.{first_made, mark_first}
 use Rattle.std.proofs.Common.{is_some, ◌-◌, ◌≤◌}
 use Rattle.model.specs.Pairs.{is_indexed, new_pair, old_pair}
 use Rattle.txn_table.specs.Table as table
@@ -31,7 +30,8 @@ use Rattle.core_model.specs.Steps as core
 use Rattle.core_model.specs.Steps.{Start, update, after, places_of, reserved, row_made, started, txn_at, with_places}
 use Rattle.core_contracts.specs.Events.{Standing}
 use Rattle.nsf_core.specs.View.{CoreValue, IsProgressOf, Shows}
-use Rattle.nsf_core.specs.Moves.{change_begun, reserved_of, row_first, row_progress, txn_shown}
+use Rattle.nsf_core.specs.Moves.{txn_shown}
+use Rattle.nsf_core.specs.Private.{first_made, mark_first, change_begun, reserved_of, row_first, row_progress}
 use Rattle.nsf_core.proofs.Moved.{HasMoved, is_ready, listed, moved_shown, places_are, same_number}
 
 pub either : {X : Type 0} (b : Bool) (p q r : X) → cond b p (cond b q r) ≡ cond b p r

@@ -17,8 +17,7 @@ use Rattle.core_model.specs.States.{Active, State}
 use Rattle.core_model.specs.Steps.{reserved, with_places, with_txn}
 use Rattle.core_contracts.specs.Events.{Standing}
 use Rattle.nsf_core.specs.View.{CoreValue, Shows, ShowsTxn}
-use Rattle.nsf_core.specs.Moves.{row_stepped}
-use Rattle.nsf_core.specs.Undoing.{newest_taken_off}
+use Rattle.nsf_core.specs.Private.{newest_taken_off, row_stepped}
 use Rattle.nsf_core.proofs.Moved.{HasMoved, moved_shown, places_are, same_number}
 use Rattle.nsf_core.proofs.Started.{either, grown, long, state_set}
 

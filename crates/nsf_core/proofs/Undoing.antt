@@ -31,8 +31,8 @@ use Rattle.core_model.specs.Steps.{Undo, after, txn_at, undoing, undone, undone_
 use Rattle.core_contracts.specs.Events.{Empty, Event, Refused, Standing, Undone}
 use Rattle.core_contracts.specs.Replies.{unknown}
 use Rattle.nsf_core.specs.View.{Answers, CoreValue, IsProgressOf, IsSafe, IsState, Serves, Shows, ShowsTxn}
-use Rattle.nsf_core.specs.Moves.{HasNoRecord, HasRecord, reserved_of, txn_shown}
-use Rattle.nsf_core.specs.Undoing.{entry_restored, newest_taken_off, part_to_undo, row_restored, undo_begun}
+use Rattle.nsf_core.specs.Moves.{txn_shown}
+use Rattle.nsf_core.specs.Private.{HasNoRecord, HasRecord, entry_restored, newest_taken_off, part_to_undo, reserved_of, row_restored, undo_begun}
 use Rattle.nsf_core.proofs.Due.{made, no_number, refusal, wants_memory}
 use Rattle.nsf_core.proofs.Inserting.{no_txn}
 use Rattle.nsf_core.proofs.Leaving.{there}

@@ -5,9 +5,9 @@ pub mod Replies
 pub mod Value
 pub mod Builds
 pub mod Cleaning
-pub mod Creation
 pub mod Loading
 pub mod Asked
 pub mod Outbox
 pub mod Undoing
 pub mod Steps
+pub mod Private

@@ -10,10 +10,10 @@ ghost use Rattle.marked_index.specs.Index.{IsAbsent, IsFull};
 ghost use Rattle.sorted_scan.specs.Scans.{next_of};
 ghost use Rattle.core_contracts.specs.Events.{Event};
 ghost use Rattle.nsf_core.specs.View.{IsSafe, Serves};
-ghost use Rattle.nsf_core.specs.Moves.{with_record};
 ghost use Rattle.nsf_core.specs.Replies.{reply_by};
 ghost use Rattle.nsf_core.specs.Parts.{parts_of};
-ghost use Rattle.nsf_core.specs.Builds.{built, HasAttempted, HasPassed, HasTaken, HasNextNumber, IsUnplaced, IsUnrecorded, checkpointed, completed, placed};
+ghost use Rattle.nsf_core.specs.Builds.{built};
+ghost use Rattle.nsf_core.specs.Private.{with_record, HasAttempted, HasPassed, HasTaken, HasNextNumber, IsUnplaced, IsUnrecorded, checkpointed, completed, placed};
 
 use crate::parts::{Parts, Ticket};
 use crate::reply::BuildReply;

@@ -11,8 +11,8 @@ ghost use Rattle.core_contracts.specs.Events.{Event};
 ghost use Rattle.nsf_core.specs.View.{IsSafe, Serves};
 ghost use Rattle.nsf_core.specs.Replies.{reply_by};
 ghost use Rattle.nsf_core.specs.Parts.{parts_of};
-ghost use Rattle.nsf_core.specs.Builds.{HasNextNumber, IsUnrecorded};
-ghost use Rattle.nsf_core.specs.Cleaning.{MayClean, cleaner, taken_out};
+ghost use Rattle.nsf_core.specs.Cleaning.{cleaner};
+ghost use Rattle.nsf_core.specs.Private.{HasNextNumber, IsUnrecorded, MayClean, taken_out};
 
 use crate::parts::Parts;
 use crate::reply::CleanReply;

@@ -7,8 +7,7 @@ ghost use Rattle.nsf_core.specs.View.{IsSafe, Serves};
 ghost use Rattle.nsf_core.specs.Replies.{reply_by, reply_of_ticket};
 ghost use Rattle.nsf_core.specs.Parts.{parts_of};
 ghost use Rattle.nsf_core.specs.Asked.{IsFine, IsRefused};
-ghost use Rattle.nsf_core.specs.Builds.{HasNextNumber, IsUnrecorded};
-ghost use Rattle.nsf_core.specs.Creation.{IsUncreatable, index_created};
+ghost use Rattle.nsf_core.specs.Private.{HasNextNumber, IsUnrecorded, IsUncreatable, index_created};
 
 use crate::parts::{Parts, Ticket};
 use model::Life;

@@ -3,7 +3,8 @@ ghost use Rattle.std.specs.Prelude.{◌≡◌, ◌≢◌, ◌+◌, None, Some, o
 ghost use Rattle.core_contracts.specs.Events.{Event, Reply};
 ghost use Rattle.txn_table.specs.Table as table;
 ghost use Rattle.nsf_core.specs.View.{IsSafe, Serves};
-ghost use Rattle.nsf_core.specs.Moves.{HasRecord, OwesOrNone, txn_shown};
+ghost use Rattle.nsf_core.specs.Moves.{OwesOrNone, txn_shown};
+ghost use Rattle.nsf_core.specs.Private.{HasRecord};
 ghost use Rattle.nsf_core.specs.Replies.{reply_by};
 ghost use Rattle.nsf_core.specs.Parts.{parts_of};
 

@@ -14,9 +14,9 @@ ghost use Rattle.core_model.specs.Steps.{places_of};
 ghost use Rattle.core_contracts.specs.Events.{Event, Reply};
 ghost use Rattle.txn_table.specs.Table as table;
 ghost use Rattle.nsf_core.specs.View.{CoreValue, IsSafe, Serves};
-ghost use Rattle.nsf_core.specs.Moves.{IsUnchangeable, entry_in, first_made, mark_first, HasPlacesLeft, HasNoChange, HasNoRecord, HasRecord, ended, IsAble, IsFreePlace, IsPlaceFor, IsReadyOrNone, IsUnroomy, MayStart, changes_of, fresh, next_change, reserved_of, row_first, row_progress, txn_shown, change_begun};
+ghost use Rattle.nsf_core.specs.Moves.{HasNoChange, IsReadyOrNone, fresh, txn_shown};
 ghost use Rattle.nsf_core.specs.Replies.{reply_by, reply_of_ticket};
-ghost use Rattle.nsf_core.specs.Builds.{HasNextNumber};
+ghost use Rattle.nsf_core.specs.Private.{IsUnchangeable, entry_in, first_made, mark_first, HasPlacesLeft, HasNoRecord, HasRecord, ended, IsAble, IsFreePlace, IsPlaceFor, IsUnroomy, MayStart, changes_of, next_change, reserved_of, row_first, row_progress, change_begun, HasNextNumber};
 ghost use Rattle.txn_table.specs.Sound.{IsSound};
 ghost use Rattle.nsf_core.specs.Parts.{parts_of};
 

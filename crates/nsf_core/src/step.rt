@@ -5,7 +5,8 @@ ghost use Rattle.records.specs.Maps.{set_at};
 ghost use Rattle.records.specs.RecordValue.{txn_has_rows};
 ghost use Rattle.marked_index.specs.Index.{pledges_used};
 ghost use Rattle.nsf_core.specs.View.{IsSafe};
-ghost use Rattle.nsf_core.specs.Moves.{entry_stepped, reserved_of, row_stepped, txn_shown};
+ghost use Rattle.nsf_core.specs.Moves.{txn_shown};
+ghost use Rattle.nsf_core.specs.Private.{entry_stepped, reserved_of, row_stepped};
 ghost use Rattle.nsf_core.specs.Parts.{parts_of};
 
 use crate::parts::{Parts, record_of};

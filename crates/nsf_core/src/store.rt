@@ -1,5 +1,5 @@
 //! The core.
-ghost use Rattle.std.specs.Prelude.{◌≡◌, ◌<◌, ◌≤◌, ◌+◌, ◌-◌, ◌⊎◌, ◌↔◌, Err, Some, is_some, length, option_and_then, IsSome, IsTrue, IfOk, IfErr, OnOk, OnErr};
+ghost use Rattle.std.specs.Prelude.{◌≡◌, ◌<◌, ◌≤◌, ◌+◌, ◌-◌, ◌⊎◌, ◌↔◌, Err, Some, is_some, length, option_and_then, option_map, slice_get, ℕ, IsSome, IsTrue, IfOk, IfErr, OnOk, OnErr};
 ghost use Rattle.std.specs.FinMap as map;
 ghost use Rattle.std.specs.Option.{option_copied};
 ghost use Rattle.records.specs.Maps.{set_at};
@@ -18,11 +18,14 @@ ghost use Rattle.nsf_core.specs.Builds.{built};
 ghost use Rattle.nsf_core.specs.Cleaning.{cleaner};
 ghost use Rattle.nsf_core.specs.Undoing.{undone_reply};
 ghost use Rattle.txn_table.specs.Sound.{IsSound};
+ghost use Rattle.txn_table.specs.Table.{holds_rows};
+ghost use Rattle.heap_pages.specs.Pages.{IsPlaceInside};
+ghost use Rattle.records.specs.Values.{Place};
 
 use crate::parts::{Parts, Ticket};
 use crate::reply::{BuildReply, CleanReply, Owed, Undone};
 use model::Life;
-use records::{Body, Error, Geometry, Key, LAST_NUMBER, Mark, Pair, Rid, Row, Sink, Txn};
+use records::{Body, Change, Error, Geometry, Key, LAST_NUMBER, Mark, Pair, Rid, Row, Sink, Txn};
 use std::alloc::Allocator;
 use txn_table::Progress;
 
@@ -226,6 +229,37 @@ impl<A: Allocator + Copy> Core<A> {
         ensures fine { OnOk result (IsFine (value_of self.now) Event.Create) }
     {
         self.parts.check_create()
+    }
+
+    /// How many pages there are for rows. Each row is at a place of them.
+    pub fn pages(&self) -> u32
+        ensures number { result ≡ (value_of self.now).heap.pages }
+        ensures rows_inside { (r : Place) → IsSome (map.get (value_of self.now).heap.rows r) → IsPlaceInside (value_of self.now).heap r }
+        ensures safe { ∥ IsSafe (value_of self.now) ∥₁ }
+    {
+        self.parts.heap.pages()
+    }
+
+    /// The active transaction at this place in the order of beginning, from 0.
+    pub fn txn_at(&self, index: usize) -> Option<Txn>
+        ensures { result ≡ option_map (λ e. e.0) (slice_get (value_of self.now).txns.active index) }
+    {
+        self.parts.txns.txn_at(index)
+    }
+
+    /// The changes that an active transaction may still take back, oldest first.
+    pub fn changes(&self, txn: Txn) -> Option<&[Change]>
+        ensures { option_map (λ changes. changes.now) result ≡
+            option_map (λ x. x.changes) (txn_shown (value_of self.now) txn) }
+    {
+        self.parts.txns.changes(txn)
+    }
+
+    /// Whether the transaction is active and holds a row.
+    pub fn holds_rows(&self, txn: Txn) -> bool
+        ensures { result ≡ holds_rows (txn_shown (value_of self.now) txn) }
+    {
+        self.parts.txns.holds_rows(txn)
     }
 
     /// How many transactions are active.

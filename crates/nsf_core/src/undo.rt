@@ -5,9 +5,10 @@ ghost use Rattle.model.specs.Pairs as pairs;
 ghost use Rattle.core_contracts.specs.Events.{Event, Reply};
 ghost use Rattle.txn_table.specs.Table as table;
 ghost use Rattle.nsf_core.specs.View.{IsSafe, Serves};
-ghost use Rattle.nsf_core.specs.Moves.{HasRecord, txn_shown};
+ghost use Rattle.nsf_core.specs.Moves.{txn_shown};
+ghost use Rattle.nsf_core.specs.Private.{HasRecord, entry_restored, part_to_undo, row_restored, undo_begun};
 ghost use Rattle.nsf_core.specs.Replies.{reply_by};
-ghost use Rattle.nsf_core.specs.Undoing.{entry_restored, part_to_undo, row_restored, undo_begun, undone_reply};
+ghost use Rattle.nsf_core.specs.Undoing.{undone_reply};
 ghost use Rattle.nsf_core.specs.Parts.{parts_of};
 
 use crate::parts::{Parts, entry_of};

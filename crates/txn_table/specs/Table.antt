@@ -64,6 +64,16 @@ last_change s = slice_get s.changes (length s.changes - 1)
 abbrev pub state_of : ℕ → List (ℕ × TxnState) → Option TxnState
 state_of txn active = lookup (nat_eq txn) active
 
+-- whether there is a place among these
+abbrev pub has_any : List Place → Bool
+has_any [] = false
+has_any (r ∷ rs) = true
+
+-- whether a transaction in this state holds a row
+abbrev pub holds_rows : Option TxnState → Bool
+holds_rows None = false
+holds_rows (Some s) = has_any s.rows
+
 -- whether a transaction in this state is rolling back
 abbrev pub is_rolling : Option TxnState → Bool
 is_rolling None = false

@@ -1,6 +1,6 @@
 //! One active transaction.
 ghost use Rattle.std.specs.Prelude.{◌≡◌, ◌↔◌, ◌≤◌, [], IsTrue, IfErr, OnOk, OnErr, length};
-ghost use Rattle.txn_table.specs.Table.{is_among, fresh_txn, change_noted, without_last, last_change, put_at};
+ghost use Rattle.txn_table.specs.Table.{has_any, is_among, fresh_txn, change_noted, without_last, last_change, put_at};
 
 use crate::progress::Progress;
 use records::{CHANGES_MAX, Change, Error, Rid};
@@ -65,6 +65,13 @@ impl<A: Allocator + Copy> ActiveTxn<A> {
         ensures { result ≡ is_among rid self.now.rows }
     {
         self.rows.contains(&rid)
+    }
+
+    /// Whether a row is held.
+    pub(crate) fn holds_rows(&self) -> bool
+        ensures { result ≡ has_any self.now.rows }
+    {
+        !self.rows.is_empty()
     }
 
     /// Puts the change at the end of the list, and holds its row.

@@ -2,7 +2,7 @@
 ghost use Rattle.std.specs.Prelude.{◌≡◌, ◌≢◌, ◌+◌, ◌<◌, ◌≤◌, ◌↔◌, ◌⊎◌, ℕ, [], length, not, filter, Contains, Some, None, is_some, slice_get, option_map, option_and_then, IsTrue, IsErr, IsSome, IfOk, IfErr, OnOk, OnErr, IsOkUnless};
 ghost use Rattle.std.specs.Result.{result_err};
 ghost use Rattle.records.specs.Values.{Place};
-ghost use Rattle.txn_table.specs.Table.{TxnState, is_among, with_rid, holder_of, state_of, is_rolling, with_state, with_next, without, change_noted, without_last, put_at, last_change, change_refusal, touch_refusal};
+ghost use Rattle.txn_table.specs.Table.{TxnState, holds_rows, is_among, with_rid, holder_of, state_of, is_rolling, with_state, with_next, without, change_noted, without_last, put_at, last_change, change_refusal, touch_refusal};
 ghost use Rattle.txn_table.specs.Sound.{IsSound};
 
 use crate::active::ActiveTxn;
@@ -99,6 +99,16 @@ impl<A: Allocator + Copy> TxnTable<A> {
         match self.active.get_index(index) {
             Some((txn, _)) => Some(*txn),
             None => None,
+        }
+    }
+
+    /// Whether the transaction is active and holds a row.
+    pub fn holds_rows(&self, txn: Txn) -> bool
+        ensures { result ≡ holds_rows (state_of txn self.now.active) }
+    {
+        match self.active.get(&txn) {
+            Some(active) => active.holds_rows(),
+            None => false,
         }
     }
 

@@ -4,7 +4,7 @@ use Rattle.std.proofs.Math.Logic.{∥∥₁_elim}
 use Rattle.std.specs.Prelude.{option_and_then}
 use Rattle.model.specs.Pairs.{is_indexed}
 use Rattle.core_steps.specs.Steps.{marks_new}
-use Rattle.nsf_core.specs.Moves.{entry_in}
+use Rattle.nsf_core.specs.Private.{entry_in}
 use Rattle.nsf_core.specs.Parts.{parts_of}
 use Rattle.nsf_core.proofs.Next.{entry_enough}
 use Rattle.nsf_core.proofs.Pairs.{new_marked, new_unmarked}

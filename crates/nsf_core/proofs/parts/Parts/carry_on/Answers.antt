@@ -10,7 +10,7 @@ use Rattle.records.specs.Spelling.{new_row}
 use Rattle.model.specs.Pairs.{is_indexed, new_pair}
 use Rattle.core_steps.specs.declared.step.Step.{Step}
 use Rattle.core_steps.specs.Steps.{puts_new}
-use Rattle.nsf_core.specs.Moves.{entry_in, row_progress}
+use Rattle.nsf_core.specs.Private.{entry_in, row_progress}
 use Rattle.nsf_core.specs.Parts.{parts_of}
 use Rattle.nsf_core.proofs.Next.{entry_carried, entry_enough, newest_inside, next_wants, no_entry, row_carried}
 use Rattle.nsf_core.proofs.Pairs.{new_none, new_some}

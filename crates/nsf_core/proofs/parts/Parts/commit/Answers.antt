@@ -2,7 +2,7 @@ use Rattle.std.proofs.Common.{ap, ◌∙◌}
 use Rattle.std.proofs.lemmas.Result.{err_from_is_err_and}
 use Rattle.nsf_core.specs.View.{CoreValue}
 use Rattle.records.specs.declared.record.TxnAction.TheVariants.{Commit}
-use Rattle.nsf_core.specs.Moves.{ended}
+use Rattle.nsf_core.specs.Private.{ended}
 use Rattle.nsf_core.specs.Parts.{parts_of}
 use Rattle.nsf_core.proofs.Leaving.{commit_refused, commit_served, commit_wants}
 use Rattle.nsf_core.proofs.parts.Parts.commit.Goals as goal

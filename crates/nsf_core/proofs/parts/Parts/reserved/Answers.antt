@@ -1,7 +1,8 @@
 use Rattle.std.proofs.Common.{arith, rules, ◌≤◌}
 use Rattle.std.proofs.Math.Bridge.{le_prop}
 use Rattle.std.proofs.Math.Logic.{∥∥₁_elim}
-use Rattle.nsf_core.specs.Moves.{reserved_of, txn_shown}
+use Rattle.nsf_core.specs.Moves.{txn_shown}
+use Rattle.nsf_core.specs.Private.{reserved_of}
 use Rattle.nsf_core.specs.Parts.{parts_of}
 use Rattle.nsf_core.proofs.Places.{few_reserved}
 use Rattle.nsf_core.proofs.parts.Parts.reserved.Goals as goal

@@ -4,7 +4,7 @@ use Rattle.std.proofs.Math.Logic.{∥∥₁_elim}
 use Rattle.std.specs.Prelude.{option_and_then}
 use Rattle.model.specs.Pairs.{is_indexed}
 use Rattle.core_steps.specs.Steps.{puts_old}
-use Rattle.nsf_core.specs.Moves.{entry_in}
+use Rattle.nsf_core.specs.Private.{entry_in}
 use Rattle.nsf_core.specs.Parts.{parts_of}
 use Rattle.nsf_core.proofs.Pairs.{old_put, old_unput}
 use Rattle.nsf_core.proofs.Undoing.{old_enough}

@@ -9,7 +9,7 @@ use Rattle.model.specs.Pairs.{is_indexed}
 use Rattle.txn_table.specs.declared.progress.Progress.TheVariants.{Rolling, UndoesEntry}
 use Rattle.core_steps.specs.declared.step.Step.{Step}
 use Rattle.core_steps.specs.Steps.{puts_old}
-use Rattle.nsf_core.specs.Moves.{entry_in}
+use Rattle.nsf_core.specs.Private.{entry_in}
 use Rattle.nsf_core.specs.View.{CoreValue}
 use Rattle.nsf_core.specs.Parts.{parts_of}
 use Rattle.nsf_core.proofs.Next.{newest_inside}

@@ -1,6 +1,6 @@
 use Rattle.std.proofs.Common.{sym}
 use Rattle.std.proofs.lemmas.Result.{err_from_is_err_and}
-use Rattle.nsf_core.specs.Moves.{is_unroomy}
+use Rattle.nsf_core.specs.Private.{is_unroomy}
 use Rattle.nsf_core.specs.Parts.{parts_of}
 use Rattle.nsf_core.proofs.Changing.{may_touch, untouchable}
 use Rattle.nsf_core.proofs.parts.Parts.row_for.Goals as goal

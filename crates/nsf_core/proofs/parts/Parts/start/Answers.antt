@@ -2,7 +2,7 @@ use Rattle.std.proofs.Common.{ap, ◌∙◌}
 use Rattle.std.specs.Prelude.{option_and_then}
 use Rattle.model.specs.Pairs.{is_indexed}
 use Rattle.core_steps.specs.Steps.{marks_old}
-use Rattle.nsf_core.specs.Moves.{entry_in}
+use Rattle.nsf_core.specs.Private.{entry_in}
 use Rattle.nsf_core.proofs.Pairs.{old_none, old_some}
 use Rattle.nsf_core.proofs.parts.Parts.start.Goals as goal
 

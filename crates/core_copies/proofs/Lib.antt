@@ -1,0 +1,7 @@
+mod Listed
+mod Owned
+mod Copied
+mod Chunks
+mod Listing
+mod Paged
+mod Fitting

@@ -1,0 +1,6 @@
+use Rattle.nsf_core.specs.Value.{value_of}
+use Rattle.core_copies.proofs.Paged.{ArePutTo}
+use Rattle.core_copies.proofs.parts.put_page.Given as goal
+
+abbrev pub invariant-loop-slot : goal.invariant-loop-slot
+invariant-loop-slot g l = ArePutTo (value_of l.core).heap.rows l.page l.slot l.initial.rows l.rows

@@ -1,0 +1,4 @@
+pub mod Shown
+pub mod Lists
+pub mod Pieces
+pub mod Private

@@ -1,0 +1,27 @@
+//! Laws of copies.
+ghost use Rattle.std.specs.Prelude.{◌≡◌};
+ghost use Rattle.model.specs.Cells.{Cells};
+ghost use Rattle.model.specs.Given.{opening_cells};
+ghost use Rattle.txn_table.specs.Sound.{IsSound};
+ghost use Rattle.core_model.specs.Histories.{Opened, opened};
+ghost use Rattle.core_model.specs.Invariants.{IsWellFormed};
+ghost use Rattle.core_model.specs.Records.{HasCells, action_of, set_by_any};
+ghost use Rattle.core_model.specs.States.{State};
+ghost use Rattle.core_model.specs.Steps.{IsEnabled, MachineStep, after};
+ghost use Rattle.core_contracts.specs.Events.{Standing};
+ghost use Rattle.nsf_core.specs.View.{CoreValue, IsState};
+ghost use Rattle.core_copies.specs.Lists.{HasLists};
+ghost use Rattle.core_copies.specs.Shown.{IsCellsOf};
+
+/// A law: a core has one set of cells.
+pub fn one_copy()
+    ensures { (v : CoreValue) (a b : Cells) → IsCellsOf v a → IsCellsOf v b → a ≡ b }
+{}
+
+/// A law: the log has a list of each transaction that holds a row, and of no other, from the opening on and after each step.
+/// So the cells that it has are those of the core.
+pub fn each_list()
+    ensures begins { (o : Opened) → HasLists (opened o) (opening_cells o.given) }
+    ensures goes_on { (s : State) (e : MachineStep) (cells : Cells) → IsWellFormed s → IsEnabled s e → HasLists s cells → HasLists (after s e) (set_by_any cells (action_of s e)) }
+    ensures shown { (v : CoreValue) (s : State) (k : Standing) (cells : Cells) → IsSound v.txns → IsState v s k → HasCells s cells → HasLists s cells → IsCellsOf v cells }
+{}

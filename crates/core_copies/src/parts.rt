@@ -1,0 +1,147 @@
+//! The parts of a copy: lists, rows and entries.
+ghost use Rattle.std.specs.Prelude.{◌≡◌, ◌≤◌, ℕ, length, None, IsSome, OnOk, IfOk, IfErr};
+ghost use Rattle.std.specs.FinMap as map;
+ghost use Rattle.records.specs.Values.{Place};
+ghost use Rattle.btree_node.specs.Above.{IsLeastAbove};
+ghost use Rattle.heap_pages.specs.Pages.{IsPlaceInside};
+ghost use Rattle.nsf_core.specs.Moves.{txn_shown};
+ghost use Rattle.nsf_core.specs.Value.{value_of};
+ghost use Rattle.core_copies.specs.Pieces.{AreEntriesOf, IsPageOf};
+ghost use Rattle.core_copies.specs.Private.{HasListPut, HasPagePut, unlisted};
+ghost use Rattle.core_copies.specs.Shown.{list_shown};
+
+use image_model::CHUNK_ENTRIES;
+use model::{EntryMap, ListMap, RowMap};
+use nsf_core::Core;
+use records::{Error, Mark, Pair, Rid, SLOTS_PER_PAGE, Txn};
+use std::alloc::Allocator;
+
+// Adds the list that the log has of the transaction, if it has one.
+fn put_list<A: Allocator + Copy>(
+    alloc: A,
+    core: &Core<A>,
+    txn: Txn,
+    lists: &mut ListMap<A>,
+) -> Result<(), Error>
+    ensures put { OnOk result (HasListPut (list_shown (txn_shown (value_of core.now) txn)) txn lists.old lists.new) }
+    ensures no_memory { IfErr result (λ e. e ≡ Error.NoMemory) }
+{
+    let holds = core.holds_rows(txn);
+    if !holds {
+        return Ok(());
+    }
+    let Some(changes) = core.changes(txn) else {
+        return Ok(());
+    };
+    let mut list = Vec::new(alloc);
+    list.extend_from_slice(changes)?;
+    lists.set(txn, list)?;
+    Ok(())
+}
+
+/// The lists that the log has of the active transactions.
+pub(crate) fn all_lists<A: Allocator + Copy>(alloc: A, core: &Core<A>) -> Result<ListMap<A>, Error>
+    ensures each { IfOk result (λ lists. (t : ℕ) → map.get lists t ≡ list_shown (txn_shown (value_of core.now) t)) }
+    ensures few { IfOk result (λ lists. map.len lists ≤ length (value_of core.now).txns.active) }
+    ensures no_memory { IfErr result (λ e. e ≡ Error.NoMemory) }
+{
+    let mut lists = ListMap::new(alloc);
+    for index in 0..core.active_txns() {
+        let Some(txn) = core.txn_at(index) else {
+            unreachable!()
+        };
+        put_list(alloc, core, txn, &mut lists)?;
+    }
+    Ok(lists)
+}
+
+// Puts the rows of the page to others.
+fn put_page<A: Allocator + Copy>(
+    core: &Core<A>,
+    page: u32,
+    rows: &mut RowMap<A>,
+) -> Result<(), Error>
+    requires inside { (r : Place) → IsSome (map.get (value_of core.now).heap.rows r) → IsPlaceInside (value_of core.now).heap r }
+    requires none { (q : Place) → q.page ≡ page → map.get rows.old q ≡ None }
+    ensures put { OnOk result (HasPagePut (value_of core.now).heap.rows page rows.old rows.new) }
+    ensures no_memory { IfErr result (λ e. e ≡ Error.NoMemory) }
+{
+    for slot in 0..SLOTS_PER_PAGE {
+        let rid = Rid { page, slot };
+        rows.set(rid, core.get(rid))?;
+    }
+    Ok(())
+}
+
+/// The rows of the page.
+pub(crate) fn page_rows<A: Allocator + Copy>(
+    alloc: A,
+    core: &Core<A>,
+    page: u32,
+) -> Result<RowMap<A>, Error>
+    ensures rows { IfOk result (λ rows. IsPageOf (unlisted (value_of core.now)) page rows) }
+    ensures no_memory { IfErr result (λ e. e ≡ Error.NoMemory) }
+{
+    let _pages = core.pages();
+    let mut rows = RowMap::new(alloc);
+    put_page(core, page, &mut rows)?;
+    Ok(rows)
+}
+
+/// All rows.
+pub(crate) fn all_rows<A: Allocator + Copy>(alloc: A, core: &Core<A>) -> Result<RowMap<A>, Error>
+    ensures rows { IfOk result (λ rows. rows ≡ (value_of core.now).heap.rows) }
+    ensures no_memory { IfErr result (λ e. e ≡ Error.NoMemory) }
+{
+    let mut rows = RowMap::new(alloc);
+    for page in 0..core.pages() {
+        put_page(core, page, &mut rows)?;
+    }
+    Ok(rows)
+}
+
+// The least entry above the pair, or the least of all.
+fn entry_above<A: Allocator + Copy>(core: &Core<A>, pair: Option<Pair>) -> Option<(Pair, Mark)>
+    ensures { IsLeastAbove (value_of core.now).index.entries pair result }
+{
+    core.above(pair.as_ref())
+}
+
+/// All entries.
+pub(crate) fn all_entries<A: Allocator + Copy>(
+    alloc: A,
+    core: &Core<A>,
+) -> Result<EntryMap<A>, Error>
+    ensures entries { IfOk result (λ entries. entries ≡ (value_of core.now).index.entries) }
+    ensures no_memory { IfErr result (λ e. e ≡ Error.NoMemory) }
+{
+    let mut entries = EntryMap::new(alloc);
+    let mut last = None;
+    while let Some(entry) = entry_above(core, last) {
+        entries.set(entry.0, Some(entry.1))?;
+        last = Some(entry.0);
+    }
+    Ok(entries)
+}
+
+/// The next entries above the pair: `CHUNK_ENTRIES` at most, fewer where no more are left.
+pub(crate) fn next_entries<A: Allocator + Copy>(
+    alloc: A,
+    core: &Core<A>,
+    above: Option<Pair>,
+) -> Result<Vec<(Pair, Mark), A>, Error>
+    ensures entries { IfOk result (λ entries. AreEntriesOf (value_of core.now) (unlisted (value_of core.now)) above entries.items) }
+    ensures no_memory { IfErr result (λ e. e ≡ Error.NoMemory) }
+{
+    let _pages = core.pages();
+    let mut entries = Vec::new(alloc);
+    let mut last = above;
+    while entries.len() < CHUNK_ENTRIES {
+        let Some(entry) = entry_above(core, last) else {
+            return Ok(entries);
+        };
+        last = Some(entry.0);
+        entries.push(entry)?;
+    }
+    Ok(entries)
+}
