@@ -6,3 +6,4 @@ mod Ordered
 mod Deciding
 mod Checked
 mod Answered
+pub mod Laws

@@ -25,32 +25,26 @@ use Rattle.nsf_core.specs.declared.reply.Undone.{Undone}
 use Rattle.registry.specs.Halves.{HalfValue, IsBook, IsNew, shown}
 use Rattle.sessions.specs.Steps.{begun, changed, committed, ended, rolling_back, with_creation}
 use Rattle.sessions.specs.Values.{empty_session, is_active, is_ready, SessionValue}
-use Rattle.register.proofs.Laws.{begin_agreed, commit_agreed, commit_counted, commit_numbered, commits_begin, commits_more, commits_stay, create_agreed, delete_agreed, end_agreed, insert_agreed, opened_agreed, others_agreed, others_counted, pushed_agreed, ready_seen, refused_agreed, undo_agreed, update_agreed}
+use Rattle.register.proofs.Laws.{begin_agreed, commit_agreed, create_agreed, delete_agreed, end_agreed, insert_agreed, opened_agreed, others_agreed, pushed_agreed, ready_seen, refused_agreed, tables_shown, undo_agreed, update_agreed}
 use Rattle.register.specs.Agreement.{IsOfNoSeat, IsRegister}
-use Rattle.register.specs.Register.{AreAllCommits, AreEmpty, IsNoCommit}
+use Rattle.register.specs.Register.{AreEmpty}
 use Rattle.locked_core.proofs.Book.{set_itself, some_is}
-use Rattle.locked_core.proofs.Refused.{commit_refused}
 use Rattle.locked_core.specs.Names.{IsShared}
 
 module _ (o : Opened) (core new : CoreValue) (pushed : List RecordValue) (book : List SessionValue) (k : ℕ) (p q : SessionValue) (there : slice_get book k ≡ Some p) (shared : IsShared o core pushed book) where
-  -- a step that is no commit
-  stepped : (e : Event) (reply : Reply) → IsNoCommit e → Serves core e reply new → q.commits ≡ p.commits → IsRegister o pushed new (slice_set book k q) → IsShared o new pushed (slice_set book k q)
-  stepped e reply other is same register =
-      let counted : new.commits ≡ core.commits = others_counted o pushed core shared.register.kept e reply new other is in
-      record { opens = shared.opens; register = register; commits = subst (AreAllCommits (slice_set book k q)) (sym counted) (commits_stay book core.commits shared.commits k p q there same) }
+  stepped : IsRegister o pushed new (slice_set book k q) → IsShared o new pushed (slice_set book k q)
+  stepped register = record { opens = shared.opens; register = register; tables = tables_shown o shared.opens pushed new (slice_set book k q) register }
 
   -- a call that was refused leaves the session as it was
-  refused : (e : Event) (error : Error) → IsNoCommit e → Serves core e (Refused error) new → q ≡ p → IsShared o new pushed (slice_set book k q)
-  refused e error other is same =
-      stepped e (Refused error) other is (ap (λ (x : SessionValue). x.commits) same)
-      (subst (IsRegister o pushed new) (sym (ap (slice_set book k) same ∙ set_itself book k p there)) (refused_agreed o shared.opens pushed core book shared.register e error new is))
+  refused : (e : Event) (error : Error) → Serves core e (Refused error) new → q ≡ p → IsShared o new pushed (slice_set book k q)
+  refused e error is same = stepped (subst (IsRegister o pushed new) (sym (ap (slice_set book k) same ∙ set_itself book k p there)) (refused_agreed o shared.opens pushed core book shared.register e error new is))
 
   -- a call for a transaction: one that is not the seat's is unknown, and the core is as it was
-  module _ {T : Type 0} (txn : ℕ) (e : Event) (other : IsNoCommit e) (f : T → Reply) (g : T → SessionValue) (same : (x : T) → (g x).commits ≡ p.commits)
+  module _ {T : Type 0} (txn : ℕ) (e : Event) (f : T → Reply) (g : T → SessionValue)
       (kept : is_active p txn ≡ true → (x : T) → Serves core e (f x) new → IsRegister o pushed new (slice_set book k (g x))) where
     own_kept : (result : Result T Error) → is_active p txn ≡ true → Serves core e (reply_by f result) new → IfOk result (λ x. q ≡ g x) → OnErr result (q ≡ p) → IsShared o new pushed (slice_set book k q)
-    own_kept (Ok x) own is ok err = stepped e (f x) other is (ap (λ (y : SessionValue). y.commits) ok ∙ same x) (subst (λ y. IsRegister o pushed new (slice_set book k y)) (sym ok) (kept own x is))
-    own_kept (Err error) own is ok err = refused e error other is err
+    own_kept (Ok x) own is ok err = stepped (subst (λ y. IsRegister o pushed new (slice_set book k y)) (sym ok) (kept own x is))
+    own_kept (Err error) own is ok err = refused e error is err
 
     foreign_kept : (result : Result T Error) → (result ≡ Err NoSuchTxn) × (new ≡ core) → OnErr result (q ≡ p) → IsShared o new pushed (slice_set book k q)
     foreign_kept (Ok x) foreign err = absurd (not_ok foreign.0)
@@ -69,72 +63,43 @@ module _ (o : Opened) (core new : CoreValue) (pushed : List RecordValue) (book :
 
   pub insert_kept : (txn : ℕ) (row : Row) (result : Result Place Error) → (is_active p txn ≡ false → (result ≡ Err NoSuchTxn) × (new ≡ core)) → (is_active p txn ≡ true → Serves core (Event.Insert txn row) (reply_by Reply.Rid result) new)
       → IfOk result (λ rid. q ≡ changed p new txn (record { rid = rid; row = Some row })) → OnErr result (q ≡ p) → IsShared o new pushed (slice_set book k q)
-  insert_kept txn row = txn_kept txn (Event.Insert txn row) tt Reply.Rid (λ rid. changed p new txn (record { rid = rid; row = Some row })) (λ rid. refl)
+  insert_kept txn row = txn_kept txn (Event.Insert txn row) Reply.Rid (λ rid. changed p new txn (record { rid = rid; row = Some row }))
       (λ own rid is. insert_agreed o shared.opens pushed core book shared.register k p there txn own row rid new is)
 
   pub delete_kept : (txn : ℕ) (rid : Place) (result : Result (Unit {0}) Error) → (is_active p txn ≡ false → (result ≡ Err NoSuchTxn) × (new ≡ core)) → (is_active p txn ≡ true → Serves core (Event.Delete txn rid) (reply_by (λ _. Reply.Stepped) result) new)
       → OnOk result (q ≡ changed p new txn (record { rid = rid; row = None })) → OnErr result (q ≡ p) → IsShared o new pushed (slice_set book k q)
-  delete_kept txn rid = txn_kept txn (Event.Delete txn rid) tt (λ _. Reply.Stepped) (λ _. changed p new txn (record { rid = rid; row = None })) (λ _. refl)
+  delete_kept txn rid = txn_kept txn (Event.Delete txn rid) (λ _. Reply.Stepped) (λ _. changed p new txn (record { rid = rid; row = None }))
       (λ own done is. delete_agreed o shared.opens pushed core book shared.register k p there txn own rid new is)
 
   pub update_kept : (txn : ℕ) (rid : Place) (row : Row) (result : Result (Unit {0}) Error) → (is_active p txn ≡ false → (result ≡ Err NoSuchTxn) × (new ≡ core)) → (is_active p txn ≡ true → Serves core (Event.Update txn rid row) (reply_by (λ _. Reply.Stepped) result) new)
       → OnOk result (q ≡ changed p new txn (record { rid = rid; row = Some row })) → OnErr result (q ≡ p) → IsShared o new pushed (slice_set book k q)
-  update_kept txn rid row = txn_kept txn (Event.Update txn rid row) tt (λ _. Reply.Stepped) (λ _. changed p new txn (record { rid = rid; row = Some row })) (λ _. refl)
+  update_kept txn rid row = txn_kept txn (Event.Update txn rid row) (λ _. Reply.Stepped) (λ _. changed p new txn (record { rid = rid; row = Some row }))
       (λ own done is. update_agreed o shared.opens pushed core book shared.register k p there txn own rid row new is)
 
   pub undo_kept : (txn : ℕ) (result : Result Undone Error) → (is_active p txn ≡ false → (result ≡ Err NoSuchTxn) × (new ≡ core)) → (is_active p txn ≡ true → Serves core (Event.Undo txn) (reply_by undone_reply result) new)
       → OnOk result (q ≡ rolling_back p new txn) → OnErr result (q ≡ p) → IsShared o new pushed (slice_set book k q)
-  undo_kept txn result foreign is = txn_kept txn (Event.Undo txn) tt undone_reply (λ _. rolling_back p new txn) (λ _. refl)
+  undo_kept txn result foreign is = txn_kept txn (Event.Undo txn) undone_reply (λ _. rolling_back p new txn)
       (λ own answer serves. undo_agreed o shared.opens pushed core book shared.register k p there txn own answer new serves) result foreign is
 
   pub end_kept : (txn : ℕ) (result : Result (Unit {0}) Error) → (is_active p txn ≡ false → (result ≡ Err NoSuchTxn) × (new ≡ core)) → (is_active p txn ≡ true → Serves core (Event.End txn) (reply_by (λ _. Reply.Ended) result) new)
       → OnOk result (q ≡ ended p txn) → OnErr result (q ≡ p) → IsShared o new pushed (slice_set book k q)
-  end_kept txn result foreign is = txn_kept txn (Event.End txn) tt (λ _. Reply.Ended) (λ _. ended p txn) (λ _. refl)
+  end_kept txn result foreign is = txn_kept txn (Event.End txn) (λ _. Reply.Ended) (λ _. ended p txn)
       (λ own done serves. end_agreed o shared.opens pushed core book shared.register k p there txn own new serves) result foreign is
-
-  -- a call that was refused, and a transaction that is not the seat's, leave all as it was
-  unchanged : new ≡ core → q ≡ p → IsShared o new pushed (slice_set book k q)
-  unchanged is same = subst (λ v. IsShared o v pushed (slice_set book k q)) (sym is) (subst (IsShared o core pushed) (sym (ap (slice_set book k) same ∙ set_itself book k p there)) shared)
-
-  commit_made : (txn : ℕ) (own : is_active p txn ≡ true) (ticket : Ticket) → Serves core (Event.Commit txn) (reply_of_ticket ticket) new → q ≡ committed p txn ticket → IsShared o new pushed (slice_set book k q)
-  commit_made txn own ticket is ok =
-      let kept = shared.register.kept in
-      let number = (commit_numbered o pushed core kept txn ticket new is).1 in
-      let count = (commit_counted o pushed core kept txn ticket new is).1 in
-      let all : AreAllCommits (slice_set book k (committed p txn ticket)) (core.commits + 1) = commits_more book core.commits shared.commits k p there txn ticket number in
-      record {
-        opens = shared.opens;
-        register = subst (λ x. IsRegister o pushed new (slice_set book k x)) (sym ok) (commit_agreed o shared.opens pushed core book shared.register k p there txn own ticket new is);
-        commits = subst (λ x. AreAllCommits (slice_set book k x) new.commits) (sym ok) (subst (AreAllCommits (slice_set book k (committed p txn ticket))) (sym count) all);
-      }
 
   pub commit_kept : (txn : ℕ) (result : Result Ticket Error) → (is_active p txn ≡ false → (result ≡ Err NoSuchTxn) × (new ≡ core)) → (is_active p txn ≡ true → Serves core (Event.Commit txn) (reply_by reply_of_ticket result) new)
       → IfOk result (λ ticket. q ≡ committed p txn ticket) → OnErr result (q ≡ p) → IsShared o new pushed (slice_set book k q)
-  commit_kept txn result foreign is ok err = by (is_active p txn) refl
-    where
-      own_kept : (r : Result Ticket Error) → is_active p txn ≡ true → Serves core (Event.Commit txn) (reply_by reply_of_ticket r) new → IfOk r (λ ticket. q ≡ committed p txn ticket) → OnErr r (q ≡ p) → IsShared o new pushed (slice_set book k q)
-      own_kept (Ok ticket) own so made refusal = commit_made txn own ticket so made
-      own_kept (Err error) own so made refusal = unchanged (commit_refused o pushed core new shared.register.kept txn error so) refusal
-
-      foreign_kept : (r : Result Ticket Error) → r ≡ Err NoSuchTxn → new ≡ core → OnErr r (q ≡ p) → IsShared o new pushed (slice_set book k q)
-      foreign_kept (Ok ticket) none same refusal = absurd cc
-      foreign_kept (Err error) none same refusal = unchanged same refusal
-
-      by : (b : Bool) → is_active p txn ≡ b → IsShared o new pushed (slice_set book k q)
-      by true own = own_kept result own (is own) ok err
-      by false none = foreign_kept result (foreign none).0 (foreign none).1 err
+  commit_kept txn = txn_kept txn (Event.Commit txn) reply_of_ticket (λ ticket. committed p txn ticket)
+      (λ own ticket is. commit_agreed o shared.opens pushed core book shared.register k p there txn own ticket new is)
 
   pub create_kept : (result : Result Ticket Error) → Serves core Event.Create (reply_by reply_of_ticket result) new → IfOk result (λ ticket. q ≡ with_creation p ticket.«record») → OnErr result (q ≡ p) → IsShared o new pushed (slice_set book k q)
   create_kept (Ok ticket) is ok err =
-      stepped Event.Create (reply_of_ticket ticket) tt is (ap (λ (x : SessionValue). x.commits) ok)
-      (subst (λ x. IsRegister o pushed new (slice_set book k x)) (sym ok) (create_agreed o shared.opens pushed core book shared.register k p there ticket new is))
-  create_kept (Err e) is ok err = refused Event.Create e tt is err
+      stepped (subst (λ x. IsRegister o pushed new (slice_set book k x)) (sym ok) (create_agreed o shared.opens pushed core book shared.register k p there ticket new is))
+  create_kept (Err e) is ok err = refused Event.Create e is err
 
   pub begin_kept : (result : Result ℕ Error) → Serves core Event.Begin (reply_by Reply.Txn result) new → IfOk result (λ txn. q ≡ begun p txn) → OnErr result (q ≡ p) → IsShared o new pushed (slice_set book k q)
   begin_kept (Ok txn) is ok err =
-      stepped Event.Begin (Reply.Txn txn) tt is (ap (λ (x : SessionValue). x.commits) ok)
-      (subst (λ x. IsRegister o pushed new (slice_set book k x)) (sym ok) (begin_agreed o shared.opens pushed core book shared.register k p there txn new is))
-  begin_kept (Err e) is ok err = refused Event.Begin e tt is err
+      stepped (subst (λ x. IsRegister o pushed new (slice_set book k x)) (sym ok) (begin_agreed o shared.opens pushed core book shared.register k p there txn new is))
+  begin_kept (Err e) is ok err = refused Event.Begin e is err
 
 -- ---- a transaction that is ready in its seat's session
 
@@ -160,19 +125,15 @@ ready_now o core pushed book k p there shared txn ready = by (ready_or_not (txn_
 -- ---- steps of no seat, and records that are pushed
 
 module _ (o : Opened) (core new : CoreValue) (pushed : List RecordValue) (book : List SessionValue) (shared : IsShared o core pushed book) where
-  pub others_kept : (e : Event) (reply : Reply) → IsOfNoSeat e → IsNoCommit e → Serves core e reply new → IsShared o new pushed book
-  others_kept e reply of other serves = record {
-    opens = shared.opens;
-    register = others_agreed o shared.opens pushed core book shared.register e reply new of serves;
-    commits = subst (AreAllCommits book) (sym (others_counted o pushed core shared.register.kept e reply new other serves)) shared.commits;
-  }
+  pub others_kept : (e : Event) (reply : Reply) → IsOfNoSeat e → Serves core e reply new → IsShared o new pushed book
+  others_kept e reply of serves =
+      let register : IsRegister o pushed new book = others_agreed o shared.opens pushed core book shared.register e reply new of serves in
+      record { opens = shared.opens; register = register; tables = tables_shown o shared.opens pushed new book register }
 
   pub pushed_kept : (after : List RecordValue) → HandsOn core new pushed after → IsShared o new after book
-  pushed_kept after on = record {
-    opens = shared.opens;
-    register = pushed_agreed o pushed core book shared.register new after on;
-    commits = subst (AreAllCommits book) (sym (ap (λ (v : CoreValue). v.commits) on.others)) shared.commits;
-  }
+  pushed_kept after on =
+      let register : IsRegister o after new book = pushed_agreed o pushed core book shared.register new after on in
+      record { opens = shared.opens; register = register; tables = tables_shown o shared.opens after new book register }
 
 -- ---- the beginning
 
@@ -189,9 +150,5 @@ new_book z items new k h at = (ap (λ (x : HalfValue). x.table) (new k h at), ap
 
 pub new_shared : (o : Opened) (core : CoreValue) (pushed : List RecordValue) (z : TableId) (items : List HalfValue) → CanOpen o → BeginsWith o core → pushed ≡ [] → IsNew z items → IsShared o core pushed (map shown items)
 new_shared o core pushed z items opens begins none new =
-    let empty = all_new z items new in
-    record {
-      opens = opens;
-      register = subst (λ l. IsRegister o l core (map shown items)) (sym none) (opened_agreed o core begins (map shown items) empty);
-      commits = subst (AreAllCommits (map shown items)) begins.stands.shown.commits (commits_begin (map shown items) empty);
-    }
+    let register : IsRegister o pushed core (map shown items) = subst (λ l. IsRegister o l core (map shown items)) (sym none) (opened_agreed o core begins (map shown items) (all_new z items new)) in
+    record { opens = opens; register = register; tables = tables_shown o opens pushed core (map shown items) register }

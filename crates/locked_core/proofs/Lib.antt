@@ -1,4 +1,3 @@
 mod Book
 mod Kept
-mod Refused
 mod Owed

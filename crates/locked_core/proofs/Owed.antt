@@ -24,7 +24,7 @@ use Rattle.locked_core.specs.Names.{IsShared}
 pub next_kept : (o : Opened) (core new : CoreValue) (pushed : List RecordValue) (book : List SessionValue) (k : ℕ) (p q : SessionValue) (there : slice_get book k ≡ Some p) (shared : IsShared o core pushed book) (txn : ℕ) (result : Result (Unit {0}) Error)
     → (is_active p txn ≡ false → (result ≡ Err NoSuchTxn) × (new ≡ core)) → (is_active p txn ≡ true → Serves core (Event.Step txn) (reply_by (λ _. Reply.Stepped) result) new)
     → OnOk result (q ≡ stepped p new txn) → OnErr result (q ≡ p) → IsShared o new pushed (slice_set book k q)
-next_kept o core new pushed book k p q there shared txn result foreign is = txn_kept o core new pushed book k p q there shared txn (Event.Step txn) tt (λ _. Reply.Stepped) (λ _. stepped p new txn) (λ _. refl)
+next_kept o core new pushed book k p q there shared txn result foreign is = txn_kept o core new pushed book k p q there shared txn (Event.Step txn) (λ _. Reply.Stepped) (λ _. stepped p new txn)
     (λ own done serves. next_agreed o shared.opens pushed core book shared.register k p there txn own new serves) result foreign is
 
 -- ---- a transaction with a change to finish in its seat's session

@@ -1,5 +1,5 @@
 -- What contracts see of what lies under the lock.
-use Rattle.std.specs.Prelude.{List, map, ℕ}
+use Rattle.std.specs.Prelude.{List, map}
 use Rattle.records.specs.RecordValue.{RecordValue}
 use Rattle.nsf_core.specs.Value.{value_of}
 use Rattle.nsf_core.specs.View.{CoreValue}

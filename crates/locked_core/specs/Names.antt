@@ -1,6 +1,6 @@
 -- What many seats share, by name, and what it keeps.
 use Rattle.std.specs.FinMap as map
-use Rattle.std.specs.Prelude.{[], List, ℕ}
+use Rattle.std.specs.Prelude.{[], List, ℕ, ◌++◌}
 use Rattle.std.specs.declared.alloc.Global.{Global}
 use Rattle.crossbeam_queue.specs.SegTies.{SegId}
 use Rattle.atomic_table.specs.Seated.{TableId}
@@ -10,7 +10,7 @@ use Rattle.core_model.specs.Histories.{CanOpen, Opened}
 use Rattle.nsf_core.specs.View.{CoreValue}
 use Rattle.sessions.specs.Values.{SessionValue}
 use Rattle.register.specs.Agreement.{IsRegister}
-use Rattle.register.specs.Register.{AreAllCommits}
+use Rattle.register.specs.History.{ShowsCommits}
 
 -- the queue to the flusher, the registry of the sessions, how many seats there are, and what the core began with
 pub record Names : Type 0 where
@@ -30,8 +30,8 @@ no_names = record {
   opened = record { given = record { table = map.empty; entries = map.empty; life = Absent; last = 0 }; pages = 0; places = 0 };
 }
 
--- What the core and the sessions under the lock keep: the sessions have what the core has of the active transactions, and all commits, with their numbers.
+-- What the core and the sessions under the lock keep: the sessions have what the core has of the active transactions, and its commits and creations, in one list of all seats in the order of their numbers; and for each record number from that of the opening on, the records up to it give the table of the opening with the commits up to it set over it.
 pub record IsShared (opened : Opened) (core : CoreValue) (pushed : List RecordValue) (book : List SessionValue) : Type 0 where
   pub opens : CanOpen opened
   pub register : IsRegister opened pushed core book
-  pub commits : AreAllCommits book core.commits
+  pub tables : ShowsCommits opened (pushed ++ core.outbox) core register.commits.commits

@@ -58,6 +58,7 @@ impl<B: Site> Locked<B> {
         ensures core { (locked_of result).core ≡ value_of core }
         ensures pushed { (locked_of result).pushed ≡ [] }
         ensures book { AreEmpty (locked_of result).book }
+        ensures seats { length (locked_of result).book ≡ B.site.seats }
     {
         Locked {
             core,
@@ -88,7 +89,8 @@ impl<B: Site> Locked<B> {
     /// Pushes the records that wait to the queue, in the order of their making, and answers whether none waits any more. One
     /// that the queue refuses stays, and so do those behind it.
     ///
-    /// No clause says that a record is pushed where the queue would take it: a caller learns from the answer how it is.
+    /// No clause says that a record is pushed where the queue would take it, since the queue promises room for none: it may
+    /// refuse any push for want of memory. A caller learns from the answer how it is.
     pub fn push_outbox<R: Wait>(&mut self, rt: &R, queue: &RecordQueue) -> bool
         requires { queue.now ≡ B.site.queue }
         ensures none_waits { IsTrue result ↔ ((locked_of self.new).core.outbox ≡ []) }

@@ -1,6 +1,6 @@
 //! A seat's part of what is shared.
 ghost use Rattle.std.specs.Prelude.{◌≡◌, ◌<◌};
-ghost use Rattle.sessions.specs.Values.{empty_session, is_ready, is_unfinished};
+ghost use Rattle.sessions.specs.Values.{empty_session, is_active, is_ready, is_unfinished};
 
 use crate::site::Site;
 use records::Txn;
@@ -55,6 +55,13 @@ impl<B: Site> SeatPart<B> {
             site: _,
         } = self;
         session
+    }
+
+    /// Whether the transaction is one of the seat's.
+    pub fn is_active(&self, txn: Txn) -> bool
+        ensures { result ≡ is_active self.now.session txn }
+    {
+        self.session.is_active(txn)
     }
 
     /// Whether the transaction may begin a change or commit: it is one of the seat's, has no change to finish, and isn't

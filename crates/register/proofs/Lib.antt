@@ -1,7 +1,11 @@
 mod Lookups
 mod Numbers
 mod Commits
+mod Rows
 mod Seen
+mod Written
+mod Told
+mod Telling
 mod Owned
 mod Moved
 mod Served

@@ -1,5 +1,5 @@
 -- What an answer tells of the state in which it was given.
-use Rattle.std.proofs.Common.{◌≡◌, ◌+◌, ℕ, List, Option, None, Some, ap, refl, sym, subst, ⊎_elim, ◌∙◌}
+use Rattle.std.proofs.Common.{◌≡◌, ◌+◌, ℕ, List, Option, None, Some, ap, refl, sym, ⊎_elim, ◌∙◌}
 use Rattle.records.specs.RecordValue.{RecordValue}
 use Rattle.core_model.specs.Histories.{Opened}
 use Rattle.core_model.specs.States.{State}

@@ -11,6 +11,7 @@ use Rattle.nsf_core.specs.View.{CoreValue}
 use Rattle.sessions.specs.Steps.{rows_now}
 use Rattle.sessions.specs.Values.{ActiveValue, new_active, with_write}
 use Rattle.register.proofs.Lookups.{row_again, row_apart, row_set}
+use Rattle.register.proofs.Rows.{again_each, changed_each, none_each}
 use Rattle.register.specs.Agreement.{Agree, IsSeen, owed_write, row_at, row_held}
 
 -- ---- who holds a row
@@ -53,7 +54,7 @@ owner_is s t (Some a) false o there h = absurd h
 
 module _ (s new : State) (u : ℕ) (same : (q : Place) → row_held u (new.holder q) (get new.rows q) ≡ row_held u (s.holder q) (get s.rows q)) where
   seen_kept : (a : ActiveValue) (x : Active) → IsSeen s u a x → IsSeen new u a x
-  seen_kept a x h = record { rows = λ q. h.rows q ∙ sym (same q); unfinished = h.unfinished; rolling = h.rolling }
+  seen_kept a x h = record { rows = λ q. h.rows q ∙ sym (same q); one_each = h.one_each; unfinished = h.unfinished; rolling = h.rolling }
 
   pub agree_kept : (a : Option ActiveValue) (o : Option Active) → Agree s u a o → Agree new u a o
   agree_kept None None h = tt
@@ -65,7 +66,7 @@ module _ (s new : State) (u : ℕ) (same : (q : Place) → row_held u (new.holde
 
 -- a transaction that holds nothing yet
 pub seen_new : (s : State) (t : ℕ) (x : Active) → ((q : Place) → s.holder q ≢ Some t) → owed_write x ≡ None → x.rolling ≡ false → IsSeen s t (new_active t) x
-seen_new s t x free owes rolling = record { rows = λ q. sym (none q (s.holder q) (free q)); unfinished = sym owes; rolling = sym rolling }
+seen_new s t x free owes rolling = record { rows = λ q. sym (none q (s.holder q) (free q)); one_each = none_each; unfinished = sym owes; rolling = sym rolling }
   where
     none : (q : Place) (o : Option ℕ) → o ≢ Some t → row_held t o (get s.rows q) ≡ None
     none q None apart = refl
@@ -81,6 +82,7 @@ seen_changed s new t a x y w change h held row others owes rolling = record {
         (row_set w a.rows ∙ (ap Some row ∙ sym (ap (λ (o : Option ℕ). row_held t o (get new.rows w.rid)) held ∙ held_mine t (get new.rows w.rid))))
     | inr apart ↦ row_apart q w a.rows apart ∙ (h.rows q ∙ sym (others q apart))
   ];
+  one_each = changed_each w a.rows h.one_each;
   unfinished = owes;
   rolling = h.rolling ∙ sym rolling;
 }
@@ -94,6 +96,7 @@ seen_again s new core t a x y change rolling h rows holder owes rolls = record {
       row_again core q a.rows
       ∙ (ap (option_map (λ (r : Option Row). get core.heap.rows q)) (h.rows q)
       ∙ (held_again t (s.holder q) (get s.rows q) (get core.heap.rows q) ∙ (λ i. row_held t (sym (holder q) i) (get (sym rows i) q))));
+  one_each = again_each core a.rows;
   unfinished = owes;
   rolling = rolls;
 }

@@ -1,6 +1,7 @@
 -- The register, as the core serves a call.
-use Rattle.std.proofs.Common.{◌≡◌, ◌≢◌, ◌⊎◌, ℕ, ◌<◌, Bool, true, false, cond, List, [], ◌∷◌, ◌++◌, Option, Some, None, is_some, ◌==◌, ◌≤◌, append_assoc, inl, inr, refl, sym, ap, ◌∙◌, subst}
+use Rattle.std.proofs.Common.{◌≡◌, ◌≢◌, ◌⊎◌, ℕ, ◌<◌, ◌+◌, arith, length, Bool, true, false, cond, List, [], ◌∷◌, ◌++◌, Option, Some, None, is_some, ◌==◌, ◌≤◌, append_assoc, inl, inr, refl, sym, ap, ◌∙◌, subst}
 use Rattle.std.proofs.lemmas.Bool.{cases_eq, eqb-true}
+use Rattle.std.proofs.lemmas.List.{length-append}
 use Rattle.std.specs.FinMap.{get}
 use Rattle.std.specs.Option.{option_map}
 use Rattle.std.specs.Prelude.{option_and_then, slice_get, slice_set}
@@ -19,6 +20,7 @@ use Rattle.core_contracts.proofs.Laws.{is_move, served_allowed, served_nothing}
 use Rattle.core_contracts.specs.Events.{Event, Reply, Standing, standing_after, standing_at}
 use Rattle.core_contracts.specs.Replies.{after_any}
 use Rattle.core_contracts.specs.Served.{HasServed, IsEnabledAny, records_by}
+use Rattle.core_laws.proofs.Laws.{numbered}
 use Rattle.core_laws.specs.Calls.{BeginsWith, HasReplied}
 use Rattle.nsf_core.proofs.Offered.{stands}
 use Rattle.nsf_core.specs.Asked.{owed}
@@ -30,6 +32,7 @@ use Rattle.sessions.specs.Values.{active_of, ActiveValue, empty_session, Session
 use Rattle.register.proofs.Lookups.{get_set, get_set_other, get_within, set_length}
 use Rattle.register.proofs.Owned.{next_owner, owned_later, owners_later}
 use Rattle.register.proofs.Seen.{agree_there, owner_is}
+use Rattle.register.proofs.Telling.{opened_tells, Tells}
 use Rattle.register.specs.Agreement.{active_in, Agree, AreOwned, HaveOwners, is_owed, IsRegister, IsSeen, row_held, seen_at}
 use Rattle.register.specs.Register.{AreEmpty, IsKept}
 
@@ -94,6 +97,8 @@ opens o core b book empty = record {
   owner = λ t. 0;
   owned = λ seat t lt. subst (Agree (opened o) t (seen_at book seat t)) (sym (none_of (seat == 0) None refl)) (subst (λ a. Agree (opened o) t a None) (sym (empty_at book empty seat t)) tt);
   owners = λ t there. absurd (never there);
+  commits = (opened_tells o core b book empty).0;
+  history = (opened_tells o core b book empty).1;
 }
   where
     within : o.given.last ≤ LAST_NUMBER
@@ -142,6 +147,7 @@ other_outbox v waiting s k is =
 pub pushes : (o : Opened) (pushed : List RecordValue) (core : CoreValue) (book : List SessionValue) → IsRegister o pushed core book → (new : CoreValue) (after : List RecordValue) → HandsOn core new pushed after → IsRegister o after new book
 pushes o pushed core book r new after on =
     let so : HasReplied o r.kept.calls pushed core = r.kept.replied in
+    let tells : Tells o r.kept.calls new book = subst (λ v. Tells o r.kept.calls v book) (sym on.others) (r.commits, r.history) in
     record {
       kept = record {
         calls = r.kept.calls;
@@ -155,6 +161,8 @@ pushes o pushed core book r new after on =
       owner = r.owner;
       owned = r.owned;
       owners = r.owners;
+      commits = tells.0;
+      history = tells.1;
     }
 
 -- ---- a call
@@ -187,6 +195,17 @@ module _ (o : Opened) (can : CanOpen o) (pushed : List RecordValue) (core : Core
       };
     }
 
+    -- the calls so far, and this one
+    abbrev pub calls_now : List (Event × Reply)
+    calls_now = r.kept.calls ++ (e, reply) ∷ []
+
+    pub last_later : core.last ≤ new.last
+    last_later =
+        let before : core.last ≡ o.given.last + length (pushed ++ core.outbox) = numbered o can r.kept.calls pushed core so in
+        let now : new.last ≡ o.given.last + length (pushed ++ new.outbox) = numbered o can calls_now pushed new kept_after.replied in
+        let more : length new.outbox ≡ length core.outbox + length (records_by s k.made answer.step) = ap length answer.outbox ∙ length-append core.outbox (records_by s k.made answer.step) in
+        omega (arith, before, now, more, length-append pushed core.outbox, length-append pushed new.outbox)
+
     pub enabled : IsEnabledAny s answer.step
     enabled = (is_move s k e reply answer.step so.stands.fit so.stands.standing answer.allowed).enabled
 
@@ -194,25 +213,29 @@ module _ (o : Opened) (can : CanOpen o) (pushed : List RecordValue) (core : Core
     shown_by step is = subst (λ x. Shows new (after_any s x) (standing_after k reply)) is answer.shown
 
     -- no transaction made a step
-    pub same_txns : (step : Option MachineStep) → answer.step ≡ step → (later : List SessionValue) → AreOwned (after_any s step) later r.owner → HaveOwners (after_any s step) later r.owner → IsRegister o pushed new later
-    same_txns step is later owned owners = record {
+    pub same_txns : (step : Option MachineStep) → answer.step ≡ step → (later : List SessionValue) → AreOwned (after_any s step) later r.owner → HaveOwners (after_any s step) later r.owner → Tells o calls_now new later → IsRegister o pushed new later
+    same_txns step is later owned owners tells = record {
       kept = kept_after;
       owner = r.owner;
       owned = subst (λ x. AreOwned (after_any s x) later r.owner) (sym is) owned;
       owners = subst (λ x. HaveOwners (after_any s x) later r.owner) (sym is) owners;
+      commits = tells.0;
+      history = tells.1;
     }
 
     -- one transaction of a seat did
     pub txn_stepped : (step : MachineStep) → answer.step ≡ Some step → (seat t : ℕ) (p q : SessionValue) → slice_get book seat ≡ Some p → (seat ≡ r.owner t) ⊎ (s.txns t ≡ None)
         → Agree (after s step) t (active_of t q.active) ((after s step).txns t) → ((u : ℕ) → u ≢ t → active_of u q.active ≡ active_of u p.active) → ((u : ℕ) → u ≢ t → (after s step).txns u ≡ s.txns u)
-        → ((u : ℕ) → u ≢ t → (x : Place) → row_held u ((after s step).holder x) (get (after s step).rows x) ≡ row_held u (s.holder x) (get s.rows x)) → IsRegister o pushed new (slice_set book seat q)
-    txn_stepped step is seat t p q there mine own pages txns apart = record {
+        → ((u : ℕ) → u ≢ t → (x : Place) → row_held u ((after s step).holder x) (get (after s step).rows x) ≡ row_held u (s.holder x) (get s.rows x)) → Tells o calls_now new (slice_set book seat q) → IsRegister o pushed new (slice_set book seat q)
+    txn_stepped step is seat t p q there mine own pages txns apart tells = record {
       kept = kept_after;
       owner = next_owner s (after s step) book r.owner seat t p q there r.owned mine own pages txns apart;
       owned = subst (λ x. AreOwned (after_any s x) (slice_set book seat q) (next_owner s (after s step) book r.owner seat t p q there r.owned mine own pages txns apart)) (sym is)
           (owned_later s (after s step) book r.owner seat t p q there r.owned mine own pages txns apart);
       owners = subst (λ x. HaveOwners (after_any s x) (slice_set book seat q) (next_owner s (after s step) book r.owner seat t p q there r.owned mine own pages txns apart)) (sym is)
           (owners_later s (after s step) book r.owner seat t p q there r.owned mine own pages txns apart r.owners);
+      commits = tells.0;
+      history = tells.1;
     }
 
   -- a transaction in the session of a seat

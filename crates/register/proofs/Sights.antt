@@ -1,13 +1,14 @@
 -- What a session says of the core.
-use Rattle.std.proofs.Common.{◌≡◌, ◌⊎◌, ℕ, Bool, true, false, cond, List, Option, Some, None, is_some, not, ◌==◌, ◌&&◌, inl, inr, refl, sym, ap, ◌∙◌, subst}
+use Rattle.std.proofs.Common.{◌≡◌, ◌⊎◌, ℕ, Bool, true, false, cond, List, [], ◌++◌, Option, Some, None, is_some, not, ◌==◌, ◌&&◌, inl, inr, refl, sym, ap, ◌∙◌, subst}
 use Rattle.std.specs.FinMap.{get}
-use Rattle.std.specs.Prelude.{slice_get}
+use Rattle.std.specs.Option.{option_map}
+use Rattle.std.specs.Prelude.{slice_get, unwrap_or}
 use Rattle.records.specs.RecordValue.{RecordValue}
 use Rattle.records.specs.Values.{Place}
 use Rattle.records.specs.declared.row.Row.{Row}
 use Rattle.model.specs.Table.{Table}
 use Rattle.model.specs.declared.write.Write.{Write}
-use Rattle.txn_table.specs.Table.{TxnState, rolls}
+use Rattle.txn_table.specs.Table.{holder_of, TxnState, rolls}
 use Rattle.txn_table.specs.declared.progress.Progress.{Progress}
 use Rattle.txn_table.specs.declared.progress.Progress.TheVariants.{OwesEntry, OwesRow, Ready, Rolling, UndoesEntry, UndoesRow}
 use Rattle.core_model.specs.Changes.{Changes, Unchanged, ◌▹◌}
@@ -18,10 +19,12 @@ use Rattle.core_model.specs.States.{Active, Phase, State}
 use Rattle.core_model.specs.Steps.{is_indexed}
 use Rattle.nsf_core.specs.Moves.{IsReadyOrNone, OwesOrNone, txn_shown}
 use Rattle.nsf_core.specs.View.{AreOne, CoreValue, IsProgressOf}
-use Rattle.sessions.specs.Values.{active_of, ActiveValue, can_go_on, is_ready, SessionValue}
+use Rattle.sessions.specs.Values.{active_of, ActiveValue, can_go_on, is_ready, rows_of, SessionValue}
 use Rattle.register.proofs.Lookups.{some_is}
 use Rattle.register.proofs.Seen.{agree_there}
 use Rattle.register.proofs.Served.{agreed}
+use Rattle.register.proofs.Told.{shows}
+use Rattle.register.specs.History.{ShowsCommits}
 use Rattle.register.specs.Agreement.{is_owed, IsRegister, IsSeen, newest_write, row_at, row_held}
 
 -- the row of a place that the transaction holds is the one that is there
@@ -151,3 +154,14 @@ module _ (o : Opened) (can : CanOpen o) (pushed : List RecordValue) (core : Core
       by : (o : Option ActiveValue) → active_of t p.active ≡ o → can_go_on o ≡ true → IsReadyOrNone (txn_shown core t)
       by None found can_it = absurd cc
       by (Some a) found can_it = let so = can_go a can_it in ready_here a found so.0 so.1
+
+  -- what a commit would leave
+  pub left_here : is_some (active_of t p.active) ≡ true → (q : Place) → row_at q (rows_of t p.active) ≡ row_held t (holder_of q core.txns.active) (get core.heap.rows q)
+  left_here own q =
+      let its = agree_there st t (active_of t p.active) (st.txns t) own (agreed o can pushed core book r seat p there t own) in
+      ap (λ x. row_at q (unwrap_or (option_map (λ (a : ActiveValue). a.rows) x) [])) its.2
+      ∙ (its.4.rows q ∙ (λ i. row_held t (r.kept.replied.stands.shown.holder q i) (get (r.kept.replied.stands.shown.rows i) q)))
+
+-- the table at each record
+pub tables : (o : Opened) → CanOpen o → (pushed : List RecordValue) (core : CoreValue) (book : List SessionValue) (r : IsRegister o pushed core book) → ShowsCommits o (pushed ++ core.outbox) core r.commits.commits
+tables o can pushed core book r = shows o can r.kept.calls pushed core r.kept.replied r.commits.commits r.history.those r.history.rising

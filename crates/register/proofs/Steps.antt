@@ -1,8 +1,8 @@
 -- The register after each call of a seat, of the builder and of the cleaner.
-use Rattle.std.proofs.Common.{◌≡◌, ℕ, ◌+◌, Bool, true, false, cond, List, Option, Some, None, is_some, inr, refl, sym, ap, ◌∙◌, subst, ⊎_elim}
+use Rattle.std.proofs.Common.{◌≡◌, ℕ, ◌+◌, Bool, true, false, cond, List, [], ◌∷◌, ◌++◌, Option, Some, None, is_some, inr, refl, sym, ap, ◌∙◌, subst, ⊎_elim}
 use Rattle.std.specs.FinMap.{get}
 use Rattle.std.specs.Option.{option_map}
-use Rattle.std.specs.Prelude.{option_and_then, slice_get, slice_set}
+use Rattle.std.specs.Prelude.{option_and_then, slice_get, slice_set, unwrap_or}
 use Rattle.records.specs.ChangeValue.{ChangeValue}
 use Rattle.records.specs.RecordValue.{RecordValue}
 use Rattle.records.specs.Values.{Place}
@@ -10,15 +10,19 @@ use Rattle.records.specs.declared.error.Error.{Error}
 use Rattle.records.specs.declared.change.Rows.{Rows}
 use Rattle.records.specs.declared.change.Rows.TheVariants.{Deleted, Inserted, Updated}
 use Rattle.records.specs.declared.row.Row.{Row}
+use Rattle.model.proofs.HistoryLaws.{table_after-append}
+use Rattle.model.specs.Committed.{writes_of}
+use Rattle.model.specs.History.{Committed, Created, Item, table_after}
+use Rattle.model.specs.Table.{applied}
 use Rattle.model.specs.declared.write.Write.{Write}
 use Rattle.core_model.proofs.Laws.{made_holds, txn_apart}
-use Rattle.core_model.specs.Changes.{Changes, Unchanged, ◌▹◌}
-use Rattle.core_model.specs.Histories.{CanOpen, Opened, write_of}
+use Rattle.core_model.specs.Changes.{as_list, Changes, Unchanged, ◌▹◌}
+use Rattle.core_model.specs.Histories.{CanOpen, no_writes, Opened, write_of}
 use Rattle.core_model.specs.States.{Active, State}
 use Rattle.core_model.specs.Steps.{CanStart, IsActive, MachineStep, Start, after, new_txn, txn_at}
-use Rattle.core_contracts.specs.Events.{BuildReply, CleanReply, Cleaned, Done, Event, Idle, Kept, Placed, Refused, Rejected, Reply, Scanned, Standing, Wrapped, standing_after}
+use Rattle.core_contracts.specs.Events.{BuildReply, Built, CleanReply, Cleaned, Done, Event, Idle, Kept, Placed, Refused, Rejected, Reply, Scanned, Standing, Wrapped, standing_after}
 use Rattle.core_contracts.specs.Replies.{IsAllowed, IsDue, IsProper, Owes, accepted, after_any, build_step, change_of, clean_step, no_memory, refused, refused_last, skipped, unknown}
-use Rattle.core_contracts.specs.Served.{IsEnabledAny}
+use Rattle.core_contracts.specs.Served.{asked_over, IsEnabledAny, items_at, items_of}
 use Rattle.nsf_core.specs.Replies.{reply_of_ticket}
 use Rattle.nsf_core.specs.Undoing.{undone_reply}
 use Rattle.nsf_core.specs.View.{CoreValue, Serves}
@@ -26,13 +30,18 @@ use Rattle.nsf_core.specs.declared.parts.Ticket.{Ticket}
 use Rattle.nsf_core.specs.declared.reply.Undone.{Undone}
 use Rattle.nsf_core.specs.declared.reply.Undone.TheVariants.{Empty, Step}
 use Rattle.sessions.specs.Steps.{begun, step_seen, changed, committed, with_creation, ended, stepped, still_unfinished, taken_back, rolling_back, unfinished_in, change_seen}
-use Rattle.sessions.specs.Values.{active_of, SessionValue, without}
+use Rattle.sessions.specs.Values.{active_of, ActiveValue, rows_of, SessionValue, without}
 use Rattle.register.proofs.Lookups.{new_other, new_own, number_is, with_other, with_own, without_other, without_own}
 use Rattle.register.proofs.Moved.{begin_own, leave_apart, leave_others, leave_own, next_apart, next_others, next_own, start_apart, start_others, start_own, undo_apart, undo_others, undo_own}
-use Rattle.register.proofs.Numbers.{IsAnswer, due, is_txn, ticket_answers}
+use Rattle.register.proofs.Numbers.{commit as commit_numbers, counted as commit_counts, create as create_numbers, due, IsAnswer, is_txn, others as same_commits, ticket_answers}
 use Rattle.register.proofs.Owned.{owned_kept, owners_kept}
 use Rattle.register.proofs.Seen.{agree_none}
-use Rattle.register.proofs.Served.{answer, enabled, k, mine, none_here, owned_beside, owners_beside, s, same_txns, seen, shown_by, so, txn_stepped, unfinished_is}
+use Rattle.register.proofs.Served.{answer, enabled, k, kept_after, last_later, mine, none_here, owned_beside, owners_beside, s, same_txns, seen, shown_by, so, txn_stepped, unfinished_is}
+use Rattle.register.proofs.Telling.{commit_tells, creation_tells, IsQuiet, quiet_beside, quiet_here, Tells}
+use Rattle.register.proofs.Told.{items_more, over, table_told}
+use Rattle.register.proofs.Written.{committed_is, left_table}
+use Rattle.register.specs.History.{commits_told, creations_told}
+use Rattle.register.specs.Register.{IsNoCommit}
 use Rattle.register.specs.Agreement.{Agree, is_owed, IsRegister, IsOfNoSeat, newest_write, owed_write, row_held}
 
 proper : (s : State) (k : Standing) (e : Event) (reply : Reply) (step : Option MachineStep) → IsAllowed s k e reply step → IsAnswer reply → IsProper s e
@@ -125,6 +134,56 @@ refused_none s k e error step (refused_last a b f r t d err g) = refl
 refused_none s k e error step (no_memory a b f r t d g w) = refl
 refused_none s k e error step (accepted a b f r t d g) = absurd (not_due s k e error step d)
 
+-- ---- what calls tell
+
+build_quiet : (b : BuildReply) → IsQuiet Event.Build (Built b)
+build_quiet (Scanned page) = λ w. (refl, refl)
+build_quiet (Placed p) = λ w. (refl, refl)
+build_quiet (Rejected p) = λ w. (refl, refl)
+build_quiet (BuildReply.Marked p n) = λ w. (refl, refl)
+build_quiet (Done n) = λ w. (refl, refl)
+build_quiet Idle = λ w. (refl, refl)
+
+due_quiet : (s : State) (k : Standing) (e : Event) (reply : Reply) (step : Option MachineStep) → IsOfNoSeat e → IsDue s k e reply step → IsQuiet e reply
+due_quiet s k Event.Begin reply step of d = absurd of
+due_quiet s k (Event.Insert t row) reply step of d = absurd of
+due_quiet s k (Event.Delete t r) reply step of d = absurd of
+due_quiet s k (Event.Update t r row) reply step of d = absurd of
+due_quiet s k (Event.Step t) reply step of d = absurd of
+due_quiet s k (Event.Undo t) reply step of d = absurd of
+due_quiet s k (Event.End t) reply step of d = absurd of
+due_quiet s k (Event.Commit t) reply step of d = absurd of
+due_quiet s k Event.Create reply step of d = absurd of
+due_quiet s k Event.Build reply step of d = subst (IsQuiet Event.Build) (sym d.2) (build_quiet d.0)
+due_quiet s k Event.Clean reply step of d = subst (IsQuiet Event.Clean) (sym d.2) (λ w. (refl, refl))
+due_quiet s k (Event.Get r) reply step of d = subst (IsQuiet (Event.Get r)) (sym d.0) (λ w. (refl, refl))
+due_quiet s k (Event.Find key) reply step of d = subst (IsQuiet (Event.Find key)) (sym d.2) (λ w. (refl, refl))
+due_quiet s k Event.Life reply step of d = subst (IsQuiet Event.Life) (sym d.0) (λ w. (refl, refl))
+
+allowed_quiet : (s : State) (k : Standing) (e : Event) (reply : Reply) (step : Option MachineStep) → IsOfNoSeat e → IsAllowed s k e reply step → IsQuiet e reply
+allowed_quiet s k e reply step of (unknown a) = λ w. (refl, refl)
+allowed_quiet s k e reply step of (skipped a b) = λ w. (refl, refl)
+allowed_quiet s k e reply step of (refused a b error f) = λ w. (refl, refl)
+allowed_quiet s k e reply step of (refused_last a b f r t d error g) = λ w. (refl, refl)
+allowed_quiet s k e reply step of (no_memory a b f r t d g w) = λ w. (refl, refl)
+allowed_quiet s k e reply step of (accepted a b f r t d g) = due_quiet s k e reply step of d
+
+no_commit : (e : Event) → IsOfNoSeat e → IsNoCommit e
+no_commit Event.Begin of = tt
+no_commit (Event.Insert t row) of = tt
+no_commit (Event.Delete t r) of = tt
+no_commit (Event.Update t r row) of = tt
+no_commit (Event.Step t) of = tt
+no_commit (Event.Undo t) of = tt
+no_commit (Event.End t) of = tt
+no_commit (Event.Commit t) of = absurd of
+no_commit Event.Create of = tt
+no_commit Event.Build of = tt
+no_commit Event.Clean of = tt
+no_commit (Event.Get r) of = tt
+no_commit (Event.Find key) of = tt
+no_commit Event.Life of = tt
+
 -- ---- calls
 
 module _ (o : Opened) (can : CanOpen o) (pushed : List RecordValue) (core : CoreValue) (book : List SessionValue) (r : IsRegister o pushed core book) where
@@ -146,15 +205,28 @@ module _ (o : Opened) (can : CanOpen o) (pushed : List RecordValue) (core : Core
   enabled_of : (e : Event) (reply : Reply) (new : CoreValue) (sv : Serves core e reply new) (step : Option MachineStep) → step_of e reply new sv ≡ step → IsEnabledAny st step
   enabled_of e reply new sv step is = subst (IsEnabledAny st) is (enabled o can pushed core book r e reply new sv)
 
+  -- a call that tells of no commit and of no creation, with no session changed, or one but for those
+  still_tells : (e : Event) (reply : Reply) (new : CoreValue) → Serves core e reply new → IsQuiet e reply → new.commits ≡ core.commits → Tells o (r.kept.calls ++ (e, reply) ∷ []) new book
+  still_tells e reply new sv none counted = quiet_here o r.kept.calls core new book r.commits r.history e reply (last_later o can pushed core book r e reply new sv) none counted
+
+  beside_tells : (e : Event) (reply : Reply) (new : CoreValue) → Serves core e reply new → IsNoCommit e → IsQuiet e reply → (seat : ℕ) (p : SessionValue) → slice_get book seat ≡ Some p
+      → (q : SessionValue) → q.commits ≡ p.commits → q.creations ≡ p.creations → Tells o (r.kept.calls ++ (e, reply) ∷ []) new (slice_set book seat q)
+  beside_tells e reply new sv other none seat p there q commits creations =
+      quiet_beside o r.kept.calls core new book r.commits r.history e reply (last_later o can pushed core book r e reply new sv) seat p there none (same_commits o pushed core r.kept e reply new other sv) q commits creations
+
   pub others : (e : Event) (reply : Reply) (new : CoreValue) → IsOfNoSeat e → Serves core e reply new → IsRegister o pushed new book
   others e reply new of sv =
       let still = allowed_still st std e reply (step_of e reply new sv) of (allowed_of e reply new sv) in
       same_txns o can pushed core book r e reply new sv (step_of e reply new sv) refl book
       (owned_kept st (after_any st (step_of e reply new sv)) book r.owner still.txns still.held r.owned)
       (owners_kept st (after_any st (step_of e reply new sv)) book r.owner still.txns r.owners)
+      (still_tells e reply new sv (allowed_quiet st std e reply (step_of e reply new sv) of (allowed_of e reply new sv)) (same_commits o pushed core r.kept e reply new (no_commit e of) sv))
 
   pub refusals : (e : Event) (error : Error) (new : CoreValue) → Serves core e (Refused error) new → IsRegister o pushed new book
-  refusals e error new sv = same_txns o can pushed core book r e (Refused error) new sv None (refused_none st std e error (step_of e (Refused error) new sv) (allowed_of e (Refused error) new sv)) book r.owned r.owners
+  refusals e error new sv =
+      let none = refused_none st std e error (step_of e (Refused error) new sv) (allowed_of e (Refused error) new sv) in
+      same_txns o can pushed core book r e (Refused error) new sv None none book r.owned r.owners
+      (still_tells e (Refused error) new sv (λ w. (refl, refl)) (ap (λ (v : CoreValue). v.commits) ((answer o can pushed core book r e (Refused error) new sv).unchanged none)))
 
   module _ (seat : ℕ) (p : SessionValue) (there : slice_get book seat ≡ Some p) where
     pub begin : (txn : ℕ) (new : CoreValue) → Serves core Event.Begin (Reply.Txn txn) new → IsRegister o pushed new (slice_set book seat (begun p txn))
@@ -168,12 +240,13 @@ module _ (o : Opened) (can : CanOpen o) (pushed : List RecordValue) (core : Core
         txn_stepped o can pushed core book r Event.Begin (Reply.Txn txn) new sv (MachineStep.Begin txn) step seat txn p (begun p txn) there (inr none)
         (subst (λ a. Agree (after st (MachineStep.Begin txn)) txn a ((after st (MachineStep.Begin txn)).txns txn)) (sym (new_own txn p.active absent)) (begin_own st holds txn none))
         (λ u apart. new_other u txn p.active apart) (λ u apart. txn_apart st txn new_txn u apart) (λ u apart q. refl)
+        (beside_tells Event.Begin (Reply.Txn txn) new sv tt (λ w. (refl, refl)) seat p there (begun p txn) refl refl)
 
     module _ (txn : ℕ) (own : is_some (active_of txn p.active) ≡ true) where
       -- a change, by its first step
-      start : (e : Event) (reply : Reply) (new : CoreValue) (sv : Serves core e reply new) (rid : Place) (rows : Rows) → step_of e reply new sv ≡ Some (Start txn (change_of st txn rid rows))
+      start : (e : Event) (reply : Reply) (new : CoreValue) (sv : Serves core e reply new) → IsNoCommit e → IsQuiet e reply → (rid : Place) (rows : Rows) → step_of e reply new sv ≡ Some (Start txn (change_of st txn rid rows))
           → IsRegister o pushed new (slice_set book seat (changed p new txn (write_of (change_of st txn rid rows))))
-      start e reply new sv rid rows step =
+      start e reply new sv other none rid rows step =
           let c : ChangeValue = change_of st txn rid rows in
           let w : Write = write_of c in
           let can_start : CanStart st txn c = enabled_of e reply new sv (Some (Start txn c)) step in
@@ -184,12 +257,13 @@ module _ (o : Opened) (can : CanOpen o) (pushed : List RecordValue) (core : Core
           (start_own st txn c can_start new shown.rows mine_now.0 mine_now.2 (unfinished_in new mine_now.0.txn w)
           (λ y is. ap (λ n. unfinished_in new n w) (number_is txn p.active mine_now.0 mine_now.1) ∙ unfinished_is new (after st (Start txn c)) (standing_after std reply) shown txn y is w)))
           (λ u apart. with_other (change_seen new w) (λ a. refl) txn u p.active apart) (start_apart st txn c can_start) (start_others st txn c can_start)
+          (beside_tells e reply new sv other none seat p there (changed p new txn w) refl refl)
 
       pub insert : (row : Row) (rid : Place) (new : CoreValue) → Serves core (Event.Insert txn row) (Reply.Rid rid) new → IsRegister o pushed new (slice_set book seat (changed p new txn (record { rid = rid; row = Some row })))
       insert row rid new sv =
           let d = due_of (Event.Insert txn row) (Reply.Rid rid) new sv tt in
           let at : rid ≡ d.0 = one_place rid d.0 d.2 in
-          start (Event.Insert txn row) (Reply.Rid rid) new sv rid (Inserted row) (d.3 ∙ ap (λ q. Some (Start txn (change_of st txn q (Inserted row)))) (sym at))
+          start (Event.Insert txn row) (Reply.Rid rid) new sv tt (λ w. (refl, refl)) rid (Inserted row) (d.3 ∙ ap (λ q. Some (Start txn (change_of st txn q (Inserted row)))) (sym at))
         where
           one_place : (a b : Place) → Reply.Rid a ≡ Reply.Rid b → a ≡ b
           one_place a b e = cc
@@ -197,12 +271,12 @@ module _ (o : Opened) (can : CanOpen o) (pushed : List RecordValue) (core : Core
       pub delete : (rid : Place) (new : CoreValue) → Serves core (Event.Delete txn rid) Reply.Stepped new → IsRegister o pushed new (slice_set book seat (changed p new txn (record { rid = rid; row = None })))
       delete rid new sv =
           let d = due_of (Event.Delete txn rid) Reply.Stepped new sv tt in
-          start (Event.Delete txn rid) Reply.Stepped new sv rid (Deleted d.0) d.3
+          start (Event.Delete txn rid) Reply.Stepped new sv tt (λ w. (refl, refl)) rid (Deleted d.0) d.3
 
       pub update : (rid : Place) (row : Row) (new : CoreValue) → Serves core (Event.Update txn rid row) Reply.Stepped new → IsRegister o pushed new (slice_set book seat (changed p new txn (record { rid = rid; row = Some row })))
       update rid row new sv =
           let d = due_of (Event.Update txn rid row) Reply.Stepped new sv tt in
-          start (Event.Update txn rid row) Reply.Stepped new sv rid (Updated d.0 row) d.3
+          start (Event.Update txn rid row) Reply.Stepped new sv tt (λ w. (refl, refl)) rid (Updated d.0 row) d.3
 
       pub next : (new : CoreValue) → Serves core (Event.Step txn) Reply.Stepped new → IsRegister o pushed new (slice_set book seat (stepped p new txn))
       next new sv =
@@ -219,9 +293,10 @@ module _ (o : Opened) (can : CanOpen o) (pushed : List RecordValue) (core : Core
           (λ i. still_unfinished new (number_is txn p.active mine_now.0 mine_now.1 i) ((mine_now.2.unfinished ∙ (owes_one (txn_at st txn) owes ∙ ap newest_write (sym same))) i))
           ∙ still_is new txn (is_owed y.phase y.rolling) (unfinished_is new (after st (MachineStep.Next txn)) (standing_after std Reply.Stepped) shown txn y is) y.changes)))
           (λ u apart. with_other (step_seen new) (λ a. refl) txn u p.active apart) (next_apart st txn fit active) (next_others st txn fit active)
+          (beside_tells (Event.Step txn) Reply.Stepped new sv tt (λ w. (refl, refl)) seat p there (stepped p new txn) refl refl)
 
-      undo_at : (reply : Reply) → IsAnswer reply → (new : CoreValue) → Serves core (Event.Undo txn) reply new → IsRegister o pushed new (slice_set book seat (rolling_back p new txn))
-      undo_at reply answers new sv =
+      undo_at : (reply : Reply) → IsAnswer reply → IsQuiet (Event.Undo txn) reply → (new : CoreValue) → Serves core (Event.Undo txn) reply new → IsRegister o pushed new (slice_set book seat (rolling_back p new txn))
+      undo_at reply answers none new sv =
           let d = due_of (Event.Undo txn) reply new sv answers in
           let active : IsActive st txn = enabled_of (Event.Undo txn) reply new sv (Some (MachineStep.Undo txn)) d.1 in
           let mine_now = seen o can pushed core book r seat p there txn own (txn_at st txn) active in
@@ -231,10 +306,11 @@ module _ (o : Opened) (can : CanOpen o) (pushed : List RecordValue) (core : Core
           (subst (λ a. Agree (after st (MachineStep.Undo txn)) txn a ((after st (MachineStep.Undo txn)).txns txn)) (sym (with_own (taken_back new) (λ a. refl) txn p.active ∙ ap (option_map (taken_back new)) mine_now.1))
           (undo_own st txn fit active new shown.rows mine_now.0 mine_now.2))
           (λ u apart. with_other (taken_back new) (λ a. refl) txn u p.active apart) (undo_apart st txn fit active) (undo_others st txn fit active)
+          (beside_tells (Event.Undo txn) reply new sv tt none seat p there (rolling_back p new txn) refl refl)
 
       pub undo : (u : Undone) (new : CoreValue) → Serves core (Event.Undo txn) (undone_reply u) new → IsRegister o pushed new (slice_set book seat (rolling_back p new txn))
-      undo Step new sv = undo_at Reply.Undone tt new sv
-      undo Empty new sv = undo_at Reply.Empty tt new sv
+      undo Step new sv = undo_at Reply.Undone tt (λ w. (refl, refl)) new sv
+      undo Empty new sv = undo_at Reply.Empty tt (λ w. (refl, refl)) new sv
 
       none_of : (new : State) → new.txns txn ≡ None → Agree new txn (active_of txn (without txn p.active)) (new.txns txn)
       none_of new gone = subst (λ a. Agree new txn a (new.txns txn)) (sym (without_own txn p.active)) (subst (Agree new txn None) (sym gone) tt)
@@ -245,6 +321,49 @@ module _ (o : Opened) (can : CanOpen o) (pushed : List RecordValue) (core : Core
           txn_stepped o can pushed core book r (Event.End txn) Reply.Ended new sv (MachineStep.End txn) d.1 seat txn p (ended p txn) there (mine o can pushed core book r seat p there txn own)
           (none_of (after st (MachineStep.End txn)) (leave_own st txn (after st (MachineStep.End txn)).committed))
           (λ u apart. without_other u txn p.active apart) (leave_apart st txn (after st (MachineStep.End txn)).committed) (leave_others st txn (after st (MachineStep.End txn)).committed)
+          (beside_tells (Event.End txn) Reply.Ended new sv tt (λ w. (refl, refl)) seat p there (ended p txn) refl refl)
+
+      -- what a commit tells
+      module _ (ticket : Ticket) (new : CoreValue) (sv : Serves core (Event.Commit txn) (reply_of_ticket ticket) new) where
+        abbrev d : IsDue st std (Event.Commit txn) (reply_of_ticket ticket) (step_of (Event.Commit txn) (reply_of_ticket ticket) new sv)
+        d = due_of (Event.Commit txn) (reply_of_ticket ticket) new sv (ticket_answers ticket.«record» ticket.commit)
+
+        abbrev asked : ℕ → List Write
+        asked = asked_over no_writes r.kept.calls
+
+        abbrev items : List Item
+        items = items_of no_writes r.kept.calls
+
+        told_by : (reply : Reply) → reply ≡ Reply.Committed (std.made + 1) (std.commits + 1) → items_at asked reply (Event.Commit txn) ≡ record { number = std.made + 1; deed = Committed (asked txn) } ∷ []
+        told_by reply is = ap (λ x. items_at asked x (Event.Commit txn)) is
+
+        -- its rows leave what its transaction was asked to set
+        leaves : applied (over o.given.table (commits_told items)) (rows_of txn p.active) ≡ applied (over o.given.table (commits_told items)) (asked txn)
+        leaves =
+            let ready = enabled_of (Event.Commit txn) (reply_of_ticket ticket) new sv (Some (MachineStep.Commit txn)) d.1 in
+            let mine_now = seen o can pushed core book r seat p there txn own (txn_at st txn) ready.0 in
+            let holds = made_holds o can _ _ _ st (so o can pushed core book r).served.log in
+            let before : st.committed ≡ over o.given.table (commits_told items) = committed_is o can (pushed ++ core.outbox) r.kept.calls st std (so o can pushed core book r).served ∙ table_told o.given.table items in
+            ap (λ m. applied m (rows_of txn p.active)) (sym before)
+            ∙ (ap (λ x. applied st.committed (unwrap_or (option_map (λ (a : ActiveValue). a.rows) x) [])) mine_now.1
+            ∙ (left_table st holds txn (txn_at st txn) ready.0 ready.1.0 mine_now.0 mine_now.2 ∙ (after_is ∙ ap (λ m. applied m (asked txn)) before)))
+          where
+            -- the committed table after the commit, by the core and by the history
+            after_is : applied st.committed (writes_of (as_list (txn_at st txn).changes)) ≡ applied st.committed (asked txn)
+            after_is =
+                let now = kept_after o can pushed core book r (Event.Commit txn) (reply_of_ticket ticket) new sv in
+                ap (λ x. (after_any st x).committed) (sym d.1)
+                ∙ (committed_is o can (pushed ++ new.outbox) (r.kept.calls ++ (Event.Commit txn, reply_of_ticket ticket) ∷ []) now.replied.state now.replied.standing now.replied.served
+                ∙ (ap (table_after o.given.table) (items_more no_writes r.kept.calls (Event.Commit txn) (reply_of_ticket ticket) ∙ ap (λ l. items ++ l) (told_by (reply_of_ticket ticket) d.0))
+                ∙ (table_after-append o.given.table items (record { number = std.made + 1; deed = Committed (asked txn) } ∷ [])
+                ∙ ap (λ m. applied m (asked txn)) (sym (committed_is o can (pushed ++ core.outbox) r.kept.calls st std (so o can pushed core book r).served)))))
+
+        commit_told : Tells o (r.kept.calls ++ (Event.Commit txn, reply_of_ticket ticket) ∷ []) new (slice_set book seat (committed p txn ticket))
+        commit_told =
+            let numbers = commit_numbers o pushed core r.kept txn ticket new sv in
+            commit_tells o r.kept.calls core new book r.commits r.history (Event.Commit txn) (reply_of_ticket ticket) (last_later o can pushed core book r (Event.Commit txn) (reply_of_ticket ticket) new sv) seat p there txn ticket
+            numbers (commit_counts o pushed core r.kept txn ticket new sv) (std.made + 1) (asked txn) (numbers.0 ∙ ap (λ n. n + 1) (sym r.kept.replied.stands.shown.made))
+            (ap commits_told (told_by (reply_of_ticket ticket) d.0)) (ap creations_told (told_by (reply_of_ticket ticket) d.0)) leaves
 
       pub commit : (ticket : Ticket) (new : CoreValue) → Serves core (Event.Commit txn) (reply_of_ticket ticket) new → IsRegister o pushed new (slice_set book seat (committed p txn ticket))
       commit ticket new sv =
@@ -253,6 +372,7 @@ module _ (o : Opened) (can : CanOpen o) (pushed : List RecordValue) (core : Core
           txn_stepped o can pushed core book r (Event.Commit txn) (reply_of_ticket ticket) new sv (MachineStep.Commit txn) d.1 seat txn p (committed p txn ticket) there (mine o can pushed core book r seat p there txn own)
           (none_of (after st (MachineStep.Commit txn)) (leave_own st txn (after st (MachineStep.Commit txn)).committed))
           (λ u apart. without_other u txn p.active apart) (leave_apart st txn (after st (MachineStep.Commit txn)).committed) (leave_others st txn (after st (MachineStep.Commit txn)).committed)
+          (commit_told ticket new sv)
 
     pub create : (ticket : Ticket) (new : CoreValue) → Serves core Event.Create (reply_of_ticket ticket) new → IsRegister o pushed new (slice_set book seat (with_creation p ticket.«record»))
     create ticket new sv =
@@ -261,3 +381,11 @@ module _ (o : Opened) (can : CanOpen o) (pushed : List RecordValue) (core : Core
         same_txns o can pushed core book r Event.Create (reply_of_ticket ticket) new sv (Some MachineStep.Create) d.1 (slice_set book seat (with_creation p ticket.«record»))
         (owned_beside (after st MachineStep.Create) book r.owner seat p (with_creation p ticket.«record») there refl (owned_kept st (after st MachineStep.Create) book r.owner (λ u. refl) (λ u q. refl) r.owned))
         (owners_beside (after st MachineStep.Create) book r.owner seat (with_creation p ticket.«record») (owners_kept st (after st MachineStep.Create) book r.owner (λ u. refl) r.owners))
+        (creation_tells o r.kept.calls core new book r.commits r.history Event.Create (reply_of_ticket ticket) (last_later o can pushed core book r Event.Create (reply_of_ticket ticket) new sv) seat p there ticket.«record»
+        (same_commits o pushed core r.kept Event.Create (reply_of_ticket ticket) new tt sv) (ap commits_told (told_by (reply_of_ticket ticket) d.0)) (ap creations_told (told_by (reply_of_ticket ticket) d.0) ∙ ap (λ n. n ∷ []) (sym number)))
+      where
+        told_by : (reply : Reply) → reply ≡ Reply.Created (std.made + 1) → items_at (asked_over no_writes r.kept.calls) reply Event.Create ≡ record { number = std.made + 1; deed = Created } ∷ []
+        told_by reply is = ap (λ x. items_at (asked_over no_writes r.kept.calls) x Event.Create) is
+
+        number : ticket.«record» ≡ std.made + 1
+        number = (create_numbers o pushed core r.kept ticket new sv).0 ∙ ap (λ n. n + 1) (sym r.kept.replied.stands.shown.made)

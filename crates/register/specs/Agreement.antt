@@ -1,9 +1,10 @@
 -- What the sessions of all seats and the core agree on.
 use Rattle.std.specs.FinMap.{get}
-use Rattle.std.specs.Prelude.{[], Bool, false, if◌then◌else◌, is_some, length, List, None, not, Option, slice_get, Some, true, ℕ, ◌<◌, ◌==◌, ◌∷◌, ◌≡◌}
+use Rattle.std.specs.Prelude.{[], Bool, false, if◌then◌else◌, is_some, length, List, None, not, Option, slice_get, Some, true, unwrap_or, ℕ, ◌<◌, ◌==◌, ◌∷◌, ◌≡◌}
 use Rattle.records.specs.RecordValue.{RecordValue}
 use Rattle.records.specs.Values.{Place}
 use Rattle.records.specs.declared.row.Row.{Row}
+use Rattle.model.specs.Table.{written_at}
 use Rattle.model.specs.declared.write.Write.{Write}
 use Rattle.core_model.specs.Changes.{Changes, Unchanged, ◌▹◌}
 use Rattle.core_model.specs.Histories.{Opened, write_of}
@@ -11,7 +12,8 @@ use Rattle.core_model.specs.States.{Active, Made, NewMarked, OldMarked, OldSet, 
 use Rattle.core_contracts.specs.Events.{Event}
 use Rattle.nsf_core.specs.View.{CoreValue}
 use Rattle.sessions.specs.Values.{active_of, ActiveValue, is_at, SessionValue}
-use Rattle.register.specs.Register.{IsKept}
+use Rattle.register.specs.History.{AreOfHistory}
+use Rattle.register.specs.Register.{AreAllCommits, IsKept}
 
 -- ---- one transaction
 
@@ -40,10 +42,15 @@ newest_write (older ▹ c) = Some (write_of c)
 abbrev pub owed_write : Active → Option Write
 owed_write x = if is_owed x.phase x.rolling then newest_write x.changes else None
 
--- A session has of a transaction what the core has: just the places that it holds, each with the row that is there now; the
+-- set in their order, these rows leave at each place the row that they have for it
+abbrev pub IsOneEach : List Write → Type 0
+IsOneEach rows = (q : Place) (v : Option Row) → written_at rows q v ≡ unwrap_or (row_at q rows) v
+
+-- A session has of a transaction what the core has: just the places that it holds, each once with the row that is there now; the
 -- change of which it owes a step; and whether it is rolling back.
 pub record IsSeen (s : State) (t : ℕ) (a : ActiveValue) (x : Active) : Type 0 where
   pub rows : (q : Place) → row_at q a.rows ≡ row_held t (s.holder q) (get s.rows q)
+  pub one_each : IsOneEach a.rows
   pub unfinished : a.unfinished ≡ owed_write x
   pub rolling : a.rolling ≡ x.rolling
 
@@ -81,9 +88,11 @@ IsOfNoSeat (Event.Find key) = Unit {0}
 IsOfNoSeat Event.Life = Unit {0}
 IsOfNoSeat _ = ⊥
 
--- The core has replied to some calls since it was opened, and its active transactions are those of the sessions, each in one of them.
+-- The core has replied to some calls since it was opened. Its active transactions are those of the sessions, each in one of them; and its commits and creations are those of the sessions.
 pub record IsRegister (o : Opened) (pushed : List RecordValue) (core : CoreValue) (book : List SessionValue) : Type 0 where
   pub kept : IsKept o pushed core
   pub owner : ℕ → ℕ
   pub owned : AreOwned kept.replied.state book owner
   pub owners : HaveOwners kept.replied.state book owner
+  pub commits : AreAllCommits book core.commits
+  pub history : AreOfHistory o kept.calls core.last book commits.commits

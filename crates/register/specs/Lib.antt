@@ -1,2 +1,3 @@
 pub mod Register
+pub mod History
 pub mod Agreement

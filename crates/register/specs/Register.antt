@@ -27,13 +27,13 @@ abbrev pub AreNumbered : ℕ → Commits → Type 0
 AreNumbered n [] = Unit {0}
 AreNumbered n (c ∷ cs) = (c.1.ticket.commit ≡ Some n) × AreNumbered (n + 1) cs
 
--- those that a seat made
-abbrev pub made_by : ℕ → Commits → List CommitValue
+-- those that a seat made, of things with the seat that made each
+abbrev pub made_by : {A : Type 0} → ℕ → List (ℕ × A) → List A
 made_by seat [] = []
 made_by seat (c ∷ cs) = if seat == c.0 then c.1 ∷ made_by seat cs else made_by seat cs
 
 -- each was made by one of so many seats
-abbrev pub AreBySeats : ℕ → Commits → Type 0
+abbrev pub AreBySeats : {A : Type 0} → ℕ → List (ℕ × A) → Type 0
 AreBySeats seats [] = Unit {0}
 AreBySeats seats (c ∷ cs) = (c.0 < seats) × AreBySeats seats cs
 

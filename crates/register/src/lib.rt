@@ -3,7 +3,7 @@
 //! They follow from what a session's steps, the core and the laws of its calls promise, and speak of no lock.
 #![tactic(auto)]
 
-ghost use Rattle.std.specs.Prelude.{◌≡◌, ◌+◌, [], List, None, Option, Some, slice_get, slice_set, true, ℕ};
+ghost use Rattle.std.specs.Prelude.{◌≡◌, ◌+◌, ◌++◌, [], List, None, Option, Some, slice_get, slice_set, true, ℕ};
 ghost use Rattle.std.specs.FinMap.{get};
 ghost use Rattle.records.specs.RecordValue.{RecordValue};
 ghost use Rattle.records.specs.Values.{Place};
@@ -19,10 +19,12 @@ ghost use Rattle.nsf_core.specs.Undoing.{undone_reply};
 ghost use Rattle.nsf_core.specs.View.{CoreValue, Serves};
 ghost use Rattle.nsf_core.specs.declared.parts.Ticket.{Ticket};
 ghost use Rattle.nsf_core.specs.declared.reply.Undone.{Undone};
-ghost use Rattle.sessions.specs.Values.{active_of, ActiveValue, is_active, is_ready, SessionValue};
+ghost use Rattle.sessions.specs.Values.{active_of, ActiveValue, is_active, is_ready, rows_of, SessionValue};
 ghost use Rattle.model.specs.declared.write.Write.{Write};
 ghost use Rattle.sessions.specs.Steps.{begun, changed, committed, ended, rolling_back, stepped, with_creation};
-ghost use Rattle.register.specs.Agreement.{IsOfNoSeat, IsRegister, row_at};
+ghost use Rattle.register.specs.Agreement.{IsOfNoSeat, IsRegister, row_at, row_held};
+ghost use Rattle.register.specs.History.{ShowsCommits};
+ghost use Rattle.txn_table.specs.Table.{holder_of};
 ghost use Rattle.register.specs.Register.{AreAllCommits, AreEmpty, IsKept, IsNoCommit};
 
 use core_laws::each_call;
@@ -64,7 +66,8 @@ pub fn each_commit()
 
 /// A law: what the sessions of the seats have of the active transactions is what the core has, from the opening on, whatever
 /// call is served: each transaction is in the session of one seat, with just the places that it holds and the rows that are there
-/// now, the change of which it owes a step, and whether it is rolling back. A call that is refused, and one of the builder, of
+/// now, the change of which it owes a step, and whether it is rolling back. And the commits and creations of the sessions are those that
+/// the calls tell of, with the numbers of their records. A call that is refused, and one of the builder, of
 /// the cleaner or of a reader, leaves the sessions as they are; and so does a push of records.
 pub fn each_agreement()
     ensures opens { (o : Opened) (core : CoreValue) → BeginsWith o core → (book : List SessionValue) → AreEmpty book → IsRegister o [] core book }
@@ -106,4 +109,13 @@ pub fn each_sight()
         → (txn : ℕ) (a : ActiveValue) (change : Write) → active_of txn session.active ≡ Some a → a.unfinished ≡ Some change → OwesOrNone (txn_shown core txn) }
     ensures rows { (o : Opened) → CanOpen o → (pushed : List RecordValue) (core : CoreValue) (book : List SessionValue) → IsRegister o pushed core book → (seat : ℕ) (session : SessionValue) → slice_get book seat ≡ Some session
         → (txn : ℕ) (a : ActiveValue) (rid : Place) (row : Option Row) → active_of txn session.active ≡ Some a → row_at rid a.rows ≡ Some row → get core.heap.rows rid ≡ row }
+    ensures left { (o : Opened) → CanOpen o → (pushed : List RecordValue) (core : CoreValue) (book : List SessionValue) → IsRegister o pushed core book → (seat : ℕ) (session : SessionValue) → slice_get book seat ≡ Some session → (txn : ℕ)
+        → is_active session txn ≡ true → (rid : Place) → row_at rid (rows_of txn session.active) ≡ row_held txn (holder_of rid core.txns.active) (get core.heap.rows rid) }
+{}
+
+/// A law: the commits of all sessions are those of the records. For each record number from that of the opening on, the records
+/// up to it, with the uncommitted changes taken back, give the table of the opening with the rows of the commits up to it set over
+/// it in order; and with all records that is the core's committed table.
+pub fn each_table()
+    ensures { (o : Opened) → CanOpen o → (pushed : List RecordValue) (core : CoreValue) (book : List SessionValue) → (r : IsRegister o pushed core book) → ShowsCommits o (pushed ++ core.outbox) core r.commits.commits }
 {}

@@ -1,6 +1,6 @@
 //! A session, and what it tells.
 ghost use Rattle.std.specs.Prelude.{◌≡◌, map};
-ghost use Rattle.sessions.specs.Values.{SessionValue, empty_session, is_ready, is_unfinished};
+ghost use Rattle.sessions.specs.Values.{SessionValue, empty_session, is_active, is_ready, is_unfinished};
 
 use crate::active::{ActiveTxn, place_of};
 use crate::commit::Commit;
@@ -58,6 +58,13 @@ impl Session {
         ensures { result.now ≡ self.now.creations }
     {
         &self.creations
+    }
+
+    /// Whether the transaction is one of the seat's.
+    pub fn is_active(&self, txn: Txn) -> bool
+        ensures { result ≡ is_active self.now txn }
+    {
+        place_of(&self.active, txn).is_some()
     }
 
     /// Whether the transaction may begin a change or commit: it is one of the seat's, has no change to finish, and isn't

@@ -1,6 +1,5 @@
 use Rattle.std.proofs.Common.{[], ◌++◌, ◌∷◌, subst, sym}
 use Rattle.core_laws.specs.Calls.{HasReplied}
-use Rattle.register.specs.Register.{IsKept}
 use Rattle.register.proofs.each_step.Goals as goal
 
 pub returns-clause-begins : goal.returns-clause-begins

@@ -1,4 +1,4 @@
-use Rattle.std.proofs.Common.{◌≡◌, Some, length, map, sym, ap, ◌∙◌, subst}
+use Rattle.std.proofs.Common.{Some, map, sym, ap, ◌∙◌, subst}
 use Rattle.std.proofs.Math.Logic.{∥∥₁_map}
 use Rattle.std.specs.Prelude.{slice_get, slice_set}
 use Rattle.nsf_core.specs.Value.{value_of}

@@ -1,0 +1,83 @@
+-- What the sessions of all seats say of the history that the core's calls tell.
+use Rattle.std.specs.Prelude.{[], filter, length, List, map, nat_le, slice_get, Some, take, ℕ, ◌++◌, ◌-◌, ◌<◌, ◌∷◌, ◌≡◌, ◌≤◌}
+use Rattle.records.specs.RecordValue.{RecordValue}
+use Rattle.model.specs.Given.{given_after}
+use Rattle.model.specs.History.{Checkpointed, Committed, Completed, Created, Deed, Item}
+use Rattle.model.specs.Table.{applied, Table}
+use Rattle.model.specs.declared.write.Write.{Write}
+use Rattle.core_model.specs.Histories.{no_writes, Opened}
+use Rattle.core_contracts.specs.Events.{Event, Reply}
+use Rattle.core_contracts.specs.Served.{items_of}
+use Rattle.core_laws.specs.Holds.{committed_rows}
+use Rattle.nsf_core.specs.View.{CoreValue}
+use Rattle.sessions.specs.Values.{SessionValue}
+use Rattle.register.specs.Register.{AreBySeats, Commits, made_by}
+
+-- ---- the table of commits
+
+-- the table with the rows of these commits set over it, one commit after the other
+abbrev pub with_commits : Table → Commits → Table
+with_commits table [] = table
+with_commits table (c ∷ cs) = with_commits (applied table c.1.writes) cs
+
+-- those of them whose records have a number up to this one
+abbrev pub commits_up_to : ℕ → Commits → Commits
+commits_up_to number commits = filter (λ c. nat_le c.1.ticket.«record» number) commits
+
+-- ---- the commits and the creations of a history
+
+-- the number of the record of a commit, and what it writes
+abbrev pub commit_told : ℕ → Deed → List (ℕ × List Write)
+commit_told number (Committed writes) = (number, writes) ∷ []
+commit_told number Created = []
+commit_told number (Checkpointed pair) = []
+commit_told number Completed = []
+
+abbrev pub commits_told : List Item → List (ℕ × List Write)
+commits_told [] = []
+commits_told (item ∷ items) = commit_told item.number item.deed ++ commits_told items
+
+abbrev pub creation_told : ℕ → Deed → List ℕ
+creation_told number (Committed writes) = []
+creation_told number Created = number ∷ []
+creation_told number (Checkpointed pair) = []
+creation_told number Completed = []
+
+-- the numbers of the records of the creations
+abbrev pub creations_told : List Item → List ℕ
+creations_told [] = []
+creations_told (item ∷ items) = creation_told item.number item.deed ++ creations_told items
+
+-- ---- they are those of the sessions
+
+-- One after the other over this table, these commits are those that a history tells: each has the number of the commit's record, and its rows leave the table that the commit's writes leave.
+abbrev pub AreThose : Table → List (ℕ × List Write) → Commits → Type 0
+AreThose table [] [] = Unit {0}
+AreThose table (told ∷ more) (c ∷ cs) = (c.1.ticket.«record» ≡ told.0) × (applied table c.1.writes ≡ applied table told.1) × AreThose (applied table told.1) more cs
+AreThose table [] (c ∷ cs) = ⊥
+AreThose table (told ∷ more) [] = ⊥
+
+-- the numbers of their records rise, from above the one to at most the other
+abbrev pub AreRisingTo : (from to : ℕ) → Commits → Type 0
+AreRisingTo from to [] = from ≤ to
+AreRisingTo from to (c ∷ cs) = (from < c.1.ticket.«record») × AreRisingTo c.1.ticket.«record» to cs
+
+-- The creations of all sessions are those with records of these numbers, in order; and a session has those of its seat.
+pub record AreAllCreations (book : List SessionValue) (numbers : List ℕ) : Type 0 where
+  pub creations : List (ℕ × ℕ)
+  pub told : map (λ (c : ℕ × ℕ). c.1) creations ≡ numbers
+  pub by_seats : AreBySeats (length book) creations
+  pub in_sessions : (seat : ℕ) (session : SessionValue) → slice_get book seat ≡ Some session → session.creations ≡ made_by seat creations
+
+-- The commits of all sessions, in the order of their numbers, are those of the history that these calls tell, up to the record of this number; and the creations of the sessions are its creations.
+pub record AreOfHistory (o : Opened) (calls : List (Event × Reply)) (last : ℕ) (book : List SessionValue) (commits : Commits) : Type 0 where
+  pub those : AreThose o.given.table (commits_told (items_of no_writes calls)) commits
+  pub rising : AreRisingTo o.given.last last commits
+  pub creations : AreAllCreations book (creations_told (items_of no_writes calls))
+
+-- ---- what whoever gets at the core finds
+
+-- For each record number from that of the opening on, the records up to it, with the uncommitted changes taken back, give the table of the opening with the commits up to it set over it in order. With all records that is the core's committed table.
+pub record ShowsCommits (o : Opened) (records : List RecordValue) (core : CoreValue) (commits : Commits) : Type 0 where
+  pub recovered : (number : ℕ) → o.given.last ≤ number → (given_after o.given (take (number - o.given.last) records)).table ≡ with_commits o.given.table (commits_up_to number commits)
+  pub committed : committed_rows core ≡ with_commits o.given.table commits
