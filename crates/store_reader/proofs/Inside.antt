@@ -1,5 +1,5 @@
 -- What an image holds lies in the store's pages, and its lists are as those of records that follow one another.
-use Rattle.std.proofs.Common.{◌≡◌, ◌≢◌, ◌⊎◌, inl, inr, ℕ, suc, ◌+◌, ◌<◌, ◌≤◌, Bool, true, false, cond, List, [], ◌∷◌, length, Option, Some, None, unwrap_or, refl, sym, ap, subst, ◌∙◌, arith}
+use Rattle.std.proofs.Common.{◌≡◌, ◌≢◌, ◌⊎◌, inl, inr, ℕ, suc, ◌+◌, ◌<◌, ◌≤◌, Bool, true, false, cond, List, [], ◌∷◌, All, length, Option, Some, None, unwrap_or, refl, sym, ap, subst, ◌∙◌, arith}
 use Rattle.std.specs.Prelude.{slice_get}
 use Rattle.std.specs.Option.{option_map}
 use Rattle.std.proofs.lemmas.List.{length-map}
@@ -21,6 +21,7 @@ use Rattle.model.specs.Cells.{Cells, list_of}
 use Rattle.model.specs.Following.{ArePlaced}
 use Rattle.model.specs.Inside.{AreChangesWithin, AreInside}
 use Rattle.image_half.specs.Image.{IsImage, head_of}
+use Rattle.store_reader.proofs.Slots.{Slotted}
 
 option_cases : {A : Type 0} (o : Option A) → (o ≡ None) ⊎ ((x : A) × (o ≡ Some x))
 option_cases None = inl refl
@@ -58,6 +59,10 @@ placed pages n (c ∷ changes) each =
     further : (p : ℕ) (d : ChangeValue) → d.position ≡ n + suc p → d.position ≡ (n + 1) + p
     further p d e = omega (arith, e)
 
+slotted : (changes : List ChangeValue) → ((p : ℕ) (c : ChangeValue) → slice_get changes p ≡ Some c → Slotted c) → All Slotted changes
+slotted [] each = All-nil Slotted
+slotted (c ∷ changes) each = All-cons Slotted c changes (each 0 c refl) (slotted changes (λ p d is. each (suc p) d is))
+
 within : (pages : ℕ) (changes : List ChangeValue) → ((p : ℕ) (c : ChangeValue) → slice_get changes p ≡ Some c → c.rid.page < pages) → AreChangesWithin pages changes
 within pages [] each = All-nil (λ (c : ChangeValue). c.rid.page < pages)
 within pages (c ∷ changes) each = All-cons (λ (d : ChangeValue). d.rid.page < pages) c changes (each 0 c refl) (within pages changes (λ p d is. each (suc p) d is))
@@ -89,6 +94,9 @@ module _ (g : GeometryValue) (first : ℕ) (image : Image) (base : ℕ) (cells :
 
     lists_within : AreChangesWithin g.pages (list_of cells.pending txn)
     lists_within = by_list (AreChangesWithin g.pages) (All-nil (λ (c : ChangeValue). c.rid.page < g.pages)) (λ h list at. within g.pages list (λ p c at_p. ((is.lists h (txn, list) at).items p c at_p).inside))
+
+    pub lists_slotted : All Slotted (list_of cells.pending txn)
+    lists_slotted = by_list (All Slotted) (All-nil Slotted) (λ h list at. slotted list (λ p c at_p. ((is.lists h (txn, list) at).items p c at_p).fits.rid.slot))
 
     pub lists_short : length (list_of cells.pending txn) ≤ CHANGES_MAX
     lists_short = by_list (λ list. length list ≤ CHANGES_MAX) (omega arith) (λ h list at. (is.heads-are.fits h (head_of (txn, list)) (slice_get-map head_of (finite.entries cells.pending) h ∙ ap (option_map head_of) at)).changes)

@@ -1,3 +1,5 @@
+mod Slots
 mod Inside
+mod Room
 mod Refusals
 pub mod Readings

@@ -14,12 +14,14 @@ ghost use Rattle.model.specs.Given.{Given, given_after, nothing, opening_cells};
 ghost use Rattle.model.specs.Inside.{AreInside};
 ghost use Rattle.gate_log.specs.Area.{InArea, Log, HoldsGroups, records_of};
 ghost use Rattle.image_half.specs.Image.{no_cells};
+ghost use Rattle.image_half.specs.Source.{FitsImage};
 ghost use Rattle.flip_image.specs.declared.half.Half.{Half};
 ghost use Rattle.flip_image.specs.declared.half.Half.TheVariants.{A};
 ghost use Rattle.flip_image.specs.Store.{IsStore, IsFormatted, AreGatesClosed, HoldsImage};
 ghost use Rattle.store_reader.specs.Contents.{log_area, given_over, Gives, IsFound, IsUnreadable, IsUntouched};
 
 use flip_image::fresh_image;
+use image_half::fitting_cells;
 use model::beginnings;
 
 /// A law: an image is of one geometry and gives one thing at most, of one log, and then no reader refuses it; and it is
@@ -64,3 +66,10 @@ pub fn image_inside()
     ensures short { (g : GeometryValue) (half : Half) (image : Image) (base : ℕ) (cells : Cells) → HoldsImage g half image base cells → (txn : ℕ) → length (list_of cells.pending txn) ≤ CHANGES_MAX }
     ensures placed { (g : GeometryValue) (half : Half) (image : Image) (base : ℕ) (cells : Cells) → HoldsImage g half image base cells → (txn : ℕ) → ArePlaced g.pages 0 (list_of cells.pending txn) }
 {}
+
+/// A law: an image of a store has room for what the store gives.
+pub fn room_for_given()
+    ensures { (image : Image) (g : GeometryValue) (given : Given) → Gives image g given → FitsImage g (opening_cells given) }
+{
+    fitting_cells();
+}

@@ -5,5 +5,7 @@
 mod laws;
 mod reader;
 
-pub use laws::{format_gives_nothing, image_inside, log_alone, one_answer, over_no_cells};
+pub use laws::{
+    format_gives_nothing, image_inside, log_alone, one_answer, over_no_cells, room_for_given,
+};
 pub use reader::{Found, read_store};

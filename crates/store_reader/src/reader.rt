@@ -23,6 +23,8 @@ use std::alloc::Allocator;
 /// What a store holds.
 #[derive(Drop)]
 pub struct Found<A: Allocator> {
+    /// Its halves.
+    pub halves: Halves,
     /// The log of its current half, with as many open slots as there are groups in it.
     pub log: LogArea,
     /// What the log's records make of the cells of its current half's image, with every unfinished transaction taken back.
@@ -121,6 +123,7 @@ pub fn read_store<D: Device, A: Allocator + Copy>(
     device: &mut D,
 ) -> Result<Found<A>, Error>
     ensures found { IfOk result (λ found. IsFound (D.history device.old).disk.content found.restored.geometry found.log (given_in found.restored)) }
+    ensures halves { IfOk result (λ found. IsStore found.halves.geometry found.halves.current (D.history device.old).disk.content) }
     ensures untouched { IfOk result (λ found. IsTrue found.untouched ↔ IsUntouched (D.history device.old).disk.content found.restored.geometry) }
     ensures area { IfOk result (λ found. IsAreaInside found.log.area (D.history device.old).disk.content) }
     ensures numbered { IfOk result (λ found. found.restored.last ≤ LAST_NUMBER) }
@@ -146,6 +149,7 @@ pub fn read_store<D: Device, A: Allocator + Copy>(
                 });
             }
             Ok(Found {
+                halves,
                 log,
                 restored,
                 untouched: is_untouched(bare, &records),

@@ -1,19 +1,18 @@
 -- The records above an image's base are carried on behind a group that was added to the current half's log.
-use Rattle.std.proofs.Common.{◌≡◌, ◌⊎◌, ℕ, ◌+◌, ◌-◌, ◌*◌, ◌<◌, ◌≤◌, true, false, List, [], length, take, drop, Option, Some, None, IfSome, refl, sym, ap, subst, ◌∙◌, arith, length-take}
+use Rattle.std.proofs.Common.{◌≡◌, ℕ, ◌+◌, ◌≤◌, true, length, take, drop, Option, Some, IfSome, sym, ap, subst, ◌∙◌, arith, length-take}
 use Rattle.std.proofs.lemmas.Bool.{false≢true}
 use Rattle.sector_device.specs.Disk.{Image, IsSynced, SameOutside}
 use Rattle.sector_device.specs.History.{History, LeavesOnly}
 use Rattle.sector_device.proofs.Moments.{weaker, at_end}
 use Rattle.sector_device.proofs.Sectors.{crash_synced, same_outside_wider}
 use Rattle.records.specs.GeometryValue.{GeometryValue}
-use Rattle.records.specs.RecordValue.{RecordValue}
 use Rattle.gate_log.specs.Area.{Area, Log, InArea, IsAreaInside, Stands}
 use Rattle.gate_log.proofs.Readings.{told_by_its_sectors}
 use Rattle.flip_image.specs.declared.half.Half.{Half}
 use Rattle.flip_image.specs.Layout.{HalvesValue, other, InHalf}
 use Rattle.flip_image.specs.Store.{IsStore}
 use Rattle.flip_image.proofs.Sides.{other_apart, log_inside}
-use Rattle.image_model.specs.Run.{Run, IsRun, end_of, cells_at, records_between}
+use Rattle.image_model.specs.Run.{Run, cells_at, records_between}
 use Rattle.store_reader.specs.Contents.{log_area}
 use Rattle.store_writer.specs.declared.writer.Writer.{Writer}
 use Rattle.store_writer.specs.declared.image.NewImage.{NewImage}
@@ -23,6 +22,7 @@ use Rattle.store_writer.specs.Writer.{StandsFor, IsWriter, HasAppended}
 use Rattle.store_writer.proofs.Numbers.{front_between, back_between, length_between}
 use Rattle.store_writer.proofs.Halves.{SameIn, in_from_outside, half_apart, store_apart, log_room}
 use Rattle.store_writer.proofs.Underway.{new_log_in_half}
+use Rattle.store_writer.proofs.Left.{left_by}
 
 module _ {D M : Type 0} (history : D → History) (run : Run) (handed count : ℕ) (w : Writer D M) (is : HasAppended history run handed count w) where
   abbrev content : Image
@@ -69,7 +69,7 @@ module _ {D M : Type 0} (history : D → History) (run : Run) (handed count : �
     }
 
     left_there : (floor : ℕ) → floor ≤ w.synced + count → LeftBy run floor handed c
-    left_there floor least = record { number = w.synced + count; least = least; most = is.within; has = record { half = half; store = store_there; has = has_there } }
+    left_there floor least = left_by run floor handed (w.synced + count) c least is.within (record { half = half; store = store_there; has = has_there })
 
   pub leaves_there : (new : History) → LeavesOnly (history w.device) new (SameOutside (InNewLog w.image) content) → LeavesOnly (history w.device) new (LeftBy run w.synced handed)
   leaves_there new run_ = weaker (history w.device) new (SameOutside (InNewLog w.image) content) (LeftBy run w.synced handed) (λ c same. left_there c same w.synced (omega arith)) run_

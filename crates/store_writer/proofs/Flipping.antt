@@ -1,5 +1,5 @@
 -- What a flip leaves.
-use Rattle.std.proofs.Common.{◌≡◌, ◌⊎◌, inl, inr, ⊎_elim, ℕ, ◌+◌, ◌-◌, ◌<◌, ◌≤◌, max, true, false, List, [], length, drop, Option, Some, None, IfSome, refl, sym, ap, subst, ◌∙◌, arith}
+use Rattle.std.proofs.Common.{◌≡◌, inl, inr, ⊎_elim, ℕ, ◌+◌, ◌-◌, ◌≤◌, false, List, length, drop, Option, None, IfSome, sym, ap, subst, ◌∙◌, arith}
 use Rattle.std.proofs.lemmas.Bool.{false≢true}
 use Rattle.sector_device.specs.Disk.{Image, sector, IsSynced, SameOutside}
 use Rattle.sector_device.specs.History.{History, LeavesOnly}
@@ -8,8 +8,8 @@ use Rattle.sector_device.proofs.Sectors.{crash_synced, same_outside_wider}
 use Rattle.records.specs.GeometryValue.{GeometryValue}
 use Rattle.records.specs.RecordValue.{RecordValue}
 use Rattle.model.specs.Following.{AreFollowing}
-use Rattle.model.specs.Cells.{Cells, cells_after}
-use Rattle.gate_log.specs.Area.{Area, Log, InArea, HoldsGroups, Stands, records_of}
+use Rattle.model.specs.Cells.{cells_after}
+use Rattle.gate_log.specs.Area.{Area, Log, InArea, HoldsGroups, Stands}
 use Rattle.gate_log.proofs.Readings.{told_by_its_sectors}
 use Rattle.flip_image.specs.declared.half.Half.{Half}
 use Rattle.flip_image.specs.Layout.{HalvesValue, other, InHalf}
@@ -25,8 +25,9 @@ use Rattle.store_writer.specs.declared.image.Stage.TheVariants.{Whole}
 use Rattle.store_writer.specs.Image.{IsWhole, IsContent, IsUnderway, reach}
 use Rattle.store_writer.specs.Writer.{StandsFor, IsWriter}
 use Rattle.store_writer.proofs.Numbers.{back_between, last_between}
-use Rattle.store_writer.proofs.Halves.{SameIn, in_from_outside, half_apart}
+use Rattle.store_writer.proofs.Halves.{in_from_outside, half_apart}
 use Rattle.store_writer.proofs.Taking.{stand, left_kept}
+use Rattle.store_writer.proofs.Left.{left_by}
 
 -- An image whose log reaches its last step gives the cells after the last record of that log.
 pub underway_has : (run : Run) (half : Half) (image : Image) (synced : ℕ) (new : NewImage) → IsRun run → IsUnderway run half image synced new → new.stage ≡ Whole → new.number ≤ reach new synced → reach new synced ≤ end_of run
@@ -81,8 +82,8 @@ module _ {D M : Type 0} (history : D → History) (run : Run) (handed : ℕ) (ol
   left_flipping c (inl loose) = left_kept history run handed old is sound c
       (same_outside_wider _ (InHalf g to) content c (λ k unsynced. image_inside g to k ((stand history run handed old is sound).loose k unsynced)) loose)
   left_flipping c (inr same) = ⊎_elim
-      (λ store. record { number = old.synced; least = omega arith; most = is.reached; has = record { half = from; store = store; has = this_has c same } })
-      (λ store. record { number = n; least = up; most = handed_in; has = record { half = to; store = store; has = other_has c same } })
+      (λ store. left_by run old.synced handed old.synced c (omega arith) is.reached (record { half = from; store = store; has = this_has c same }))
+      (λ store. left_by run old.synced handed n c up handed_in (record { half = to; store = store; has = other_has c same }))
       (either_store g from content c same (stand history run handed old is sound).store)
 
   pub leaves_flipping : (new : History) → LeavesOnly (history old.device) new (IsFlipping (history old.device).disk) → LeavesOnly (history old.device) new (LeftBy run old.synced handed)
@@ -136,5 +137,5 @@ module _ {D M : Type 0} (history : D → History) (run : Run) (handed : ℕ) (ol
       holds = λ _. stood_now;
       images = λ image crash.
           let is_now : image ≡ now = crash_synced (history new.device).disk image all crash in
-          subst (LeftBy run new.synced handed) (sym is_now) (record { number = n; least = omega (arith, synced_is); most = handed_in; has = record { half = to; store = store_now; has = other_has now same } });
+          subst (LeftBy run new.synced handed) (sym is_now) (left_by run new.synced handed n now (omega (arith, synced_is)) handed_in (record { half = to; store = store_now; has = other_has now same }));
     }

@@ -1,7 +1,6 @@
 -- What a writer is opened over, and what a reader finds of it.
-use Rattle.std.proofs.Common.{◌≡◌, ℕ, ◌+◌, ◌-◌, ◌<◌, ◌≤◌, List, [], ◌++◌, length, take, drop, refl, sym, ap, subst, ◌∙◌, arith, length-take, length-append}
+use Rattle.std.proofs.Common.{◌≡◌, ℕ, ◌+◌, ◌-◌, ◌≤◌, List, [], ◌++◌, length, take, drop, refl, sym, ap, subst, ◌∙◌, arith, length-take, length-append}
 use Rattle.std.proofs.Math.Seq.{take-length, drop-append_seam}
-use Rattle.std.specs.FinMap.{len}
 use Rattle.sector_device.specs.Disk.{Image, IsSynced}
 use Rattle.sector_device.specs.History.{History}
 use Rattle.records.specs.RecordValue.{RecordValue}
@@ -12,28 +11,15 @@ use Rattle.model.specs.Following.{AreFollowing, ArePlaced}
 use Rattle.model.specs.Given.{Given, given_after, opening_cells, recovered}
 use Rattle.model.proofs.FollowingLaws.{following-append}
 use Rattle.model.proofs.PlacedLaws.{following_placed}
-use Rattle.gate_log.specs.Area.{Log, records_of}
+use Rattle.gate_log.specs.Area.{Area, Log, HoldsGroups, Stands}
 use Rattle.flip_image.specs.declared.half.Half.{Half}
 use Rattle.flip_image.specs.Layout.{HalvesValue}
 use Rattle.flip_image.specs.Store.{IsStore, HoldsImage}
 use Rattle.flip_image.proofs.Stores.{one_half}
 use Rattle.image_model.specs.Run.{Run, IsRun, end_of, cells_at, records_to}
-use Rattle.store_reader.specs.Contents.{Gives, IsFound, log_area}
-use Rattle.store_writer.specs.Contents.{HalfHas, StoreHas}
+use Rattle.store_reader.specs.Contents.{IsFound, log_area}
+use Rattle.store_writer.specs.Contents.{HalfHas}
 use Rattle.store_writer.specs.Writer.{IsOpenedAt, longer, AreNext}
-
-pub gives : (g : GeometryValue) (image : Image) (last : ℕ) (cells : Cells) → StoreHas g image last cells → len (recovered cells last).entries ≤ g.entries → Gives image g (recovered cells last)
-gives g image last cells store room =
-    let has = store.has in
-    record {
-      half = store.half;
-      base = has.base;
-      cells = has.copied;
-      records = records_of has.groups;
-      holds = record { store = store.store; imaged = has.imaged; groups = has.groups; held = has.held; all = refl; following = has.following };
-      recovered = ap (λ (x : Cells). recovered x last) has.cells-are ∙ ap (recovered (cells_after has.copied (records_of has.groups))) has.last-is;
-      room = room;
-    }
 
 pub prefix : (run : Run) (opening : Given) (n : ℕ) → run.cells ≡ opening_cells opening → run.last ≡ opening.last → run.last ≤ n → n ≤ end_of run → recovered (cells_at run n) n ≡ given_after opening (records_to run n)
 prefix run opening n cells last low made =
@@ -85,6 +71,30 @@ module _ (now : History) (halves : HalvesValue) (log : Log) (given : Given) (sto
       small = small;
     },
   )
+
+-- over an image with an empty log
+pub over_image : (now : History) (halves : HalvesValue) (log : Log) (last : ℕ) (cells : Cells) → IsStore halves.geometry halves.current now.disk.content → HoldsImage halves.geometry halves.current now.disk.content last cells
+    → log.area ≡ log_area halves.geometry halves.current → Stands log now.disk.content [] → IsSynced now.disk → last ≤ LAST_NUMBER → ((txn : ℕ) → ArePlaced halves.geometry.pages 0 (list_of cells.pending txn))
+    → IsOpenedAt now halves log last cells
+over_image now halves log last cells store imaged area stands all small placed = record {
+  store = store;
+  has = record {
+    base = last;
+    copied = cells;
+    imaged = imaged;
+    groups = [];
+    held = subst (λ (a : Area). HoldsGroups a now.disk.content []) area stands.held;
+    following = tt;
+    last-is = omega arith;
+    cells-are = refl;
+  };
+  area-is = area;
+  groups = [];
+  stands = stands;
+  all_synced = all;
+  placed = placed;
+  small = small;
+}
 
 -- ---- more records
 

@@ -1,11 +1,17 @@
 mod Numbers
+mod Left
 mod Halves
 mod Underway
 mod Writing
 mod CarryOn
+pub mod Around
+mod Logs
 mod Idle
 mod Taking
 mod Copying
 mod Flipping
+mod Replies
+mod Places
+mod Pieces
 mod Opening
 mod Given

@@ -1,26 +1,23 @@
 -- How a writer begins, and goes on where more records are made or handed in.
-use Rattle.std.proofs.Common.{Result, Ok, Err, OnOk, OnErr, ◌≡◌, ℕ, ◌+◌, ◌-◌, ◌<◌, ◌≤◌, true, false, List, [], ◌∷◌, ◌++◌, length, take, drop, max, Option, Some, None, IfSome, refl, sym, ap, subst, ◌∙◌, arith, length-append, length-drop}
+use Rattle.std.proofs.Common.{Result, Ok, Err, OnOk, OnErr, ◌≡◌, ℕ, ◌+◌, ◌-◌, ◌≤◌, false, List, [], ◌++◌, length, take, drop, Option, Some, None, IfSome, refl, sym, ap, subst, ◌∙◌, arith, length-append, length-drop}
 use Rattle.std.proofs.lemmas.List.{take-append-le, drop-append-le}
 use Rattle.sector_device.specs.Disk.{Image, IsCrashImage}
 use Rattle.sector_device.specs.History.{History}
 use Rattle.sector_device.proofs.Sectors.{crash_synced}
 use Rattle.records.specs.RecordValue.{RecordValue}
 use Rattle.model.specs.Cells.{Cells, cells_after}
-use Rattle.gate_log.specs.Area.{Log}
 use Rattle.flip_image.specs.Layout.{HalvesValue}
 use Rattle.image_model.specs.Run.{Run, IsRun, end_of, cells_at, records_between}
 use Rattle.store_writer.specs.declared.writer.Writer.{Writer}
 use Rattle.store_writer.specs.Contents.{HalfHas, StoreHas, LeftBy}
 use Rattle.store_writer.specs.Writer.{StandsFor, IsWriter, IsOpenedAt, opened_run, longer, AreNext, IsSomewhere}
 use Rattle.std.proofs.lemmas.Bool.{false≢true}
-use Rattle.model.specs.Images.{IsCopied}
 use Rattle.std.specs.FinMap as map
 use Rattle.flip_image.specs.declared.half.Half.{Half}
 use Rattle.flip_image.specs.Layout.{other, header_sector}
 use Rattle.records.specs.declared.pair.Pair.{Pair}
 use Rattle.model.specs.Inside.{AreInside}
 use Rattle.model.specs.Table.{Table, Index}
-use Rattle.model.specs.declared.life.Life.{Life}
 use Rattle.image_half.specs.Part.{IsImagePart}
 use Rattle.image_model.specs.Partly.{IsPartlyCopied}
 use Rattle.store_writer.specs.declared.image.Stage.{Stage}
@@ -29,6 +26,7 @@ use Rattle.image_model.specs.Run.{IsCopiedFrom, records_above}
 use Rattle.store_writer.specs.declared.image.NewImage.{NewImage}
 use Rattle.store_writer.specs.Image.{IsContent, IsUnderway, reach}
 use Rattle.store_writer.proofs.Numbers.{between_split, none_between}
+use Rattle.store_writer.proofs.Left.{left_by}
 
 -- ---- more records are made
 
@@ -45,12 +43,8 @@ module _ (run : Run) (more : List RecordValue) where
   longer_end = omega (arith, length-append run.records more)
 
   longer_left : (floor handed : ℕ) (image : Image) → handed ≤ end_of run → LeftBy run floor handed image → LeftBy (longer run more) floor handed image
-  longer_left floor handed image made left = record {
-    number = left.number;
-    least = left.least;
-    most = left.most;
-    has = subst (StoreHas run.geometry image left.number) (sym (same_cells_at left.number (omega (arith, left.most, made)))) left.has;
-  }
+  longer_left floor handed image made left =
+      left_by (longer run more) floor handed left.number image left.least left.most (subst (StoreHas run.geometry image left.number) (sym (same_cells_at left.number (omega (arith, left.most, made)))) left.has)
 
   same_part : (base n : ℕ) → base ≤ end_of run → base + n ≤ end_of run → run.last ≤ base → take n (records_above (longer run more) base) ≡ take n (records_above run base)
   same_part base n low made opened =
@@ -152,7 +146,7 @@ module _ {D M : Type 0} (history : D → History) (run : Run) (handed : ℕ) (ol
     holds = stands;
     images = λ image crash.
         let left = is.images image (subst (λ (x : D). IsCrashImage (history x).disk image) d crash) in
-        record { number = left.number; least = omega (arith, left.least, s); most = omega (arith, left.most); has = left.has };
+        left_by run new.synced (handed + length records) left.number image (omega (arith, left.least, s)) (omega (arith, left.most)) left.has;
   }
 
 -- ---- the beginning
@@ -181,12 +175,8 @@ opened_writer history cells w is empty none = record {
   };
   images = λ image crash.
       let same : image ≡ (history w.device).disk.content = crash_synced (history w.device).disk image is.all_synced crash in
-      subst (LeftBy (opened_run w.halves w.synced cells) w.synced w.synced) (sym same) (record {
-        number = w.synced;
-        least = omega arith;
-        most = omega arith;
-        has = record { half = w.halves.current; store = is.store; has = subst (HalfHas w.halves.geometry w.halves.current (history w.device).disk.content w.synced) (no_record w.synced cells) is.has };
-      });
+      subst (LeftBy (opened_run w.halves w.synced cells) w.synced w.synced) (sym same) (left_by (opened_run w.halves w.synced cells) w.synced w.synced w.synced (history w.device).disk.content (omega arith) (omega arith)
+      (record { half = w.halves.current; store = is.store; has = subst (HalfHas w.halves.geometry w.halves.current (history w.device).disk.content w.synced) (no_record w.synced cells) is.has }));
 }
 
 -- whatever `hand_in` answers, the writer is somewhere

@@ -21,6 +21,7 @@ use Rattle.store_writer.specs.declared.image.Stage.TheVariants.{Whole}
 use Rattle.store_writer.specs.Image.{IsContent, IsUnderway, reach}
 use Rattle.store_writer.specs.Writer.{StandsFor, IsWriter}
 use Rattle.store_writer.proofs.Numbers.{none_between}
+use Rattle.store_writer.proofs.Left.{left_by}
 use Rattle.store_writer.proofs.Halves.{SameIn, in_from_outside, half_apart, store_apart}
 
 -- an image of one moment, whose log is empty
@@ -66,7 +67,7 @@ module _ {D M : Type 0} (history : D → History) (run : Run) (handed : ℕ) (ol
     has_kept = half_apart g half content c half_kept old.synced (cells_at run old.synced) stand.has
 
     pub left_kept : LeftBy run old.synced handed c
-    left_kept = record { number = old.synced; least = omega arith; most = is.reached; has = record { half = half; store = store_kept; has = has_kept } }
+    left_kept = left_by run old.synced handed old.synced c (omega arith) is.reached (record { half = half; store = store_kept; has = has_kept })
 
     stands_kept : Stands old.log c stand.groups
     stands_kept = record {

@@ -25,6 +25,7 @@ use Rattle.store_writer.specs.Writer.{StandsFor, IsWriter, HasAppended}
 use Rattle.store_writer.proofs.Numbers.{length_between, front_between, between_following}
 use Rattle.store_writer.proofs.Halves.{SameIn, in_from_outside, log_room, same_groups, one_group_more}
 use Rattle.store_writer.proofs.Underway.{if_underway_apart}
+use Rattle.store_writer.proofs.Left.{left_by}
 
 pub not_true : (b : Bool) → ¬ (b ≡ true) → b ≡ false
 not_true true not = absurd (not refl)
@@ -100,12 +101,8 @@ module _ {D M : Type 0} (history : D → History) (run : Run) (handed : ℕ) (ol
 
       -- the groups as they were
       left_without : HoldsGroups old.log.area c stood.has.groups → LeftBy run old.synced handed c
-      left_without held = record {
-        number = old.synced;
-        least = omega arith;
-        most = is.reached;
-        has = record { half = half; store = store_there; has = same_groups g half disk.content c old.synced (cells_at run old.synced) stood.has image_there (there stood.has.groups held) };
-      }
+      left_without held = left_by run old.synced handed old.synced c (omega arith) is.reached
+          (record { half = half; store = store_there; has = same_groups g half disk.content c old.synced (cells_at run old.synced) stood.has image_there (there stood.has.groups held) })
 
       -- and one group more
       pub has_more : HoldsGroups old.log.area c (stood.has.groups ++ group ∷ []) → HalfHas g half c (old.synced + count) (cells_at run (old.synced + count))
@@ -114,7 +111,7 @@ module _ {D M : Type 0} (history : D → History) (run : Run) (handed : ℕ) (ol
           subst (λ (x : Cells). HalfHas g half c (old.synced + count) x) cells_new (subst (λ n. HalfHas g half c (old.synced + n) (cells_after (cells_at run old.synced) group)) group_size more)
 
       left_with : (floor : ℕ) → floor ≤ old.synced + count → HoldsGroups old.log.area c (stood.has.groups ++ group ∷ []) → LeftBy run floor handed c
-      left_with floor least held = record { number = old.synced + count; least = least; most = total; has = record { half = half; store = store_there; has = has_more held } }
+      left_with floor least held = left_by run floor handed (old.synced + count) c least total (record { half = half; store = store_there; has = has_more held })
 
     -- what a crash leaves of an append
     pub left : (c : Image) → IsAppended old.log disk group c → LeftBy run old.synced handed c

@@ -1,15 +1,17 @@
 -- What a half of a store has, and what a crash leaves of a run of records.
 use Rattle.std.specs.Prelude.{◌≡◌, ℕ, ◌+◌, ◌≤◌, List, length}
+use Rattle.std.specs.FinMap.{len}
 use Rattle.sector_device.specs.Disk.{Image}
 use Rattle.records.specs.RecordValue.{RecordValue}
 use Rattle.records.specs.GeometryValue.{GeometryValue}
 use Rattle.model.specs.Cells.{Cells, cells_after}
 use Rattle.model.specs.Following.{AreFollowing}
+use Rattle.model.specs.Given.{recovered}
 use Rattle.gate_log.specs.Area.{HoldsGroups, records_of}
 use Rattle.flip_image.specs.declared.half.Half.{Half}
 use Rattle.flip_image.specs.Store.{IsStore, HoldsImage}
 use Rattle.image_model.specs.Run.{Run, cells_at}
-use Rattle.store_reader.specs.Contents.{log_area}
+use Rattle.store_reader.specs.Contents.{Gives, log_area}
 
 -- The half holds an image, and its log records that follow it: with them over the image the cells are these, after record
 -- `last`.
@@ -29,9 +31,11 @@ pub record StoreHas (g : GeometryValue) (image : Image) (last : ℕ) (cells : Ce
   pub store : IsStore g half image
   pub has : HalfHas g half image last cells
 
--- the image has the cells after some record of the run, no earlier than `floor` and no later than `handed`
+-- The image has the cells after some record of the run, no earlier than `floor` and no later than `handed`. A reader finds what
+-- is recovered of them, where the geometry has a place for each entry.
 pub record LeftBy (run : Run) (floor handed : ℕ) (image : Image) : Type 0 where
   pub number : ℕ
   pub least : floor ≤ number
   pub most : number ≤ handed
   pub has : StoreHas run.geometry image number (cells_at run number)
+  pub gives : len (recovered (cells_at run number) number).entries ≤ run.geometry.entries → Gives image run.geometry (recovered (cells_at run number) number)

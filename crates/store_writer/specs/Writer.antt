@@ -1,9 +1,9 @@
 -- What the writer keeps of the records that were handed to it, and of the image under way.
-use Rattle.std.specs.Prelude.{◌≡◌, ◌≢◌, ◌⊎◌, ℕ, ◌+◌, ◌-◌, ◌≤◌, ◌<◌, true, false, List, [], ◌++◌, length, take, Option, Some, None, IfSome, slice_get}
+use Rattle.std.specs.Prelude.{◌≡◌, ◌≢◌, ◌⊎◌, ℕ, ◌+◌, ◌-◌, ◌≤◌, ◌<◌, true, false, List, [], ◌++◌, length, take, drop, Option, Some, None, IfSome, slice_get}
 use Rattle.std.specs.Option.{option_map_or}
 use Rattle.std.specs.FinMap as map
-use Rattle.sector_device.specs.Disk.{Image, IsSynced, IsCrashImage}
-use Rattle.sector_device.specs.History.{History, Rises}
+use Rattle.sector_device.specs.Disk.{Image, IsSynced, IsCrashImage, SameOutside}
+use Rattle.sector_device.specs.History.{History, LeavesOnly, Rises}
 use Rattle.records.specs.RecordValue.{RecordValue}
 use Rattle.records.specs.declared.number.TheConstants.{LAST_NUMBER}
 use Rattle.records.specs.declared.error.Error.{Error}
@@ -22,7 +22,7 @@ use Rattle.model.specs.Following.{ArePlaced}
 use Rattle.gate_log.specs.Area.{Log, Stands}
 use Rattle.gate_log.specs.Group.{FitsGroup, spellings}
 use Rattle.gate_log.specs.declared.group.TheConstants.{GROUP_MAX}
-use Rattle.flip_image.specs.Layout.{HalvesValue, other, InHalfImage}
+use Rattle.flip_image.specs.Layout.{HalvesValue, other, InHalfImage, InLog}
 use Rattle.flip_image.specs.Store.{IsStore}
 use Rattle.image_model.specs.Run.{Run, IsRun, end_of, cells_at, records_between}
 use Rattle.store_reader.specs.Contents.{log_area}
@@ -121,6 +121,22 @@ pub record AreNext (run : Run) (handed : ℕ) (records : List RecordValue) : Typ
   pub small : handed + length records ≤ LAST_NUMBER
   pub records-are : records ≡ records_between run handed (handed + length records)
 
+-- ---- what a flush writes
+
+-- a sector of the current half's log or, where an image is under way, of the other half's
+abbrev pub InLogs : {D M : Type 0} → Writer D M → ℕ → Type 0
+InLogs w n = InLog w.halves.geometry w.halves.current n ⊎ ((w.image ≢ None) × InLog w.halves.geometry (other w.halves.current) n)
+
+-- Only these logs were written, and they lie where they lay. Each other sector holds what it held before the call, and so it
+-- does after a crash at any moment of the call, if it was synced before. One that was not, such as one of an image under way,
+-- may hold anything after a crash, as it might before.
+pub record WritesLogsAlone {D M : Type 0} (history : D → History) (old new : Writer D M) : Type 0 where
+  pub halves-are : new.halves ≡ old.halves
+  pub area-is : new.log.area ≡ old.log.area
+  pub none-begun : old.image ≡ None → new.image ≡ None
+  pub now : SameOutside (InLogs old) (history old.device).disk.content (history new.device).disk.content
+  pub images : LeavesOnly (history old.device) (history new.device) (SameOutside (λ n. InLogs old n ⊎ ((history old.device).disk.unsynced n ≡ true)) (history old.device).disk.content)
+
 -- ---- answers
 
 -- The first n of the records fill one group: they fit it, and with one more they take too many bytes, or there is no other.
@@ -128,17 +144,27 @@ pub record FillsGroup (records : List RecordValue) (n : ℕ) : Type 0 where
   pub fits : FitsGroup (take n records)
   pub full : n < length records → GROUP_MAX < length (spellings (take (n + 1) records))
 
+-- every slot of the current half's log is open
+abbrev pub IsLogFull : {D M : Type 0} → Writer D M → Type 0
+IsLogFull w = w.log.open_slots ≡ w.halves.geometry.slots
+
+-- the log has one group more, with the records up to the new last synced one, which wait no more; the half is the same
+pub record HasGroupMore {D M : Type 0} (old new : Writer D M) : Type 0 where
+  pub halves-are : new.halves ≡ old.halves
+  pub log-is : new.log ≡ record old.log { open_slots = old.log.open_slots + 1 }
+  pub waiting-are : new.waiting.items ≡ drop (new.synced - old.synced) old.waiting.items
+
 -- more records are synced, as many of those that waited as fill a group; or none waited; or every slot is open
 abbrev pub IsFlushReply : {D M : Type 0} → FlushReply → Writer D M → Writer D M → Type 0
-IsFlushReply (Flushed n) old new = (n ≡ new.synced) × (old.synced < n) × FillsGroup old.waiting.items (n - old.synced)
+IsFlushReply (Flushed n) old new = (n ≡ new.synced) × (old.synced < n) × FillsGroup old.waiting.items (n - old.synced) × HasGroupMore old new
 IsFlushReply Nothing old new = (new ≡ old) × (old.waiting.items ≡ [])
-IsFlushReply LogFull old new = (new ≡ old) × (old.log.open_slots ≡ old.log.area.slots) × (old.waiting.items ≢ [])
+IsFlushReply LogFull old new = (new ≡ old) × IsLogFull old × (old.waiting.items ≢ [])
 
 -- Why nothing was flushed: there was no memory for a group of the records that wait, though a slot is closed; or the device
 -- failed, now or earlier, and is left alone from then on.
 abbrev pub IsNotFlushed : {D M : Type 0} → (D → ℕ) → Error → Writer D M → Writer D M → Type 0
 IsNotFlushed failures e old new =
-    ((e ≡ NoMemory) × (old.failed ≡ false) × (old.waiting.items ≢ []) × (old.log.open_slots ≢ old.log.area.slots) × (new ≡ old))
+    ((e ≡ NoMemory) × (old.failed ≡ false) × (old.waiting.items ≢ []) × (¬ IsLogFull old) × (new ≡ old))
     ⊎ ((e ≡ DeviceFailed) × (new.failed ≡ true) × (old.failed ≡ false → (old.waiting.items ≢ []) × Rises (failures old.device) (failures new.device)) × (old.failed ≡ true → new ≡ old))
 
 -- these are all cells as they were after the record `number`, and an image has room for them
@@ -225,10 +251,6 @@ HasPiece number (Entries entries) old new = HaveEntries number entries.items old
 abbrev pub HasKept : {D M : Type 0} → NewImage → Writer D M → Writer D M → Type 0
 HasKept image old new = (new.image ≡ Some image) × (new.halves ≡ old.halves) × (new.log ≡ old.log) × (new.waiting ≡ old.waiting) × (new.synced ≡ old.synced) × (new.failed ≡ old.failed)
 
--- every slot of the current half's log is open
-abbrev pub IsLogFull : {D M : Type 0} → Writer D M → Type 0
-IsLogFull w = w.log.open_slots ≡ w.halves.geometry.slots
-
 -- the image's entries with so many more pass the geometry's
 abbrev pub IsPast : {D M : Type 0} → Writer D M → (more : ℕ) → Type 0
 IsPast w more = (image : NewImage) × (pages count : ℕ) × (highest : Option Pair) × (life : Life) × (w.image ≡ Some image) × (image.stage ≡ stage.Partly pages count highest life) × (w.halves.geometry.entries < count + more)
@@ -267,9 +289,15 @@ AreEntriesAnswered number entries StartAgain old new = (new ≡ old) × AreRefus
 abbrev pub CanFlip : {D M : Type 0} → ℕ → Writer D M → Type 0
 CanFlip handed w = (image : NewImage) × (w.image ≡ Some image) × (image.stage ≡ stage.Whole) × (image.number ≤ handed) × (image.number ≤ reach image w.synced)
 
+-- The image's half is current, and its log is the log. The records up to the new last synced one wait no more.
+pub record HasFlipped {D M : Type 0} (old new : Writer D M) : Type 0 where
+  pub halves-are : new.halves ≡ record { geometry = old.halves.geometry; current = other old.halves.current }
+  pub log-is : (image : NewImage) → old.image ≡ Some image → new.log ≡ image.log
+  pub waiting-are : new.waiting.items ≡ drop (new.synced - old.synced) old.waiting.items
+
 -- the image is current, or there is none that can be
 abbrev pub IsFlipReply : {D M : Type 0} → ℕ → FlipReply → Writer D M → Writer D M → Type 0
-IsFlipReply handed (Flipped n) old new = (n ≡ new.synced) × (old.synced ≤ n) × CanFlip handed old × ((image : NewImage) → old.image ≡ Some image → n ≡ reach image old.synced) × (new.image ≡ None)
+IsFlipReply handed (Flipped n) old new = (n ≡ new.synced) × (old.synced ≤ n) × CanFlip handed old × ((image : NewImage) → old.image ≡ Some image → n ≡ reach image old.synced) × (new.image ≡ None) × HasFlipped old new
 IsFlipReply handed Behind old new = (new ≡ old) × (¬ CanFlip handed old)
 
 -- the device failed, now or earlier, and is left alone from then on

@@ -1,5 +1,5 @@
 //! An image that is under way in the half that isn't current, and the log behind it.
-ghost use Rattle.std.specs.Prelude.{◌≡◌, ◌⊎◌, ◌+◌, ◌%◌, ◌^◌, ◌<◌, ◌≤◌, ◌++◌, ◌∷◌, [], ℕ, List, Some, IfSome, length, slice_get, true, OnOk, IfOk, IfErr};
+ghost use Rattle.std.specs.Prelude.{◌≡◌, ◌⊎◌, ◌+◌, ◌%◌, ◌^◌, ◌<◌, ◌≤◌, ◌++◌, ◌∷◌, [], ℕ, List, Option, Some, None, IfSome, length, slice_get, true, OnOk, IfOk, IfErr};
 ghost use Rattle.std.specs.FinMap as map;
 ghost use Rattle.sector_device.specs.Disk.{IsSynced, sector, SameOutside};
 ghost use Rattle.sector_device.specs.History.{LeavesOnly, RunsWithin, CountsFailure};
@@ -12,6 +12,7 @@ ghost use Rattle.records.specs.declared.geometry.TheConstants.{ENTRIES_PER_SECTO
 ghost use Rattle.model.specs.Cells.{Cells};
 ghost use Rattle.model.specs.Table.{Index};
 ghost use Rattle.model.specs.declared.life.Life.TheVariants.{Absent, Building};
+ghost use Rattle.model.specs.declared.life.Life.{Life as LifeValue};
 ghost use Rattle.model.specs.Redo.{cells_of};
 ghost use Rattle.gate_log.specs.Group.{FitsGroup};
 ghost use Rattle.gate_log.specs.Area.{IsAreaInside, IsGate, Stands};
@@ -24,6 +25,7 @@ ghost use Rattle.flip_image.specs.Store.{Names, HoldsImage};
 ghost use Rattle.image_model.specs.Run.{Run, end_of, records_between};
 ghost use Rattle.image_model.specs.declared.chunk.TheConstants.{CHUNK_ENTRIES};
 ghost use Rattle.store_reader.specs.Contents.{log_area};
+ghost use Rattle.store_writer.specs.declared.image.Stage.TheVariants.{Partly};
 ghost use Rattle.store_writer.specs.Image.{IsUnderway, InNewLog, IsPlan, BecomesImage};
 ghost use Rattle.store_writer.specs.Writer.{stage_behind};
 
@@ -120,6 +122,7 @@ pub(crate) fn carry<D: Device, A: Allocator>(
     ensures becomes { IfOk result (λ new. (slots synced : ℕ) (group : List RecordValue) → IsPlan image slots synced group plan
         → (run : Run) (half : Half) → IfSome image (IsUnderway run half (D.history device.old).disk.content synced)
         → slots ≡ run.geometry.slots → 0 < length group → BecomesImage slots synced (length group) image new) }
+    ensures none { IfOk result (λ new. image ≡ None → new ≡ None) }
     ensures synced { OnOk result (IsSynced (D.history device.new).disk) }
     ensures outside { SameOutside (InNewLog image) (D.history device.old).disk.content (D.history device.new).disk.content }
     ensures any_moment { LeavesOnly (D.history device.old) (D.history device.new) (SameOutside (InNewLog image) (D.history device.old).disk.content) }
@@ -161,8 +164,9 @@ fn closed_log<D: Device>(device: &mut D, halves: Halves) -> Result<LogArea, Fail
 }
 
 /// Closes the gates of the half that isn't current, and syncs; then writes the image of these cells into it, which the
-/// record `base` left. The answer is that half's log.
-pub(crate) fn write_whole<D: Device, A: Allocator + Copy>(
+/// record `base` left, without a sync. The answer is that half's log, which is empty. At each moment a crash leaves the rest
+/// of the device as it is.
+pub fn write_whole<D: Device, A: Allocator + Copy>(
     device: &mut D,
     halves: Halves,
     base: u64,
@@ -290,5 +294,41 @@ pub(crate) fn stage_behind(pages: u32, count: u32, life: Life, entries: &[(Pair,
             highest: Some(last.0),
             life,
         },
+    }
+}
+
+/// An image that is copied in steps, with the rows of this page as the record `number` left them.
+pub(crate) fn with_page(image: NewImage, number: u64, page: u32) -> NewImage
+    requires partly { (pages count : ℕ) × (highest : Option PairValue) × (life : LifeValue) × (image.stage ≡ Partly pages count highest life) }
+    requires room { page + 1 < 2 ^ 32 }
+    ensures { (pages count : ℕ) (highest : Option PairValue) (life : LifeValue) → image.stage ≡ Partly pages count highest life
+        → result ≡ record image { number = number; stage = Partly (page + 1) count highest life } }
+{
+    let NewImage {
+        base,
+        stage,
+        log,
+        ..
+    } = image;
+    let Stage::Partly {
+        entries,
+        highest,
+        life,
+        ..
+    } = stage
+    else {
+        unreachable!()
+    };
+    let stage = Stage::Partly {
+        pages: page + 1,
+        entries,
+        highest,
+        life,
+    };
+    NewImage {
+        base,
+        number,
+        stage,
+        log,
     }
 }

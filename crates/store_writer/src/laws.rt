@@ -1,5 +1,5 @@
 //! Laws of what a writer is opened over, of what is handed to it, and of what a crash leaves.
-ghost use Rattle.std.specs.Prelude.{◌≡◌, ◌≤◌, ◌+◌, ℕ, List, length};
+ghost use Rattle.std.specs.Prelude.{◌≡◌, ◌⊎◌, ◌≤◌, ◌+◌, ℕ, List, [], length, Option};
 ghost use Rattle.std.specs.FinMap.{len};
 ghost use Rattle.sector_device.specs.Disk.{Image, IsSynced};
 ghost use Rattle.sector_device.specs.History.{History};
@@ -9,12 +9,16 @@ ghost use Rattle.records.specs.declared.number.TheConstants.{LAST_NUMBER};
 ghost use Rattle.model.specs.Cells.{Cells};
 ghost use Rattle.model.specs.Following.{AreFollowing};
 ghost use Rattle.model.specs.Given.{Given, given_after, opening_cells, recovered};
-ghost use Rattle.gate_log.specs.Area.{Log};
+ghost use Rattle.gate_log.specs.Area.{Log, Stands};
 ghost use Rattle.flip_image.specs.Layout.{HalvesValue};
-ghost use Rattle.flip_image.specs.Store.{IsStore};
+ghost use Rattle.flip_image.specs.Store.{IsStore, HoldsImage};
 ghost use Rattle.image_model.specs.Run.{Run, IsRun, end_of, cells_at, records_to};
-ghost use Rattle.store_reader.specs.Contents.{Gives, IsFound};
+ghost use Rattle.image_model.specs.declared.chunk.CopyPlace.{CopyPlace};
+ghost use Rattle.store_reader.specs.Contents.{Gives, IsFound, log_area};
 ghost use Rattle.store_writer.specs.Contents.{StoreHas};
+ghost use Rattle.store_writer.specs.declared.image.NewImage.{NewImage};
+ghost use Rattle.store_writer.specs.Image.{BecomesImage};
+ghost use Rattle.store_writer.specs.Places.{IsAtPlace};
 ghost use Rattle.store_writer.specs.Writer.{IsOpenedAt, longer, AreNext};
 
 use store_reader::image_inside;
@@ -36,9 +40,23 @@ pub fn opened_by_reader()
     image_inside();
 }
 
+/// A law: a writer can be opened over an image whose log is empty, on a device that is synced: what a restart leaves that
+/// wrote the image of what it read.
+pub fn opened_by_image()
+    ensures { (now : History) (halves : HalvesValue) (log : Log) (last : ℕ) (cells : Cells) → IsStore halves.geometry halves.current now.disk.content → HoldsImage halves.geometry halves.current now.disk.content last cells
+        → log.area ≡ log_area halves.geometry halves.current → Stands log now.disk.content [] → IsSynced now.disk → last ≤ LAST_NUMBER → IsOpenedAt now halves log last cells }
+{
+    image_inside();
+}
+
 /// A law: records that can follow the ones of a run make it longer, and are the next ones to be handed in where all before
 /// were.
 pub fn longer_run()
     ensures run { (run : Run) (more : List RecordValue) → IsRun run → AreFollowing run.geometry.pages (end_of run) (cells_at run (end_of run)) more → IsRun (longer run more) }
     ensures next { (run : Run) (more : List RecordValue) → end_of run + length more ≤ LAST_NUMBER → AreNext (longer run more) (end_of run) more }
+{}
+
+/// A law: an image that is copied in steps stays at its place where a group is flushed, or is given up.
+pub fn kept_place()
+    ensures { (pages slots synced count : ℕ) (place : Option CopyPlace) (old new : Option NewImage) → BecomesImage slots synced count old new → IsAtPlace pages place old → (new ≡ None) ⊎ IsAtPlace pages place new }
 {}

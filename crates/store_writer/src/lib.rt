@@ -7,6 +7,7 @@ mod laws;
 mod store;
 mod writer;
 
-pub use laws::{given_by_cells, longer_run, opened_by_reader};
+pub use image::write_whole;
+pub use laws::{given_by_cells, kept_place, longer_run, opened_by_image, opened_by_reader};
 pub use store::StoreWriter;
 pub use writer::{FlipReply, FlushReply, StepReply};

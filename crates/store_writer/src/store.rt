@@ -1,11 +1,19 @@
 //! The writer of a store.
-ghost use Rattle.std.specs.Prelude.{◌≡◌, ◌+◌, ◌-◌, ◌≤◌, ◌++◌, ℕ, List, [], length, false, OnOk, OnErr, IfOk, IfErr};
+ghost use Rattle.std.specs.Prelude.{◌≡◌, ◌≢◌, ◌+◌, ◌-◌, ◌≤◌, ◌++◌, ℕ, List, [], length, false, Some, Option, None, OnOk, OnErr, IfOk, IfErr};
 ghost use Rattle.sector_device.specs.Disk.{Image, IsCrashImage};
 ghost use Rattle.sector_device.specs.History.{LeavesOnly};
 ghost use Rattle.records.specs.RecordValue.{RecordValue};
 ghost use Rattle.model.specs.Cells.{Cells};
-ghost use Rattle.image_model.specs.Run.{Run, IsRun};
+ghost use Rattle.records.specs.declared.number.TheConstants.{LAST_NUMBER};
+ghost use Rattle.records.specs.declared.pair.Pair.{Pair as PairValue};
+ghost use Rattle.records.specs.declared.pair.Mark.{Mark as MarkValue};
+ghost use Rattle.model.specs.Table.{Table};
+ghost use Rattle.image_model.specs.declared.chunk.CopyPlace.{CopyPlace};
+ghost use Rattle.image_model.specs.Run.{Run, IsRun, end_of};
+ghost use Rattle.image_model.specs.Places.{place_behind};
 ghost use Rattle.store_writer.specs.Contents.{LeftBy};
+ghost use Rattle.store_writer.specs.declared.image.NewImage.{NewImage};
+ghost use Rattle.store_writer.specs.Places.{IsAtPlace, IsAtPiece, AreRowsNow, AreEntriesNow};
 ghost use Rattle.store_writer.specs.Image.{BecomesImage};
 ghost use Rattle.store_writer.specs.Parts.{device_of, halves_of, log_of, waiting_of, synced_of, has_failed, image_of};
 
@@ -47,7 +55,7 @@ impl<D: Device, A: Allocator> Model for StoreWriter<D, A> {
 }
 
 impl<D: Device, A: Allocator + Copy> StoreWriter<D, A> {
-    ghost use Rattle.store_writer.specs.Writer.{IsWriter, IsOpenedAt, opened_run, longer, AreNext, IsFlushReply, IsNotFlushed, IsChunk, IsStepReply, IsFlipReply, HasFailed};
+    ghost use Rattle.store_writer.specs.Writer.{IsWriter, IsOpenedAt, opened_run, longer, AreNext, IsLogFull, IsFlushReply, IsNotFlushed, IsPageChunk, IsEntriesChunk, IsChunk, MustStartAgain, IsStepReply, CanFlip, IsFlipReply, HasFailed, WritesLogsAlone};
 
     /// A writer to which nothing was handed, over a device that is synced. The log is that of the current half, as a reader
     /// or `LogArea::clear` left it, and the current half has the cells after the record `synced`. Nothing is read, and no
@@ -60,6 +68,7 @@ impl<D: Device, A: Allocator + Copy> StoreWriter<D, A> {
         ensures log { log_of result ≡ log }
         ensures waiting { waiting_of result ≡ [] }
         ensures synced { synced_of result ≡ synced }
+        ensures image { image_of result ≡ None }
         ensures sound { has_failed result ≡ false }
     {
         StoreWriter {
@@ -74,9 +83,19 @@ impl<D: Device, A: Allocator + Copy> StoreWriter<D, A> {
         self.writer.goes_on();
     }
 
+    /// A law: the piece of an image that is due may be taken, as the last record made left its cells.
+    pub fn next_pieces(&self)
+        ensures page { (run : Run) (handed page : ℕ) (rows : Table) → IsWriter D.history run handed self.now → has_failed self.now ≡ false → end_of run ≤ LAST_NUMBER → IsAtPlace run.geometry.pages (Some (CopyPlace.Page page)) (image_of self.now)
+            → AreRowsNow run page rows → (i : NewImage) → (image_of self.now) ≡ Some i → IsPageChunk run i (end_of run) page rows }
+        ensures entries { (run : Run) (handed : ℕ) (above : Option PairValue) (entries : List (PairValue × MarkValue)) → IsWriter D.history run handed self.now → has_failed self.now ≡ false → end_of run ≤ LAST_NUMBER → IsAtPlace run.geometry.pages (Some (CopyPlace.Entries above)) (image_of self.now)
+            → AreEntriesNow run above entries → (i : NewImage) → (image_of self.now) ≡ Some i → IsEntriesChunk run i (end_of run) entries }
+    {
+        self.writer.next_pieces();
+    }
+
     /// Takes the records that come next in the run. They wait until `flush_group` writes them.
     ///
-    /// An `Err` gives them back, for want of memory, and changes nothing.
+    /// An `Err` gives them back, for want of memory, and changes nothing. An empty list takes none.
     pub fn hand_in(&mut self, records: Vec<Record, A>) -> Result<(), Vec<Record, A>>
         requires { (run : Run) × (handed : ℕ) × IsWriter D.history run handed self.old × AreNext run handed records.items }
         ensures writer { OnOk result ((run : Run) (handed : ℕ) → IsWriter D.history run handed self.old → AreNext run handed records.items → IsWriter D.history run (handed + length records.items) self.new) }
@@ -84,20 +103,24 @@ impl<D: Device, A: Allocator + Copy> StoreWriter<D, A> {
         ensures unchanged { OnErr result ((run : Run) (handed : ℕ) → IsWriter D.history run handed self.old → IsWriter D.history run handed self.new) }
         ensures still { OnErr result (waiting_of self.new ≡ waiting_of self.old) }
         ensures back { IfErr result (λ back. back.items ≡ records.items) }
+        ensures some { OnErr result (records.items ≢ []) }
         ensures device { device_of self.new ≡ device_of self.old }
         ensures halves { halves_of self.new ≡ halves_of self.old }
         ensures log { log_of self.new ≡ log_of self.old }
         ensures synced { synced_of self.new ≡ synced_of self.old }
+        ensures image { image_of self.new ≡ image_of self.old }
         ensures failed { has_failed self.new ≡ has_failed self.old }
     {
         self.writer.hand_in(records)
     }
 
     /// Writes the next group of the records that wait, as many of them, in order, as fill one, and syncs it. A group is
-    /// written only where no memory is wanting.
+    /// written only where no memory is wanting. Where an image is under way, the group's records above its base are written to
+    /// the log of its half too, or the image is given up (`image`).
     ///
     /// `NoMemory` means that nothing was written, and nothing changed. `DeviceFailed` comes where the device fails in the
-    /// call, and from then on.
+    /// call, and from then on. Whatever the answer is, no sector is written but those of the current half's log and, where an
+    /// image is under way, of the other half's (`around`).
     pub fn flush_group(&mut self, alloc: A) -> Result<FlushReply, Error>
         ensures writer { (run : Run) (handed : ℕ) → IsWriter D.history run handed self.old → IsWriter D.history run handed self.new }
         ensures images { (run : Run) (handed : ℕ) → IsWriter D.history run handed self.old
@@ -107,10 +130,12 @@ impl<D: Device, A: Allocator + Copy> StoreWriter<D, A> {
         ensures nothing { result ≡ Ok FlushReply.Nothing → (run : Run) (handed : ℕ) → IsWriter D.history run handed self.old → synced_of self.old ≡ handed }
         ensures idle { (run : Run) (handed : ℕ) → IsWriter D.history run handed self.old → has_failed self.old ≡ false → synced_of self.old ≡ handed → result ≡ Ok FlushReply.Nothing }
         ensures sound { OnOk result ((has_failed self.old ≡ false) × (has_failed self.new ≡ false)) }
+        ensures full { has_failed self.old ≡ false → waiting_of self.old ≢ [] → IsLogFull self.old → result ≡ Ok FlushReply.LogFull }
         ensures err { IfErr result (λ e. IsNotFlushed D.failures e self.old self.new) }
         ensures kept { OnErr result (synced_of self.new ≡ synced_of self.old) }
         ensures quiet { OnOk result (D.failures (device_of self.new) ≡ D.failures (device_of self.old)) }
         ensures later { D.failures (device_of self.old) ≤ D.failures (device_of self.new) }
+        ensures around { WritesLogsAlone D.history self.old self.new }
     {
         self.writer.flush_group(alloc)
     }
@@ -130,7 +155,11 @@ impl<D: Device, A: Allocator + Copy> StoreWriter<D, A> {
             → LeavesOnly (D.history (device_of self.old)) (D.history (device_of self.new)) (LeftBy run (synced_of self.old) handed) }
         ensures stepped { IfOk result (λ reply. IsStepReply chunk.number chunk.piece reply self.old self.new) }
         ensures sound { OnOk result ((has_failed self.old ≡ false) × (has_failed self.new ≡ false)) }
+        ensures place { result ≡ Ok StepReply.Taken → IsAtPiece (halves_of self.old).geometry.pages chunk.piece (image_of self.old) → IsAtPlace (halves_of self.old).geometry.pages (place_behind (halves_of self.old).geometry.pages chunk.piece) (image_of self.new) }
+        ensures again { has_failed self.old ≡ false → MustStartAgain chunk.piece self.old → result ≡ Ok StepReply.StartAgain }
         ensures err { IfErr result (λ e. HasFailed D.failures e self.old self.new) }
+        ensures quiet { OnOk result (D.failures (device_of self.new) ≡ D.failures (device_of self.old)) }
+        ensures later { D.failures (device_of self.old) ≤ D.failures (device_of self.new) }
         ensures kept { synced_of self.new ≡ synced_of self.old }
     {
         self.writer.checkpoint_step(chunk)
@@ -147,7 +176,10 @@ impl<D: Device, A: Allocator + Copy> StoreWriter<D, A> {
             → LeavesOnly (D.history (device_of self.old)) (D.history (device_of self.new)) (LeftBy run (synced_of self.old) handed) }
         ensures flipped { (run : Run) (handed : ℕ) → IsWriter D.history run handed self.old → IfOk result (λ reply. IsFlipReply handed reply self.old self.new) }
         ensures sound { OnOk result ((has_failed self.old ≡ false) × (has_failed self.new ≡ false)) }
+        ensures behind { (run : Run) (handed : ℕ) → IsWriter D.history run handed self.old → has_failed self.old ≡ false → ¬ CanFlip handed self.old → result ≡ Ok FlipReply.Behind }
         ensures err { IfErr result (λ e. HasFailed D.failures e self.old self.new) }
+        ensures quiet { OnOk result (D.failures (device_of self.new) ≡ D.failures (device_of self.old)) }
+        ensures later { D.failures (device_of self.old) ≤ D.failures (device_of self.new) }
         ensures kept { OnErr result (synced_of self.new ≡ synced_of self.old) }
     {
         self.writer.checkpoint_flip()
@@ -158,6 +190,13 @@ impl<D: Device, A: Allocator + Copy> StoreWriter<D, A> {
         ensures { result ≡ synced_of self.now }
     {
         self.writer.synced
+    }
+
+    /// Whether the device has failed.
+    pub fn has_failed(&self) -> bool
+        ensures { result ≡ has_failed self.now }
+    {
+        self.writer.failed
     }
 
     /// The device as it is now. The records that wait are lost.

@@ -1,16 +1,23 @@
 //! A device, its log, and the records that wait for it.
-ghost use Rattle.std.specs.Prelude.{◌≡◌, ◌↔◌, ◌+◌, ◌-◌, ◌≤◌, ◌<◌, ◌++◌, List, [], ℕ, length, take, true, false, Some, None, IsTrue, OnOk, OnErr, IfOk, IfErr};
+ghost use Rattle.std.specs.Prelude.{◌≡◌, ◌≢◌, ◌↔◌, ◌+◌, ◌-◌, ◌≤◌, ◌<◌, ◌++◌, List, [], ℕ, length, take, drop, true, false, Option, Some, None, IsTrue, OnOk, OnErr, IfOk, IfErr};
 ghost use Rattle.sector_device.specs.History.{LeavesOnly, Rises};
 ghost use Rattle.records.specs.RecordValue.{RecordValue};
 ghost use Rattle.model.specs.Cells.{Cells};
 ghost use Rattle.model.specs.Redo.{cells_of};
-ghost use Rattle.image_model.specs.Run.{Run, IsRun};
+ghost use Rattle.records.specs.declared.number.TheConstants.{LAST_NUMBER};
+ghost use Rattle.records.specs.declared.pair.Pair.{Pair as PairValue};
+ghost use Rattle.records.specs.declared.pair.Mark.{Mark as MarkValue};
+ghost use Rattle.model.specs.Table.{Table};
+ghost use Rattle.image_model.specs.declared.chunk.CopyPlace.{CopyPlace};
+ghost use Rattle.image_model.specs.Run.{Run, IsRun, end_of};
+ghost use Rattle.image_model.specs.Places.{place_behind};
 ghost use Rattle.store_writer.specs.Contents.{LeftBy};
+ghost use Rattle.store_writer.specs.Places.{IsAtPlace, IsAtPiece, AreRowsNow, AreEntriesNow};
 ghost use Rattle.store_writer.specs.Image.{IsPlan, BecomesImage};
 
 use crate::image::{
-    NewImage, Plan, Stage, carry, lists_alone, plan_for, rows_alone, stage_behind, write_first,
-    write_next, write_whole,
+    NewImage, Plan, Stage, carry, lists_alone, plan_for, rows_alone, stage_behind, with_page,
+    write_first, write_next, write_whole,
 };
 use flip_image::Halves;
 use gate_log::{Appended, LogArea, group_len, spell};
@@ -28,7 +35,8 @@ pub enum FlushReply {
     Flushed(u64),
     /// No record waited.
     Nothing,
-    /// A record waits, and every slot of the log is open.
+    /// A record waits, and every slot of the log is open. A flip gives room; where records that a whole image has to reach
+    /// still wait, it can't, and a whole image is to be taken.
     LogFull,
 }
 
@@ -47,6 +55,7 @@ pub enum FlipReply {
     /// The image is current, and the records up to this number are synced.
     Flipped(u64),
     /// There is no whole image, or a record up to its last step isn't handed in, or one of them above its base isn't synced.
+    /// Where the log is full and such a record waits, no flush will sync it: a whole image is to be taken.
     Behind,
 }
 
@@ -83,7 +92,7 @@ fn has_no_room(geometry: Geometry, count: u32, more: usize) -> bool
 }
 
 impl<D: Device, A: Allocator + Copy> Writer<D, A> {
-    ghost use Rattle.store_writer.specs.Writer.{IsWriter, HasAppended, IsOpenedAt, opened_run, longer, AreNext, IsWholeChunk, IsStartChunk, IsPageChunk, IsEntriesChunk, IsFlushReply, IsNotFlushed, IsFlipReply, HasKept, HasBegun, IsPageAnswered, AreEntriesAnswered, IsChunk, IsStepReply, HasFailed};
+    ghost use Rattle.store_writer.specs.Writer.{IsWriter, HasAppended, IsOpenedAt, opened_run, longer, AreNext, IsWholeChunk, IsStartChunk, IsPageChunk, IsEntriesChunk, IsFlushReply, IsNotFlushed, CanFlip, IsFlipReply, HasKept, HasBegun, IsLogFull, IsPageRefused, AreRefused, MustStartAgain, IsPageAnswered, AreEntriesAnswered, IsChunk, IsStepReply, HasFailed, WritesLogsAlone};
 
     /// A writer to which nothing was handed.
     pub(crate) fn new(alloc: A, device: D, halves: Halves, log: LogArea, synced: u64) -> Self
@@ -93,6 +102,7 @@ impl<D: Device, A: Allocator + Copy> Writer<D, A> {
         ensures log { result.log ≡ log }
         ensures waiting { result.waiting.items ≡ [] }
         ensures synced { result.synced ≡ synced }
+        ensures image { result.image ≡ None }
         ensures sound { result.failed ≡ false }
     {
         Writer {
@@ -111,6 +121,14 @@ impl<D: Device, A: Allocator + Copy> Writer<D, A> {
         ensures { (run : Run) (handed : ℕ) (more : List RecordValue) → IsWriter D.history run handed self.now → IsRun (longer run more) → IsWriter D.history (longer run more) handed self.now }
     {}
 
+    /// A law: the piece of an image that is due may be taken, as the last record made left its cells.
+    pub(crate) fn next_pieces(&self)
+        ensures page { (run : Run) (handed page : ℕ) (rows : Table) → IsWriter D.history run handed self.now → self.now.failed ≡ false → end_of run ≤ LAST_NUMBER → IsAtPlace run.geometry.pages (Some (CopyPlace.Page page)) self.now.image
+            → AreRowsNow run page rows → (i : NewImage) → self.now.image ≡ Some i → IsPageChunk run i (end_of run) page rows }
+        ensures entries { (run : Run) (handed : ℕ) (above : Option PairValue) (entries : List (PairValue × MarkValue)) → IsWriter D.history run handed self.now → self.now.failed ≡ false → end_of run ≤ LAST_NUMBER → IsAtPlace run.geometry.pages (Some (CopyPlace.Entries above)) self.now.image
+            → AreEntriesNow run above entries → (i : NewImage) → self.now.image ≡ Some i → IsEntriesChunk run i (end_of run) entries }
+    {}
+
     /// Takes the next records. An `Err` gives them back, and changes nothing.
     pub(crate) fn hand_in(&mut self, mut records: Vec<Record, A>) -> Result<(), Vec<Record, A>>
         ensures writer { OnOk result ((run : Run) (handed : ℕ) → IsWriter D.history run handed self.old → AreNext run handed records.items → IsWriter D.history run (handed + length records.items) self.new) }
@@ -118,12 +136,17 @@ impl<D: Device, A: Allocator + Copy> Writer<D, A> {
         ensures unchanged { OnErr result ((run : Run) (handed : ℕ) → IsWriter D.history run handed self.old → IsWriter D.history run handed self.new) }
         ensures still { OnErr result (self.new.waiting.items ≡ self.old.waiting.items) }
         ensures back { IfErr result (λ back. back.items ≡ records.items) }
+        ensures some { OnErr result (records.items ≢ []) }
         ensures device { self.new.device ≡ self.old.device }
         ensures halves { self.new.halves ≡ self.old.halves }
         ensures log { self.new.log ≡ self.old.log }
         ensures synced { self.new.synced ≡ self.old.synced }
+        ensures image { self.new.image ≡ self.old.image }
         ensures failed { self.new.failed ≡ self.old.failed }
     {
+        if records.is_empty() {
+            return Ok(());
+        }
         match self.waiting.append(&mut records) {
             Ok(()) => Ok(()),
             Err(_) => Err(records),
@@ -141,10 +164,12 @@ impl<D: Device, A: Allocator + Copy> Writer<D, A> {
         ensures nothing { result ≡ Ok FlushReply.Nothing → (run : Run) (handed : ℕ) → IsWriter D.history run handed self.old → self.old.synced ≡ handed }
         ensures idle { (run : Run) (handed : ℕ) → IsWriter D.history run handed self.old → self.old.failed ≡ false → self.old.synced ≡ handed → result ≡ Ok FlushReply.Nothing }
         ensures sound { OnOk result ((self.old.failed ≡ false) × (self.new.failed ≡ false)) }
+        ensures full { self.old.failed ≡ false → self.old.waiting.items ≢ [] → IsLogFull self.old → result ≡ Ok FlushReply.LogFull }
         ensures err { IfErr result (λ e. IsNotFlushed D.failures e self.old self.new) }
         ensures kept { OnErr result (self.new.synced ≡ self.old.synced) }
         ensures quiet { OnOk result (D.failures self.new.device ≡ D.failures self.old.device) }
         ensures later { D.failures self.old.device ≤ D.failures self.new.device }
+        ensures around { WritesLogsAlone D.history self.old self.new }
     {
         if self.failed {
             return Err(Error::DeviceFailed);
@@ -184,11 +209,13 @@ impl<D: Device, A: Allocator + Copy> Writer<D, A> {
         ensures images { (run : Run) (handed : ℕ) → HasAppended D.history run handed count self.old
             → LeavesOnly (D.history self.old.device) (D.history self.new.device) (LeftBy run self.old.synced handed) }
         ensures flushed { IfOk result (λ reply. (reply ≡ FlushReply.Flushed self.new.synced) × (self.new.synced ≡ self.old.synced + count) × (self.new.failed ≡ self.old.failed)) }
+        ensures rest { OnOk result ((self.new.halves ≡ self.old.halves) × (self.new.log ≡ self.old.log) × (self.new.waiting.items ≡ drop count self.old.waiting.items)) }
         ensures image { OnOk result ((run : Run) (handed slots : ℕ) → HasAppended D.history run handed count self.old → slots ≡ run.geometry.slots → 0 < count
             → IsPlan self.old.image slots self.old.synced (take count self.old.waiting.items) plan → BecomesImage slots self.old.synced count self.old.image self.new.image) }
         ensures err { IfErr result (λ e. (e ≡ Error.DeviceFailed) × (self.new.failed ≡ true) × (self.new.synced ≡ self.old.synced) × Rises (D.failures self.old.device) (D.failures self.new.device)) }
         ensures quiet { OnOk result (D.failures self.new.device ≡ D.failures self.old.device) }
         ensures later { D.failures self.old.device ≤ D.failures self.new.device }
+        ensures around { WritesLogsAlone D.history self.old self.new }
     {
         match carry(&mut self.device, self.image, plan) {
             Ok(image) => {
@@ -215,6 +242,8 @@ impl<D: Device, A: Allocator + Copy> Writer<D, A> {
         ensures taken { OnOk result ((image : NewImage) × HasKept image self.old self.new × HasBegun number Stage.Whole image) }
         ensures synced { self.new.synced ≡ self.old.synced }
         ensures err { IfErr result (λ e. HasFailed D.failures e self.old self.new) }
+        ensures quiet { OnOk result (D.failures self.new.device ≡ D.failures self.old.device) }
+        ensures later { D.failures self.old.device ≤ D.failures self.new.device }
     {
         match write_whole(&mut self.device, self.halves, number, cells) {
             Ok(log) => {
@@ -244,6 +273,8 @@ impl<D: Device, A: Allocator + Copy> Writer<D, A> {
         ensures taken { OnOk result ((image : NewImage) × HasKept image self.old self.new × HasBegun number (Stage.Partly 0 0 None life) image) }
         ensures synced { self.new.synced ≡ self.old.synced }
         ensures err { IfErr result (λ e. HasFailed D.failures e self.old self.new) }
+        ensures quiet { OnOk result (D.failures self.new.device ≡ D.failures self.old.device) }
+        ensures later { D.failures self.old.device ≤ D.failures self.new.device }
     {
         let alloc = *self.waiting.allocator();
         let cells = lists_alone(alloc, life, lists);
@@ -280,25 +311,13 @@ impl<D: Device, A: Allocator + Copy> Writer<D, A> {
             → LeavesOnly (D.history self.old.device) (D.history self.new.device) (LeftBy run self.old.synced handed) }
         ensures stepped { IfOk result (λ reply. IsPageAnswered number page reply self.old self.new) }
         ensures synced { self.new.synced ≡ self.old.synced }
+        ensures again { IsPageRefused self.old → result ≡ Ok StepReply.StartAgain }
         ensures err { IfErr result (λ e. HasFailed D.failures e self.old self.new) }
+        ensures quiet { OnOk result (D.failures self.new.device ≡ D.failures self.old.device) }
+        ensures later { D.failures self.old.device ≤ D.failures self.new.device }
     {
         let Some(image) = self.image else {
             return Ok(StepReply::StartAgain);
-        };
-        let NewImage {
-            base,
-            stage,
-            log,
-            ..
-        } = image;
-        let Stage::Partly {
-            entries,
-            highest,
-            life,
-            ..
-        } = stage
-        else {
-            unreachable!()
         };
         if is_full(self.log, self.halves.geometry()) {
             return Ok(StepReply::StartAgain);
@@ -313,18 +332,7 @@ impl<D: Device, A: Allocator + Copy> Writer<D, A> {
             self.failed = true;
             return Err(Error::DeviceFailed);
         }
-        let stage = Stage::Partly {
-            pages: page + 1,
-            entries,
-            highest,
-            life,
-        };
-        self.image = Some(NewImage {
-            base,
-            number,
-            stage,
-            log,
-        });
+        self.image = Some(with_page(image, number, page));
         Ok(StepReply::Taken)
     }
 
@@ -337,7 +345,10 @@ impl<D: Device, A: Allocator + Copy> Writer<D, A> {
             → LeavesOnly (D.history self.old.device) (D.history self.new.device) (LeftBy run self.old.synced handed) }
         ensures stepped { IfOk result (λ reply. AreEntriesAnswered number entries.now reply self.old self.new) }
         ensures synced { self.new.synced ≡ self.old.synced }
+        ensures again { AreRefused (length entries.now) self.old → result ≡ Ok StepReply.StartAgain }
         ensures err { IfErr result (λ e. HasFailed D.failures e self.old self.new) }
+        ensures quiet { OnOk result (D.failures self.new.device ≡ D.failures self.old.device) }
+        ensures later { D.failures self.old.device ≤ D.failures self.new.device }
     {
         let Some(image) = self.image else {
             return Ok(StepReply::StartAgain);
@@ -388,7 +399,11 @@ impl<D: Device, A: Allocator + Copy> Writer<D, A> {
             → LeavesOnly (D.history self.old.device) (D.history self.new.device) (LeftBy run self.old.synced handed) }
         ensures stepped { IfOk result (λ reply. IsStepReply chunk.number chunk.piece reply self.old self.new) }
         ensures sound { OnOk result ((self.old.failed ≡ false) × (self.new.failed ≡ false)) }
+        ensures place { result ≡ Ok StepReply.Taken → IsAtPiece self.old.halves.geometry.pages chunk.piece self.old.image → IsAtPlace self.old.halves.geometry.pages (place_behind self.old.halves.geometry.pages chunk.piece) self.new.image }
+        ensures again { self.old.failed ≡ false → MustStartAgain chunk.piece self.old → result ≡ Ok StepReply.StartAgain }
         ensures err { IfErr result (λ e. HasFailed D.failures e self.old self.new) }
+        ensures quiet { OnOk result (D.failures self.new.device ≡ D.failures self.old.device) }
+        ensures later { D.failures self.old.device ≤ D.failures self.new.device }
         ensures kept { self.new.synced ≡ self.old.synced }
     {
         if self.failed {
@@ -420,7 +435,10 @@ impl<D: Device, A: Allocator + Copy> Writer<D, A> {
             → LeavesOnly (D.history self.old.device) (D.history self.new.device) (LeftBy run self.old.synced handed) }
         ensures flipped { (run : Run) (handed : ℕ) → IsWriter D.history run handed self.old → IfOk result (λ reply. IsFlipReply handed reply self.old self.new) }
         ensures sound { OnOk result ((self.old.failed ≡ false) × (self.new.failed ≡ false)) }
+        ensures behind { (run : Run) (handed : ℕ) → IsWriter D.history run handed self.old → self.old.failed ≡ false → ¬ CanFlip handed self.old → result ≡ Ok FlipReply.Behind }
         ensures err { IfErr result (λ e. HasFailed D.failures e self.old self.new) }
+        ensures quiet { OnOk result (D.failures self.new.device ≡ D.failures self.old.device) }
+        ensures later { D.failures self.old.device ≤ D.failures self.new.device }
         ensures kept { OnErr result (self.new.synced ≡ self.old.synced) }
     {
         if self.failed {

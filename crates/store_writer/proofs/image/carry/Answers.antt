@@ -1,4 +1,4 @@
-use Rattle.std.proofs.Common.{◌≡◌, ◌≢◌, ◌⊎◌, ◌+◌, ◌-◌, ◌<◌, ◌≤◌, ◌++◌, ◌∷◌, [], ℕ, List, length, take, drop, Option, Some, None, IfSome, Ok, refl, length-append, sym, ap, subst, ◌∙◌, arith, inl, inr, ⊎_elim}
+use Rattle.std.proofs.Common.{◌≡◌, ◌≢◌, ◌+◌, ◌-◌, ◌<◌, ◌∷◌, [], ℕ, List, length, drop, Option, Some, None, IfSome, Ok, refl, length-append, sym, ap, subst, ◌∙◌, arith, inl, inr, ⊎_elim}
 use Rattle.std.proofs.lemmas.Bool.{cases_lt}
 use Rattle.sector_device.specs.Disk.{SameOutside}
 use Rattle.sector_device.specs.History.{LeavesOnly}
@@ -6,7 +6,7 @@ use Rattle.records.specs.RecordValue.{RecordValue}
 use Rattle.gate_log.specs.Group.{IsGroup}
 use Rattle.gate_log.specs.declared.area.Appended.TheVariants.{Done}
 use Rattle.store_writer.specs.declared.image.NewImage.{NewImage}
-use Rattle.store_writer.specs.Image.{IsUnderway, InNewLog, IsPlan, BecomesImage}
+use Rattle.store_writer.specs.Image.{IsUnderway, InNewLog, IsPlan}
 use Rattle.store_writer.proofs.Underway.{if_not_carried, carried_more, append_outside, append_leaves}
 use Rattle.store_writer.proofs.image.carry.Goals as goal
 

@@ -1,5 +1,5 @@
-use Rattle.std.proofs.Common.{◌≡◌, ◌-◌, ◌<◌, take, drop, length, sym, ap, subst, ◌∙◌, arith, Some}
-use Rattle.gate_log.specs.Group.{FitsGroup, IsGroup}
+use Rattle.std.proofs.Common.{sym, subst, arith}
+use Rattle.gate_log.specs.Group.{FitsGroup}
 use Rattle.store_writer.proofs.Underway.{last_fit, rest_is}
 use Rattle.store_writer.proofs.image.plan_for.Goals as goal
 

@@ -1,4 +1,5 @@
-use Rattle.store_writer.proofs.Given.{gives, prefix}
+use Rattle.store_writer.proofs.Left.{gives}
+use Rattle.store_writer.proofs.Given.{prefix}
 use Rattle.store_writer.proofs.laws.given_by_cells.Goals as goal
 
 pub returns-clause-gives : goal.returns-clause-gives

@@ -1,11 +1,11 @@
-use Rattle.std.proofs.Common.{true, ◌≡◌, ◌+◌, ℕ, Option, Some, IfSome, List, length, take, refl, sym, ap, subst, ◌∙◌, arith}
+use Rattle.std.proofs.Common.{true, ◌+◌, Option, IfSome, List, length, take, refl, subst, ◌∙◌, arith}
 use Rattle.records.specs.RecordValue.{RecordValue}
 use Rattle.flip_image.specs.Layout.{other}
-use Rattle.image_model.specs.Run.{records_between}
 use Rattle.store_writer.specs.declared.image.NewImage.{NewImage}
 use Rattle.store_writer.specs.declared.writer.Writer.{Writer}
 use Rattle.store_writer.specs.Image.{IsUnderway, BecomesImage}
 use Rattle.store_writer.proofs.CarryOn.{leaves_there, carried_one, failed_one, long, group_between}
+use Rattle.store_writer.proofs.Logs.{carried_around}
 use Rattle.store_writer.proofs.writer.Writer.carry_on.Goals as goal
 
 pub returns-in-Ok-clause-images : goal.returns-in-Ok-clause-images
@@ -52,3 +52,20 @@ carry-requires-clause-stands g c = λ i it.
     let content = (g.D.Device.history w.device).disk.content in
     let there : IsUnderway run (other w.halves.current) content w.synced i = subst (λ (t : Option NewImage). IfSome t (IsUnderway run (other w.halves.current) content w.synced)) it is.image in
     (there.groups, there.stands)
+
+pub returns-in-Ok-clause-rest : goal.returns-in-Ok-clause-rest
+returns-in-Ok-clause-rest g c = (refl, refl, c.drop-drain.ensures.items ∙ c.drain.ensures.kept)
+
+pub returns-in-Ok-clause-around : goal.returns-in-Ok-clause-around
+returns-in-Ok-clause-around g c =
+    let w = c.args.self.now in
+    let (run, handed, is) = c.requires.appended in
+    let new : Writer g.row.D.Denot g.row.A.Denot = record { device = c.carry.new.device; halves = w.halves; log = w.log; waiting = c.drop-drain.new.self.0; synced = w.synced + c.args.count; image = c.in-Ok.image; failed = w.failed } in
+    carried_around g.D.Device.history run handed c.args.count w is new refl refl c.in-Ok.ensures.none c.carry.ensures.outside c.carry.ensures.any_moment
+
+pub returns-in-Err-clause-around : goal.returns-in-Err-clause-around
+returns-in-Err-clause-around g c =
+    let w = c.args.self.now in
+    let (run, handed, is) = c.requires.appended in
+    let new : Writer g.row.D.Denot g.row.A.Denot = record { device = c.carry.new.device; halves = w.halves; log = w.log; waiting = w.waiting; synced = w.synced; image = w.image; failed = true } in
+    carried_around g.D.Device.history run handed c.args.count w is new refl refl (λ none. none) c.carry.ensures.outside c.carry.ensures.any_moment

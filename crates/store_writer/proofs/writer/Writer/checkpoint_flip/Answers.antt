@@ -1,4 +1,4 @@
-use Rattle.std.proofs.Common.{true, false, ◌≡◌, ◌≤◌, ◌+◌, ◌-◌, drop, ℕ, Option, Some, None, IfSome, refl, sym, ap, subst, ◌∙◌, length, arith}
+use Rattle.std.proofs.Common.{true, ◌≡◌, ◌-◌, drop, ℕ, Option, None, IfSome, refl, sym, ap, subst, ◌∙◌, length, arith}
 use Rattle.std.proofs.lemmas.Bool.{false≢true}
 use Rattle.sector_device.specs.Disk.{sector}
 use Rattle.sector_device.proofs.Moments.{started}
@@ -89,6 +89,11 @@ returns-clause-flipped g c = λ run handed is.
       (image, c.in-Some.is, c.in-Whole.is, omega (arith, c.if-handed-image.false, c.len.ensures, ap length is.waits, count, is.reached), omega (arith, c.if-reached-image.false, c.max-reached.ensures)),
       (λ t it. let same : image ≡ t = cc (c.in-Some.is, it) in c.max-reached.ensures ∙ ap (λ (x : NewImage). reach x old.synced) same),
       refl,
+      record {
+        halves-are = from_ok _ _ (sym c.is_err.ensures.value ∙ c.if-is_err.false) c.flip.ensures.flipped;
+        log-is = λ t it. let same : image ≡ t = cc (c.in-Some.is, it) in ap (λ (x : NewImage). x.log) same;
+        waiting-are = c.drop-drain.ensures.items ∙ c.drain.ensures.kept;
+      },
     )
 
 pub returns-in_default-stage-clause-images : goal.returns-in_default-stage-clause-images

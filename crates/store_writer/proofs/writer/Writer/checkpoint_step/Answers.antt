@@ -1,10 +1,13 @@
-use Rattle.std.proofs.Common.{List, sym, subst}
+use Rattle.std.proofs.Common.{◌<◌, List, length, sym, ap, subst, arith}
 use Rattle.sector_device.proofs.Moments.{started}
+use Rattle.records.specs.GeometryValue.{GeometryValue}
 use Rattle.records.specs.declared.pair.Pair.{Pair}
 use Rattle.records.specs.declared.pair.Mark.{Mark}
 use Rattle.image_model.specs.declared.chunk.Piece.{Piece}
 use Rattle.store_writer.specs.Contents.{LeftBy}
-use Rattle.store_writer.specs.Writer.{IsChunk, IsEntriesChunk}
+use Rattle.store_writer.specs.Writer.{IsChunk, IsEntriesChunk, MustStartAgain, AreRefused}
+use Rattle.store_writer.proofs.Places.{taken_place}
+use Rattle.store_writer.proofs.Replies.{page_answered}
 use Rattle.store_writer.proofs.Copying.{entries_answered}
 use Rattle.store_writer.proofs.writer.Writer.checkpoint_step.Goals as goal
 
@@ -42,3 +45,23 @@ returns-in-Entries-clause-writer g c = λ run handed is chunk.
 
 pub returns-in-Entries-clause-stepped : goal.returns-in-Entries-clause-stepped
 returns-in-Entries-clause-stepped g c = entries_answered c.args.chunk.number c.in-Entries.entries c.deref.result.now c.args.chunk.piece c.args.self.now c.take_entries.new.self c.take_entries.result c.deref.ensures.value c.in-Entries.is c.take_entries.ensures.stepped
+
+pub returns-in-Page-clause-stepped : goal.returns-in-Page-clause-stepped
+returns-in-Page-clause-stepped g c = page_answered c.args.chunk.number c.in-Page.page c.in-Page.rows c.args.chunk.piece c.args.self.now c.take_page.new.self c.take_page.result c.in-Page.is c.take_page.ensures.stepped
+
+pub returns-in-Page-clause-place : goal.returns-in-Page-clause-place
+returns-in-Page-clause-place g c =
+    let (run, handed, is, chunk) = c.requires in
+    let some : 0 < c.args.self.now.halves.geometry.pages = omega (arith, (is.holds c.if-self.false).store.limits.some_page, ap (λ (x : GeometryValue). x.pages) is.geometry-is) in
+    taken_place c.args.self.now.halves.geometry.pages c.args.chunk.number c.args.chunk.piece c.args.self.now c.take_page.new.self c.take_page.result some (returns-in-Page-clause-stepped g c)
+
+pub returns-in-Entries-clause-place : goal.returns-in-Entries-clause-place
+returns-in-Entries-clause-place g c =
+    let (run, handed, is, chunk) = c.requires in
+    let some : 0 < c.args.self.now.halves.geometry.pages = omega (arith, (is.holds c.if-self.false).store.limits.some_page, ap (λ (x : GeometryValue). x.pages) is.geometry-is) in
+    taken_place c.args.self.now.halves.geometry.pages c.args.chunk.number c.args.chunk.piece c.args.self.now c.take_entries.new.self c.take_entries.result some (returns-in-Entries-clause-stepped g c)
+
+pub returns-in-Entries-clause-again : goal.returns-in-Entries-clause-again
+returns-in-Entries-clause-again g c = λ sound must.
+    let refused = subst (λ (p : Piece g.row.A.Denot). MustStartAgain p c.args.self.now) c.in-Entries.is must in
+    c.take_entries.ensures.again (subst (λ (l : List (Pair × Mark)). AreRefused (length l) c.args.self.now) (sym c.deref.ensures.value) refused)

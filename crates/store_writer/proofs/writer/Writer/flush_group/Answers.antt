@@ -1,8 +1,7 @@
-use Rattle.std.proofs.Common.{rules, ⊎_elim, true, ◌≡◌, ◌≢◌, ◌≤◌, ◌+◌, ◌<◌, ◌-◌, List, [], Ok, refl, sym, ap, subst, ◌∙◌, take, length, length-take, arith, inl, inr, ℕ}
+use Rattle.std.proofs.Common.{⊎_elim, true, ◌≡◌, ◌≢◌, ◌≤◌, ◌<◌, ◌-◌, List, [], ◌∷◌, Ok, refl, sym, ap, subst, ◌∙◌, take, length, length-take, length-append, arith, inr, ℕ}
 use Rattle.std.proofs.lemmas.Bool.{false≢true, cases_lt}
 use Rattle.std.proofs.lemmas.List.{nil_from_length}
 use Rattle.records.specs.RecordValue.{RecordValue}
-use Rattle.sector_device.specs.History.{LeavesOnly}
 use Rattle.sector_device.proofs.Moments.{started, joined}
 use Rattle.gate_log.specs.Group.{IsGroup}
 use Rattle.gate_log.specs.declared.area.Appended.TheVariants.{Done}
@@ -12,9 +11,12 @@ use Rattle.records.specs.GeometryValue.{GeometryValue}
 use Rattle.store_writer.specs.declared.writer.FlushReply.TheVariants.{Flushed}
 use Rattle.std.proofs.lemmas.Result.{IfErr-weaker, IfOk-at_ok}
 use Rattle.store_writer.specs.Image.{IsPlan, BecomesImage}
-use Rattle.store_writer.specs.Writer.{IsWriter, HasAppended}
+use Rattle.store_writer.specs.Writer.{FillsGroup, HasAppended}
 use Rattle.store_writer.proofs.Numbers.{length_between}
-use Rattle.store_writer.proofs.Writing.{stands, leaves, has_appended, carried_on, on_ok_at}
+use Rattle.store_writer.proofs.Replies.{log_more, flushed_more}
+use Rattle.store_writer.proofs.Writing.{stood, stands, leaves, has_appended, carried_on, on_ok_at}
+use Rattle.store_writer.proofs.Around.{none_written, then_around}
+use Rattle.store_writer.proofs.Logs.{appended_around}
 use Rattle.store_writer.proofs.writer.Writer.flush_group.Goals as goal
 
 pub returns-then-count-eq0-clause-images : goal.returns-then-count-eq0-clause-images
@@ -150,3 +152,61 @@ returns-clause-writer g c = λ run handed is.
     let old = c.args.self.now in
     let new : Writer g.row.D.Denot g.row.A.Denot = record { device = c.append_spelled.new.device; halves = old.halves; log = c.append_spelled.new.self; waiting = old.waiting; synced = old.synced; image = old.image; failed = true } in
     carried_on g.D.Device.history run handed old new is refl refl refl (λ sound. absurd (false≢true (sym sound))) (returns-clause-images g c run handed is)
+
+pub returns-in-Ok-Done-clause-flushed : goal.returns-in-Ok-Done-clause-flushed
+returns-in-Ok-Done-clause-flushed g c =
+    let (run, handed, is) = c.requires in
+    let old = c.args.self.now in
+    let count = c.group_len-count.result in
+    let done : c.append_spelled.result ≡ Ok Done = cc (c.in-Ok-Done.is, c.in-Ok-Done.field-0-is) in
+    let spelled : IsGroup (take count c.deref-2.result.now) c.deref-4.result.now = subst (IsGroup (take count c.deref-2.result.now)) (sym c.deref-4.ensures.value) (c.in_ok-body.ensures.ok) in
+    let before = stands g.D.Device.history run handed old is c.if-self.false in
+    let after = c.append_spelled.ensures.done done (take count c.deref-2.result.now) (stood g.D.Device.history run handed old is c.if-self.false).has.groups spelled before in
+    let mid : Writer g.row.D.Denot g.row.A.Denot = record { device = c.append_spelled.new.device; halves = old.halves; log = c.append_spelled.new.self; waiting = old.waiting; synced = old.synced; image = old.image; failed = old.failed } in
+    let some : 0 < count = omega (arith, c.if-count-eq0.false) in
+    let fills : FillsGroup c.deref.result.now count = record { fits = c.group_len-count.ensures.fits (omega (arith, some, c.group_len-count.ensures.within)); full = c.group_len-count.ensures.most } in
+    flushed_more old mid c.carry_on.new.self count c.carry_on.result refl refl refl
+    (log_more old.log c.append_spelled.new.self c.append_spelled.ensures.area (omega (arith, before.counted, after.counted, length-append (stood g.D.Device.history run handed old is c.if-self.false).has.groups (take count c.deref-2.result.now ∷ []))))
+    some (subst (λ (rs : List RecordValue). FillsGroup rs count) c.deref.ensures.value fills) c.carry_on.ensures.flushed c.carry_on.ensures.rest
+
+pub returns-then-count-eq0-clause-full : goal.returns-then-count-eq0-clause-full
+returns-then-count-eq0-clause-full g c = λ sound waits full. absurd (waits (returns-then-count-eq0-clause-flushed g c).1)
+
+pub returns-then-self-clause-around : goal.returns-then-self-clause-around
+returns-then-self-clause-around g c = none_written g.D.Device.history c.args.self.now c.args.self.now refl refl refl refl
+
+pub returns-then-count-eq0-clause-around : goal.returns-then-count-eq0-clause-around
+returns-then-count-eq0-clause-around g c = none_written g.D.Device.history c.args.self.now c.args.self.now refl refl refl refl
+
+pub returns-then-is_full-clause-around : goal.returns-then-is_full-clause-around
+returns-then-is_full-clause-around g c = none_written g.D.Device.history c.args.self.now c.args.self.now refl refl refl refl
+
+pub returns-in_err-body-clause-around : goal.returns-in_err-body-clause-around
+returns-in_err-body-clause-around g c = none_written g.D.Device.history c.args.self.now c.args.self.now refl refl refl refl
+
+pub returns-in_err-plan-clause-around : goal.returns-in_err-plan-clause-around
+returns-in_err-plan-clause-around g c = none_written g.D.Device.history c.args.self.now c.args.self.now refl refl refl refl
+
+pub returns-in-Ok-Done-clause-around : goal.returns-in-Ok-Done-clause-around
+returns-in-Ok-Done-clause-around g c =
+    let (run, handed, is) = c.requires in
+    let history = g.D.Device.history in
+    let old = c.args.self.now in
+    let done : c.append_spelled.result ≡ Ok Done = cc (c.in-Ok-Done.is, c.in-Ok-Done.field-0-is) in
+    let mid : Writer g.row.D.Denot g.row.A.Denot = record { device = c.append_spelled.new.device; halves = old.halves; log = c.append_spelled.new.self; waiting = old.waiting; synced = old.synced; image = old.image; failed = old.failed } in
+    let closed : old.log.open_slots ≢ old.log.area.slots = λ all. cc (c.append_spelled.ensures.full.1 all, done) in
+    let group : List RecordValue = take c.group_len-count.result c.deref-2.result.now in
+    let spelled : IsGroup group c.deref-4.result.now = subst (IsGroup group) (sym c.deref-4.ensures.value) (c.in_ok-body.ensures.ok) in
+    then_around history old mid c.carry_on.new.self
+    (appended_around history run handed old is c.if-self.false closed mid group refl c.append_spelled.ensures.area refl c.append_spelled.ensures.outside (c.append_spelled.ensures.any_moment group spelled)) c.carry_on.ensures.around
+
+pub returns-clause-around : goal.returns-clause-around
+returns-clause-around g c =
+    let (run, handed, is) = c.requires in
+    let history = g.D.Device.history in
+    let old = c.args.self.now in
+    let new : Writer g.row.D.Denot g.row.A.Denot = record { device = c.append_spelled.new.device; halves = old.halves; log = c.append_spelled.new.self; waiting = old.waiting; synced = old.synced; image = old.image; failed = true } in
+    let closed : old.log.open_slots ≢ old.log.area.slots = λ all. cc (c.append_spelled.ensures.full.1 all, c.in-Err.is) in
+    let group : List RecordValue = take c.group_len-count.result c.deref-2.result.now in
+    let spelled : IsGroup group c.deref-4.result.now = subst (IsGroup group) (sym c.deref-4.ensures.value) (c.in_ok-body.ensures.ok) in
+    appended_around history run handed old is c.if-self.false closed new group refl c.append_spelled.ensures.area refl c.append_spelled.ensures.outside (c.append_spelled.ensures.any_moment group spelled)

@@ -1,4 +1,4 @@
-use Rattle.std.proofs.Common.{true, ◌≡◌, ◌⊎◌, ◌+◌, Option, Some, IfSome, refl, sym, ap, subst, ◌∙◌}
+use Rattle.std.proofs.Common.{true, ◌≡◌, ◌⊎◌, ⊎_elim, ◌+◌, Option, Some, IfSome, refl, sym, ap, subst, ◌∙◌}
 use Rattle.std.proofs.lemmas.Bool.{false≢true}
 use Rattle.sector_device.specs.Disk.{SameOutside}
 use Rattle.sector_device.specs.History.{RunsWithin}
@@ -69,13 +69,27 @@ returns-clause-writer g c = λ run handed is asked.
     (subst (λ (x : GeometryValue). HasPage (header_sector x half) after c.args.page c.rows_alone-cells.result.rows) is.geometry-is (from_ok _ _ good c.write_rows.ensures.written)) in
     let next : IsPart run half after image.base c.args.number (c.args.page + 1) count highest life = page_part run half before after image.base image.number c.args.number there.low there.rise chunk.later c.args.page count highest life c.args.rows part chunk.below chunk.rows-are chunk.slots same has in
     let log = written_log run.geometry half (history old.device) (history c.write_rows.new.device) stand.loose within image.log there.groups there.area-is there.stands in
-    let taken : NewImage = record { base = image.base; number = c.args.number; stage = Partly (c.args.page + 1) c.in-Partly.entries c.in-Partly.highest c.in-Partly.life; log = image.log } in
-    let stage_is : Partly (c.args.page + 1) count highest life ≡ taken.stage = cc (at, c.in-Partly.is) in
+    let taken : NewImage = c.with_page.result in
+    let taken_is : record image { number = c.args.number; stage = Partly (c.args.page + 1) count highest life } ≡ taken = sym (c.with_page.ensures c.args.page count highest life at) in
     let new : Writer g.row.D.Denot g.row.A.Denot = record { device = c.write_rows.new.device; halves = old.halves; log = old.log; waiting = old.waiting; synced = old.synced; image = Some taken; failed = old.failed } in
     carried_on history run handed old new is refl refl refl
     (λ sound. stands_with history run handed old is c.requires.sound new refl refl refl
     (written_outside run.geometry half (history old.device) (history c.write_rows.new.device) stand.loose within)
     (written_loose run.geometry half (history old.device) (history c.write_rows.new.device) stand.loose within)
-    (at_stage run half before after old.synced image there c.args.number taken.stage chunk.later chunk.made log
-    (subst (IsContent run half after image.base c.args.number) stage_is next)))
+    (subst (IsUnderway run half after old.synced) taken_is
+    (at_stage run half before after old.synced image there c.args.number (Partly (c.args.page + 1) count highest life) chunk.later chunk.made log next)))
     (returns-clause-images g c run handed is)
+
+pub with_page-requires-clause-partly : goal.with_page-requires-clause-partly
+with_page-requires-clause-partly g c =
+    let (run, handed, is, asked) = c.requires.page in
+    let (count, highest, life, at) = (asked c.in-Some.image c.in-Some.is).next in
+    (c.args.page, count, highest, life, at)
+
+pub returns-clause-stepped : goal.returns-clause-stepped
+returns-clause-stepped g c =
+    let (run, handed, is, asked) = c.requires.page in
+    let (count, highest, life, at) = (asked c.in-Some.image c.in-Some.is).next in (
+      (λ refused. ⊎_elim (λ none. cc (none, c.in-Some.is)) (λ full. false≢true (c.if-is_full.ensures.1 (full ∙ sym (ap (λ (x : GeometryValue). x.slots) c.geometry.ensures)))) refused),
+      (c.with_page.result, (refl, refl, refl, refl, refl, refl), (c.in-Some.image, count, highest, life, c.in-Some.is, at, c.with_page.ensures c.args.page count highest life at)),
+    )

@@ -1,0 +1,47 @@
+-- What the answers of a writer say of it.
+use Rattle.std.proofs.Common.{Result, Ok, Err, OnOk, IfOk, ◌≡◌, ℕ, ◌+◌, ◌-◌, ◌<◌, drop, refl, sym, ap, subst, ◌∙◌, arith}
+use Rattle.records.specs.declared.error.Error.{Error}
+use Rattle.model.specs.Table.{Table}
+use Rattle.gate_log.specs.Area.{Area, Log}
+use Rattle.image_model.specs.declared.chunk.Piece.{Piece}
+use Rattle.image_model.specs.declared.chunk.Piece.TheVariants.{Page}
+use Rattle.store_writer.specs.declared.writer.Writer.{Writer}
+use Rattle.store_writer.specs.declared.writer.FlushReply.{FlushReply}
+use Rattle.store_writer.specs.declared.writer.FlushReply.TheVariants.{Flushed}
+use Rattle.store_writer.specs.declared.writer.StepReply.{StepReply}
+use Rattle.store_writer.specs.declared.writer.StepReply.TheVariants.{Taken, StartAgain}
+use Rattle.store_writer.specs.Writer.{IsPageAnswered, IsStepReply, FillsGroup, IsFlushReply}
+
+-- a log of the same area with one open slot more
+pub log_more : (old new : Log) → new.area ≡ old.area → new.open_slots ≡ old.open_slots + 1 → new ≡ record old { open_slots = old.open_slots + 1 }
+log_more old new area slots =
+    let first : new ≡ record { area = old.area; open_slots = new.open_slots } = ap (λ (a : Area). let l : Log = record { area = a; open_slots = new.open_slots } in l) area in
+    first ∙ ap (λ (n : ℕ). let l : Log = record { area = old.area; open_slots = n } in l) slots
+
+module _ {D M : Type 0} (old mid new : Writer D M) (count : ℕ) where
+  -- a group was appended, and all that is planned with the image was done
+  pub flushed_more : (result : Result FlushReply Error) → mid.halves ≡ old.halves → mid.waiting.items ≡ old.waiting.items → mid.synced ≡ old.synced → mid.log ≡ record old.log { open_slots = old.log.open_slots + 1 }
+      → 0 < count → FillsGroup old.waiting.items count
+      → IfOk result (λ reply. (reply ≡ Flushed new.synced) × (new.synced ≡ mid.synced + count) × (new.failed ≡ mid.failed))
+      → OnOk result ((new.halves ≡ mid.halves) × (new.log ≡ mid.log) × (new.waiting.items ≡ drop count mid.waiting.items))
+      → IfOk result (λ reply. IsFlushReply reply old new)
+  flushed_more (Err e) halves waiting synced log some fills flushed rest = tt
+  flushed_more (Ok reply) halves waiting synced log some fills (is, number, _) (halves_new, log_new, waiting_new) =
+      let counted : count ≡ new.synced - old.synced = omega (arith, number, synced) in
+      subst (λ (r : FlushReply). IsFlushReply r old new) (sym is) (
+        refl,
+        omega (arith, number, synced, some),
+        subst (FillsGroup old.waiting.items) counted fills,
+        record {
+          halves-are = halves_new ∙ halves;
+          log-is = log_new ∙ log;
+          waiting-are = waiting_new ∙ ap (drop count) waiting ∙ ap (λ (n : ℕ). drop n old.waiting.items) counted;
+        },
+      )
+
+-- what is answered of a page is answered of the piece that has its rows
+pub page_answered : {A D M : Type 0} (number page : ℕ) (rows : Table) (piece : Piece A) (old new : Writer D M) (result : Result StepReply Error) → piece ≡ Page page rows
+    → IfOk result (λ reply. IsPageAnswered number page reply old new) → IfOk result (λ reply. IsStepReply number piece reply old new)
+page_answered {A} number page rows piece old new (Ok Taken) is answered = subst (λ (p : Piece A). IsStepReply number p Taken old new) (sym is) answered
+page_answered {A} number page rows piece old new (Ok StartAgain) is answered = subst (λ (p : Piece A). IsStepReply number p StartAgain old new) (sym is) answered
+page_answered number page rows piece old new (Err e) is answered = tt
