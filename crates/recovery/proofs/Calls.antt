@@ -1,0 +1,25 @@
+-- What a crash leaves while a store is opened, call by call.
+use Rattle.std.proofs.Common.{Result, OnOk, OnErr, ◌≡◌, inl, inr, ℕ, subst}
+use Rattle.sector_device.specs.declared.device.Failed.{Failed}
+use Rattle.sector_device.specs.Disk.{Image, after_sync}
+use Rattle.sector_device.specs.History.{History, Elapses, LeavesOnly, OnlyReads}
+use Rattle.sector_device.proofs.Moments.{started, joined, at_end, sync_goes_on, weaker}
+use Rattle.sector_device.proofs.Within.{reads_leave}
+use Rattle.records.specs.declared.error.Error.{Error}
+use Rattle.gate_log.specs.Area.{Refuses}
+use Rattle.recovery.specs.Reopening.{IsLeft, IsWrittenBack}
+
+-- a refusal behind a call that didn't fail
+pub refused_since : (before mid now : ℕ) (e : Error) → mid ≡ before → Refuses mid now e → Refuses before now e
+refused_since before mid now e same refuses = subst (λ n. Refuses n now e) same refuses
+
+module _ (old mid : History) where
+  pub synced_first : (result : Result Unit Failed) → Elapses old mid → OnOk result (mid.disk ≡ after_sync old.disk) → OnErr result (mid.disk ≡ old.disk) → LeavesOnly old mid (IsLeft old.disk)
+  synced_first result time ok err = sync_goes_on old old mid (IsLeft old.disk) (started old (IsLeft old.disk) (λ c crash. inl crash)) time result ok err
+
+  module _ (new : History) (first : LeavesOnly old mid (IsLeft old.disk)) where
+    pub then_reads : OnlyReads mid new → LeavesOnly old new (IsLeft old.disk)
+    then_reads reads = joined old mid new (IsLeft old.disk) first (reads_leave mid new (IsLeft old.disk) reads (at_end old mid (IsLeft old.disk) first))
+
+    pub then_writes : mid.disk.content ≡ old.disk.content → LeavesOnly mid new (IsWrittenBack mid.disk.content) → LeavesOnly old new (IsLeft old.disk)
+    then_writes same written = joined old mid new (IsLeft old.disk) first (weaker mid new (IsWrittenBack mid.disk.content) (IsLeft old.disk) (λ c back. inr (subst (λ (i : Image). IsWrittenBack i c) same back)) written)
