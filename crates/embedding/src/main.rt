@@ -2,9 +2,9 @@
 #![tactic(auto)]
 
 use anyhow::{Result, anyhow};
-use first::{Engine, Event, restart};
 use flip_image::Halves;
 use records::{Body, Geometry, Key, Txn};
+use restart::{Engine, Event, restart};
 use sector_device::{Fate, MemDisk};
 use std::alloc::Global;
 

@@ -3,21 +3,23 @@ use Rattle.std.proofs.Common.{◌≡◌, ◌⊎◌, ⊎_elim, inl, inr, ℕ, sub
 use Rattle.records.specs.GeometryValue.{GeometryValue}
 use Rattle.records.specs.declared.error.Error.{Error}
 use Rattle.records.specs.declared.error.Error.TheVariants.{DeviceTooSmall, DeviceFailed, NoMemory}
-use Rattle.model.specs.Given.{nothing}
+use Rattle.core_model.specs.Histories.{CanOpen}
+use Rattle.model.specs.Given.{Given, nothing}
 use Rattle.sector_device.specs.History.{History}
 use Rattle.gate_log.specs.Area.{Refuses}
-use Rattle.store_reader.specs.Contents.{Gives, IsUnreadable, IsUntouched}
-use Rattle.store_reader.proofs.Readings.{one_geometry}
-use Rattle.first.specs.declared.engine.Engine.{Engine}
-use Rattle.first.specs.Store.{IsAt}
-use Rattle.first.specs.Reopening.{opening, IsOpened, IsNotOpened}
+use Rattle.store_reader.specs.Contents.{Gives, IsUnreadable}
+use Rattle.store_reader.proofs.Readings.{one_geometry, one_given}
+use Rattle.restart.specs.declared.engine.Engine.{Engine}
+use Rattle.restart.specs.Store.{IsAt, over}
+use Rattle.restart.specs.Reopening.{opening, IsOpened, IsNotOpened}
 
-module _ {D M : Type 0} (history : D → History) (before : D) (g : GeometryValue) (gives : Gives (history before).disk.content g nothing) (none : IsUntouched (history before).disk.content g) where
-  pub begun_formatted : (engine : Engine D M) → IsOpened history before engine → IsAt history (opening g) engine
-  begun_formatted engine is =
-      let image = (history before).disk.content in
-      let same : is.geometry ≡ g = one_geometry image is.geometry g is.given nothing is.gives gives in
-      subst (λ (x : GeometryValue). IsAt history (opening x) engine) same (is.begins (subst (IsUntouched image) (sym same) none))
+pub begun_formatted : {D M : Type 0} (history : D → History) (before : D) (g : GeometryValue) → Gives (history before).disk.content g nothing → CanOpen (over g nothing) → (engine : Engine D M) → IsOpened history before engine → IsAt history (opening g nothing) engine
+begun_formatted history before g gives opens engine is =
+    let image = (history before).disk.content in
+    let size : is.geometry ≡ g = one_geometry image is.geometry g is.given nothing is.gives gives in
+    let same : is.given ≡ nothing = one_given image is.geometry g is.given nothing is.gives gives in
+    let opens_it : CanOpen (over is.geometry is.given) = subst (λ (x : GeometryValue). CanOpen (over x is.given)) (sym size) (subst (λ (x : Given). CanOpen (over g x)) (sym same) opens) in
+    subst (λ (x : GeometryValue). IsAt history (opening x nothing) engine) size (subst (λ (x : Given). IsAt history (opening is.geometry x) engine) same (is.begins opens_it))
 
 abbrev pub MayRefuse : Error → Type 0
 MayRefuse e = (e ≡ DeviceTooSmall) ⊎ (e ≡ DeviceFailed) ⊎ (e ≡ NoMemory)

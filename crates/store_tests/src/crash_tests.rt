@@ -3,7 +3,7 @@ use crate::disks::formatted_for_long;
 use crate::phases::{Contents, NOTHING, Phase, held_by, worked_run};
 use crate::requests::Answer;
 use crate::store::{Memory, memory_of, reply_to};
-use first::{Engine, Event, restart};
+use restart::{Engine, Event, restart};
 use sector_device::{Device, Fate, FaultDisk, Which};
 use std::alloc::Global;
 use std::process::Abort;

@@ -19,6 +19,9 @@ pub(crate) const FIRST: Rid = Rid { page: 0, slot: 0 };
 /// The place after it.
 pub(crate) const NEXT: Rid = Rid { page: 0, slot: 1 };
 
+// More than the calls that a test makes.
+const CALLS: usize = 4_096;
+
 /// The least store.
 pub(crate) fn geometry() -> Result<Geometry, Error> {
     Geometry::new(1, 64, 4)
@@ -26,7 +29,7 @@ pub(crate) fn geometry() -> Result<Geometry, Error> {
 
 /// A disk of zeros.
 pub(crate) fn blank(alloc: Global) -> Result<MemDisk<Global>, Fail> {
-    Ok(MemDisk::new(alloc, SECTORS, 128)?)
+    Ok(MemDisk::new(alloc, SECTORS, CALLS)?)
 }
 
 /// A disk that was just formatted, and synced.
@@ -38,7 +41,7 @@ pub(crate) fn formatted(alloc: Global) -> Result<MemDisk<Global>, Fail> {
 
 /// A disk that was just formatted, and synced, with a log of twelve slots.
 pub(crate) fn formatted_for_long(alloc: Global) -> Result<MemDisk<Global>, Fail> {
-    let mut disk = MemDisk::new(alloc, LONG_SECTORS, 128)?;
+    let mut disk = MemDisk::new(alloc, LONG_SECTORS, CALLS)?;
     Halves::format(&mut disk, Geometry::new(1, 64, 12)?)?;
     Ok(disk)
 }

@@ -3,8 +3,9 @@ use crate::disks::{FIRST, formatted_for_long};
 use crate::phases::{Phase, held_by, worked_run};
 use crate::requests::Answer;
 use crate::store::{CHUNK, Memory, memory_of, open, serve};
-use first::{Engine, Event};
+use crate::values::txn;
 use model::Life;
+use restart::{Engine, Event};
 use sector_device::{Device, Fate};
 use std::alloc::{AllocError, Global};
 use std::process::Abort;
@@ -47,7 +48,7 @@ fn serve_all<D: Device>(
     }
 }
 
-// Serves the phases over a store just formatted, and what it reads to the store that is left by a crash. What was left of the memory as it was refused, if it was.
+// Serves the phases over a store just formatted, and some more to the store that is left by a crash. What was left of the memory as it was refused, if it was.
 fn play(
     rt: &impl Abort,
     alloc: Global,
@@ -64,13 +65,15 @@ fn play(
     let Ok(mut engine) = open(memory, disk, &mut refused) else {
         return Err("a store after the crash")?;
     };
-    let given = phases.last().map(|phase| phase.given);
-    assert_eq!(rt; Some(held_by(engine.core())), given);
+    let Some(given) = phases.last().map(|phase| phase.given) else {
+        return Err("a phase")?;
+    };
+    assert_eq!(rt; held_by(engine.core()), given);
     let after = [
         (Event::Get { rid: FIRST }, Answer::Row(None)),
         (Event::Life, Answer::Life(Life::Complete)),
-        (Event::Begin, Answer::Skipped),
-        (Event::Flush, Answer::Skipped),
+        (Event::Begin, Answer::Txn(txn(1)?)),
+        (Event::Flush, Answer::Horizon(given.last)),
     ];
     serve(rt, memory, &mut engine, &after, &mut refused);
     Ok(refused)

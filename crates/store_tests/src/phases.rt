@@ -3,10 +3,10 @@
 use crate::disks::{FIRST, NEXT};
 use crate::requests::{Answer, Asked, commit_ticket, insertion, ticket, update};
 use crate::values::{pair, row, txn};
-use first::Event;
 use model::Life;
 use nsf_core::{BuildReply, CleanReply, Core};
 use records::{Error, Key, Mark, Pair, Row};
+use restart::Event;
 use std::alloc::{Allocator, Global};
 use std::test::Fail;
 

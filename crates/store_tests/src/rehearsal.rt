@@ -1,12 +1,14 @@
 // A whole run over a disk in memory, with a crash at its end: the contracts of the calls, put together.
 ghost use Rattle.std.specs.Prelude.{◌≡◌, ◌⊎◌, ◌≤◌, ◌+◌, ℕ, length, take, IfOk, IfErr};
-ghost use Rattle.first.specs.History.{acknowledged};
-ghost use Rattle.first.specs.Store.{and_then};
-ghost use Rattle.first.specs.Reopening.{opening, Recovers};
+ghost use Rattle.model.specs.Given.{nothing};
+ghost use Rattle.sector_device.specs.MemDisk.{history_of};
+ghost use Rattle.restart.specs.History.{acknowledged};
+ghost use Rattle.restart.specs.Store.{and_then};
+ghost use Rattle.restart.specs.Reopening.{opening, Recovers};
 
-use first::{Engine, Event, Reply, restart};
 use flip_image::Halves;
 use records::{Error, Geometry};
+use restart::{Engine, Event, Reply, nothing_opens, restart};
 use sector_device::{Fate, MemDisk};
 use std::alloc::Global;
 use store_reader::{format_gives_nothing, one_answer};
@@ -25,14 +27,15 @@ pub(crate) fn rehearse(
     events: &[Event],
     fates: &[Fate],
 ) -> Result<Rehearsed, Error>
-    ensures recovers { IfOk result (λ r. Recovers (and_then (opening geometry) events.now r.0.items) (acknowledged 0 r.0.items) r.1) }
+    ensures recovers { IfOk result (λ r. Recovers history_of (and_then (opening geometry nothing) events.now r.0.items) (acknowledged 0 r.0.items) r.1) }
     // The same of the last moment of the run, as of any other.
     ensures prefix { IfOk result (λ r. (j : ℕ) × (j ≤ length events.now)
-        × Recovers (and_then (opening geometry) (take (j + 1) events.now) (take (j + 1) r.0.items)) (acknowledged 0 (take j r.0.items)) r.1) }
+        × Recovers history_of (and_then (opening geometry nothing) (take (j + 1) events.now) (take (j + 1) r.0.items)) (acknowledged 0 (take j r.0.items)) r.1) }
     ensures refused { IfErr result (λ e. (e ≡ Error.DeviceTooSmall) ⊎ (e ≡ Error.DeviceFailed) ⊎ (e ≡ Error.NoMemory)) }
 {
     format_gives_nothing();
     one_answer();
+    nothing_opens();
     Halves::format(&mut disk, geometry)?;
     let mut engine = match restart(alloc, disk) {
         Ok(engine) => engine,

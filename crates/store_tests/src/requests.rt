@@ -1,9 +1,9 @@
 // Requests and answers for the tests.
 use crate::values::record_number;
-use first::{Event, Reply};
 use model::Life;
 use nsf_core::{BuildReply, CleanReply, Ticket};
 use records::{Error, Rid, Row, Txn};
+use restart::{Event, Reply};
 use std::alloc::Allocator;
 use std::test::Fail;
 

@@ -2,8 +2,8 @@
 // every answer is that of a store to which nothing was refused.
 use crate::requests::{Answer, Asked, answer_of};
 use bumpalo::Bump;
-use first::{Engine, Event, restart};
 use records::Error;
+use restart::{Engine, Event, restart};
 use sector_device::Device;
 use std::alloc::{AllocError, Allocator, Global};
 use std::process::Abort;

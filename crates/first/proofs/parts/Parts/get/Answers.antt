@@ -1,8 +1,0 @@
-use Rattle.std.proofs.Common.{refl}
-use Rattle.core_contracts.specs.Events as core
-use Rattle.first.specs.declared.event.Reply.TheVariants as reply
-use Rattle.first.proofs.Answered.{answered_still}
-use Rattle.first.proofs.parts.Parts.get.Goals as goal
-
-pub returns : goal.returns
-returns g c = answered_still (core.Get c.args.rid) c.args.self.now (reply.Row c.get.result) (core.RowIs c.get.result) refl c.get.ensures.serves

@@ -1,8 +1,0 @@
-use Rattle.std.proofs.Common.{refl}
-use Rattle.core_contracts.specs.Events as core
-use Rattle.first.specs.declared.event.Reply.TheVariants as reply
-use Rattle.first.proofs.Answered.{answered_still}
-use Rattle.first.proofs.parts.Parts.life.Goals as goal
-
-pub returns : goal.returns
-returns g c = answered_still core.Life c.args.self.now (reply.Life c.life.result) (core.LifeIs c.life.result) refl c.life.ensures.serves

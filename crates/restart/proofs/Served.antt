@@ -1,0 +1,74 @@
+-- A request that the core serves leaves the engine where the run says.
+use Rattle.std.proofs.Common.{◌≡◌, ℕ, List, Option, Some, [], ◌∷◌, ◌++◌, sym, ◌∙◌, ap, subst, arith}
+use Rattle.core_contracts.specs.Events as core
+use Rattle.core_contracts.specs.Events.{standing_after}
+use Rattle.core_contracts.specs.Replies.{after_any}
+use Rattle.core_contracts.specs.Served.{HasServed, records_by}
+use Rattle.core_contracts.proofs.Laws.{served_allowed}
+use Rattle.nsf_core.specs.View.{Answers}
+use Rattle.sector_device.specs.History.{History, LeavesOnly}
+use Rattle.sector_device.proofs.Moments.{started}
+use Rattle.store_writer.specs.Parts.{device_of}
+use Rattle.restart.specs.declared.event.Event.{Event}
+use Rattle.restart.specs.declared.event.Event.TheVariants as event
+use Rattle.restart.specs.declared.event.Reply.{Reply}
+use Rattle.restart.specs.declared.parts.Parts.{Parts}
+use Rattle.restart.specs.History.{IsOfKind, acknowledged, answered, asked, both, core_calls}
+use Rattle.restart.specs.Lawful.{ServesInCore}
+use Rattle.restart.specs.Parts.{core_of, horizon_of, writer_of}
+use Rattle.restart.specs.Store.{CanRun, IsAt, Past, StandsAt, Survives, acknowledged_by, and_then, over, run_of}
+use Rattle.restart.proofs.Standing.{Laws, stands_then}
+use Rattle.restart.proofs.Stories.{at_next, crash_since}
+
+both_are : (asks : Option core.Event) (answers : Option core.Reply) (e : core.Event) (r : core.Reply) → asks ≡ Some e → answers ≡ Some r → (e, r) ∷ [] ≡ both asks answers
+both_are asks answers e r p q = sym (ap (λ a. both a answers) p ∙ ap (both (Some e)) q)
+
+-- what the core answered is of its request's kind
+of_kind : {M : Type 0} (x : Event) (r : Reply M) (e : core.Event) (told : core.Reply) → asked x ≡ Some e → answered r ≡ Some told → IsOfKind x r
+of_kind event.Begin r e told p q = λ none. cc
+of_kind (event.Insert txn key body) r e told p q = λ none. cc
+of_kind (event.Delete txn rid) r e told p q = λ none. cc
+of_kind (event.Update txn rid key body) r e told p q = λ none. cc
+of_kind (event.Step txn) r e told p q = λ none. cc
+of_kind (event.Undo txn) r e told p q = λ none. cc
+of_kind (event.End txn) r e told p q = λ none. cc
+of_kind (event.Commit txn) r e told p q = λ none. cc
+of_kind event.Create r e told p q = λ none. cc
+of_kind event.Build r e told p q = λ none. cc
+of_kind event.Clean r e told p q = λ none. cc
+of_kind event.Flush r e told p q = absurd cc
+of_kind (event.Get rid) r e told p q = λ none. cc
+of_kind (event.Find key) r e told p q = λ none. cc
+of_kind event.Life r e told p q = λ none. cc
+
+module _ {D M : Type 0} (history : D → History) (x : Event) (e : core.Event) (r : Reply M) (old new : Parts D M) (asks : asked x ≡ Some e) (in_core : ServesInCore e r old new) (laws : Laws history (writer_of old)) where
+  pub can_run_then : CanRun history old → CanRun history new
+  can_run_then can =
+      let is : StandsAt history can.0 can.1 can.2 can.3 old = can.4 in
+      let a : Answers (core_of old) can.2 can.3 e in_core.reply (core_of new) = in_core.serves can.2 can.3 is.shown in
+      (_, _, _, _, stands_then history can.0 can.1 can.2 can.3 old is laws new e in_core.reply a in_core.rest)
+
+  module _ (quiet : (n : ℕ) → acknowledged n (r ∷ []) ≡ n) (past : Past M) (is : IsAt history past old) where
+    abbrev answer : Answers (core_of old) is.state is.standing e in_core.reply (core_of new)
+    answer = in_core.serves is.state is.standing is.stands.shown
+
+    has : HasServed (over past.geometry past.given) (is.made ++ records_by is.state is.standing.made answer.step) (core_calls past.events past.replies ++ both (asked x) (answered r)) (after_any is.state answer.step) (standing_after is.standing in_core.reply)
+    has = subst (λ (l : List (core.Event × core.Reply)). HasServed (over past.geometry past.given) (is.made ++ records_by is.state is.standing.made answer.step) (core_calls past.events past.replies ++ l) (after_any is.state answer.step) (standing_after is.standing in_core.reply))
+        (both_are (asked x) (answered r) e in_core.reply asks in_core.reply_is)
+        (served_allowed (over past.geometry past.given) is.opens is.made (core_calls past.events past.replies) is.state is.standing is.served e in_core.reply answer.step answer.allowed)
+
+    same_horizon : horizon_of new ≡ horizon_of old
+    same_horizon = ap (λ (e : Parts D M). horizon_of e) in_core.rest
+
+    pub at_then : IsAt history (and_then past (x ∷ []) (r ∷ [])) new
+    at_then = at_next history past old new x r (of_kind x r e in_core.reply asks in_core.reply_is) is (is.made ++ records_by is.state is.standing.made answer.step) is.handed (after_any is.state answer.step) (standing_after is.standing in_core.reply) has
+        (stands_then history (run_of past is.made) is.handed is.state is.standing old is.stands laws new e in_core.reply answer in_core.rest)
+        (omega (arith, quiet (acknowledged_by past), is.safe, same_horizon))
+
+    pub leaves_then : LeavesOnly (history (device_of (writer_of old))) (history (device_of (writer_of new))) (Survives (and_then past (x ∷ []) (r ∷ [])) (acknowledged_by past))
+    leaves_then = subst (λ w. LeavesOnly (history (device_of w)) (history (device_of (writer_of new))) (Survives (and_then past (x ∷ []) (r ∷ [])) (acknowledged_by past))) (ap (λ (e : Parts D M). writer_of e) in_core.rest)
+        (started (history (device_of (writer_of new))) (Survives (and_then past (x ∷ []) (r ∷ [])) (acknowledged_by past))
+        (λ image crash. crash_since history (and_then past (x ∷ []) (r ∷ [])) new at_then (acknowledged_by past) (omega (arith, is.safe, same_horizon)) image crash))
+
+    pub served : IsAt history (and_then past (x ∷ []) (r ∷ [])) new × LeavesOnly (history (device_of (writer_of old))) (history (device_of (writer_of new))) (Survives (and_then past (x ∷ []) (r ∷ [])) (acknowledged_by past))
+    served = (at_then, leaves_then)

@@ -1,0 +1,74 @@
+-- A request is served by the core, or is a flush.
+use Rattle.std.proofs.Common.{None, Option, Some, refl, subst, sym, ℕ, [], ◌∷◌, ◌≡◌}
+use Rattle.core_contracts.specs.Events as core
+use Rattle.sector_device.specs.History.{History}
+use Rattle.restart.specs.declared.parts.Parts.{Parts}
+use Rattle.restart.specs.declared.event.Event.{Event}
+use Rattle.restart.specs.declared.event.Event.TheVariants as event
+use Rattle.restart.specs.declared.event.Reply.{Reply}
+use Rattle.restart.specs.declared.event.Reply.TheVariants as reply
+use Rattle.restart.specs.History.{acknowledged, answered, asked}
+use Rattle.restart.specs.Lawful.{IsFlushAnswer, IsInCore, IsInCoreBy, IsLawful, ServesInCore}
+use Rattle.restart.specs.Parts.{writer_of}
+use Rattle.restart.specs.Store.{CanRun, ServesOn}
+use Rattle.restart.proofs.Served.{can_run_then, served}
+use Rattle.restart.proofs.Standing.{Laws}
+
+-- what the core answers tells nothing of what is safe
+quiet : {M : Type 0} (r : Reply M) (x : core.Reply) → answered r ≡ Some x → (n : ℕ) → acknowledged n (r ∷ []) ≡ n
+quiet (reply.Txn t) x is n = refl
+quiet (reply.Rid r) x is n = refl
+quiet reply.Stepped x is n = refl
+quiet reply.Undone x is n = refl
+quiet reply.Empty x is n = refl
+quiet reply.Ended x is n = refl
+quiet (reply.Ticket t) x is n = refl
+quiet (reply.Built b) x is n = refl
+quiet (reply.Cleaned c) x is n = refl
+quiet (reply.Horizon m) x is n = absurd cc
+quiet reply.LogFull x is n = refl
+quiet (reply.Row row) x is n = refl
+quiet (reply.Found rids) x is n = refl
+quiet (reply.Life life) x is n = refl
+quiet reply.Skipped x is n = refl
+quiet (reply.Refused e) x is n = refl
+
+module _ {D M : Type 0} (failures : D → ℕ) (r : Reply M) (old new : Parts D M) where
+  lawful_in_core : (x : Event) → IsInCore x r old new → IsLawful failures x r old new
+  lawful_in_core event.Begin is = is
+  lawful_in_core (event.Insert txn key body) is = is
+  lawful_in_core (event.Delete txn rid) is = is
+  lawful_in_core (event.Update txn rid key body) is = is
+  lawful_in_core (event.Step txn) is = is
+  lawful_in_core (event.Undo txn) is = is
+  lawful_in_core (event.End txn) is = is
+  lawful_in_core (event.Commit txn) is = is
+  lawful_in_core event.Create is = is
+  lawful_in_core event.Build is = is
+  lawful_in_core event.Clean is = is
+  lawful_in_core event.Flush is = absurd is
+  lawful_in_core (event.Get rid) is = is
+  lawful_in_core (event.Find key) is = is
+  lawful_in_core event.Life is = is
+
+module _ {D M : Type 0} (history : D → History) (failures : D → ℕ) (x : Event) (r : Reply M) (old new : Parts D M) (in_core : IsInCore x r old new) where
+  by_core : (o : Option core.Event) → asked x ≡ o → IsInCoreBy o r old new → (e : core.Event) × (asked x ≡ Some e) × ServesInCore e r old new
+  by_core None is given = absurd given
+  by_core (Some e) is given = (e, is, given)
+
+  pub served_by_core : Laws history (writer_of old) → ServesOn history x r old new
+  served_by_core laws past is = let by = by_core (asked x) refl in_core in served history x by.0 r old new by.1 by.2 laws (quiet r by.2.reply by.2.reply_is) past is
+
+  pub answered_by_core : IsLawful failures x r old new
+  answered_by_core = lawful_in_core failures r old new x in_core
+
+  pub can_run_by_core : Laws history (writer_of old) → CanRun history old → CanRun history new
+  can_run_by_core laws can = let by = by_core (asked x) refl in_core in can_run_then history x by.0 r old new by.1 by.2 laws can
+
+-- a request that the core answers nothing to is a flush
+module _ {D M : Type 0} (x : Event) (r : Reply M) (old mid new : Parts D M) (is : x ≡ event.Flush) (same : mid ≡ old) where
+  pub flush_serves : (history : D → History) → ServesOn history event.Flush r mid new → ServesOn history x r old new
+  flush_serves history serves = subst (λ e. ServesOn history e r old new) (sym is) (subst (λ e. ServesOn history event.Flush r e new) same serves)
+
+  pub flush_lawful : (failures : D → ℕ) → IsFlushAnswer failures r mid new → IsLawful failures x r old new
+  flush_lawful failures answer = subst (λ e. IsLawful failures e r old new) (sym is) (subst (λ e. IsFlushAnswer failures r e new) same answer)

@@ -1,0 +1,11 @@
+use Rattle.std.proofs.Common.{subst}
+use Rattle.std.specs.Prelude.{OnOk}
+use Rattle.restart.specs.Building.{BuildsWhole, HasCome}
+use Rattle.restart.specs.Parts.{core_of}
+use Rattle.restart.proofs.engine.Engine.build_to_end.Goals as goal
+
+pub returns-clause-come : goal.returns-clause-come
+returns-clause-come g c = subst (λ parts. HasCome (core_of parts) → HasCome (core_of c.build_to_end.new.self)) c.self.view_is c.build_to_end.ensures.come
+
+pub returns-clause-whole : goal.returns-clause-whole
+returns-clause-whole g c = subst (λ parts. OnOk c.build_to_end.result (BuildsWhole (core_of parts) (core_of c.build_to_end.new.self))) c.self.view_is c.build_to_end.ensures.whole

@@ -1,0 +1,68 @@
+use Rattle.std.proofs.Common.{rules, ◌≡◌, length, take, List, [], ◌∷◌, ◌++◌, get_or, refl, sym, ap, subst, arith, length-append, length-take}
+use Rattle.std.proofs.lemmas.List.{take_more, take_all}
+use Rattle.restart.specs.declared.event.Event.{Event}
+use Rattle.restart.specs.declared.event.Reply.{Reply}
+use Rattle.restart.specs.Lawful.{IsLawful, AreLawful}
+use Rattle.restart.specs.Store.{Past, IsAt, ServesOn, GoesOn, AreServed, and_then}
+use Rattle.store_writer.proofs.Around.{then_around}
+use Rattle.restart.specs.Parts.{writer_of}
+use Rattle.restart.proofs.Around.{around_none}
+use Rattle.restart.proofs.Runs.{goes_nowhere, goes_further, lawful_last, served_last}
+use Rattle.restart.proofs.Crashes.{survives_any_crash}
+use Rattle.restart.proofs.Stories.{crash_now}
+use Rattle.restart.proofs.engine.Engine.run.Goals as goal
+
+pub loop-event-init : goal.loop-event-init
+loop-event-init g c = record {
+  even = ap length c.in_ok-replies.ensures.items;
+  room = omega (arith, c.in_ok-replies.ensures.exact);
+  lawful = subst (λ (rs : List (Reply _)). AreLawful g.D.Device.failures [] rs c.args.self.now c.args.self.now) (sym c.in_ok-replies.ensures.items) refl;
+  served = λ past is. subst (λ (rs : List (Reply _)). AreServed g.D.Device.history g.D.Device.failures past [] rs c.args.self.now c.args.self.now) (sym c.in_ok-replies.ensures.items) refl;
+  around = around_none g.D.Device.history c.args.self.now c.args.self.now;
+  ran = λ past is. subst (λ (rs : List (Reply _)). GoesOn g.D.Device.history past [] rs c.args.self.now c.args.self.now) (sym c.in_ok-replies.ensures.items) (goes_nowhere g.D.Device.history past c.args.self.now is);
+}
+
+pub loop-event-preserved : goal.loop-event-preserved
+loop-event-preserved g c =
+    let inv = c.loop-event.invariant in
+    let history = g.D.Device.history in
+    let i = c.loop-event.event-index in
+    let events = c.args.events.now in
+    let item : c.event-item.result ≡ get_or events i c.event-item.result = c.event-item.is in
+    let even : length c.loop-event.replies.items ≡ length (take i events) = omega (arith, inv.even, length-take i events, c.loop-event-test.true) in
+    record {
+      even = omega (arith, inv.even, ap length c.in-Ok.ensures.items, length-append c.loop-event.replies.items (c.serve-reply.result ∷ []));
+      room = omega (arith, inv.room, c.push.ensures.capacity);
+      lawful =
+          subst (λ (es : List Event). AreLawful g.D.Device.failures es c.push.new.self.items c.args.self.now c.serve-reply.new.self) (sym (take_more events i c.event-item.result c.loop-event-test.true))
+          (subst (λ (rs : List (Reply _)). AreLawful g.D.Device.failures (take i events ++ get_or events i c.event-item.result ∷ []) rs c.args.self.now c.serve-reply.new.self) (sym c.in-Ok.ensures.items)
+          (lawful_last g.D.Device.failures (take i events) c.loop-event.replies.items (get_or events i c.event-item.result) c.serve-reply.result c.args.self.now c.loop-event.self c.serve-reply.new.self inv.lawful (subst (λ e. IsLawful g.D.Device.failures e c.serve-reply.result c.loop-event.self c.serve-reply.new.self) item c.serve-reply.ensures.lawful)));
+      served = λ past is.
+          subst (λ (es : List Event). AreServed history g.D.Device.failures past es c.push.new.self.items c.args.self.now c.serve-reply.new.self) (sym (take_more events i c.event-item.result c.loop-event-test.true))
+          (subst (λ (rs : List (Reply _)). AreServed history g.D.Device.failures past (take i events ++ get_or events i c.event-item.result ∷ []) rs c.args.self.now c.serve-reply.new.self) (sym c.in-Ok.ensures.items)
+          (served_last history g.D.Device.failures past (take i events) c.loop-event.replies.items (get_or events i c.event-item.result) c.serve-reply.result c.args.self.now c.loop-event.self c.serve-reply.new.self is (inv.served past is) (subst (λ e. IsLawful g.D.Device.failures e c.serve-reply.result c.loop-event.self c.serve-reply.new.self) item c.serve-reply.ensures.lawful) (subst (λ e. ServesOn history e c.serve-reply.result c.loop-event.self c.serve-reply.new.self) item c.serve-reply.ensures.serves)));
+      around = then_around history (writer_of c.args.self.now) (writer_of c.loop-event.self) (writer_of c.serve-reply.new.self) inv.around c.serve-reply.ensures.around;
+      ran = λ past is.
+          subst (λ (es : List Event). GoesOn history past es c.push.new.self.items c.args.self.now c.serve-reply.new.self) (sym (take_more events i c.event-item.result c.loop-event-test.true))
+          (subst (λ (rs : List (Reply _)). GoesOn history past (take i events ++ get_or events i c.event-item.result ∷ []) rs c.args.self.now c.serve-reply.new.self) (sym c.in-Ok.ensures.items)
+          (goes_further history past (take i events) c.loop-event.replies.items c.args.self.now c.loop-event.self c.serve-reply.new.self (get_or events i c.event-item.result) c.serve-reply.result even (inv.ran past is) (subst (λ e. ServesOn history e c.serve-reply.result c.loop-event.self c.serve-reply.new.self) item c.serve-reply.ensures.serves)));
+    }
+
+pub returns : goal.returns
+returns g c =
+    let ran : (past : Past _) → IsAt g.D.Device.history past c.args.self.now → GoesOn g.D.Device.history past c.args.events.now c.loop-event.replies.items c.args.self.now c.loop-event.self =
+    λ past is. subst (λ (es : List Event). GoesOn g.D.Device.history past es c.loop-event.replies.items c.args.self.now c.loop-event.self) (take_all c.loop-event.event-index c.args.events.now c.loop-event-test.false) (c.loop-event.invariant.ran past is) in
+    record {
+      any_crash = survives_any_crash g.D.Device.history c.args.events.now c.loop-event.replies.items c.args.self.now c.loop-event.self ran;
+      at_end = λ past is image crash. crash_now g.D.Device.history (and_then past c.args.events.now c.loop-event.replies.items) c.loop-event.self (ran past is).at image crash;
+      served = λ past is. subst (λ (es : List Event). AreServed g.D.Device.history g.D.Device.failures past es c.loop-event.replies.items c.args.self.now c.loop-event.self) (take_all c.loop-event.event-index c.args.events.now c.loop-event-test.false) (c.loop-event.invariant.served past is);
+      ran = ran;
+      lawful = subst (λ (es : List Event). AreLawful g.D.Device.failures es c.loop-event.replies.items c.args.self.now c.loop-event.self) (take_all c.loop-event.event-index c.args.events.now c.loop-event-test.false) c.loop-event.invariant.lawful;
+      around = c.loop-event.invariant.around;
+      refused = tt;
+      no_memory = tt;
+      some = tt;
+    }
+
+pub returns-in_err-replies-clause-some : goal.returns-in_err-replies-clause-some
+returns-in_err-replies-clause-some g c = search rules

@@ -1,0 +1,9 @@
+use Rattle.std.proofs.Common.{subst}
+use Rattle.restart.specs.Store.{ServesOn, KeepsAround}
+use Rattle.restart.proofs.engine.Engine.serve.Goals as goal
+
+pub returns-clause-serves : goal.returns-clause-serves
+returns-clause-serves g c = subst (λ parts. ServesOn g.D.Device.history c.args.event c.serve.result parts c.serve.new.self) c.self.view_is c.serve.ensures.serves
+
+pub returns-clause-around : goal.returns-clause-around
+returns-clause-around g c = subst (λ parts. KeepsAround g.D.Device.history parts c.serve.new.self) c.self.view_is c.serve.ensures.around

@@ -1,0 +1,120 @@
+-- A build that goes on to its end.
+use Rattle.std.specs.List.{All}
+use Rattle.std.specs.Prelude.{max, Err, List, None, Ok, Option, Result, Some, ℕ, ◌+◌, [], ◌++◌, ◌↔◌, ◌∷◌, ◌≡◌, ◌≢◌, ◌⊎◌}
+use Rattle.std.specs.FinMap.{get}
+use Rattle.records.specs.RecordValue.{RecordValue}
+use Rattle.records.specs.declared.error.Error.{Error}
+use Rattle.records.specs.declared.pair.Mark.TheVariants.{Live}
+use Rattle.records.specs.declared.pair.Pair.{Pair}
+use Rattle.model.specs.Table.{IsPairOf}
+use Rattle.model.specs.declared.life.Life.TheVariants.{Complete}
+use Rattle.core_model.specs.Histories.{CanOpen, Opened}
+use Rattle.core_model.specs.States.{State}
+use Rattle.core_contracts.specs.Events as core
+use Rattle.core_contracts.specs.Events.{Standing}
+use Rattle.core_contracts.specs.Served.{HasServed}
+use Rattle.sector_device.specs.History.{History, LeavesOnly}
+use Rattle.nsf_core.specs.View.{CoreValue, IsState}
+use Rattle.nsf_core.specs.declared.parts.Ticket.{Ticket}
+use Rattle.nsf_core.specs.declared.reply.BuildReply.{BuildReply}
+use Rattle.nsf_core.specs.declared.reply.BuildReply.TheVariants as build
+use Rattle.restart.specs.declared.parts.Parts.{Parts}
+use Rattle.restart.specs.declared.event.Event.{Event}
+use Rattle.restart.specs.declared.event.Event.TheVariants as event
+use Rattle.restart.specs.declared.event.Reply.{Reply}
+use Rattle.restart.specs.declared.event.Reply.TheVariants as reply
+use Rattle.restart.specs.Lawful.{ServesInCore}
+use Rattle.restart.specs.Parts.{core_of, device_of}
+use Rattle.restart.specs.Store.{Past, IsAt, Survives, acknowledged_by, and_then}
+
+-- ---- the steps
+
+-- one request to build for each of these replies
+abbrev pub builds : {M : Type 0} → List (Reply M) → List Event
+builds [] = []
+builds (r ∷ replies) = event.Build ∷ builds replies
+
+-- each of these replies in turn is one that the core could give to a request to build
+abbrev pub AreBuilt : {D M : Type 0} → List (Reply M) → Parts D M → Parts D M → Type 0
+AreBuilt [] old new = new ≡ old
+AreBuilt {D} {M} (r ∷ replies) old new = (mid : Parts D M) × ServesInCore core.Build r old mid × AreBuilt replies mid new
+
+-- the ticket of the build's end, where the reply tells of it
+abbrev pub end_of : BuildReply → Option Ticket
+end_of (build.Scanned page) = None
+end_of (build.Placed pair) = None
+end_of (build.Rejected pair) = None
+end_of (build.Marked pair ticket) = None
+end_of (build.Done ticket) = Some ticket
+end_of build.Idle = None
+
+-- how many pages were taken in a row, after one step more
+abbrev pub in_a_row : ℕ → BuildReply → ℕ
+in_a_row scanned (build.Scanned page) = page + 1
+in_a_row scanned (build.Placed pair) = 0
+in_a_row scanned (build.Rejected pair) = 0
+in_a_row scanned (build.Marked pair ticket) = scanned
+in_a_row scanned (build.Done ticket) = scanned
+in_a_row scanned build.Idle = scanned
+
+-- a step that is not the last one: it took a page, attempted a pair, or made a checkpoint
+abbrev pub IsUnderway : {M : Type 0} → Reply M → Type 0
+IsUnderway (reply.Built (build.Scanned page)) = Unit {0}
+IsUnderway (reply.Built (build.Placed pair)) = Unit {0}
+IsUnderway (reply.Built (build.Rejected pair)) = Unit {0}
+IsUnderway (reply.Built (build.Marked pair ticket)) = Unit {0}
+IsUnderway _ = ⊥
+
+-- this reply comes last, and each before it is of a step that is not the last one
+pub record EndsWith {M : Type 0} (last : Reply M) (replies : List (Reply M)) : Type 0 where
+  pub before : List (Reply M)
+  pub all : replies ≡ before ++ last ∷ []
+  pub underway : All IsUnderway before
+
+-- where the index was complete already: no step, and the number of the last record made, or 1 where there was none
+pub record WasComplete {M : Type 0} (ticket : Ticket) (replies : List (Reply M)) (old : CoreValue) : Type 0 where
+  pub complete : old.life ≡ Complete
+  pub none : replies ≡ []
+  pub number : ticket.record ≡ max old.last 1
+  pub no_commit : ticket.commit ≡ None
+
+-- how it ends: at once where the index was complete, and else with the end of the build, or with the refusal that is answered
+abbrev pub IsEnd : {M : Type 0} → Result Ticket Error → List (Reply M) → CoreValue → Type 0
+IsEnd (Ok ticket) replies old = WasComplete ticket replies old ⊎ ((old.life ≢ Complete) × EndsWith (reply.Built (build.Done ticket)) replies)
+IsEnd (Err e) replies old = (old.life ≢ Complete) × EndsWith (reply.Refused e) replies
+
+-- The engine went on by steps of the builder alone, to the end that is answered; and where some run had left it, it is
+-- where that run with these requests leaves it, and a crash at any moment of them leaves a prefix of the history with them,
+-- which holds what was acknowledged before.
+pub record IsBuiltToEnd {D M : Type 0} (history : D → History) (result : Result Ticket Error) (old new : Parts D M) : Type 0 where
+  pub replies : List (Reply M)
+  pub each : AreBuilt replies old new
+  pub ends : IsEnd result replies (core_of old)
+  pub at : (past : Past M) → IsAt history past old → IsAt history (and_then past (builds replies) replies) new
+  pub survives : (past : Past M) → IsAt history past old → LeavesOnly (history (device_of old)) (history (device_of new)) (Survives (and_then past (builds replies) replies) (acknowledged_by past))
+
+-- ---- what is built
+
+-- the core is where some events, with these replies, have led it from what it was opened with
+pub record HasCome (v : CoreValue) : Type 0 where
+  pub opening : Opened
+  pub opens : CanOpen opening
+  pub made : List RecordValue
+  pub pairs : List (core.Event × core.Reply)
+  pub state : State
+  pub standing : Standing
+  pub served : HasServed opening made pairs state standing
+  pub shown : IsState v state standing
+
+-- the visible entries are just the pairs of the rows
+abbrev pub IsIndexWhole : CoreValue → Type 0
+IsIndexWhole v = (pair : Pair) → (get v.index.entries pair ≡ Some Live) ↔ IsPairOf v.heap.rows pair
+
+-- With no transaction active, the rows are as they were, the index is complete, and the visible entries are just their pairs.
+pub record EndsWhole (old new : CoreValue) : Type 0 where
+  pub rows : new.heap.rows ≡ old.heap.rows
+  pub complete : new.life ≡ Complete
+  pub whole : IsIndexWhole new
+
+abbrev pub BuildsWhole : CoreValue → CoreValue → Type 0
+BuildsWhole old new = HasCome old → old.txns.active ≡ [] → EndsWhole old new

@@ -1,0 +1,32 @@
+-- What handing records to the writer, and what the writer does with them, leaves of an engine. No public clause cites this.
+use Rattle.std.specs.Prelude.{◌≡◌, ◌≤◌, ℕ}
+use Rattle.core_model.specs.States.{State}
+use Rattle.core_contracts.specs.Events.{Standing}
+use Rattle.image_model.specs.Run.{Run, end_of}
+use Rattle.sector_device.specs.Disk.{Image}
+use Rattle.sector_device.specs.History.{History, LeavesOnly}
+use Rattle.store_writer.specs.Contents.{LeftBy}
+use Rattle.store_writer.specs.Parts.{halves_of, log_of, has_failed, image_of}
+use Rattle.restart.specs.declared.parts.Parts.{Parts}
+use Rattle.restart.specs.Parts.{core_of, device_of, horizon_of, unwritten, writer_of}
+use Rattle.restart.specs.Store.{StandsAt}
+
+-- The core is in the state that it was in, and the writer may have more of the records made. A crash at any moment leaves what
+-- some of those that the writer has made, with all that were synced at first.
+pub record MovesOn {D M : Type 0} (history : D → History) (old new : Parts D M) : Type 0 where
+  pub stands : (run : Run) (handed : ℕ) (s : State) (k : Standing) → StandsAt history run handed s k old → (later : ℕ) × (handed ≤ later) × StandsAt history run later s k new
+  pub images : (run : Run) (handed : ℕ) (s : State) (k : Standing) → StandsAt history run handed s k old
+      → LeavesOnly (history (device_of old)) (history (device_of new)) (λ (image : Image). (later : ℕ) × (later ≤ end_of run) × LeftBy run (horizon_of old) later image)
+  pub grows : horizon_of old ≤ horizon_of new
+  pub core : core_of new ≡ record (core_of old) { outbox = (core_of new).outbox }
+
+-- The writer has some more of the records that were made, and nothing else changed.
+pub record HandsOver {D M : Type 0} (history : D → History) (old new : Parts D M) : Type 0 where
+  pub moves : MovesOn history old new
+  pub unwritten-are : unwritten new ≡ unwritten old
+  pub device : device_of new ≡ device_of old
+  pub halves : halves_of (writer_of new) ≡ halves_of (writer_of old)
+  pub log : log_of (writer_of new) ≡ log_of (writer_of old)
+  pub horizon : horizon_of new ≡ horizon_of old
+  pub failed : has_failed (writer_of new) ≡ has_failed (writer_of old)
+  pub image : image_of (writer_of new) ≡ image_of (writer_of old)

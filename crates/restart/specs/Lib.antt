@@ -1,0 +1,9 @@
+pub mod Parts
+pub mod History
+pub mod Store
+pub mod Handing
+pub mod Lawful
+pub mod Ran
+pub mod Lives
+pub mod Building
+pub mod Reopening

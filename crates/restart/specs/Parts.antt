@@ -1,0 +1,38 @@
+-- The parts of an engine.
+use Rattle.std.specs.Prelude.{ℕ, Bool, List, ◌++◌}
+use Rattle.records.specs.RecordValue.{RecordValue}
+use Rattle.gate_log.specs.Area.{Log}
+use Rattle.nsf_core.specs.Value.{value_of}
+use Rattle.nsf_core.specs.View.{CoreValue}
+use Rattle.store_writer.specs.Parts as writer
+use Rattle.store_writer.specs.declared.writer.Writer.{Writer}
+use Rattle.restart.specs.declared.parts.Parts.{Parts}
+
+abbrev pub core_of : {D M : Type 0} → Parts D M → CoreValue
+core_of engine = value_of engine.core
+
+abbrev pub writer_of : {D M : Type 0} → Parts D M → Writer D M
+writer_of engine = engine.writer
+
+abbrev pub device_of : {D M : Type 0} → Parts D M → D
+device_of engine = writer.device_of engine.writer
+
+-- the log of the current half
+abbrev pub log_of : {D M : Type 0} → Parts D M → Log
+log_of engine = writer.log_of engine.writer
+
+-- the records that the writer doesn't have yet, in order
+abbrev pub unhanded : {D M : Type 0} → Parts D M → List RecordValue
+unhanded engine = engine.outgoing.items ++ (core_of engine).outbox
+
+-- the records that are not synced yet, in order
+abbrev pub unwritten : {D M : Type 0} → Parts D M → List RecordValue
+unwritten engine = writer.waiting_of engine.writer ++ unhanded engine
+
+-- the number of the last record that is synced
+abbrev pub horizon_of : {D M : Type 0} → Parts D M → ℕ
+horizon_of engine = writer.synced_of engine.writer
+
+-- whether the device has failed
+abbrev pub has_failed : {D M : Type 0} → Parts D M → Bool
+has_failed engine = writer.has_failed engine.writer

@@ -1,0 +1,93 @@
+-- What a restart makes of what a device holds.
+use Rattle.std.specs.Prelude.{◌≡◌, ◌≢◌, ◌⊎◌, ℕ, ◌≤◌, false, [], None}
+use Rattle.records.specs.GeometryValue.{GeometryValue}
+use Rattle.records.specs.declared.error.Error.{Error}
+use Rattle.records.specs.declared.error.Error.TheVariants.{DeviceFailed}
+use Rattle.model.specs.Given.{Given, IsBeginning, opening_cells}
+use Rattle.sector_device.specs.Disk.{Image, IsSynced}
+use Rattle.sector_device.specs.History.{History, LeavesOnly}
+use Rattle.gate_log.specs.Area.{Log, Refuses}
+use Rattle.flip_image.specs.Layout.{HalvesValue, other}
+use Rattle.flip_image.specs.Store.{IsStore}
+use Rattle.store_reader.specs.Contents.{Gives, IsUnreadable}
+use Rattle.recovery.specs.Reopening.{IsLeft, IsWrittenBack}
+use Rattle.core_loader.specs.Loaded.{holding}
+use Rattle.core_model.specs.Histories.{CanOpen, opened}
+use Rattle.core_contracts.specs.Events.{standing_at}
+use Rattle.nsf_core.specs.View.{CoreValue, IsState}
+use Rattle.store_writer.specs.Writer.{IsOpenedAt}
+use Rattle.restart.specs.declared.parts.Parts.{Parts}
+use Rattle.store_writer.specs.Parts.{halves_of, image_of}
+use Rattle.restart.specs.Parts.{core_of, device_of, log_of, horizon_of, has_failed, writer_of}
+use Rattle.restart.specs.Building.{HasCome}
+use Rattle.restart.specs.Store.{Past, items_told, last_made, over, Survives, IsAt}
+
+-- a run that has not begun, over what a store gives
+abbrev pub opening : {M : Type 0} → GeometryValue → Given → Past M
+opening geometry given = record { geometry = geometry; given = given; events = []; replies = [] }
+
+-- What the device gives was written back into the half of its store that wasn't current, and that half made current, or part of
+-- this was done: a crash at any moment leaves what one before could, or what gives the same as the device did; and so does the
+-- device, now.
+pub record IsTurned {D : Type 0} (history : D → History) (before after : D) : Type 0 where
+  pub images : LeavesOnly (history before) (history after) (IsLeft (history before).disk)
+  pub now : ((history after).disk.content ≡ (history before).disk.content) ⊎ IsWrittenBack (history before).disk.content (history after).disk.content
+
+-- The engine holds what its device gave, and no transaction. Where what was given is something that a core may begin with, a run
+-- begins over it; and the core has come to where it is, so that a build that goes on to its end leaves the index whole.
+pub record IsOpened {D M : Type 0} (history : D → History) (before : D) (engine : Parts D M) : Type 0 where
+  pub geometry : GeometryValue
+  pub given : Given
+  pub gives : Gives (history before).disk.content geometry given
+  pub core : core_of engine ≡ holding geometry given
+  pub horizon : horizon_of engine ≡ given.last
+  pub sound : has_failed engine ≡ false
+  pub device : IsTurned history before (device_of engine)
+  pub synced : IsSynced (history (device_of engine)).disk
+  pub begins : CanOpen (over geometry given) → IsAt history (opening geometry given) engine
+  pub come : CanOpen (over geometry given) → HasCome (core_of engine)
+
+-- the half that wasn't current now is, its log is empty, and no image is under way
+abbrev pub IsEmptied : {D M : Type 0} → (D → History) → D → Parts D M → Type 0
+IsEmptied history before engine = IsStore (halves_of (writer_of engine)).geometry (other (halves_of (writer_of engine)).current) (history before).disk.content × ((log_of engine).open_slots ≡ 0) × (image_of (writer_of engine) ≡ None)
+
+-- Why nothing was opened: there was no memory, the device failed in the call, or it gives nothing. With any answer but
+-- `DeviceFailed` no call of the device failed, and the device is synced.
+pub record IsNotOpened {D : Type 0} (history : D → History) (failures : D → ℕ) (before after : D) (e : Error) : Type 0 where
+  pub device : IsTurned history before after
+  pub why : Refuses (failures before) (failures after) e ⊎ IsUnreadable (history before).disk.content e
+  pub told : e ≢ DeviceFailed → failures after ≡ failures before
+  pub synced : e ≢ DeviceFailed → IsSynced (history after).disk
+
+-- The engine holds a beginning of the run's history, which has every item up to the floor and no record past the last that
+-- the run made, and no transaction; and what it holds is something that a core may begin with: as far as the index is built, it shows the pair of each row, and no other. A
+-- run begins over it; and the core has come to where it is, so that a build that goes on to its end leaves the index whole.
+pub record Recovers {D M : Type 0} (history : D → History) (past : Past M) (floor : ℕ) (engine : Parts D M) : Type 0 where
+  pub given : Given
+  pub beginning : IsBeginning past.given (items_told past) floor given
+  pub within : given.last ≤ last_made past
+  pub core : core_of engine ≡ holding past.geometry given
+  pub opens : CanOpen (over past.geometry given)
+  pub begins : IsAt history (opening past.geometry given) engine
+  pub come : HasCome (core_of engine)
+
+-- Whatever run left the device so, the engine holds a beginning of its history, with all up to the floor.
+abbrev pub RecoversAnyRun : {D M : Type 0} → (D → History) → D → Parts D M → Type 0
+RecoversAnyRun {D} {M} history before engine = (past : Past M) (floor : ℕ) → Survives past floor (history before).disk.content → Recovers history past floor engine
+
+-- What a run left is refused only for want of memory, or where the device failed in the call.
+abbrev pub RefusesNoRun : (M : Type 0) → {D : Type 0} → (D → History) → (D → ℕ) → D → D → Error → Type 0
+RefusesNoRun M history failures before after e = (past : Past M) (floor : ℕ) → Survives past floor (history before).disk.content → Refuses (failures before) (failures after) e
+
+-- Whatever run left a synced device so, with all up to the floor, a crash at any moment since leaves such a beginning too.
+abbrev pub StaysOfAnyRun : (M : Type 0) → {D : Type 0} → (D → History) → D → D → Type 0
+StaysOfAnyRun M history before after = IsSynced (history before).disk → (past : Past M) (floor : ℕ) → Survives past floor (history before).disk.content
+    → LeavesOnly (history before) (history after) (Survives past floor)
+
+-- The core of what a store gives, whose half with an empty log was made current. (No public clause cites this.)
+pub record IsCoreOf (before : Image) (after : History) (halves : HalvesValue) (log : Log) (core : CoreValue) : Type 0 where
+  pub given : Given
+  pub gives : Gives before halves.geometry given
+  pub holds : core ≡ holding halves.geometry given
+  pub shown : IsState core (opened (over halves.geometry given)) (standing_at given.last)
+  pub opened-at : IsOpenedAt after halves log given.last (opening_cells given)

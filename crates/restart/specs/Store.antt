@@ -1,0 +1,140 @@
+-- What the store has done so far, and what a crash of its device leaves.
+use Rattle.std.specs.Prelude.{◌≡◌, ◌≤◌, ◌+◌, ℕ, List, [], ◌∷◌, ◌++◌, length, take}
+use Rattle.records.specs.GeometryValue.{GeometryValue}
+use Rattle.records.specs.RecordValue.{RecordValue}
+use Rattle.model.specs.Given.{Given, IsBeginning, opening_cells}
+use Rattle.model.specs.History.{Item}
+use Rattle.core_model.specs.Histories.{CanOpen, Opened, no_writes}
+use Rattle.core_model.specs.Logs.{IsLogOf}
+use Rattle.core_model.specs.States.{State}
+use Rattle.core_contracts.specs.Events.{Standing, standing_at}
+use Rattle.core_contracts.specs.Served as told
+use Rattle.core_contracts.specs.Served.{HasServed}
+use Rattle.nsf_core.specs.View.{IsState}
+use Rattle.image_model.specs.Run.{Run, end_of, records_between}
+use Rattle.sector_device.specs.Disk.{Image, IsCrashImage}
+use Rattle.sector_device.specs.History.{History, LeavesOnly, Spans}
+use Rattle.store_reader.specs.Contents.{Gives}
+use Rattle.store_writer.specs.Writer.{IsWriter, WritesLogsAlone}
+use Rattle.restart.specs.declared.event.Event.{Event}
+use Rattle.restart.specs.declared.event.Reply.{Reply}
+use Rattle.restart.specs.declared.parts.Parts.{Parts}
+use Rattle.restart.specs.History.{AreOfKind, acknowledged, core_calls, standing_over}
+use Rattle.restart.specs.Lawful.{IsLawful}
+use Rattle.restart.specs.Parts.{core_of, device_of, horizon_of, unhanded, writer_of}
+
+-- A run: how large the store is, what it began with, what was asked, and what was answered.
+pub record Past (M : Type 0) : Type 0 where
+  pub geometry : GeometryValue
+  pub given : Given
+  pub events : List Event
+  pub replies : List (Reply M)
+
+-- a core over what is given, in a store of this geometry
+abbrev pub over : GeometryValue → Given → Opened
+over geometry given = record { given = given; pages = geometry.pages; places = geometry.entries }
+
+-- the history that the run's events and replies tell
+abbrev pub items_told : {M : Type 0} → Past M → List Item
+items_told past = told.items_of no_writes (core_calls past.events past.replies)
+
+abbrev pub acknowledged_by : {M : Type 0} → Past M → ℕ
+acknowledged_by past = acknowledged past.given.last past.replies
+
+-- the number of the last record made, as the run's replies tell it
+abbrev pub last_made : {M : Type 0} → Past M → ℕ
+last_made past = (standing_over (standing_at past.given.last) (core_calls past.events past.replies)).made
+
+-- the run goes on
+abbrev pub and_then : {M : Type 0} → Past M → List Event → List (Reply M) → Past M
+and_then past events replies = record past { events = past.events ++ events; replies = past.replies ++ replies }
+
+-- The image gives a beginning of the run's history, which has every item up to the floor, and no record past the last that
+-- the run made; and a core may begin with it.
+pub record Survives {M : Type 0} (past : Past M) (floor : ℕ) (image : Image) : Type 0 where
+  pub given : Given
+  pub gives : Gives image past.geometry given
+  pub beginning : IsBeginning past.given (items_told past) floor given
+  pub within : given.last ≤ last_made past
+  pub opens : CanOpen (over past.geometry given)
+
+-- The engine's core is in this state, which the records of the run set, and they alone. Those up to number `handed` were handed
+-- to the writer; the others are on their way to it.
+pub record StandsAt {D M : Type 0} (history : D → History) (run : Run) (handed : ℕ) (s : State) (k : Standing) (engine : Parts D M) : Type 0 where
+  pub writer : IsWriter history run handed (writer_of engine)
+  pub rest : records_between run handed (end_of run) ≡ unhanded engine
+  pub shown : IsState (core_of engine) s k
+  pub log : IsLogOf run.geometry.pages run.last run.cells run.records s
+  pub pages : run.geometry.pages ≡ s.pages
+  pub places : run.geometry.entries ≡ s.places
+  pub made : end_of run ≡ k.made
+
+-- the records of a run, over what it began with
+abbrev pub run_of : {M : Type 0} → Past M → List RecordValue → Run
+run_of past made = record { geometry = past.geometry; last = past.given.last; cells = opening_cells past.given; records = made }
+
+-- The engine is where this run leaves it.
+pub record IsAt {D M : Type 0} (history : D → History) (past : Past M) (engine : Parts D M) : Type 0 where
+  pub answered : length past.replies ≡ length past.events
+  pub kinds : AreOfKind past.events past.replies
+  pub opens : CanOpen (over past.geometry past.given)
+  -- the records made, and the number of the last that the writer has
+  pub made : List RecordValue
+  pub handed : ℕ
+  -- the core has replied so to these events, and is in the state and the standing after them
+  pub state : State
+  pub standing : Standing
+  pub served : HasServed (over past.geometry past.given) made (core_calls past.events past.replies) state standing
+  pub stands : StandsAt history (run_of past made) handed state standing engine
+  pub safe : acknowledged_by past ≤ horizon_of engine
+
+-- What every engine keeps, whatever its store gave as it was opened.
+abbrev pub CanRun : {D M : Type 0} → (D → History) → Parts D M → Type 0
+CanRun {D} {M} history engine = (run : Run) × (handed : ℕ) × (s : State) × (k : Standing) × StandsAt history run handed s k engine
+
+-- One request was answered so: the engine is where it leaves it, and a crash at any moment of it leaves a prefix of
+-- the history with it, which holds what was acknowledged before.
+abbrev pub ServesOn : {D M : Type 0} → (D → History) → Event → Reply M → Parts D M → Parts D M → Type 0
+ServesOn {D} {M} history event reply old new = (past : Past M) → IsAt history past old
+    → IsAt history (and_then past (event ∷ []) (reply ∷ [])) new
+    × LeavesOnly (history (device_of old)) (history (device_of new)) (Survives (and_then past (event ∷ []) (reply ∷ [])) (acknowledged_by past))
+
+-- Only the store's log was written, and where an image is under way that of its half: each other sector of the device holds what
+-- it held before, and so it does after a crash at any moment of the call, if it was synced before.
+abbrev pub KeepsAround : {D M : Type 0} → (D → History) → Parts D M → Parts D M → Type 0
+KeepsAround history old new = WritesLogsAlone history (writer_of old) (writer_of new)
+
+-- what a crash between borders j and j + 1 leaves of a run that answered these requests
+abbrev pub SurvivesAt : {M : Type 0} → Past M → List Event → List (Reply M) → ℕ → Image → Type 0
+SurvivesAt past events replies j = Survives (and_then past (take (j + 1) events) (take (j + 1) replies)) (acknowledged_by (and_then past (take j events) (take j replies)))
+
+-- The run went on by these requests: the engine is where they leave it; and there are moments that rise from the
+-- call's start to its end, one at the end of each request, between which each crash leaves such a prefix.
+pub record GoesOn {D M : Type 0} (history : D → History) (past : Past M) (events : List Event) (replies : List (Reply M)) (old new : Parts D M) : Type 0 where
+  pub at : IsAt history (and_then past events replies) new
+  pub kept : (t : ℕ) → t ≤ (history (device_of old)).moment → (history (device_of new)).disk_at t ≡ (history (device_of old)).disk_at t
+  pub borders : List ℕ
+  pub one_each : length borders ≡ length events
+  pub spans : Spans (history (device_of new)).disk_at (SurvivesAt past events replies) 0 (history (device_of old)).moment borders (history (device_of new)).moment
+
+-- Each request in turn was answered lawfully, from where the run had left the engine to where it leaves it then.
+abbrev pub AreServed : {D M : Type 0} → (D → History) → (D → ℕ) → Past M → List Event → List (Reply M) → Parts D M → Parts D M → Type 0
+AreServed history failures past [] [] old new = new ≡ old
+AreServed {D} {M} history failures past (event ∷ events) (reply ∷ replies) old new =
+    (mid : Parts D M) × IsLawful failures event reply old mid
+    × IsAt history (and_then past (event ∷ []) (reply ∷ [])) mid
+    × LeavesOnly (history (device_of old)) (history (device_of mid)) (Survives (and_then past (event ∷ []) (reply ∷ [])) (acknowledged_by past))
+    × AreServed history failures (and_then past (event ∷ []) (reply ∷ [])) events replies mid new
+AreServed history failures past [] (reply ∷ replies) old new = ⊥
+AreServed history failures past (event ∷ events) [] old new = ⊥
+
+-- whatever run left the engine so, it went on by these requests
+abbrev pub RunsOn : {D M : Type 0} → (D → History) → List Event → List (Reply M) → Parts D M → Parts D M → Type 0
+RunsOn {D} {M} history events replies old new = (past : Past M) → IsAt history past old → GoesOn history past events replies old new
+
+abbrev pub RunsLawfully : {D M : Type 0} → (D → History) → (D → ℕ) → List Event → List (Reply M) → Parts D M → Parts D M → Type 0
+RunsLawfully {D} {M} history failures events replies old new = (past : Past M) → IsAt history past old → AreServed history failures past events replies old new
+
+-- whatever run left the engine so, a crash of the device leaves a beginning of it with everything acknowledged
+abbrev pub KeepsRun : {D M : Type 0} → (D → History) → Parts D M → D → Type 0
+KeepsRun {D} {M} history engine device = (past : Past M) (image : Image) → IsAt history past engine → IsCrashImage (history device).disk image → Survives past (acknowledged_by past) image

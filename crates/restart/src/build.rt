@@ -1,0 +1,81 @@
+//! The index is built to its end.
+ghost use Rattle.std.specs.Prelude.{◌≡◌, ◌≤◌, max, None, OnOk};
+ghost use Rattle.records.specs.declared.number.TheConstants.{LAST_NUMBER};
+ghost use Rattle.restart.specs.Building.{end_of, in_a_row};
+
+use crate::parts::Parts;
+use core_model::each_half;
+use model::Life;
+use nsf_core::{BuildReply, Ticket};
+use records::{Error, RecordNumber};
+use sector_device::Device;
+use std::alloc::Allocator;
+
+impl<D: Device, A: Allocator + Copy> Parts<D, A> {
+    ghost use Rattle.restart.specs.Building.{IsBuiltToEnd, BuildsWhole, HasCome};
+    ghost use Rattle.restart.specs.Parts.{core_of};
+    ghost use Rattle.restart.specs.Store.{CanRun};
+
+    /// Makes steps of the builder until the index is complete, and answers the record of its end.
+    pub(crate) fn build_to_end(&mut self) -> Result<Ticket, Error>
+        requires { CanRun D.history self.old }
+        ensures built { IsBuiltToEnd D.history result self.old self.new }
+        ensures whole { OnOk result (BuildsWhole (core_of self.old) (core_of self.new)) }
+        ensures come { HasCome (core_of self.old) → HasCome (core_of self.new) }
+        ensures can_run { CanRun D.history self.new }
+    {
+        each_half();
+        self.writer.goes_on();
+        if let Life::Complete = self.core.life() {
+            return Ok(self.last_ticket());
+        }
+        let mut scanned = 0;
+        'steps: loop {
+            let reply = self.core.build_step()?;
+            match end_of(&reply) {
+                Some(ticket) => return Ok(ticket),
+                None => scanned = in_a_row(scanned, &reply),
+            }
+        }
+    }
+
+    // The ticket of the last record made, or of record 1 where there is none.
+    fn last_ticket(&self) -> Ticket
+        requires { (core_of self.now).last ≤ LAST_NUMBER }
+        ensures record { result.record ≡ max (core_of self.now).last 1 }
+        ensures no_commit { result.commit ≡ None }
+    {
+        match RecordNumber::new(self.core.last().max(1)) {
+            Some(record) => Ticket {
+                record,
+                commit: None,
+            },
+            None => unreachable!(),
+        }
+    }
+}
+
+// The ticket of the build's end, where the reply tells of it.
+fn end_of(reply: &BuildReply) -> Option<Ticket>
+    ensures { result ≡ end_of reply.now }
+{
+    match reply {
+        BuildReply::Scanned(_) => None,
+        BuildReply::Placed(_) => None,
+        BuildReply::Rejected(_) => None,
+        BuildReply::Marked(_, _) => None,
+        BuildReply::Done(ticket) => Some(*ticket),
+        BuildReply::Idle => None,
+    }
+}
+
+// How many pages the builder has taken in a row after this step, where it had taken so many before.
+fn in_a_row(scanned: u64, reply: &BuildReply) -> u64
+    ensures { result ≡ in_a_row scanned reply.now }
+{
+    match reply {
+        BuildReply::Scanned(page) => u64::from(*page) + 1,
+        BuildReply::Placed(_) | BuildReply::Rejected(_) => 0,
+        BuildReply::Marked(..) | BuildReply::Done(_) | BuildReply::Idle => scanned,
+    }
+}

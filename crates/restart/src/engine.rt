@@ -1,0 +1,118 @@
+//! The engine: a store that serves requests, whatever was asked of it before.
+ghost use Rattle.std.specs.Prelude.{◌≡◌, ◌≢◌, [], OnErr, OnOk, IfOk, IfErr};
+
+use crate::parts::Parts;
+use crate::{Event, Reply};
+use nsf_core::{Core, Ticket};
+use records::Error;
+use sector_device::Device;
+use std::alloc::Allocator;
+use std::marker::Model;
+
+/// A store that serves requests in order. `restart` opens one.
+///
+/// Between calls every engine's device gives what a prefix of its records made, whatever its store gave as it was opened: its
+/// type keeps that, and no call asks it of its caller.
+#[derive(Drop)]
+pub struct Engine<D: Device, A: Allocator> {
+    pub(crate) parts: Parts<D, A>,
+}
+
+impl<D: Device, A: Allocator> Model for Engine<D, A> {
+    ghost use Rattle.std.specs.Coded.{codes};
+    ghost use Rattle.restart.specs.declared.parts.Parts.{Parts};
+    ghost use Rattle.std.specs.FinMap as map;
+    ghost use Rattle.restart.specs.Store.{CanRun};
+
+    ghost Value = { Parts D A };
+
+    ghost coded = { Prim.hlevel (codes, map.code) };
+
+    ghost view = { λ engine. engine.parts };
+
+    ghost invariant = { λ engine. CanRun D.history engine.parts };
+}
+
+impl<D: Device, A: Allocator + Copy> Engine<D, A> {
+    ghost use Rattle.nsf_core.specs.Value.{value_of};
+    ghost use Rattle.restart.specs.Parts.{core_of, device_of};
+    ghost use Rattle.restart.specs.Lawful.{IsLawful, AreLawful};
+    ghost use Rattle.restart.specs.Store.{ServesOn, RunsOn, RunsLawfully, KeepsRun, KeepsAround};
+    ghost use Rattle.restart.specs.Ran.{KeepsWholeRun, SurvivesAnyCrash};
+    ghost use Rattle.restart.specs.Building.{IsBuiltToEnd, BuildsWhole, HasCome};
+
+    /// Serves one request. A crash at any moment of the call leaves a store that `restart` takes back to what was
+    /// told by a prefix of the requests, and nothing that an earlier reply has told to be safe is lost (`serves`). No sector
+    /// is written but those of the store's log and, where an image is under way, of the log of its half (`around`).
+    pub fn serve(&mut self, event: Event) -> Reply<A>
+        ensures serves { ServesOn D.history event result self.old self.new }
+        ensures lawful { IsLawful D.failures event result self.old self.new }
+        ensures around { KeepsAround D.history self.old self.new }
+    {
+        self.parts.serve(event)
+    }
+
+    /// Serves requests in order, one reply for each. The one error is
+    /// `NoMemory`, where there is a request and was no room for the replies,
+    /// and then nothing was served.
+    ///
+    /// A crash at any moment, between the replies or within a request, leaves a store that `restart` takes back to what
+    /// was told by a prefix of the requests, and nothing that a reply has told to be safe is lost (`ran`).
+    pub fn run(&mut self, events: &[Event]) -> Result<Vec<Reply<A>, A>, Error>
+        ensures any_crash { IfOk result (λ replies. SurvivesAnyCrash D.history events.now replies.items self.old self.new) }
+        ensures at_end { IfOk result (λ replies. KeepsWholeRun D.history events.now replies.items self.old self.new) }
+        ensures ran { IfOk result (λ replies. RunsOn D.history events.now replies.items self.old self.new) }
+        ensures served { IfOk result (λ replies. RunsLawfully D.history D.failures events.now replies.items self.old self.new) }
+        ensures lawful { IfOk result (λ replies. AreLawful D.failures events.now replies.items self.old self.new) }
+        ensures around { OnOk result (KeepsAround D.history self.old self.new) }
+        ensures refused { OnErr result (self.new ≡ self.old) }
+        ensures no_memory { IfErr result (λ e. e ≡ Error.NoMemory) }
+        ensures some { OnErr result (events.now ≢ []) }
+    {
+        let mut replies = Vec::with_capacity(self.parts.alloc, events.len())?;
+        for event in events {
+            let reply = self.serve(*event);
+            let Ok(()) = replies.push(reply) else {
+                unreachable!()
+            };
+        }
+        Ok(replies)
+    }
+
+    /// Makes steps of the builder until the index is complete, and answers the record of its end. Where it is complete
+    /// already, the answer is the number of the last record made, or 1 where there is none, and nothing changes.
+    ///
+    /// A refusal is that of the step that met it, and ends the steps; what was built before it stays. `NoIndex`, then
+    /// `IndexFull` where a pair that has no entry meets no free place, `Exhausted` where a record is to be made and no
+    /// number is left, and `NoMemory`.
+    ///
+    /// With no transaction active and the answer `Ok`, the rows are as they were, and the visible entries are just their
+    /// pairs (`whole`). This is promised of an engine that a run left, and of one that was opened over what a run left; of
+    /// one that was opened over any other store it is where, in what the store gave, each visible entry named a row, the
+    /// pair of each row was visible as far as the index was built and nowhere marked, and without an index there was no
+    /// entry (`CanOpen`): a builder leaves a marked entry as it is. It stays so whatever the answer is (`come`), so that a
+    /// build may be gone on with.
+    pub fn build_to_end(&mut self) -> Result<Ticket, Error>
+        ensures built { IsBuiltToEnd D.history result self.old self.new }
+        ensures whole { OnOk result (BuildsWhole (core_of self.old) (core_of self.new)) }
+        ensures come { HasCome (core_of self.old) → HasCome (core_of self.new) }
+    {
+        self.parts.build_to_end()
+    }
+
+    /// The core: rows, transactions and index as they are now.
+    pub fn core(&self) -> &Core<A>
+        ensures { value_of result.now ≡ core_of self.now }
+    {
+        &self.parts.core
+    }
+
+    /// The device as it is now. What was not written to it is lost, and nothing of it was acknowledged: a crash of the
+    /// device leaves what `restart` takes back to a prefix of the history, with everything that was.
+    pub fn into_device(self) -> D
+        ensures device { result ≡ device_of self }
+        ensures survives { KeepsRun D.history self result }
+    {
+        self.parts.into_device()
+    }
+}

@@ -1,0 +1,130 @@
+//! What is asked of the store, and what it answers.
+ghost use Rattle.std.specs.Prelude.{◌≡◌};
+ghost use Rattle.restart.specs.Lawful.{is_read};
+
+use model::Life;
+use nsf_core::{BuildReply, CleanReply, Ticket};
+use records::{Body, Error, Key, Rid, Row, Txn};
+use std::alloc::Allocator;
+
+/// A request.
+#[derive(Clone, Copy, Debug, PartialEq, Eq)]
+pub enum Event {
+    /// Begins a transaction.
+    Begin,
+    /// Inserts a row.
+    Insert {
+        txn: Txn,
+        key: Key,
+        body: Body,
+    },
+    /// Deletes the row at a place.
+    Delete {
+        txn: Txn,
+        rid: Rid,
+    },
+    /// Puts another row in place of the row at a place.
+    Update {
+        txn: Txn,
+        rid: Rid,
+        key: Key,
+        body: Body,
+    },
+    /// Makes the next step that a transaction owes of its newest change. Without an index a change is one step, and none
+    /// is owed.
+    Step {
+        txn: Txn,
+    },
+    /// Makes a step of taking a transaction's newest change back. From the first such request on the transaction is
+    /// rolling back.
+    Undo {
+        txn: Txn,
+    },
+    /// Ends a transaction that has no change left.
+    End {
+        txn: Txn,
+    },
+    /// Commits a transaction.
+    Commit {
+        txn: Txn,
+    },
+    /// Creates the index, which is then to be built.
+    Create,
+    /// Makes a step of the builder.
+    Build,
+    /// Makes a step of the cleaner.
+    Clean,
+    /// Hands the records made to the writer, which writes one group of them.
+    Flush,
+    /// Asks for the row at a place.
+    Get {
+        rid: Rid,
+    },
+    /// Asks for the rows with a key, by the complete index.
+    Find {
+        key: Key,
+    },
+    /// Asks how far the index is.
+    Life,
+}
+
+impl Event {
+    /// Whether the request only reads.
+    pub fn is_read(&self) -> bool
+        ensures { result ≡ is_read self.now }
+    {
+        match self {
+            Event::Get { .. } | Event::Find { .. } | Event::Life => true,
+            Event::Begin
+            | Event::Insert { .. }
+            | Event::Delete { .. }
+            | Event::Update { .. }
+            | Event::Step { .. }
+            | Event::Undo { .. }
+            | Event::End { .. }
+            | Event::Commit { .. }
+            | Event::Create
+            | Event::Build
+            | Event::Clean
+            | Event::Flush => false,
+        }
+    }
+}
+
+/// The answer to a request.
+#[derive(Debug, Drop, PartialEq, Eq)]
+pub enum Reply<A: Allocator> {
+    /// The number of the new transaction.
+    Txn(Txn),
+    /// Where the row is put.
+    Rid(Rid),
+    /// A step of a change was made.
+    Stepped,
+    /// A step of taking a change back was made.
+    Undone,
+    /// No change was left to take back.
+    Empty,
+    /// The transaction is over, and nothing of it was committed.
+    Ended,
+    /// The record of the commit, or of the creation.
+    Ticket(Ticket),
+    /// What the builder did.
+    Built(BuildReply),
+    /// What the cleaner did.
+    Cleaned(CleanReply),
+    /// All records up to this number are in the log, and synced.
+    Horizon(u64),
+    /// Every slot of the log is open, and a record waits.
+    LogFull,
+    /// The row there, if any.
+    Row(Option<Row>),
+    /// The places of the rows with the key, ascending.
+    Found(Vec<Rid, A>),
+    /// How far the index is.
+    Life(Life),
+    /// What the request asks for isn't met: the transaction owes a step, or owes none, or is rolling back, or has a change
+    /// left. Nothing was done.
+    Skipped,
+    /// Nothing was done; but to a flush that meets `DeviceFailed` the group may be in the log or not.
+    Refused(Error),
+}

@@ -1,0 +1,15 @@
+//! A store over two halves: it is opened, serves requests in order, and survives a crash at any moment.
+#![tactic(auto)]
+
+mod asking;
+mod build;
+mod engine;
+mod event;
+mod lives;
+mod parts;
+mod reopen;
+
+pub use engine::Engine;
+pub use event::{Event, Reply};
+pub use lives::{any_lives, nothing_opens};
+pub use reopen::restart;

@@ -1,0 +1,92 @@
+//! A store is opened, after `format` or after a crash.
+ghost use Rattle.std.specs.Prelude.{◌≡◌, ◌≢◌, ◌⊎◌, ◌≤◌, List, OnOk, IfOk, IfErr};
+ghost use Rattle.sector_device.specs.Disk.{IsSynced};
+ghost use Rattle.records.specs.GeometryValue.{GeometryValue};
+ghost use Rattle.model.specs.Given.{Given};
+ghost use Rattle.gate_log.specs.Area.{Refuses};
+ghost use Rattle.store_reader.specs.Contents.{Gives, HasHeader, IsUnreadable};
+ghost use Rattle.nsf_core.specs.Value.{value_of};
+ghost use Rattle.restart.specs.Parts.{device_of};
+ghost use Rattle.flip_image.specs.Layout.{other};
+ghost use Rattle.flip_image.specs.Store.{IsStore};
+ghost use Rattle.restart.specs.Reopening.{IsCoreOf, IsTurned, IsOpened, IsEmptied, IsNotOpened, RecoversAnyRun, RefusesNoRun, StaysOfAnyRun};
+
+use crate::Engine;
+use crate::parts::Parts;
+use core_loader::load;
+use core_model::each_half;
+use flip_image::Halves;
+use gate_log::LogArea;
+use nsf_core::Core;
+use records::Error;
+use recovery::{reopen, written_back};
+use sector_device::Device;
+use std::alloc::Allocator;
+use store_writer::StoreWriter;
+
+/// Opens the store on the device: syncs it, reads it, and takes back what the transactions did that neither committed nor
+/// ended. What is left is written into the half that wasn't current, with an empty log, and that half is made current (`emptied`);
+/// the half that is read is never written. The device is given back with a refusal, and may be opened again.
+///
+/// At any moment of the call a crash leaves what one before it could, or what gives the same as the device did (`IsTurned`). So
+/// a crash within a restart loses nothing that a run had left synced (`stays`).
+///
+/// `DeviceTooSmall`, `NotFormatted` and `Damaged` where the device holds no store, or one that was harmed; none of them
+/// comes after a crash of a device that was formatted and then written by this engine alone (`readable`). `NoMemory` comes
+/// only where the device holds a store, whose current half begins with a header (`memory`), and `DeviceFailed` where the device
+/// failed in the call, and only then. With any other refusal the device is synced.
+pub fn restart<D: Device, A: Allocator + Copy>(
+    alloc: A,
+    mut device: D,
+) -> Result<Engine<D, A>, (Error, D)>
+    ensures opened { IfOk result (λ engine. IsOpened D.history device engine) }
+    ensures emptied { IfOk result (λ engine. IsEmptied D.history device engine) }
+    ensures refused { IfErr result (λ r. IsNotOpened D.history D.failures device r.1 r.0) }
+    ensures recovers { IfOk result (λ engine. RecoversAnyRun D.history device engine) }
+    ensures readable { IfErr result (λ r. RefusesNoRun A D.history D.failures device r.1 r.0) }
+    ensures stays { IfOk result (λ engine. StaysOfAnyRun A D.history device (device_of engine)) }
+    ensures stays_refused { IfErr result (λ r. StaysOfAnyRun A D.history device r.1) }
+    ensures memory { IfErr result (λ r. r.0 ≡ Error.NoMemory → HasHeader (D.history device).disk.content) }
+    ensures quiet { IfOk result (λ engine. D.failures (device_of engine) ≡ D.failures device) }
+{
+    each_half();
+    written_back();
+    match open_core(alloc, &mut device) {
+        Ok((core, halves, log)) => {
+            let synced = core.last();
+            let outgoing = Vec::new(alloc);
+            let writer = StoreWriter::new(alloc, device, halves, log, synced);
+            Ok(Engine {
+                parts: Parts {
+                    core,
+                    writer,
+                    outgoing,
+                    alloc,
+                },
+            })
+        }
+        Err(error) => Err((error, device)),
+    }
+}
+
+// Opens the store, and loads what it gives into a core.
+fn open_core<D: Device, A: Allocator + Copy>(
+    alloc: A,
+    device: &mut D,
+) -> Result<(Core<A>, Halves, LogArea), Error>
+    ensures found { IfOk result (λ r. IsCoreOf (D.history device.old).disk.content (D.history device.new) r.1 r.2 (value_of r.0)) }
+    ensures turned { IsTurned D.history device.old device.new }
+    ensures flipped { IfOk result (λ r. IsStore r.1.geometry (other r.1.current) (D.history device.old).disk.content) }
+    ensures empty { IfOk result (λ r. r.2.open_slots ≡ 0) }
+    ensures settled { IfErr result (λ e. e ≢ Error.DeviceFailed → IsSynced (D.history device.new).disk) }
+    ensures quiet { OnOk result (D.failures device.new ≡ D.failures device.old) }
+    ensures told { IfErr result (λ e. e ≢ Error.DeviceFailed → D.failures device.new ≡ D.failures device.old) }
+    ensures refused { IfErr result (λ e. Refuses (D.failures device.old) (D.failures device.new) e ⊎ IsUnreadable (D.history device.old).disk.content e) }
+    ensures accepted { (geometry : GeometryValue) (given : Given) → Gives (D.history device.old).disk.content geometry given
+        → IfErr result (Refuses (D.failures device.old) (D.failures device.new)) }
+    ensures memory { IfErr result (λ e. e ≡ Error.NoMemory → HasHeader (D.history device.old).disk.content) }
+{
+    let found = reopen(alloc, device)?;
+    let core = load(alloc, found.restored)?;
+    Ok((core, found.halves, found.log))
+}
