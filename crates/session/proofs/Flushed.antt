@@ -3,8 +3,8 @@ use Rattle.std.proofs.Common.{◌≡◌, ◌⊎◌, ◌<◌, ◌≤◌, ◌&&◌
 use Rattle.std.specs.List.Sorted.{IsStrictlyIncreasing}
 use Rattle.std.proofs.lemmas.List.Elements.{All-nil, All-cons}
 use Rattle.std.specs.declared.alloc.Global.{Global}
-use Rattle.first.specs.declared.event.Reply.{Reply}
-use Rattle.first.specs.declared.event.Reply.TheVariants as reply
+use Rattle.restart.specs.declared.event.Reply.{Reply}
+use Rattle.restart.specs.declared.event.Reply.TheVariants as reply
 use Rattle.session.specs.Session.{horizon_of, horizon_after, asks_again, FlushesOnce, FlushesOn}
 use Rattle.session.specs.declared.session.Session.{Session}
 

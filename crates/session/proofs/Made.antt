@@ -2,8 +2,8 @@
 use Rattle.std.specs.Prelude.{◌⊎◌}
 use Rattle.std.proofs.Common.{◌≡◌, ℕ, ◌+◌, ◌<◌, false, List, [], ◌∷◌, length, Option, Result, Ok, refl, subst, inl, inr, arith}
 use Rattle.std.specs.declared.alloc.Global.{Global}
-use Rattle.first.specs.declared.event.Event.{Event}
-use Rattle.first.specs.declared.event.Reply.{Reply}
+use Rattle.restart.specs.declared.event.Event.{Event}
+use Rattle.restart.specs.declared.event.Reply.{Reply}
 use Rattle.replay_values.specs.Steps.{is_last_step}
 use Rattle.replay_values.specs.declared.answer.Answer.{Answer}
 use Rattle.session.specs.Session.{outcome_of, ServesEvent}

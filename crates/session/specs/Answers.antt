@@ -6,8 +6,8 @@ use Rattle.nsf_core.specs.declared.reply.BuildReply.{BuildReply}
 use Rattle.nsf_core.specs.declared.reply.BuildReply.TheVariants as build
 use Rattle.nsf_core.specs.declared.reply.CleanReply.{CleanReply}
 use Rattle.nsf_core.specs.declared.reply.CleanReply.TheVariants as clean
-use Rattle.first.specs.declared.event.Reply.{Reply}
-use Rattle.first.specs.declared.event.Reply.TheVariants as reply
+use Rattle.restart.specs.declared.event.Reply.{Reply}
+use Rattle.restart.specs.declared.event.Reply.TheVariants as reply
 use Rattle.replay_values.specs.declared.step.Step.{Step}
 use Rattle.replay_values.specs.declared.step.Step.TheVariants as step
 use Rattle.replay_values.specs.declared.answer.Answer.{Answer}

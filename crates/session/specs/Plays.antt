@@ -1,5 +1,5 @@
 -- What becomes of a whole script: what is printed, and the status of the program.
-use Rattle.std.specs.Prelude.{◌≡◌, ◌⊎◌, ◌≤◌, ◌<◌, ◌+◌, ◌-◌, ◌^◌, ℕ, false, length, min, Option, Some, None, IfSome, List, Result, Ok, Err}
+use Rattle.std.specs.Prelude.{◌≡◌, ◌⊎◌, ◌≤◌, ◌<◌, ◌+◌, ◌-◌, ◌^◌, ℕ, length, min, Option, Some, None, IfSome, List, Result, Ok, Err}
 use Rattle.std.specs.Io.KnownBytes.{Appends}
 use Rattle.std.specs.declared.alloc.Global.{Global}
 use Rattle.records.specs.GeometryValue.{GeometryValue, IsGeometry, sectors_of}
@@ -15,7 +15,7 @@ use Rattle.flip_image.specs.Store.{IsFormatted, AreGatesClosed}
 use Rattle.script.specs.Grammar.{lines, IsScript, IsFirstFault}
 use Rattle.script.specs.declared.command.Command.{Command}
 use Rattle.session.specs.Disk.{disk_history, LosesPower}
-use Rattle.session.specs.Session.{has_crashed, disk_of, life_of, OpensOn, IsRefusedOn}
+use Rattle.session.specs.Session.{disk_of, life_of, OpensOn, IsRefusedOn}
 use Rattle.session.specs.Dump.{dump_text}
 use Rattle.session.specs.Runs.{Prints, RunsCommands}
 use Rattle.arguments.specs.CommandLine.{Ask, AskForHelp, HaveFault}
@@ -44,7 +44,6 @@ pub record Starts (sectors : ℕ) (geometry : GeometryValue) (fails_at : ℕ) (s
   pub made : made_of disk ≡ 0
   pub fails_at_is : fails_at_of disk ≡ fails_at
   pub opened : OpensOn disk geometry fails_at session
-  pub anew : has_crashed session ≡ false
 
 -- why no store was made and opened on a new disk of so many sectors
 abbrev pub IsNoStart : ℕ → GeometryValue → Error → Type 0

@@ -1,5 +1,5 @@
 -- What the commands of a script ask for.
-use Rattle.std.specs.Prelude.{ℕ, Bool, true, false, nat_le, List, length, Result, Ok, Err, if◌then◌else◌}
+use Rattle.std.specs.Prelude.{ℕ, nat_le, List, length, Result, Ok, Err, if◌then◌else◌}
 use Rattle.records.specs.declared.error.Error.{Error}
 use Rattle.records.specs.declared.error.Error.TheVariants.{KeyTooLong, BodyTooLong}
 use Rattle.records.specs.declared.key.TheConstants.{KEY_MAX, BODY_MAX}
@@ -9,8 +9,7 @@ use Rattle.script.specs.declared.fate.Fate.TheVariants as named
 use Rattle.script.specs.declared.fate.Fate as script
 use Rattle.script.specs.declared.command.Command.{Command}
 use Rattle.script.specs.declared.command.Command.TheVariants as command
-use Rattle.first.specs.Lawful.{is_read}
-use Rattle.first.specs.declared.event.Event.TheVariants as event
+use Rattle.restart.specs.declared.event.Event.TheVariants as event
 use Rattle.session.specs.declared.request.Request.{Request}
 use Rattle.session.specs.declared.request.Request.TheVariants as request
 
@@ -50,12 +49,3 @@ request_of (command.Crash fate) = Ok (request.Crash (fate_of fate))
 request_of (command.Get rid) = Ok (request.Event (event.Get rid))
 request_of (command.Find key) = with_key key (request.Event (event.Find key))
 request_of command.Dump = Ok request.Dump
-
--- the requests that change nothing
-abbrev pub only_reads : Request → Bool
-only_reads (request.Event event) = is_read event
-only_reads (request.Build _) = false
-only_reads (request.Clean _) = false
-only_reads request.Flush = false
-only_reads (request.Crash _) = false
-only_reads request.Dump = true

@@ -1,17 +1,17 @@
 -- What the commands of a script do, and what is printed for them.
-use Rattle.std.specs.Prelude.{◌≡◌, ◌⊎◌, ◌<◌, ◌&&◌, not, ℕ, true, false, Option, List, [], ◌∷◌, length, Result, Ok, Err, MatchBool, MatchResult}
+use Rattle.std.specs.Prelude.{◌≡◌, ◌⊎◌, ◌<◌, ℕ, true, false, Option, List, [], ◌∷◌, length, Result, Ok, Err, MatchResult}
 use Rattle.std.specs.Io.KnownBytes.{Appends}
 use Rattle.std.specs.declared.alloc.Global.{Global}
 use Rattle.sector_device.specs.declared.call.Fate.{Fate}
 use Rattle.sector_device.specs.declared.fault.FaultDisk.{FaultDisk}
 use Rattle.sector_device.specs.declared.memory.MemDisk.{MemDisk}
-use Rattle.first.specs.declared.event.Event.{Event}
-use Rattle.first.specs.declared.event.Event.TheVariants as event
-use Rattle.first.specs.declared.event.Reply.{Reply}
+use Rattle.restart.specs.declared.event.Event.{Event}
+use Rattle.restart.specs.declared.event.Event.TheVariants as event
+use Rattle.restart.specs.declared.event.Reply.{Reply}
 use Rattle.script.specs.declared.command.Command.{Command}
 use Rattle.session.specs.Disk.{LosesPower}
-use Rattle.session.specs.Session.{has_crashed, disk_of, last_made, life_of, outcome_of, LeavesItsRun, ServesEvent, Flushes, calls_to_stop, Reopens}
-use Rattle.session.specs.Requests.{request_of, only_reads}
+use Rattle.session.specs.Session.{disk_of, last_made, life_of, outcome_of, LeavesItsRun, ServesEvent, Flushes, calls_to_stop, Reopens}
+use Rattle.session.specs.Requests.{request_of}
 use Rattle.replay_values.specs.Steps.{is_last_step}
 use Rattle.replay_values.specs.Texts.{line_of}
 use Rattle.session.specs.Dump.{dump_text}
@@ -79,16 +79,10 @@ module _ {W : Type 0} (contents : W → Option (List ℕ)) where
   Runs (request.Crash fate) old next before after = Restarts fate old next before after
   Runs request.Dump old next before after = (next ≡ Ok old) × Appends (contents before) (contents after) (dump_text old)
 
-  -- After a crash a request that doesn't only read is skipped. Any other is served.
-  abbrev pub RunsRequest : Request → Session → Result Session End → W → W → Type 0
-  RunsRequest request old next before after = MatchBool (has_crashed old && not (only_reads request))
-      (GoesOn (Ok answer.Skipped) old next before after)
-      (Runs request old next before after)
-
-  -- A command that gives too many bytes is refused.
+  -- What the command asks for was served; one that gives too many bytes was refused.
   abbrev pub RunsCommand : Command → Session → Result Session End → W → W → Type 0
   RunsCommand command old next before after = MatchResult (request_of command)
-      (λ request. RunsRequest request old next before after)
+      (λ request. Runs request old next before after)
       (λ error. GoesOn (Ok (answer.Refused error)) old next before after)
 
   -- The commands were run in turn, up to the last one, or to that at which the session ended.

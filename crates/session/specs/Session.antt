@@ -10,17 +10,17 @@ use Rattle.sector_device.specs.declared.fault.FaultDisk.{FaultDisk}
 use Rattle.sector_device.specs.declared.memory.MemDisk.{MemDisk}
 use Rattle.model.specs.Table.{Table, Index}
 use Rattle.model.specs.declared.life.Life.{Life}
-use Rattle.first.specs.Lawful.{IsLawful}
-use Rattle.first.specs.Parts.{core_of, device_of}
-use Rattle.first.specs.Parts as engine
-use Rattle.first.specs.Reopening.{IsOpened, IsNotOpened, RecoversAnyRun, RefusesNoRun}
-use Rattle.first.specs.Store.{KeepsRun}
-use Rattle.first.specs.Store as store
-use Rattle.first.specs.declared.engine.Engine.{Engine}
-use Rattle.first.specs.declared.event.Event.{Event}
-use Rattle.first.specs.declared.event.Event.TheVariants.{Flush}
-use Rattle.first.specs.declared.event.Reply.{Reply}
-use Rattle.first.specs.declared.event.Reply.TheVariants.{Horizon, Refused}
+use Rattle.restart.specs.Lawful.{IsLawful}
+use Rattle.restart.specs.Parts.{core_of, device_of}
+use Rattle.restart.specs.Parts as engine
+use Rattle.restart.specs.Reopening.{IsOpened, IsNotOpened, RecoversAnyRun, RefusesNoRun}
+use Rattle.restart.specs.Store.{KeepsRun}
+use Rattle.restart.specs.Store as store
+use Rattle.restart.specs.declared.engine.Engine.{Engine}
+use Rattle.restart.specs.declared.event.Event.{Event}
+use Rattle.restart.specs.declared.event.Event.TheVariants.{Flush}
+use Rattle.restart.specs.declared.event.Reply.{Reply}
+use Rattle.restart.specs.declared.event.Reply.TheVariants.{Horizon, Refused}
 use Rattle.session.specs.Answers.{answer_of}
 use Rattle.session.specs.Disk.{disk_history, disk_failures}
 use Rattle.replay_values.specs.declared.answer.Answer.{Answer}
@@ -28,10 +28,6 @@ use Rattle.session.specs.declared.session.Session.{Session}
 use Rattle.session.specs.declared.session.Stopped.{Stopped}
 use Rattle.session.specs.declared.session.End.{End}
 use Rattle.session.specs.declared.session.End.TheVariants as end
-
--- the script has crashed the device
-abbrev pub has_crashed : Session → Bool
-has_crashed session = session.crashed
 
 -- the disk below the engine
 abbrev pub disk_of : Session → FaultDisk (MemDisk Global)
@@ -68,7 +64,7 @@ tells_stop fails_at _ = false
 -- The store was opened on this disk after a crash, or it was not: then the session was stopped, where the error tells
 -- so, and else refused.
 abbrev pub Reopens : FaultDisk (MemDisk Global) → GeometryValue → ℕ → Result Session End → Type 0
-Reopens disk geometry fails_at (Ok session) = OpensOn disk geometry fails_at session × (has_crashed session ≡ true)
+Reopens disk geometry fails_at (Ok session) = OpensOn disk geometry fails_at session
 Reopens disk geometry fails_at (Err (end.Stopped after)) =
     (e : Error) × IsRefusedOn disk after e × (tells_stop fails_at e ≡ true)
 Reopens disk geometry fails_at (Err (end.Refused e)) =

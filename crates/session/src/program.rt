@@ -1,16 +1,16 @@
 //! The program over what it reads and writes.
 ghost use Rattle.std.specs.Prelude.{◌≡◌, ◌⊎◌, map, IfOk, IfErr, OnOk};
 ghost use Rattle.script.specs.Grammar.{lines, IsScript};
-ghost use Rattle.session.specs.Runs.{Prints, GoesOn, Restarts, MakesSteps, Runs, RunsRequest, RunsCommand, RunsCommands};
+ghost use Rattle.session.specs.Runs.{Prints, GoesOn, Restarts, MakesSteps, Runs, RunsCommand, RunsCommands};
 ghost use Rattle.session.specs.Plays.{geometry_of, sectors_asked, Starts, IsNoStart, IsCutAt, StartsFor, IsFault, IsRefused, IsStopped, Ends, Plays, IsWholeInput, PlaysInput, RunsWords};
 
 use crate::request::Request;
 use crate::session::{Disk, End, Session, Stopped};
 use arguments::NoArguments;
-use first::Event;
 use flip_image::Halves;
 use records::{Error, Geometry};
 use replay_values::{Answer, Arguments};
+use restart::Event;
 use script::Command;
 use sector_device::{Fate, FaultDisk, MemDisk, Which};
 use std::alloc::Global;
@@ -19,7 +19,8 @@ use std::io;
 use std::io::{ErrorKind, Read, Write};
 use store_reader::{format_gives_nothing, one_answer};
 
-/// How many writes and syncs the disk has room to record.
+/// How many writes and syncs the disk has room to record: more than are made from one loss of power to the next, by a
+/// restart of the largest store and a flush into each slot of the longest log.
 const CALLS: usize = 16_384;
 
 fn print<W: Write>(output: &mut W, answer: &Answer) -> io::Result<()>
@@ -108,20 +109,6 @@ fn serve<W: Write>(
     }
 }
 
-// Serves a request, or skips it after a crash, and prints the answer.
-fn run_request<W: Write>(
-    session: Session,
-    request: Request,
-    output: &mut W,
-) -> io::Result<Result<Session, End>>
-    ensures { IfOk result (λ next. RunsRequest W.contents request session next output.old output.new) }
-{
-    if session.has_crashed() && !request.only_reads() {
-        return go_on(session, Ok(Answer::Skipped), output);
-    }
-    serve(session, request, output)
-}
-
 // Runs a command, and prints the answer.
 fn run_command<W: Write>(
     session: Session,
@@ -131,7 +118,7 @@ fn run_command<W: Write>(
     ensures { IfOk result (λ next. RunsCommand W.contents command.now session next output.old output.new) }
 {
     match Request::of(command) {
-        Ok(request) => run_request(session, request, output),
+        Ok(request) => serve(session, request, output),
         Err(error) => go_on(session, Ok(Answer::Refused(error)), output),
     }
 }

@@ -2,10 +2,10 @@
 ghost use Rattle.std.specs.Prelude.{◌≡◌};
 ghost use Rattle.session.specs.Answers.{answer_of, build_step_of, clean_step_of, row_answer};
 
-use first::Reply;
 use nsf_core::{BuildReply, CleanReply};
 use records::Row;
 use replay_values::{Answer, Step};
+use restart::Reply;
 use std::alloc::Global;
 
 /// The answer for this reply, where all records up to the horizon were synced before it.

@@ -2,8 +2,8 @@
 ghost use Rattle.std.specs.Prelude.{◌≡◌};
 ghost use Rattle.session.specs.Requests.{fate_of, with_key, with_row};
 
-use first::Event;
 use records::{Body, Error, Key, Rid, Txn};
+use restart::Event;
 use script::{ByteText, Command};
 use sector_device::Fate;
 
@@ -25,7 +25,7 @@ pub enum Request {
 }
 
 impl Request {
-    ghost use Rattle.session.specs.Requests.{request_of, only_reads};
+    ghost use Rattle.session.specs.Requests.{request_of};
 
     /// What the command asks for. `KeyTooLong`, then `BodyTooLong`, where it gives too many bytes.
     pub fn of(command: &Command) -> Result<Self, Error>
@@ -56,17 +56,6 @@ impl Request {
             Command::Get { rid } => Ok(Request::Event(Event::Get { rid: *rid })),
             Command::Find { key } => search(key),
             Command::Dump => Ok(Request::Dump),
-        }
-    }
-
-    /// Whether it changes nothing. After a crash only such requests are served.
-    pub fn only_reads(&self) -> bool
-        ensures { result ≡ only_reads self.now }
-    {
-        match self {
-            Request::Event(event) => event.is_read(),
-            Request::Dump => true,
-            Request::Build(_) | Request::Clean(_) | Request::Flush | Request::Crash(_) => false,
         }
     }
 }

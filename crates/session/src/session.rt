@@ -1,5 +1,5 @@
 //! A store under a script.
-ghost use Rattle.std.specs.Prelude.{◌≡◌, false, IfOk, OnOk, MatchResult};
+ghost use Rattle.std.specs.Prelude.{◌≡◌, OnOk, MatchResult};
 ghost use Rattle.std.specs.Io.KnownBytes.{Appends};
 ghost use Rattle.std.specs.declared.alloc.Global.{Global};
 ghost use Rattle.sector_device.specs.declared.fault.FaultDisk.{FaultDisk};
@@ -11,10 +11,10 @@ ghost use Rattle.replay_values.specs.Texts.{line_of};
 ghost use Rattle.session.specs.Dump.{row_line, slot_lines, entry_lines, dump_text};
 
 use crate::reply::answer_of;
-use first::{Engine, Event, Reply, restart};
 use model::Life;
 use records::{Error, Geometry, Mark, Pair, Rid, SLOTS_PER_PAGE};
 use replay_values::Answer;
+use restart::{Engine, Event, Reply, restart};
 use sector_device::{Fate, FaultDisk, MemDisk, Which};
 use std::alloc::Global;
 use std::io;
@@ -46,7 +46,6 @@ pub struct Session {
     fails_at: u64,
     // every record up to this number is synced
     horizon: u64,
-    crashed: bool,
 }
 
 // The disk after a loss of power with this fate for every unsynced sector. The write or sync of
@@ -90,8 +89,8 @@ fn dump_entry<W: Write>(pair: Pair, mark: Mark, output: &mut W) -> io::Result<()
 }
 
 impl Session {
-    ghost use Rattle.first.specs.declared.event.Reply.{Reply};
-    ghost use Rattle.session.specs.Session.{OpensOn, IsRefusedOn, LeavesItsRun, has_crashed, disk_of, last_made, is_stop, outcome_of, ServesEvent, FlushesOnce, Flushes, calls_to_stop, Reopens, rows_of, entries_of, life_of};
+    ghost use Rattle.restart.specs.declared.event.Reply.{Reply};
+    ghost use Rattle.session.specs.Session.{OpensOn, IsRefusedOn, LeavesItsRun, disk_of, last_made, is_stop, outcome_of, ServesEvent, FlushesOnce, Flushes, calls_to_stop, Reopens, rows_of, entries_of, life_of};
 
     /// Opens the store on the disk, whose write or sync of this number is cut short, or none at 0.
     /// Where the restart is refused, the disk comes back.
@@ -101,10 +100,9 @@ impl Session {
         geometry: Geometry,
         fails_at: u64,
     ) -> Result<Self, (Error, Disk)>
-        ensures opened { MatchResult result
+        ensures { MatchResult result
             (OpensOn disk geometry fails_at)
             (λ r. IsRefusedOn disk r.1 r.0) }
-        ensures anew { IfOk result (λ session. has_crashed session ≡ false) }
     {
         let engine = restart(alloc, disk)?;
         let horizon = engine.core().last();
@@ -114,7 +112,6 @@ impl Session {
             geometry,
             fails_at,
             horizon,
-            crashed: false,
         })
     }
 
@@ -125,20 +122,12 @@ impl Session {
         geometry: Geometry,
         fate: Fate,
     ) -> Result<Self, (Error, Disk)>
-        ensures opened { (after : FaultDisk (MemDisk Global)) × LosesPower fate 0 disk after × MatchResult result
+        ensures { (after : FaultDisk (MemDisk Global)) × LosesPower fate 0 disk after × MatchResult result
             (OpensOn after geometry 0)
             (λ r. IsRefusedOn after r.1 r.0) }
-        ensures anew { IfOk result (λ session. has_crashed session ≡ false) }
     {
         let disk = crashed(disk, fate, 0);
         Session::open(alloc, disk, geometry, 0)
-    }
-
-    /// Whether the script has crashed the device. Then only requests that change nothing are served.
-    pub fn has_crashed(&self) -> bool
-        ensures { result ≡ has_crashed self.now }
-    {
-        self.crashed
     }
 
     /// How far the index is.
@@ -217,7 +206,8 @@ impl Session {
         }
     }
 
-    /// Crashes the device with this fate for every unsynced sector, and opens the store again.
+    /// Crashes the device with this fate for every unsynced sector, and opens the store again, which then serves as any
+    /// other.
     pub fn crash(self, fate: Fate) -> Result<Self, End>
         ensures survives { LeavesItsRun self }
         ensures crashed { (disk : FaultDisk (MemDisk Global)) × LosesPower fate (calls_to_stop self) (disk_of self) disk
@@ -230,10 +220,7 @@ impl Session {
         let left = fails_at.saturating_sub(disk.made());
         let disk = crashed(disk, fate, left);
         match Session::open(alloc, disk, geometry, left) {
-            Ok(mut session) => {
-                session.crashed = true;
-                Ok(session)
-            }
+            Ok(session) => Ok(session),
             Err((error, disk)) => {
                 if tells_stop(left, error) {
                     Err(End::Stopped(disk))

@@ -9,7 +9,7 @@ use Rattle.session.proofs.program.after_stop.Goals as goal
 pub returns-in-Ok : goal.returns-in-Ok
 returns-in-Ok g c =
     let contents = g.W.Write.contents in
-    let opened = c.in-Ok.ensures.opened in (
+    let opened = c.in-Ok.ensures in (
       opened.0,
       c.print.new.output,
       c.in_ok-print.ensures,
@@ -27,7 +27,7 @@ returns-in-Ok g c =
 pub returns : goal.returns
 returns g c =
     let contents = g.W.Write.contents in
-    let opened = c.in-Err.ensures.opened in
+    let opened = c.in-Err.ensures in
     IfOk-weaker c.refused.result (λ (status : ℕ). IsRefused contents c.in-Err.error status c.print.new.output c.refused.new.output)
     (λ (status : ℕ). IsStopped contents c.args.geometry c.args.fate c.args.disk status c.args.output.now c.refused.new.output)
     (λ status told. (opened.0, c.print.new.output, c.in_ok-print.ensures, opened.1, inr (c.in-Err.error, c.in-Err.field-0-1, opened.2, told)))

@@ -1,7 +1,7 @@
 use Rattle.std.proofs.Common.{◌≡◌, ℕ, List, Option, Result, Ok, Err, IfOk, sym, subst}
 use Rattle.std.specs.declared.alloc.Global.{Global}
-use Rattle.first.specs.declared.event.Event.{Event}
-use Rattle.first.specs.declared.event.Reply.{Reply}
+use Rattle.restart.specs.declared.event.Event.{Event}
+use Rattle.restart.specs.declared.event.Reply.{Reply}
 use Rattle.session.specs.Session.{ServesEvent, Flushes, last_made, outcome_of}
 use Rattle.session.specs.Runs.{GoesOn, Runs}
 use Rattle.replay_values.specs.declared.answer.Answer.{Answer}

@@ -22,8 +22,7 @@ returns-in-Ok-clause-starts c =
       counted = c.new-disk.ensures.which;
       made = c.new-disk.ensures.made;
       fails_at_is = c.new-disk.ensures.fails_at;
-      opened = c.in-Ok.ensures.opened;
-      anew = c.in-Ok.ensures.anew;
+      opened = c.in-Ok.ensures;
     }
 
 pub returns-clause-refused : goal.returns-clause-refused
@@ -36,4 +35,4 @@ returns-clause-refused c =
     inr (⊎_elim
     (⊎_elim (λ none. inr none) (λ failed. inl failed.0))
     (λ unreadable. absurd (c.one_answer.ensures.readable image g nothing c.in-Err.error gives unreadable))
-    c.in-Err.ensures.opened.not_opened.why)
+    c.in-Err.ensures.not_opened.why)

@@ -1,9 +1,9 @@
-use Rattle.std.proofs.Common.{◌≡◌, ℕ, true, false, subst, refl, ◌∙◌}
+use Rattle.std.proofs.Common.{◌≡◌, ℕ, true, false, subst, ◌∙◌}
 use Rattle.std.specs.declared.alloc.Global.{Global}
 use Rattle.sector_device.specs.declared.call.Fate.{Fate}
 use Rattle.sector_device.specs.declared.fault.FaultDisk.{FaultDisk}
 use Rattle.sector_device.specs.declared.memory.MemDisk.{MemDisk}
-use Rattle.first.specs.Store.{KeepsRun}
+use Rattle.restart.specs.Store.{KeepsRun}
 use Rattle.session.specs.Disk.{disk_history, LosesPower}
 use Rattle.session.specs.Session.{tells_stop, calls_to_stop}
 use Rattle.session.proofs.session.Session.crash.Goals as goal
@@ -18,10 +18,10 @@ loses fate n m disk before after number is lost =
 pub returns-in-Ok-clause-crashed : goal.returns-in-Ok-clause-crashed
 returns-in-Ok-clause-crashed c =
     let left : c.saturating_sub-left.result ≡ calls_to_stop c.args.self = cc in
-    let on = c.in-Ok.ensures.opened in (
+    let on = c.in-Ok.ensures in (
       c.crashed-disk.result,
       loses c.args.fate _ _ _ _ _ left c.into_device-disk.ensures.device c.crashed-disk.ensures,
-      (record { opened = on.opened; recovers = on.recovers; horizon_is = on.horizon_is; geometry_is = on.geometry_is; fails_at_is = on.fails_at_is ∙ left }, refl),
+      record { opened = on.opened; recovers = on.recovers; horizon_is = on.horizon_is; geometry_is = on.geometry_is; fails_at_is = on.fails_at_is ∙ left },
     )
 
 pub returns-then-tells_stop-clause-crashed : goal.returns-then-tells_stop-clause-crashed
@@ -30,7 +30,7 @@ returns-then-tells_stop-clause-crashed c =
     let told : tells_stop c.saturating_sub-left.result c.in-Err.error ≡ true = cc in (
       c.crashed-disk.result,
       loses c.args.fate _ _ _ _ _ left c.into_device-disk.ensures.device c.crashed-disk.ensures,
-      (c.in-Err.error, c.in-Err.ensures.opened, subst (λ (n : ℕ). tells_stop n c.in-Err.error ≡ true) left told),
+      (c.in-Err.error, c.in-Err.ensures, subst (λ (n : ℕ). tells_stop n c.in-Err.error ≡ true) left told),
     )
 
 pub returns-else-tells_stop-clause-crashed : goal.returns-else-tells_stop-clause-crashed
@@ -39,7 +39,7 @@ returns-else-tells_stop-clause-crashed c =
     let told : tells_stop c.saturating_sub-left.result c.in-Err.error ≡ false = cc in (
       c.crashed-disk.result,
       loses c.args.fate _ _ _ _ _ left c.into_device-disk.ensures.device c.crashed-disk.ensures,
-      (c.in-Err.disk, c.in-Err.ensures.opened, subst (λ (n : ℕ). tells_stop n c.in-Err.error ≡ false) left told),
+      (c.in-Err.disk, c.in-Err.ensures, subst (λ (n : ℕ). tells_stop n c.in-Err.error ≡ false) left told),
     )
 
 pub returns-in-Ok-clause-survives : goal.returns-in-Ok-clause-survives

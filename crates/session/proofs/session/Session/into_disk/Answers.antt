@@ -2,7 +2,7 @@ use Rattle.std.proofs.Common.{subst}
 use Rattle.std.specs.declared.alloc.Global.{Global}
 use Rattle.sector_device.specs.declared.fault.FaultDisk.{FaultDisk}
 use Rattle.sector_device.specs.declared.memory.MemDisk.{MemDisk}
-use Rattle.first.specs.Store.{KeepsRun}
+use Rattle.restart.specs.Store.{KeepsRun}
 use Rattle.session.specs.Disk.{disk_history}
 use Rattle.session.proofs.session.Session.into_disk.Goals as goal
 

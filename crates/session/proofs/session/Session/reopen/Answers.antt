@@ -1,4 +1,4 @@
 use Rattle.session.proofs.session.Session.reopen.Goals as goal
 
-pub returns-clause-opened : goal.returns-clause-opened
-returns-clause-opened c = (c.crashed-disk.result, c.crashed-disk.ensures, c.open.ensures.opened)
+pub returns : goal.returns
+returns c = (c.crashed-disk.result, c.crashed-disk.ensures, c.open.ensures)
