@@ -1,4 +1,5 @@
-use Rattle.std.proofs.Common.{arith, sym, subst}
+use Rattle.std.proofs.Common.{arith, sym, subst, inr}
+use Rattle.std.proofs.lemmas.Result.{err_from_is_err_and}
 use Rattle.sector_device.specs.Disk.{Image, Disk, IsCrashImage, IsWhole}
 use Rattle.sector_device.specs.History.{History}
 use Rattle.sector_device.specs.MemDisk.{history_of, failures_of}
@@ -8,7 +9,7 @@ use Rattle.restart.specs.History.{acknowledged}
 use Rattle.restart.specs.Store.{and_then, IsAt, GoesOn}
 use Rattle.restart.specs.Parts.{device_of}
 use Rattle.restart.specs.Reopening.{opening}
-use Rattle.store_tests.proofs.Formatted.{begun_formatted, refuses_so, not_opened_so}
+use Rattle.store_tests.proofs.Formatted.{MayRefuse, begun_formatted, refuses_so, not_opened_so}
 use Rattle.store_tests.proofs.rehearsal.rehearse.Goals as goal
 
 pub returns-in-Err-clause-refused : goal.returns-in-Err-clause-refused
@@ -61,3 +62,8 @@ returns-in-Err-restart-clause-refused c =
     refuses_so (failures_of c.crash.new.self) (failures_of c.in-Err-restart.field-0-1) c.in-Err-restart.error
     (c.in-Err-restart.ensures.readable past (acknowledged 0 replies)
     (c.into_device-disk.ensures.survives past (history_of c.crash.new.self).disk.content at c.crash.ensures.crash))
+
+pub returns-in_err-replies-clause-refused : goal.returns-in_err-replies-clause-refused
+returns-in_err-replies-clause-refused c =
+    let p = err_from_is_err_and c.from_residual-in_err-replies.result c.from_residual-in_err-replies.ensures.1 in
+    rw p.1 (subst MayRefuse (sym p.2) (inr (inr c.in_err-replies.ensures.no_memory)))
