@@ -1,5 +1,5 @@
 -- What the answers of a writer say of it.
-use Rattle.std.proofs.Common.{Result, Ok, Err, OnOk, IfOk, ◌≡◌, ℕ, ◌+◌, ◌-◌, ◌<◌, drop, refl, sym, ap, subst, ◌∙◌, arith}
+use Rattle.std.proofs.Common.{Result, Ok, Err, OnOk, OnErr, IfOk, ◌≡◌, ◌≢◌, None, ℕ, ◌+◌, ◌-◌, ◌<◌, drop, refl, sym, ap, subst, ◌∙◌, arith}
 use Rattle.records.specs.declared.error.Error.{Error}
 use Rattle.model.specs.Table.{Table}
 use Rattle.gate_log.specs.Area.{Area, Log}
@@ -10,7 +10,7 @@ use Rattle.store_writer.specs.declared.writer.FlushReply.{FlushReply}
 use Rattle.store_writer.specs.declared.writer.FlushReply.TheVariants.{Flushed}
 use Rattle.store_writer.specs.declared.writer.StepReply.{StepReply}
 use Rattle.store_writer.specs.declared.writer.StepReply.TheVariants.{Taken, StartAgain}
-use Rattle.store_writer.specs.Writer.{IsPageAnswered, IsStepReply, FillsGroup, IsFlushReply}
+use Rattle.store_writer.specs.Writer.{IsPageAnswered, IsStepReply, FillsGroup, IsFlushReply, IsAsBefore, IsBeforeFlush}
 
 -- a log of the same area with one open slot more
 pub log_more : (old new : Log) → new.area ≡ old.area → new.open_slots ≡ old.open_slots + 1 → new ≡ record old { open_slots = old.open_slots + 1 }
@@ -38,6 +38,14 @@ module _ {D M : Type 0} (old mid new : Writer D M) (count : ℕ) where
           waiting-are = waiting_new ∙ ap (drop count) waiting ∙ ap (λ (n : ℕ). drop n old.waiting.items) counted;
         },
       )
+
+  -- a group was appended, and what is planned with the image failed
+  pub failed_behind : (result : Result FlushReply Error) → mid ≡ record old { device = mid.device; log = mid.log } → OnErr result ((mid.image ≢ None) × IsAsBefore mid new) → OnErr result (IsBeforeFlush old new)
+  failed_behind (Ok reply) mid_is failed = tt
+  failed_behind (Err e) mid_is (some, is) = record {
+    rest = is ∙ ap (λ (w : Writer D M). record w { device = new.device; failed = new.failed }) mid_is ∙ ap (λ (l : Log). record old { device = new.device; failed = new.failed; log = l }) (sym (ap (λ (w : Writer D M). w.log) is));
+    log-is = λ none. absurd (some (ap (λ (w : Writer D M). w.image) mid_is ∙ none));
+  }
 
 -- what is answered of a page is answered of the piece that has its rows
 pub page_answered : {A D M : Type 0} (number page : ℕ) (rows : Table) (piece : Piece A) (old new : Writer D M) (result : Result StepReply Error) → piece ≡ Page page rows

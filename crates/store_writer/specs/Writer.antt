@@ -137,6 +137,25 @@ pub record WritesLogsAlone {D M : Type 0} (history : D → History) (old new : W
   pub now : SameOutside (InLogs old) (history old.device).disk.content (history new.device).disk.content
   pub images : LeavesOnly (history old.device) (history new.device) (SameOutside (λ n. InLogs old n ⊎ ((history old.device).disk.unsynced n ≡ true)) (history old.device).disk.content)
 
+-- ---- what a step and a flip write
+
+-- Of these sectors alone one was written. Each other sector holds what it held before the call, and so it does after a crash at
+-- any moment of the call, if it was synced before.
+pub record WritesOnly {D : Type 0} (history : D → History) (sectors : ℕ → Type 0) (old new : D) : Type 0 where
+  pub now : SameOutside sectors (history old).disk.content (history new).disk.content
+  pub images : LeavesOnly (history old) (history new) (SameOutside (λ n. sectors n ⊎ ((history old).disk.unsynced n ≡ true)) (history old).disk.content)
+
+-- ---- what a call leaves that didn't succeed
+
+-- but for the device, and that it failed, all is as it was
+abbrev pub IsAsBefore : {D M : Type 0} → Writer D M → Writer D M → Type 0
+IsAsBefore old new = new ≡ record old { device = new.device; failed = new.failed }
+
+-- And so it is after a flush. Where an image is under way, the group may be in the current half's log and not in the image's.
+pub record IsBeforeFlush {D M : Type 0} (old new : Writer D M) : Type 0 where
+  pub rest : new ≡ record old { device = new.device; failed = new.failed; log = new.log }
+  pub log-is : old.image ≡ None → new.log ≡ old.log
+
 -- ---- answers
 
 -- The first n of the records fill one group: they fit it, and with one more they take too many bytes, or there is no other.

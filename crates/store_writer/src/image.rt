@@ -1,5 +1,5 @@
 //! An image that is under way in the half that isn't current, and the log behind it.
-ghost use Rattle.std.specs.Prelude.{◌≡◌, ◌⊎◌, ◌+◌, ◌%◌, ◌^◌, ◌<◌, ◌≤◌, ◌++◌, ◌∷◌, [], ℕ, List, Option, Some, None, IfSome, length, slice_get, true, OnOk, IfOk, IfErr};
+ghost use Rattle.std.specs.Prelude.{◌≡◌, ◌⊎◌, ◌+◌, ◌%◌, ◌^◌, ◌<◌, ◌≤◌, ◌++◌, ◌∷◌, [], ℕ, List, Option, Some, None, IfSome, length, slice_get, true, OnOk, OnErr, IfOk, IfErr};
 ghost use Rattle.std.specs.FinMap as map;
 ghost use Rattle.sector_device.specs.Disk.{IsSynced, sector, SameOutside};
 ghost use Rattle.sector_device.specs.History.{LeavesOnly, RunsWithin, CountsFailure};
@@ -127,6 +127,7 @@ pub(crate) fn carry<D: Device, A: Allocator>(
     ensures outside { SameOutside (InNewLog image) (D.history device.old).disk.content (D.history device.new).disk.content }
     ensures any_moment { LeavesOnly (D.history device.old) (D.history device.new) (SameOutside (InNewLog image) (D.history device.old).disk.content) }
     ensures counts { CountsFailure (D.failures device.old) (D.failures device.new) result }
+    ensures keeps { image ≡ None → OnErr result ⊥ }
 {
     let body = match plan {
         Plan::Keep => return Ok(image),

@@ -11,6 +11,8 @@ ghost use Rattle.model.specs.Table.{Table};
 ghost use Rattle.image_model.specs.declared.chunk.CopyPlace.{CopyPlace};
 ghost use Rattle.image_model.specs.Run.{Run, IsRun, end_of};
 ghost use Rattle.image_model.specs.Places.{place_behind};
+ghost use Rattle.flip_image.specs.Layout.{other, InHalf};
+ghost use Rattle.flip_image.specs.declared.half.TheConstants.{FLIP_SECTOR};
 ghost use Rattle.store_writer.specs.Contents.{LeftBy};
 ghost use Rattle.store_writer.specs.declared.image.NewImage.{NewImage};
 ghost use Rattle.store_writer.specs.Places.{IsAtPlace, IsAtPiece, AreRowsNow, AreEntriesNow};
@@ -55,7 +57,7 @@ impl<D: Device, A: Allocator> Model for StoreWriter<D, A> {
 }
 
 impl<D: Device, A: Allocator + Copy> StoreWriter<D, A> {
-    ghost use Rattle.store_writer.specs.Writer.{IsWriter, IsOpenedAt, opened_run, longer, AreNext, IsLogFull, IsFlushReply, IsNotFlushed, IsPageChunk, IsEntriesChunk, IsChunk, MustStartAgain, IsStepReply, CanFlip, IsFlipReply, HasFailed, WritesLogsAlone};
+    ghost use Rattle.store_writer.specs.Writer.{IsWriter, IsOpenedAt, opened_run, longer, AreNext, IsLogFull, IsFlushReply, IsNotFlushed, IsPageChunk, IsEntriesChunk, IsChunk, MustStartAgain, IsStepReply, CanFlip, IsFlipReply, HasFailed, WritesLogsAlone, WritesOnly, IsAsBefore, IsBeforeFlush};
 
     /// A writer to which nothing was handed, over a device that is synced. The log is that of the current half, as a reader
     /// or `LogArea::clear` left it, and the current half has the cells after the record `synced`. Nothing is read, and no
@@ -119,8 +121,9 @@ impl<D: Device, A: Allocator + Copy> StoreWriter<D, A> {
     /// the log of its half too, or the image is given up (`image`).
     ///
     /// `NoMemory` means that nothing was written, and nothing changed. `DeviceFailed` comes where the device fails in the
-    /// call, and from then on. Whatever the answer is, no sector is written but those of the current half's log and, where an
-    /// image is under way, of the other half's (`around`).
+    /// call, and from then on; the log has then no group more, unless an image is under way (`left`). Whatever the answer is,
+    /// no sector is written but those of the current half's log and, where an image is under way, of the other half's
+    /// (`around`).
     pub fn flush_group(&mut self, alloc: A) -> Result<FlushReply, Error>
         ensures writer { (run : Run) (handed : ℕ) → IsWriter D.history run handed self.old → IsWriter D.history run handed self.new }
         ensures images { (run : Run) (handed : ℕ) → IsWriter D.history run handed self.old
@@ -136,6 +139,7 @@ impl<D: Device, A: Allocator + Copy> StoreWriter<D, A> {
         ensures quiet { OnOk result (D.failures (device_of self.new) ≡ D.failures (device_of self.old)) }
         ensures later { D.failures (device_of self.old) ≤ D.failures (device_of self.new) }
         ensures around { WritesLogsAlone D.history self.old self.new }
+        ensures left { OnErr result (IsBeforeFlush self.old self.new) }
     {
         self.writer.flush_group(alloc)
     }
@@ -147,7 +151,8 @@ impl<D: Device, A: Allocator + Copy> StoreWriter<D, A> {
     ///
     /// `StartAgain` where the image is copied in steps and every slot of the current log is open, or it was given up, or its
     /// entries would pass the geometry's: nothing changes, and a whole image is wanted. `DeviceFailed` comes where the device
-    /// fails in the call, and from then on.
+    /// fails in the call, and from then on. Whatever the answer is, no sector is written but those of the half that isn't
+    /// current (`around`).
     pub fn checkpoint_step(&mut self, chunk: Chunk<A>) -> Result<StepReply, Error>
         requires { (run : Run) × (handed : ℕ) × IsWriter D.history run handed self.old × IsChunk run self.old chunk.number chunk.piece }
         ensures writer { (run : Run) (handed : ℕ) → IsWriter D.history run handed self.old → IsChunk run self.old chunk.number chunk.piece → IsWriter D.history run handed self.new }
@@ -161,6 +166,8 @@ impl<D: Device, A: Allocator + Copy> StoreWriter<D, A> {
         ensures quiet { OnOk result (D.failures (device_of self.new) ≡ D.failures (device_of self.old)) }
         ensures later { D.failures (device_of self.old) ≤ D.failures (device_of self.new) }
         ensures kept { synced_of self.new ≡ synced_of self.old }
+        ensures around { WritesOnly D.history (InHalf (halves_of self.old).geometry (other (halves_of self.old).current)) (device_of self.old) (device_of self.new) }
+        ensures left { OnErr result (IsAsBefore self.old self.new) }
     {
         self.writer.checkpoint_step(chunk)
     }
@@ -169,7 +176,8 @@ impl<D: Device, A: Allocator + Copy> StoreWriter<D, A> {
     /// record up to the image's base, and those of its log.
     ///
     /// `Behind` where there is no image, or a record up to its last step isn't handed in, or one of them above its base
-    /// isn't synced; nothing changes. `DeviceFailed` comes where the device fails in the call, and from then on.
+    /// isn't synced; nothing changes. `DeviceFailed` comes where the device fails in the call, and from then on. Whatever the
+    /// answer is, no sector is written but the one that tells which half is current (`around`).
     pub fn checkpoint_flip(&mut self) -> Result<FlipReply, Error>
         ensures writer { (run : Run) (handed : ℕ) → IsWriter D.history run handed self.old → IsWriter D.history run handed self.new }
         ensures images { (run : Run) (handed : ℕ) → IsWriter D.history run handed self.old
@@ -181,6 +189,8 @@ impl<D: Device, A: Allocator + Copy> StoreWriter<D, A> {
         ensures quiet { OnOk result (D.failures (device_of self.new) ≡ D.failures (device_of self.old)) }
         ensures later { D.failures (device_of self.old) ≤ D.failures (device_of self.new) }
         ensures kept { OnErr result (synced_of self.new ≡ synced_of self.old) }
+        ensures around { WritesOnly D.history (λ n. n ≡ FLIP_SECTOR) (device_of self.old) (device_of self.new) }
+        ensures left { OnErr result (IsAsBefore self.old self.new) }
     {
         self.writer.checkpoint_flip()
     }

@@ -11,6 +11,8 @@ ghost use Rattle.model.specs.Table.{Table};
 ghost use Rattle.image_model.specs.declared.chunk.CopyPlace.{CopyPlace};
 ghost use Rattle.image_model.specs.Run.{Run, IsRun, end_of};
 ghost use Rattle.image_model.specs.Places.{place_behind};
+ghost use Rattle.flip_image.specs.Layout.{other, InHalf};
+ghost use Rattle.flip_image.specs.declared.half.TheConstants.{FLIP_SECTOR};
 ghost use Rattle.store_writer.specs.Contents.{LeftBy};
 ghost use Rattle.store_writer.specs.Places.{IsAtPlace, IsAtPiece, AreRowsNow, AreEntriesNow};
 ghost use Rattle.store_writer.specs.Image.{IsPlan, BecomesImage};
@@ -92,7 +94,7 @@ fn has_no_room(geometry: Geometry, count: u32, more: usize) -> bool
 }
 
 impl<D: Device, A: Allocator + Copy> Writer<D, A> {
-    ghost use Rattle.store_writer.specs.Writer.{IsWriter, HasAppended, IsOpenedAt, opened_run, longer, AreNext, IsWholeChunk, IsStartChunk, IsPageChunk, IsEntriesChunk, IsFlushReply, IsNotFlushed, CanFlip, IsFlipReply, HasKept, HasBegun, IsLogFull, IsPageRefused, AreRefused, MustStartAgain, IsPageAnswered, AreEntriesAnswered, IsChunk, IsStepReply, HasFailed, WritesLogsAlone};
+    ghost use Rattle.store_writer.specs.Writer.{IsWriter, HasAppended, IsOpenedAt, opened_run, longer, AreNext, IsWholeChunk, IsStartChunk, IsPageChunk, IsEntriesChunk, IsFlushReply, IsNotFlushed, CanFlip, IsFlipReply, HasKept, HasBegun, IsLogFull, IsPageRefused, AreRefused, MustStartAgain, IsPageAnswered, AreEntriesAnswered, IsChunk, IsStepReply, HasFailed, WritesLogsAlone, WritesOnly, IsAsBefore, IsBeforeFlush};
 
     /// A writer to which nothing was handed.
     pub(crate) fn new(alloc: A, device: D, halves: Halves, log: LogArea, synced: u64) -> Self
@@ -170,6 +172,7 @@ impl<D: Device, A: Allocator + Copy> Writer<D, A> {
         ensures quiet { OnOk result (D.failures self.new.device ≡ D.failures self.old.device) }
         ensures later { D.failures self.old.device ≤ D.failures self.new.device }
         ensures around { WritesLogsAlone D.history self.old self.new }
+        ensures left { OnErr result (IsBeforeFlush self.old self.new) }
     {
         if self.failed {
             return Err(Error::DeviceFailed);
@@ -216,6 +219,7 @@ impl<D: Device, A: Allocator + Copy> Writer<D, A> {
         ensures quiet { OnOk result (D.failures self.new.device ≡ D.failures self.old.device) }
         ensures later { D.failures self.old.device ≤ D.failures self.new.device }
         ensures around { WritesLogsAlone D.history self.old self.new }
+        ensures left { OnErr result ((self.old.image ≢ None) × IsAsBefore self.old self.new) }
     {
         match carry(&mut self.device, self.image, plan) {
             Ok(image) => {
@@ -244,6 +248,8 @@ impl<D: Device, A: Allocator + Copy> Writer<D, A> {
         ensures err { IfErr result (λ e. HasFailed D.failures e self.old self.new) }
         ensures quiet { OnOk result (D.failures self.new.device ≡ D.failures self.old.device) }
         ensures later { D.failures self.old.device ≤ D.failures self.new.device }
+        ensures around { WritesOnly D.history (InHalf self.old.halves.geometry (other self.old.halves.current)) self.old.device self.new.device }
+        ensures left { OnErr result (IsAsBefore self.old self.new) }
     {
         match write_whole(&mut self.device, self.halves, number, cells) {
             Ok(log) => {
@@ -275,6 +281,8 @@ impl<D: Device, A: Allocator + Copy> Writer<D, A> {
         ensures err { IfErr result (λ e. HasFailed D.failures e self.old self.new) }
         ensures quiet { OnOk result (D.failures self.new.device ≡ D.failures self.old.device) }
         ensures later { D.failures self.old.device ≤ D.failures self.new.device }
+        ensures around { WritesOnly D.history (InHalf self.old.halves.geometry (other self.old.halves.current)) self.old.device self.new.device }
+        ensures left { OnErr result (IsAsBefore self.old self.new) }
     {
         let alloc = *self.waiting.allocator();
         let cells = lists_alone(alloc, life, lists);
@@ -315,6 +323,8 @@ impl<D: Device, A: Allocator + Copy> Writer<D, A> {
         ensures err { IfErr result (λ e. HasFailed D.failures e self.old self.new) }
         ensures quiet { OnOk result (D.failures self.new.device ≡ D.failures self.old.device) }
         ensures later { D.failures self.old.device ≤ D.failures self.new.device }
+        ensures around { WritesOnly D.history (InHalf self.old.halves.geometry (other self.old.halves.current)) self.old.device self.new.device }
+        ensures left { OnErr result (IsAsBefore self.old self.new) }
     {
         let Some(image) = self.image else {
             return Ok(StepReply::StartAgain);
@@ -349,6 +359,8 @@ impl<D: Device, A: Allocator + Copy> Writer<D, A> {
         ensures err { IfErr result (λ e. HasFailed D.failures e self.old self.new) }
         ensures quiet { OnOk result (D.failures self.new.device ≡ D.failures self.old.device) }
         ensures later { D.failures self.old.device ≤ D.failures self.new.device }
+        ensures around { WritesOnly D.history (InHalf self.old.halves.geometry (other self.old.halves.current)) self.old.device self.new.device }
+        ensures left { OnErr result (IsAsBefore self.old self.new) }
     {
         let Some(image) = self.image else {
             return Ok(StepReply::StartAgain);
@@ -405,6 +417,8 @@ impl<D: Device, A: Allocator + Copy> Writer<D, A> {
         ensures quiet { OnOk result (D.failures self.new.device ≡ D.failures self.old.device) }
         ensures later { D.failures self.old.device ≤ D.failures self.new.device }
         ensures kept { self.new.synced ≡ self.old.synced }
+        ensures around { WritesOnly D.history (InHalf self.old.halves.geometry (other self.old.halves.current)) self.old.device self.new.device }
+        ensures left { OnErr result (IsAsBefore self.old self.new) }
     {
         if self.failed {
             return Err(Error::DeviceFailed);
@@ -440,6 +454,8 @@ impl<D: Device, A: Allocator + Copy> Writer<D, A> {
         ensures quiet { OnOk result (D.failures self.new.device ≡ D.failures self.old.device) }
         ensures later { D.failures self.old.device ≤ D.failures self.new.device }
         ensures kept { OnErr result (self.new.synced ≡ self.old.synced) }
+        ensures around { WritesOnly D.history (λ n. n ≡ FLIP_SECTOR) self.old.device self.new.device }
+        ensures left { OnErr result (IsAsBefore self.old self.new) }
     {
         if self.failed {
             return Err(Error::DeviceFailed);

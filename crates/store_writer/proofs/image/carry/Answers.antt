@@ -113,3 +113,6 @@ returns-in-Ok-Done-clause-becomes g c = λ slots synced group plan run half is s
 
 pub append_spelled-requires-clause-stands : goal.append_spelled-requires-clause-stands
 append_spelled-requires-clause-stands g c = c.requires.stands c.in-Some.image c.in-Some.is
+
+pub returns-clause-keeps : goal.returns-clause-keeps
+returns-clause-keeps g c = λ none. cc (none, c.in-Some.is)

@@ -69,3 +69,6 @@ returns-in-Err-clause-around g c =
     let (run, handed, is) = c.requires.appended in
     let new : Writer g.row.D.Denot g.row.A.Denot = record { device = c.carry.new.device; halves = w.halves; log = w.log; waiting = w.waiting; synced = w.synced; image = w.image; failed = true } in
     carried_around g.D.Device.history run handed c.args.count w is new refl refl (λ none. none) c.carry.ensures.outside c.carry.ensures.any_moment
+
+pub returns-in-Err-clause-left : goal.returns-in-Err-clause-left
+returns-in-Err-clause-left g c = ((λ none. c.in-Err.ensures.keeps none), refl)

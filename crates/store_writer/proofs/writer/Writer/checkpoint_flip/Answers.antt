@@ -13,6 +13,7 @@ use Rattle.store_writer.proofs.Numbers.{length_between}
 use Rattle.store_writer.proofs.Writing.{stood, carried_on}
 use Rattle.store_writer.proofs.Idle.{from_ok, from_err}
 use Rattle.store_writer.proofs.Flipping.{leaves_flipping, flipped_one}
+use Rattle.store_writer.proofs.Alone.{none_alone, flipped_alone}
 use Rattle.store_writer.proofs.writer.Writer.checkpoint_flip.Goals as goal
 use Rattle.store_writer.proofs.writer.Writer.checkpoint_flip.Goals.{then-handed-image-via-then-handed-image, then-handed-image-via-else-handed-image+then-reached-image}
 
@@ -98,3 +99,27 @@ returns-clause-flipped g c = λ run handed is.
 
 pub returns-in_default-stage-clause-images : goal.returns-in_default-stage-clause-images
 returns-in_default-stage-clause-images g c = λ run handed is. started (g.D.Device.history c.args.self.now.device) (LeftBy run c.args.self.now.synced handed) is.images
+
+pub returns-then-self-clause-around : goal.returns-then-self-clause-around
+returns-then-self-clause-around g c = none_alone g.D.Device.history (λ n. n ≡ 1) c.args.self.now.device
+
+pub returns-in_default-clause-around : goal.returns-in_default-clause-around
+returns-in_default-clause-around g c = none_alone g.D.Device.history (λ n. n ≡ 1) c.args.self.now.device
+
+pub returns-in_default-stage-clause-around : goal.returns-in_default-stage-clause-around
+returns-in_default-stage-clause-around g c = none_alone g.D.Device.history (λ n. n ≡ 1) c.args.self.now.device
+
+pub returns-then-handed-image-clause-around : goal.returns-then-handed-image-clause-around
+returns-then-handed-image-clause-around g c = none_alone g.D.Device.history (λ n. n ≡ 1) c.args.self.now.device
+
+pub returns-then-is_err-clause-around : goal.returns-then-is_err-clause-around
+returns-then-is_err-clause-around g c = flipped_alone g.D.Device.history c.args.self.now.device c.flip.new.device c.flip.ensures.outside c.flip.ensures.any_moment
+
+pub returns-clause-around : goal.returns-clause-around
+returns-clause-around g c = flipped_alone g.D.Device.history c.args.self.now.device c.flip.new.device c.flip.ensures.outside c.flip.ensures.any_moment
+
+pub returns-then-is_err-clause-left : goal.returns-then-is_err-clause-left
+returns-then-is_err-clause-left g c =
+    let old = c.args.self.now in
+    let same : c.flip.new.self ≡ old.halves = from_err _ _ (sym c.is_err.ensures.value ∙ c.if-is_err.true) c.flip.ensures.err in
+    ap (λ (h : HalvesValue). record { device = c.flip.new.device; halves = h; log = old.log; waiting = old.waiting; synced = old.synced; image = old.image; failed = true }) same

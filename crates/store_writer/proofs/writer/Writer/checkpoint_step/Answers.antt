@@ -9,6 +9,8 @@ use Rattle.store_writer.specs.Writer.{IsChunk, IsEntriesChunk, MustStartAgain, A
 use Rattle.store_writer.proofs.Places.{taken_place}
 use Rattle.store_writer.proofs.Replies.{page_answered}
 use Rattle.store_writer.proofs.Copying.{entries_answered}
+use Rattle.flip_image.specs.Layout.{other, InHalf}
+use Rattle.store_writer.proofs.Alone.{none_alone}
 use Rattle.store_writer.proofs.writer.Writer.checkpoint_step.Goals as goal
 
 pub take_whole-requires-clause-whole : goal.take_whole-requires-clause-whole
@@ -65,3 +67,9 @@ pub returns-in-Entries-clause-again : goal.returns-in-Entries-clause-again
 returns-in-Entries-clause-again g c = λ sound must.
     let refused = subst (λ (p : Piece g.row.A.Denot). MustStartAgain p c.args.self.now) c.in-Entries.is must in
     c.take_entries.ensures.again (subst (λ (l : List (Pair × Mark)). AreRefused (length l) c.args.self.now) (sym c.deref.ensures.value) refused)
+
+pub returns-then-self-clause-around : goal.returns-then-self-clause-around
+returns-then-self-clause-around g c = none_alone g.D.Device.history (InHalf c.args.self.now.halves.geometry (other c.args.self.now.halves.current)) c.args.self.now.device
+
+pub returns-then-is_full-clause-around : goal.returns-then-is_full-clause-around
+returns-then-is_full-clause-around g c = none_alone g.D.Device.history (InHalf c.args.self.now.halves.geometry (other c.args.self.now.halves.current)) c.args.self.now.device

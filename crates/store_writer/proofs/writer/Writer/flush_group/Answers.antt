@@ -13,7 +13,7 @@ use Rattle.std.proofs.lemmas.Result.{IfErr-weaker, IfOk-at_ok}
 use Rattle.store_writer.specs.Image.{IsPlan, BecomesImage}
 use Rattle.store_writer.specs.Writer.{FillsGroup, HasAppended}
 use Rattle.store_writer.proofs.Numbers.{length_between}
-use Rattle.store_writer.proofs.Replies.{log_more, flushed_more}
+use Rattle.store_writer.proofs.Replies.{log_more, flushed_more, failed_behind}
 use Rattle.store_writer.proofs.Writing.{stood, stands, leaves, has_appended, carried_on, on_ok_at}
 use Rattle.store_writer.proofs.Around.{none_written, then_around}
 use Rattle.store_writer.proofs.Logs.{appended_around}
@@ -210,3 +210,13 @@ returns-clause-around g c =
     let group : List RecordValue = take c.group_len-count.result c.deref-2.result.now in
     let spelled : IsGroup group c.deref-4.result.now = subst (IsGroup group) (sym c.deref-4.ensures.value) (c.in_ok-body.ensures.ok) in
     appended_around history run handed old is c.if-self.false closed new group refl c.append_spelled.ensures.area refl c.append_spelled.ensures.outside (c.append_spelled.ensures.any_moment group spelled)
+
+pub returns-in-Ok-Done-clause-left : goal.returns-in-Ok-Done-clause-left
+returns-in-Ok-Done-clause-left g c =
+    let old = c.args.self.now in
+    let mid : Writer g.row.D.Denot g.row.A.Denot = record { device = c.append_spelled.new.device; halves = old.halves; log = c.append_spelled.new.self; waiting = old.waiting; synced = old.synced; image = old.image; failed = old.failed } in
+    failed_behind old mid c.carry_on.new.self c.group_len-count.result c.carry_on.result refl c.carry_on.ensures.left
+
+pub returns-clause-left : goal.returns-clause-left
+returns-clause-left g c =
+    record { rest = refl; log-is = λ none. c.in-Err.ensures.err }

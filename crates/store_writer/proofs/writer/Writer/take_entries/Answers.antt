@@ -7,7 +7,7 @@ use Rattle.sector_device.proofs.Moments.{started}
 use Rattle.records.specs.GeometryValue.{GeometryValue}
 use Rattle.records.specs.declared.pair.Pair.{Pair}
 use Rattle.records.specs.declared.pair.Mark.{Mark}
-use Rattle.flip_image.specs.Layout.{other, InHalfImage}
+use Rattle.flip_image.specs.Layout.{other, InHalf, InHalfImage}
 use Rattle.store_writer.specs.declared.writer.Writer.{Writer}
 use Rattle.store_writer.specs.declared.image.NewImage.{NewImage}
 use Rattle.store_writer.specs.declared.image.Stage.TheVariants.{Whole, Partly}
@@ -17,6 +17,7 @@ use Rattle.store_writer.proofs.Idle.{from_ok, writing, written_outside, written_
 use Rattle.store_writer.proofs.Copying.{at_stage, with_entries}
 use Rattle.store_writer.proofs.Writing.{stood, carried_on}
 use Rattle.store_writer.proofs.Taking.{leaves_kept, stands_with}
+use Rattle.store_writer.proofs.Alone.{none_alone, part_alone}
 use Rattle.store_writer.proofs.writer.Writer.take_entries.Goals as goal
 use Rattle.store_writer.proofs.writer.Writer.take_entries.Goals.{then-is_full-via-then-is_full, then-is_full-via-else-is_full+then-has_no_room}
 
@@ -103,3 +104,19 @@ returns-clause-writer g c = λ run handed is asked.
     (written_loose run.geometry half (history old.device) (history c.write_next.new.device) stand.loose within)
     (at_stage run half before after old.synced image there c.args.number taken.stage chunk.later chunk.made log content))
     (returns-clause-images g c run handed is)
+
+pub returns-in_default-clause-around : goal.returns-in_default-clause-around
+returns-in_default-clause-around g c = none_alone g.D.Device.history (InHalf c.args.self.now.halves.geometry (other c.args.self.now.halves.current)) c.args.self.now.device
+
+pub returns-then-is_full-clause-around : goal.returns-then-is_full-clause-around
+returns-then-is_full-clause-around g c = none_alone g.D.Device.history (InHalf c.args.self.now.halves.geometry (other c.args.self.now.halves.current)) c.args.self.now.device
+
+pub returns-then-is_err-clause-around : goal.returns-then-is_err-clause-around
+returns-then-is_err-clause-around g c =
+    let (run, handed, is, asked) = c.requires.entries in
+    part_alone g.D.Device.history run handed c.args.self.now is c.requires.sound c.write_next.new.device c.write_next.ensures.within
+
+pub returns-clause-around : goal.returns-clause-around
+returns-clause-around g c =
+    let (run, handed, is, asked) = c.requires.entries in
+    part_alone g.D.Device.history run handed c.args.self.now is c.requires.sound c.write_next.new.device c.write_next.ensures.within

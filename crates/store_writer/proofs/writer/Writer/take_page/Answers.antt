@@ -8,7 +8,7 @@ use Rattle.model.specs.Table.{Table}
 use Rattle.model.specs.Cells.{Cells}
 use Rattle.image_half.specs.Layout.{InPage}
 use Rattle.image_half.specs.Part.{HasPage}
-use Rattle.flip_image.specs.Layout.{other, header_sector, InHalfImage}
+use Rattle.flip_image.specs.Layout.{other, header_sector, InHalf, InHalfImage}
 use Rattle.store_writer.specs.declared.writer.Writer.{Writer}
 use Rattle.store_writer.specs.declared.image.NewImage.{NewImage}
 use Rattle.store_writer.specs.declared.image.Stage.TheVariants.{Partly}
@@ -18,6 +18,7 @@ use Rattle.store_writer.proofs.Idle.{from_ok, writing, written_outside, written_
 use Rattle.store_writer.proofs.Copying.{at_stage, page_part}
 use Rattle.store_writer.proofs.Writing.{stood, carried_on}
 use Rattle.store_writer.proofs.Taking.{leaves_kept, stands_with}
+use Rattle.store_writer.proofs.Alone.{none_alone, part_alone}
 use Rattle.store_writer.proofs.writer.Writer.take_page.Goals as goal
 
 pub returns-in_default-clause-images : goal.returns-in_default-clause-images
@@ -93,3 +94,19 @@ returns-clause-stepped g c =
       (λ refused. ⊎_elim (λ none. cc (none, c.in-Some.is)) (λ full. false≢true (c.if-is_full.ensures.1 (full ∙ sym (ap (λ (x : GeometryValue). x.slots) c.geometry.ensures)))) refused),
       (c.with_page.result, (refl, refl, refl, refl, refl, refl), (c.in-Some.image, count, highest, life, c.in-Some.is, at, c.with_page.ensures c.args.page count highest life at)),
     )
+
+pub returns-in_default-clause-around : goal.returns-in_default-clause-around
+returns-in_default-clause-around g c = none_alone g.D.Device.history (InHalf c.args.self.now.halves.geometry (other c.args.self.now.halves.current)) c.args.self.now.device
+
+pub returns-then-is_full-clause-around : goal.returns-then-is_full-clause-around
+returns-then-is_full-clause-around g c = none_alone g.D.Device.history (InHalf c.args.self.now.halves.geometry (other c.args.self.now.halves.current)) c.args.self.now.device
+
+pub returns-then-is_err-clause-around : goal.returns-then-is_err-clause-around
+returns-then-is_err-clause-around g c =
+    let (run, handed, is, asked) = c.requires.page in
+    part_alone g.D.Device.history run handed c.args.self.now is c.requires.sound c.write_rows.new.device c.write_rows.ensures.within
+
+pub returns-clause-around : goal.returns-clause-around
+returns-clause-around g c =
+    let (run, handed, is, asked) = c.requires.page in
+    part_alone g.D.Device.history run handed c.args.self.now is c.requires.sound c.write_rows.new.device c.write_rows.ensures.within

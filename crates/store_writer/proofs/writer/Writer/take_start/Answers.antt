@@ -16,6 +16,7 @@ use Rattle.store_writer.specs.declared.image.Stage.TheVariants.{Partly}
 use Rattle.store_writer.proofs.Copying.{start_taken}
 use Rattle.store_writer.proofs.Writing.{carried_on}
 use Rattle.store_writer.proofs.Taking.{leaves_kept, stands_with}
+use Rattle.store_writer.proofs.Alone.{these_alone}
 use Rattle.store_writer.proofs.writer.Writer.take_start.Goals as goal
 
 pub returns-in-Ok-clause-images : goal.returns-in-Ok-clause-images
@@ -57,3 +58,9 @@ returns-in-Ok-clause-writer g c = λ run handed is start.
     (subst (λ (x : GeometryValue). (n : ℕ) → now.unsynced n ≡ true → InHalfImage x half n) is.geometry-is c.in-Ok.ensures.loose)
     (start_taken run half now.content old.synced image c.args.life c.args.lists is.opened refl (ap (λ (l : Life). Partly 0 0 None l) (ap (λ (x : Cells). x.life) cells_are)) start part area c.in-Ok.ensures.empty))
     (returns-in-Ok-clause-images g c run handed is)
+
+pub returns-in-Ok-clause-around : goal.returns-in-Ok-clause-around
+returns-in-Ok-clause-around g c = these_alone g.D.Device.history (InHalf c.args.self.now.halves.geometry (other c.args.self.now.halves.current)) c.args.self.now.device c.write_first.new.device c.write_first.ensures.outside c.write_first.ensures.any_moment
+
+pub returns-clause-around : goal.returns-clause-around
+returns-clause-around g c = these_alone g.D.Device.history (InHalf c.args.self.now.halves.geometry (other c.args.self.now.halves.current)) c.args.self.now.device c.write_first.new.device c.write_first.ensures.outside c.write_first.ensures.any_moment

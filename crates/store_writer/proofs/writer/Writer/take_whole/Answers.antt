@@ -12,6 +12,7 @@ use Rattle.store_writer.specs.declared.image.NewImage.{NewImage}
 use Rattle.store_writer.specs.declared.image.Stage.TheVariants.{Whole}
 use Rattle.store_writer.proofs.Writing.{stood, carried_on}
 use Rattle.store_writer.proofs.Taking.{whole_taken, leaves_kept, stands_with}
+use Rattle.store_writer.proofs.Alone.{these_alone}
 use Rattle.store_writer.proofs.writer.Writer.take_whole.Goals as goal
 
 pub returns-in-Ok-clause-images : goal.returns-in-Ok-clause-images
@@ -61,3 +62,9 @@ pub write_whole-requires-clause-current : goal.write_whole-requires-clause-curre
 write_whole-requires-clause-current g c =
     let (run, handed, is, whole) = c.requires.whole in
     (stood g.D.Device.history run handed c.args.self.now is c.requires.sound).store.current
+
+pub returns-in-Ok-clause-around : goal.returns-in-Ok-clause-around
+returns-in-Ok-clause-around g c = these_alone g.D.Device.history (InHalf c.args.self.now.halves.geometry (other c.args.self.now.halves.current)) c.args.self.now.device c.write_whole.new.device c.write_whole.ensures.outside c.write_whole.ensures.any_moment
+
+pub returns-in-Err-clause-around : goal.returns-in-Err-clause-around
+returns-in-Err-clause-around g c = these_alone g.D.Device.history (InHalf c.args.self.now.halves.geometry (other c.args.self.now.halves.current)) c.args.self.now.device c.write_whole.new.device c.write_whole.ensures.outside c.write_whole.ensures.any_moment
