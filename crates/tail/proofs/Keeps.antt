@@ -1,7 +1,7 @@
 -- Each step keeps the rule of the queue.
 use Rattle.std.proofs.Common.{◌≡◌, ◌≢◌, ℕ, zero, suc, true, false, true≢false, Option, None, Some, List, [], ◌∷◌, ◌++◌, drop, take, length, set, slice_get, sym, refl, ap, ◌∙◌, subst, ⊎_elim, append_assoc, append-nil}
 use Rattle.std.specs.Prelude.{MatchOption}
-use Rattle.std.proofs.Math.Seq.{drop-append_seam}
+use Rattle.std.proofs.Math.Seq.{drop-append_seam, take-append_seam}
 use mathlib.Core.Option.{some, some-ne-none}
 use lib.ListN.{get_elem?}
 use Rattle.crossbeam_queue.specs.Fifo.{Forks, Held, Learns, Merges}
@@ -100,6 +100,45 @@ forks place v a b items ends h at =
           (at_snoc all r u j e);
     }
 
+-- the end that pops is lent
+pub lends : (place : ℕ) (v : Knowledge) → v.pops ≡ true → Forks IsKept place v no_end (pop_end v.popped)
+lends place v b items ends h at =
+    let r : Knowledge = pop_end v.popped in
+    let mine = h.fits place v at in
+    let all : List Knowledge = set ends place no_end in
+    let Old : ℕ → Knowledge → Type 0 = λ j u. (u.pushes ≡ true → (j ≡ h.pusher) × (u.pushed ≡ h.pushed)) × (u.pops ≢ true) in
+    let old : Each Old all = each_set Old ends place no_end ((λ p. off p), λ p. off p) (λ j u other e. ((h.fits j u e).of_pusher, λ p. other (((h.fits j u e).of_popper p).0 ∙ sym (mine.of_popper b).0))) in
+    record {
+      pusher = h.pusher;
+      popper = length all;
+      pushed = h.pushed;
+      popped = h.popped;
+      in_order = h.in_order;
+      fits = λ j u e.
+          ⊎_elim (λ x. record { of_pusher = (old j u x).0; of_popper = λ p. absurd ((old j u x).1 p) })
+          (λ (is : r ≡ u). record { of_pusher = λ p. off (ap (λ (y : Knowledge). y.pushes) is ∙ p); of_popper = λ p. (at_end all r u j (λ x. (old j u x).1 p) e, ap (λ (y : Knowledge). y.popped) (sym is) ∙ (mine.of_popper b).1) })
+          (at_snoc all r u j e);
+    }
+
+-- and comes back
+pub comes_back : (place : ℕ) (v : Knowledge) (other : ℕ) (u : Knowledge) → u.pops ≡ true → Merges IsKept place v other u (pop_end u.popped) no_end
+comes_back place v other u b items ends h at two at' =
+    let end : Knowledge = pop_end u.popped in
+    let all : List Knowledge = set ends place end in
+    let was : get_elem? ends other ≡ some u = ⊎_elim (λ x. absurd (two x.0)) (λ x. x.1) (at_set ends place other end u at') in
+    let theirs = (h.fits other u was).of_popper b in
+    let Now : ℕ → Knowledge → Type 0 = λ j y. j ≢ other → Fits h.pusher place h.pushed h.popped j y in
+    let now : Each Now all = each_set Now ends place end (λ _. record { of_pusher = λ p. off p; of_popper = λ _. (refl, theirs.1) })
+    (λ j y _ e apart. record { of_pusher = (h.fits j y e).of_pusher; of_popper = λ p. absurd (apart (((h.fits j y e).of_popper p).0 ∙ sym theirs.0)) }) in
+    record {
+      pusher = h.pusher;
+      popper = place;
+      pushed = h.pushed;
+      popped = h.popped;
+      in_order = h.in_order;
+      fits = each_set (Fits h.pusher place h.pushed h.popped) all other no_end (record { of_pusher = λ p. off p; of_popper = λ p. off p }) (λ j y apart e. now j y e apart);
+    }
+
 pub merges : (place : ℕ) (v : Knowledge) (other : ℕ) (u : Knowledge) → v.pushes ≡ true → u.pops ≡ true → Merges IsKept place v other u (both_ends v.pushed u.popped) no_end
 merges place v other u a b items ends h at two at' =
     let both : Knowledge = both_ends v.pushed u.popped in
@@ -171,3 +210,9 @@ joined v n is held =
 -- joined ends know what waits
 pub joins : (v w : Knowledge) (pushed popped : List RecordValue) (n : ℕ) → v ≡ both_ends pushed popped → Held n (Waits v) → w ≡ v → IsWhole w
 joins v w pushed popped n is held same = subst IsWhole (sym same) (joined v n (is ∙ λ i. both_ends (ap (λ (y : Knowledge). y.pushed) (sym is) i) (ap (λ (y : Knowledge). y.popped) (sym is) i)) held)
+
+-- ---- two ends that are compared
+
+-- what was popped is the first of what was pushed
+pub begins_with : (v : Knowledge) (n : ℕ) → v.pushes ≡ true → v.pops ≡ true → Held n (Waits v) → v.popped ≡ take (length v.popped) v.pushed
+begins_with v n a b held = sym (take-append_seam v.popped held.0) ∙ ap (take (length v.popped)) (sym (held.2 a b))

@@ -30,7 +30,7 @@ push_end pushed = record { pushes = true; pops = false; pushed = pushed; popped 
 abbrev pub pop_end : List RecordValue → Knowledge
 pop_end popped = record { pushes = false; pops = true; pushed = []; popped = popped }
 
--- an end that was joined to another
+-- an end that was joined to another, or is lent
 abbrev pub no_end : Knowledge
 no_end = record { pushes = false; pops = false; pushed = []; popped = [] }
 

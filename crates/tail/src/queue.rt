@@ -1,8 +1,8 @@
 //! The queue, and the two ends of it.
-ghost use Rattle.std.specs.Prelude.{◌≡◌, [], ◌∷◌, ◌++◌, IfOk, IfErr, OnOk, OnErr, MatchOption};
+ghost use Rattle.std.specs.Prelude.{◌≡◌, [], ◌∷◌, ◌++◌, IfOk, IfErr, OnOk, OnErr, MatchOption, length, take};
 ghost use Rattle.tail.specs.Ends.{Handed};
 
-use crate::rule::{Ends, Pass, Popped, Pushed, Queue};
+use crate::rule::{Ends, Lent, Pass, Popped, Pushed, Queue};
 use records::Record;
 use std::alloc::{AllocError, Global};
 use std::marker::Model;
@@ -82,6 +82,22 @@ impl RecordQueue {
             Pusher { pass },
             Popper { pass: other },
         ))
+    }
+
+    /// Compares the two ends, where one thread holds both, as under a lock: what was popped is the first of what was pushed, in
+    /// order. Neither end changes.
+    pub fn compare<R: Wait>(&self, rt: &R, pusher: &mut Pusher, popper: &mut Popper)
+        requires pusher { pusher.old.queue ≡ self.now }
+        requires popper { popper.old.queue ≡ self.now }
+        ensures beginning { popper.old.records ≡ take (length popper.old.records) pusher.old.records }
+        ensures pusher { pusher.new ≡ pusher.old }
+        ensures popper { popper.new ≡ popper.old }
+    {
+        let lent = self.queue.another::<Lent>(&mut popper.pass);
+        self.queue.absorb::<Ends>(&mut pusher.pass, lent);
+        self.queue.len_as::<Popped, R>(rt, &mut pusher.pass);
+        let back = self.queue.another::<Ends>(&mut pusher.pass);
+        self.queue.absorb::<Lent>(&mut popper.pass, back);
     }
 
     pub(crate) fn into_queue(self) -> Queue

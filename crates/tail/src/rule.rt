@@ -35,6 +35,25 @@ impl Join<Knowledge> for Ends {
     ghost spent = { no_end };
 }
 
+/// The end that pops is lent, or comes back.
+pub struct Lent;
+
+impl Split<Knowledge> for Lent {
+    ghost use Rattle.tail.specs.Rule.{no_end, pop_end};
+
+    ghost left = { λ v. no_end };
+
+    ghost right = { λ v. pop_end v.popped };
+}
+
+impl Join<Knowledge> for Lent {
+    ghost use Rattle.tail.specs.Rule.{no_end, pop_end};
+
+    ghost both = { λ v w. pop_end w.popped };
+
+    ghost spent = { no_end };
+}
+
 /// A record is pushed.
 pub struct Pushed;
 

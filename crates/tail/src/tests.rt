@@ -78,6 +78,38 @@ fn two_records_go_through(rt: HostRuntime) -> Result<(), Fail> {
     Ok(())
 }
 
+// The contracts say enough: where the ends are compared, what was popped is what was pushed first.
+fn pop_one<R: Wait>(
+    rt: &R,
+    queue: &RecordQueue,
+    pusher: &mut Pusher,
+    popper: &mut Popper,
+    first: Record,
+    second: Record,
+) -> Option<Record>
+    requires queue { (pusher.old.queue ≡ queue.now) × (popper.old.queue ≡ queue.now) }
+    requires none { (pusher.old.records ≡ []) × (popper.old.records ≡ []) }
+    ensures queue { (pusher.new.queue ≡ queue.now) × (popper.new.queue ≡ queue.now) }
+    ensures first { IfSome result (λ item. item ≡ first) }
+{
+    push_two(rt, queue, pusher, first, second)?;
+    let item = popper.pop(rt, queue)?;
+    queue.compare(rt, pusher, popper);
+    Some(item)
+}
+
+#[test]
+fn two_ends_are_compared(rt: HostRuntime) -> Result<(), Fail> {
+    let (queue, mut pusher, mut popper) = RecordQueue::new(rt.alloc())?;
+    let (one, two) = (record(number(&rt, 1)), record(number(&rt, 2)));
+    assert_eq!(rt;
+        pop_one(&rt, &queue, &mut pusher, &mut popper, one, two),
+        Some(one)
+    );
+    assert_eq!(rt; popper.pop(&rt, &queue), Some(two));
+    Ok(())
+}
+
 // Pushes the record, at a second time if the queue gives it back at first.
 fn push_twice<R: Wait>(rt: &R, queue: &RecordQueue, pusher: &mut Pusher, item: Record) -> bool
     requires { pusher.old.queue ≡ queue.now }
