@@ -5,3 +5,5 @@ mod Chunks
 mod Listing
 mod Paged
 mod Fitting
+mod Logged
+pub mod Cited

@@ -1,17 +1,20 @@
 //! Laws of copies.
-ghost use Rattle.std.specs.Prelude.{◌≡◌};
-ghost use Rattle.model.specs.Cells.{Cells};
+ghost use Rattle.std.specs.Prelude.{◌≡◌, List};
+ghost use Rattle.records.specs.GeometryValue.{GeometryValue};
+ghost use Rattle.records.specs.RecordValue.{RecordValue};
+ghost use Rattle.model.specs.Cells.{Cells, cells_after};
 ghost use Rattle.model.specs.Given.{opening_cells};
 ghost use Rattle.txn_table.specs.Sound.{IsSound};
-ghost use Rattle.core_model.specs.Histories.{Opened, opened};
+ghost use Rattle.core_model.specs.Histories.{CanOpen, Opened, opened};
 ghost use Rattle.core_model.specs.Invariants.{IsWellFormed};
 ghost use Rattle.core_model.specs.Records.{HasCells, action_of, set_by_any};
 ghost use Rattle.core_model.specs.States.{State};
 ghost use Rattle.core_model.specs.Steps.{IsEnabled, MachineStep, after};
-ghost use Rattle.core_contracts.specs.Events.{Standing};
+ghost use Rattle.core_contracts.specs.Events.{Event, Reply, Standing};
+ghost use Rattle.core_contracts.specs.Served.{HasServed};
 ghost use Rattle.nsf_core.specs.View.{CoreValue, IsState};
 ghost use Rattle.core_copies.specs.Lists.{HasLists};
-ghost use Rattle.core_copies.specs.Shown.{IsCellsOf};
+ghost use Rattle.core_copies.specs.Shown.{IsCellsOf, IsOfGeometry};
 
 /// A law: a core has one set of cells.
 pub fn one_copy()
@@ -24,4 +27,11 @@ pub fn each_list()
     ensures begins { (o : Opened) → HasLists (opened o) (opening_cells o.given) }
     ensures goes_on { (s : State) (e : MachineStep) (cells : Cells) → IsWellFormed s → IsEnabled s e → HasLists s cells → HasLists (after s e) (set_by_any cells (action_of s e)) }
     ensures shown { (v : CoreValue) (s : State) (k : Standing) (cells : Cells) → IsSound v.txns → IsState v s k → HasCells s cells → HasLists s cells → IsCellsOf v cells }
+{}
+
+/// A law: of a core that replied to some calls since it was opened, the records that it made leave its cells over those of the
+/// opening, and it has the store's pages and places.
+pub fn made_cells()
+    ensures shown { (o : Opened) → CanOpen o → (made : List RecordValue) (pairs : List (Event × Reply)) (v : CoreValue) (s : State) (k : Standing) → HasServed o made pairs s k → IsSound v.txns → IsState v s k → IsCellsOf v (cells_after (opening_cells o.given) made) }
+    ensures store { (o : Opened) (made : List RecordValue) (pairs : List (Event × Reply)) (v : CoreValue) (s : State) (k : Standing) → HasServed o made pairs s k → IsState v s k → (g : GeometryValue) → g.pages ≡ o.pages → g.entries ≡ o.places → IsOfGeometry v g }
 {}

@@ -6,4 +6,4 @@ mod laws;
 mod parts;
 
 pub use copy::{copy_step, copy_whole};
-pub use laws::{each_list, one_copy};
+pub use laws::{each_list, made_cells, one_copy};
