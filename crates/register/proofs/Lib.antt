@@ -11,4 +11,5 @@ mod Moved
 mod Served
 mod Steps
 mod Sights
+mod Reading
 pub mod Laws

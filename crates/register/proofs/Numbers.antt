@@ -1,11 +1,15 @@
 -- What an answer tells of the state in which it was given.
-use Rattle.std.proofs.Common.{◌≡◌, ◌+◌, ℕ, List, Option, None, Some, ap, refl, sym, ⊎_elim, ◌∙◌}
+use Rattle.std.proofs.Common.{◌≡◌, ◌+◌, ◌++◌, ◌∷◌, [], ℕ, List, Option, None, Some, ap, refl, sym, ⊎_elim, ◌∙◌}
 use Rattle.records.specs.RecordValue.{RecordValue}
+use Rattle.records.specs.declared.record.Action.TheVariants.{OfIndex, OfTxn}
+use Rattle.records.specs.declared.record.IndexAction.{IndexAction}
+use Rattle.records.specs.declared.record.TxnAction.{TxnAction}
 use Rattle.core_model.specs.Histories.{Opened}
 use Rattle.core_model.specs.States.{State}
 use Rattle.core_model.specs.Steps.{MachineStep}
 use Rattle.core_contracts.specs.Events.{after_build, after_clean, BuildReply, CleanReply, Cleaned, Done, Event, Idle, Kept, Placed, Refused, Rejected, Reply, Scanned, Skipped, Standing, standing_after, Wrapped}
 use Rattle.core_contracts.specs.Replies.{IsAllowed, IsDue, accepted, no_memory, refused, refused_last, skipped, unknown}
+use Rattle.core_contracts.specs.Served.{records_by}
 use Rattle.nsf_core.specs.Replies.{reply_of_ticket, ticket_by}
 use Rattle.nsf_core.specs.View.{Answers, CoreValue, Serves}
 use Rattle.nsf_core.specs.declared.parts.Ticket.{Ticket}
@@ -126,6 +130,21 @@ module _ (o : Opened) (pushed : List RecordValue) (core : CoreValue) (kept : IsK
       let d = due s k Event.Create (reply_of_ticket ticket) a.step a.allowed answer in
       let numbers = is_creation ticket.«record» ticket.commit (k.made + 1) d.0 in
       (numbers.0 ∙ ap (λ n. n + 1) kept.replied.stands.shown.made, numbers.1)
+
+  -- the records that they make
+  pub commit_record : (txn : ℕ) (ticket : Ticket) (new : CoreValue) → Serves core (Event.Commit txn) (reply_of_ticket ticket) new → new.outbox ≡ core.outbox ++ record { number = ticket.«record»; action = OfTxn txn TxnAction.Commit } ∷ []
+  commit_record txn ticket new is =
+      let a = answers (Event.Commit txn) (reply_of_ticket ticket) new is in
+      let d = due s k (Event.Commit txn) (reply_of_ticket ticket) a.step a.allowed (ticket_answers ticket.«record» ticket.commit) in
+      let numbers = is_commit ticket.«record» ticket.commit (k.made + 1) (k.commits + 1) d.0 in
+      a.outbox ∙ (ap (λ step. core.outbox ++ records_by s k.made step) d.1 ∙ ap (λ n. core.outbox ++ record { number = n; action = OfTxn txn TxnAction.Commit } ∷ []) (sym numbers.0))
+
+  pub create_record : (ticket : Ticket) (new : CoreValue) → Serves core Event.Create (reply_of_ticket ticket) new → new.outbox ≡ core.outbox ++ record { number = ticket.«record»; action = OfIndex IndexAction.Create } ∷ []
+  create_record ticket new is =
+      let a = answers Event.Create (reply_of_ticket ticket) new is in
+      let d = due s k Event.Create (reply_of_ticket ticket) a.step a.allowed (ticket_answers ticket.«record» ticket.commit) in
+      let numbers = is_creation ticket.«record» ticket.commit (k.made + 1) d.0 in
+      a.outbox ∙ (ap (λ step. core.outbox ++ records_by s k.made step) d.1 ∙ ap (λ n. core.outbox ++ record { number = n; action = OfIndex IndexAction.Create } ∷ []) (sym numbers.0))
 
   pub others : (e : Event) (reply : Reply) (new : CoreValue) → IsNoCommit e → Serves core e reply new → new.commits ≡ core.commits
   others e reply new other serves = let a = serves s k kept.replied.stands in sym a.shown.commits ∙ (allowed_same s k e reply a.step a.allowed other ∙ kept.replied.stands.shown.commits)

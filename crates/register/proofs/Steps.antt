@@ -61,8 +61,11 @@ still_is core n b h Unchanged = by b None refl
     by false x e = refl
 still_is core n b h (older ▹ c) = h (write_of c)
 
-owes_one : (x : Active) → Owes x → owed_write x ≡ newest_write x.changes
+pub owes_one : (x : Active) → Owes x → owed_write x ≡ newest_write x.changes
 owes_one x owes = ap (λ b. cond b (newest_write x.changes) None) (⊎_elim (λ e. (λ i. is_owed (e i) (owes.1 i))) (λ e. (λ i. is_owed (e i) (owes.1 i))) owes.0)
+
+pub one_place : (a b : Place) → Reply.Rid a ≡ Reply.Rid b → a ≡ b
+one_place a b e = cc
 
 -- ---- steps that are no transaction's
 
@@ -187,23 +190,27 @@ no_commit Event.Life of = tt
 -- ---- calls
 
 module _ (o : Opened) (can : CanOpen o) (pushed : List RecordValue) (core : CoreValue) (book : List SessionValue) (r : IsRegister o pushed core book) where
-  abbrev st : State
+  abbrev pub st : State
   st = s o can pushed core book r
 
-  abbrev std : Standing
+  abbrev pub std : Standing
   std = k o can pushed core book r
 
-  abbrev step_of : (e : Event) (reply : Reply) (new : CoreValue) → Serves core e reply new → Option MachineStep
+  abbrev pub step_of : (e : Event) (reply : Reply) (new : CoreValue) → Serves core e reply new → Option MachineStep
   step_of e reply new sv = (answer o can pushed core book r e reply new sv).step
 
   allowed_of : (e : Event) (reply : Reply) (new : CoreValue) (sv : Serves core e reply new) → IsAllowed st std e reply (step_of e reply new sv)
   allowed_of e reply new sv = (answer o can pushed core book r e reply new sv).allowed
 
-  due_of : (e : Event) (reply : Reply) (new : CoreValue) (sv : Serves core e reply new) → IsAnswer reply → IsDue st std e reply (step_of e reply new sv)
+  pub due_of : (e : Event) (reply : Reply) (new : CoreValue) (sv : Serves core e reply new) → IsAnswer reply → IsDue st std e reply (step_of e reply new sv)
   due_of e reply new sv answers = due st std e reply (step_of e reply new sv) (allowed_of e reply new sv) answers
 
-  enabled_of : (e : Event) (reply : Reply) (new : CoreValue) (sv : Serves core e reply new) (step : Option MachineStep) → step_of e reply new sv ≡ step → IsEnabledAny st step
+  pub enabled_of : (e : Event) (reply : Reply) (new : CoreValue) (sv : Serves core e reply new) (step : Option MachineStep) → step_of e reply new sv ≡ step → IsEnabledAny st step
   enabled_of e reply new sv step is = subst (IsEnabledAny st) is (enabled o can pushed core book r e reply new sv)
+
+  -- a step that is made is owed
+  pub owed_of : (txn : ℕ) (new : CoreValue) → Serves core (Event.Step txn) Reply.Stepped new → Owes (txn_at st txn)
+  owed_of txn new sv = proper st std (Event.Step txn) Reply.Stepped (step_of (Event.Step txn) Reply.Stepped new sv) (allowed_of (Event.Step txn) Reply.Stepped new sv) tt
 
   -- a call that tells of no commit and of no creation, with no session changed, or one but for those
   still_tells : (e : Event) (reply : Reply) (new : CoreValue) → Serves core e reply new → IsQuiet e reply → new.commits ≡ core.commits → Tells o (r.kept.calls ++ (e, reply) ∷ []) new book
@@ -264,9 +271,6 @@ module _ (o : Opened) (can : CanOpen o) (pushed : List RecordValue) (core : Core
           let d = due_of (Event.Insert txn row) (Reply.Rid rid) new sv tt in
           let at : rid ≡ d.0 = one_place rid d.0 d.2 in
           start (Event.Insert txn row) (Reply.Rid rid) new sv tt (λ w. (refl, refl)) rid (Inserted row) (d.3 ∙ ap (λ q. Some (Start txn (change_of st txn q (Inserted row)))) (sym at))
-        where
-          one_place : (a b : Place) → Reply.Rid a ≡ Reply.Rid b → a ≡ b
-          one_place a b e = cc
 
       pub delete : (rid : Place) (new : CoreValue) → Serves core (Event.Delete txn rid) Reply.Stepped new → IsRegister o pushed new (slice_set book seat (changed p new txn (record { rid = rid; row = None })))
       delete rid new sv =
@@ -281,7 +285,7 @@ module _ (o : Opened) (can : CanOpen o) (pushed : List RecordValue) (core : Core
       pub next : (new : CoreValue) → Serves core (Event.Step txn) Reply.Stepped new → IsRegister o pushed new (slice_set book seat (stepped p new txn))
       next new sv =
           let d = due_of (Event.Step txn) Reply.Stepped new sv tt in
-          let owes : Owes (txn_at st txn) = proper st std (Event.Step txn) Reply.Stepped (step_of (Event.Step txn) Reply.Stepped new sv) (allowed_of (Event.Step txn) Reply.Stepped new sv) tt in
+          let owes : Owes (txn_at st txn) = owed_of txn new sv in
           let active : IsActive st txn = (enabled_of (Event.Step txn) Reply.Stepped new sv (Some (MachineStep.Next txn)) d.1).0 in
           let mine_now = seen o can pushed core book r seat p there txn own (txn_at st txn) active in
           let shown = shown_by o can pushed core book r (Event.Step txn) Reply.Stepped new sv (Some (MachineStep.Next txn)) d.1 in

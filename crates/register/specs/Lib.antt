@@ -1,3 +1,4 @@
 pub mod Register
 pub mod History
 pub mod Agreement
+pub mod Reading

@@ -3,11 +3,14 @@
 //! They follow from what a session's steps, the core and the laws of its calls promise, and speak of no lock.
 #![tactic(auto)]
 
-ghost use Rattle.std.specs.Prelude.{◌≡◌, ◌+◌, ◌++◌, [], List, None, Option, Some, slice_get, slice_set, true, ℕ};
+ghost use Rattle.std.specs.Prelude.{◌≡◌, ◌+◌, ◌++◌, ◌∷◌, [], List, None, Option, Some, slice_get, slice_set, true, ℕ};
 ghost use Rattle.std.specs.FinMap.{get};
 ghost use Rattle.records.specs.RecordValue.{RecordValue};
 ghost use Rattle.records.specs.Values.{Place};
 ghost use Rattle.records.specs.declared.error.Error.{Error};
+ghost use Rattle.records.specs.declared.record.Action.TheVariants.{OfIndex, OfTxn};
+ghost use Rattle.records.specs.declared.record.IndexAction.{IndexAction};
+ghost use Rattle.records.specs.declared.record.TxnAction.{TxnAction};
 ghost use Rattle.records.specs.declared.row.Row.{Row};
 ghost use Rattle.core_model.specs.Histories.{CanOpen, Opened};
 ghost use Rattle.core_contracts.specs.Events.{Event, Refused, Reply};
@@ -25,6 +28,7 @@ ghost use Rattle.sessions.specs.Steps.{begun, changed, committed, ended, rolling
 ghost use Rattle.register.specs.Agreement.{IsOfNoSeat, IsRegister, row_at, row_held};
 ghost use Rattle.register.specs.History.{ShowsCommits};
 ghost use Rattle.txn_table.specs.Table.{holder_of};
+ghost use Rattle.register.specs.Reading.{ReadsBack, ShowsRow, unfinished_of};
 ghost use Rattle.register.specs.Register.{AreAllCommits, AreEmpty, IsKept, IsNoCommit};
 
 use core_laws::each_call;
@@ -42,7 +46,7 @@ pub fn each_step()
 
 /// A law: the numbers that steps answer. A transaction has the number after those begun; a commit the number of the next
 /// record and that after the commits so far, which are one more then and by no other step; a creation the number of the next
-/// record, and it is no commit.
+/// record, and it is no commit. The record of that number is the transaction's commit, or the creation.
 pub fn each_number()
     ensures begin { (o : Opened) (pushed : List RecordValue) (core : CoreValue) → IsKept o pushed core → (txn : ℕ) (new : CoreValue) → Serves core Event.Begin (Reply.Txn txn) new → txn ≡ core.txns.begun + 1 }
     ensures commit { (o : Opened) (pushed : List RecordValue) (core : CoreValue) → IsKept o pushed core → (txn : ℕ) (ticket : Ticket) (new : CoreValue) → Serves core (Event.Commit txn) (reply_of_ticket ticket) new
@@ -51,6 +55,10 @@ pub fn each_number()
         → (new.last ≡ core.last + 1) × (new.commits ≡ core.commits + 1) }
     ensures create { (o : Opened) (pushed : List RecordValue) (core : CoreValue) → IsKept o pushed core → (ticket : Ticket) (new : CoreValue) → Serves core Event.Create (reply_of_ticket ticket) new
         → (ticket.«record» ≡ core.last + 1) × (ticket.commit ≡ None) }
+    ensures commit_record { (o : Opened) (pushed : List RecordValue) (core : CoreValue) → IsKept o pushed core → (txn : ℕ) (ticket : Ticket) (new : CoreValue) → Serves core (Event.Commit txn) (reply_of_ticket ticket) new
+        → new.outbox ≡ core.outbox ++ record { number = ticket.«record»; action = OfTxn txn TxnAction.Commit } ∷ [] }
+    ensures create_record { (o : Opened) (pushed : List RecordValue) (core : CoreValue) → IsKept o pushed core → (ticket : Ticket) (new : CoreValue) → Serves core Event.Create (reply_of_ticket ticket) new
+        → new.outbox ≡ core.outbox ++ record { number = ticket.«record»; action = OfIndex IndexAction.Create } ∷ [] }
     ensures others { (o : Opened) (pushed : List RecordValue) (core : CoreValue) → IsKept o pushed core → (e : Event) (reply : Reply) (new : CoreValue) → IsNoCommit e → Serves core e reply new → new.commits ≡ core.commits }
 {}
 
@@ -111,6 +119,20 @@ pub fn each_sight()
         → (txn : ℕ) (a : ActiveValue) (rid : Place) (row : Option Row) → active_of txn session.active ≡ Some a → row_at rid a.rows ≡ Some row → get core.heap.rows rid ≡ row }
     ensures left { (o : Opened) → CanOpen o → (pushed : List RecordValue) (core : CoreValue) (book : List SessionValue) → IsRegister o pushed core book → (seat : ℕ) (session : SessionValue) → slice_get book seat ≡ Some session → (txn : ℕ)
         → is_active session txn ≡ true → (rid : Place) → row_at rid (rows_of txn session.active) ≡ row_held txn (holder_of rid core.txns.active) (get core.heap.rows rid) }
+{}
+
+/// A law: a seat reads back its own rows. Once an insertion is answered, its session has the new row for the place; once the
+/// first step of a deletion or an update is, it has the new row, or, as long as the change is to be finished, the row that was
+/// there; and after a further step it has the new row.
+pub fn each_row()
+    ensures insert { (o : Opened) → CanOpen o → (pushed : List RecordValue) (core : CoreValue) (book : List SessionValue) → IsRegister o pushed core book → (seat : ℕ) (session : SessionValue) → slice_get book seat ≡ Some session → (txn : ℕ) → is_active session txn ≡ true
+        → (row : Row) (rid : Place) (new : CoreValue) → Serves core (Event.Insert txn row) (Reply.Rid rid) new → ShowsRow txn (record { rid = rid; row = Some row }) (changed session new txn (record { rid = rid; row = Some row })) }
+    ensures delete { (o : Opened) → CanOpen o → (pushed : List RecordValue) (core : CoreValue) (book : List SessionValue) → IsRegister o pushed core book → (seat : ℕ) (session : SessionValue) → slice_get book seat ≡ Some session → (txn : ℕ) → is_active session txn ≡ true
+        → (rid : Place) (new : CoreValue) → Serves core (Event.Delete txn rid) Reply.Stepped new → ReadsBack (get core.heap.rows rid) txn (record { rid = rid; row = None }) (changed session new txn (record { rid = rid; row = None })) }
+    ensures update { (o : Opened) → CanOpen o → (pushed : List RecordValue) (core : CoreValue) (book : List SessionValue) → IsRegister o pushed core book → (seat : ℕ) (session : SessionValue) → slice_get book seat ≡ Some session → (txn : ℕ) → is_active session txn ≡ true
+        → (rid : Place) (row : Row) (new : CoreValue) → Serves core (Event.Update txn rid row) Reply.Stepped new → ReadsBack (get core.heap.rows rid) txn (record { rid = rid; row = Some row }) (changed session new txn (record { rid = rid; row = Some row })) }
+    ensures next_step { (o : Opened) → CanOpen o → (pushed : List RecordValue) (core : CoreValue) (book : List SessionValue) → IsRegister o pushed core book → (seat : ℕ) (session : SessionValue) → slice_get book seat ≡ Some session → (txn : ℕ) → is_active session txn ≡ true
+        → (change : Write) → unfinished_of txn session ≡ Some change → (new : CoreValue) → Serves core (Event.Step txn) Reply.Stepped new → ShowsRow txn change (stepped session new txn) }
 {}
 
 /// A law: the commits of all sessions are those of the records. For each record number from that of the opening on, the records

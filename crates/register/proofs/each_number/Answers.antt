@@ -1,4 +1,4 @@
-use Rattle.register.proofs.Numbers.{begin, commit, counted, create, others}
+use Rattle.register.proofs.Numbers.{begin, commit, commit_record, counted, create, create_record, others}
 use Rattle.register.proofs.each_number.Goals as goal
 
 pub returns-clause-begin : goal.returns-clause-begin
@@ -15,3 +15,9 @@ returns-clause-create c = create
 
 pub returns-clause-others : goal.returns-clause-others
 returns-clause-others c = others
+
+pub returns-clause-commit_record : goal.returns-clause-commit_record
+returns-clause-commit_record c = commit_record
+
+pub returns-clause-create_record : goal.returns-clause-create_record
+returns-clause-create_record c = create_record
