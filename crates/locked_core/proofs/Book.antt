@@ -75,7 +75,7 @@ module _ (z : TableId) (seats : ℕ) (items : List HalfValue) (n : ℕ) (old : H
   pub there : slice_get (map shown items) n ≡ Some p
   there = shown_at z seats items n old count within at ∙ ap Some agree
 
-  once : map shown (slice_set items n new) ≡ map shown items
+  pub once : map shown (slice_set items n new) ≡ map shown items
   once = shown_set z seats items n old count within at book new p is ∙ set_itself (map shown items) n p there
 
   module _ (next : HalfValue) (later : next ≡ slice_index_or (slice_set items n new) n next) (last : HalfValue) (q : SessionValue) (ends : last ≡ record next { session = q }) where

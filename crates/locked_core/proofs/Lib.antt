@@ -1,3 +1,7 @@
 mod Book
 mod Kept
 mod Owed
+mod Copied
+mod ReadBack
+mod Following
+mod Popped

@@ -1,10 +1,16 @@
 //! What lies under the lock, and the steps on it.
 ghost use Rattle.std.specs.FinMap as table;
-ghost use Rattle.std.specs.Prelude.{◌≡◌, ◌↔◌, [], IsTrue, false, true, Err, None, Some, IfOk, OnErr, OnOk, length, map, slice_get, slice_set};
+ghost use Rattle.std.specs.Prelude.{◌≡◌, ◌↔◌, [], IsTrue, false, true, Err, None, Option, Some, IfErr, IfOk, List, OnErr, OnOk, length, map, slice_get, slice_set, take, ℕ};
+ghost use Rattle.records.specs.GeometryValue.{GeometryValue};
 ghost use Rattle.core_contracts.specs.Events.{Event, Reply};
-ghost use Rattle.records.specs.declared.error.Error.TheVariants.{NoSuchTxn};
-ghost use Rattle.core_laws.specs.Calls.{BeginsWith};
-ghost use Rattle.core_model.specs.Histories.{CanOpen};
+ghost use Rattle.records.specs.declared.error.Error.TheVariants.{NoMemory, NoSuchTxn};
+ghost use Rattle.image_model.specs.Run.{IsRun, cells_at, end_of};
+ghost use Rattle.core_copies.specs.Pieces.{IsPieceOf};
+ghost use Rattle.core_copies.specs.Shown.{IsCellsOf, IsOfGeometry};
+ghost use Rattle.core_laws.specs.Holds.{HoldsHistory};
+ghost use Rattle.core_laws.specs.Calls.{BeginsWith, HasReplied};
+ghost use Rattle.core_model.specs.Histories.{CanOpen, no_writes};
+ghost use Rattle.core_contracts.specs.Served.{items_of};
 ghost use Rattle.nsf_core.specs.Builds.{built};
 ghost use Rattle.nsf_core.specs.Cleaning.{cleaner};
 ghost use Rattle.nsf_core.specs.Moves.{HasNoChange, txn_shown};
@@ -13,15 +19,20 @@ ghost use Rattle.nsf_core.specs.Replies.{reply_by, reply_of_ticket};
 ghost use Rattle.nsf_core.specs.Undoing.{undone_reply};
 ghost use Rattle.nsf_core.specs.View.{Serves};
 ghost use Rattle.nsf_core.specs.Value.{value_of};
+ghost use Rattle.records.specs.declared.row.Row.{Row as RowValue};
+ghost use Rattle.model.specs.declared.write.Write.{Write};
+ghost use Rattle.register.specs.Reading.{ReadsBack, ShowsRow, unfinished_of};
 ghost use Rattle.register.specs.Register.{AreEmpty};
 ghost use Rattle.sessions.specs.Steps.{begun, changed, committed, ended, rolling_back, stepped, with_creation};
-ghost use Rattle.sessions.specs.Values.{is_active, is_ready, is_unfinished};
+ghost use Rattle.sessions.specs.Values.{SessionValue, is_active, is_ready, is_unfinished};
+ghost use Rattle.locked_core.specs.Following.{FollowOpening};
 ghost use Rattle.locked_core.specs.Names.{IsShared};
 ghost use Rattle.registry.specs.Halves.{IsBook, IsNew, shown};
 
 use crate::outbox::QueueSink;
 use crate::seat::SeatPart;
 use crate::site::Site;
+use image_model::{Chunk, CopyPlace};
 use model::Life;
 use nsf_core::{BuildReply, CleanReply, Core, Ticket, Undone};
 use records::{Body, Error, Key, Rid, Row, Txn};
@@ -29,7 +40,7 @@ use registry::{Half, Registry};
 use std::alloc::Global;
 use std::marker::PhantomData;
 use std::sync::Wait;
-use tail::{Pusher, RecordQueue};
+use tail::{Popper, Pusher, RecordQueue};
 
 /// What lies under the lock: the core, the end of the queue that its records go to, and a half of each seat's session. To
 /// a contract it is a `LockedValue`.
@@ -47,6 +58,7 @@ pub struct Locked<B: Site> {
 
 impl<B: Site> Locked<B> {
     ghost use Rattle.locked_core.specs.Locked.{locked_of};
+    ghost use Rattle.locked_core.specs.Made.{IsAllOf, run_of};
 
     /// A core that was just opened, under the lock, with new sessions of all seats.
     pub fn new(core: Core<Global>, pusher: Pusher, book: Vec<Half>) -> Locked<B>
@@ -107,6 +119,29 @@ impl<B: Site> Locked<B> {
         self.core.waiting() == 0
     }
 
+    /// Compares what was popped of the queue with what was pushed to it: it is the first of that, in order, and its records can
+    /// follow what was opened. Nothing changes.
+    pub fn compare<R: Wait>(&mut self, rt: &R, queue: &RecordQueue, popper: &mut Popper)
+        requires queue { queue.now ≡ B.site.queue }
+        requires popper { popper.old.queue ≡ B.site.queue }
+        ensures beginning { popper.old.records ≡ take (length popper.old.records) (locked_of self.old).pushed }
+        ensures following { FollowOpening B.site.opened popper.old.records }
+        ensures same { locked_of self.new ≡ locked_of self.old }
+        ensures popper { popper.new ≡ popper.old }
+    {
+        queue.compare(rt, &mut self.pusher, popper);
+    }
+
+    /// Brings both halves of the seat's session together, which tells that they show the same. Nothing changes.
+    pub fn compare_seat(&mut self, registry: &Registry, seat: &mut SeatPart<B>)
+        requires { registry.now ≡ B.site.table }
+        ensures before { slice_get (locked_of self.old).book seat.old.number ≡ Some seat.old.session }
+        ensures seat { seat.new ≡ seat.old }
+        ensures same { locked_of self.new ≡ locked_of self.old }
+    {
+        registry.change(&mut seat.half, &mut self.book[seat.number], &seat.session);
+    }
+
     /// Begins a transaction of the seat.
     ///
     /// The refusals are those of the core's `begin`. After a refusal all is as before.
@@ -142,6 +177,7 @@ impl<B: Site> Locked<B> {
         ensures foreign { is_active seat.old.session txn ≡ false → (result ≡ Err NoSuchTxn) × ((locked_of self.new).core ≡ (locked_of self.old).core) }
         ensures served { is_active seat.old.session txn ≡ true → Serves (locked_of self.old).core (Event.Insert txn (record { key = key; body = body })) (reply_by Reply.Rid result) (locked_of self.new).core }
         ensures ok { IfOk result (λ rid. seat.new.session ≡ changed seat.old.session (locked_of self.new).core txn (record { rid = rid; row = Some (record { key = key; body = body }) })) }
+        ensures row { IfOk result (λ rid. ShowsRow txn (record { rid = rid; row = Some (record { key = key; body = body }) }) seat.new.session) }
         ensures refused { OnErr result (seat.new.session ≡ seat.old.session) }
         ensures number { seat.new.number ≡ seat.old.number }
         ensures book { (locked_of self.new).book ≡ slice_set (locked_of self.old).book seat.old.number seat.new.session }
@@ -169,6 +205,7 @@ impl<B: Site> Locked<B> {
         ensures foreign { is_active seat.old.session txn ≡ false → (result ≡ Err NoSuchTxn) × ((locked_of self.new).core ≡ (locked_of self.old).core) }
         ensures served { is_active seat.old.session txn ≡ true → Serves (locked_of self.old).core (Event.Delete txn rid) (reply_by (λ _. Reply.Stepped) result) (locked_of self.new).core }
         ensures ok { OnOk result (seat.new.session ≡ changed seat.old.session (locked_of self.new).core txn (record { rid = rid; row = None })) }
+        ensures row { OnOk result ∥ ReadsBack (table.get (locked_of self.old).core.heap.rows rid) txn (record { rid = rid; row = None }) seat.new.session ∥₁ }
         ensures refused { OnErr result (seat.new.session ≡ seat.old.session) }
         ensures number { seat.new.number ≡ seat.old.number }
         ensures book { (locked_of self.new).book ≡ slice_set (locked_of self.old).book seat.old.number seat.new.session }
@@ -198,6 +235,7 @@ impl<B: Site> Locked<B> {
         ensures foreign { is_active seat.old.session txn ≡ false → (result ≡ Err NoSuchTxn) × ((locked_of self.new).core ≡ (locked_of self.old).core) }
         ensures served { is_active seat.old.session txn ≡ true → Serves (locked_of self.old).core (Event.Update txn rid (record { key = key; body = body })) (reply_by (λ _. Reply.Stepped) result) (locked_of self.new).core }
         ensures ok { OnOk result (seat.new.session ≡ changed seat.old.session (locked_of self.new).core txn (record { rid = rid; row = Some (record { key = key; body = body }) })) }
+        ensures row { OnOk result ∥ ReadsBack (table.get (locked_of self.old).core.heap.rows rid) txn (record { rid = rid; row = Some (record { key = key; body = body }) }) seat.new.session ∥₁ }
         ensures refused { OnErr result (seat.new.session ≡ seat.old.session) }
         ensures number { seat.new.number ≡ seat.old.number }
         ensures book { (locked_of self.new).book ≡ slice_set (locked_of self.old).book seat.old.number seat.new.session }
@@ -270,6 +308,7 @@ impl<B: Site> Locked<B> {
         ensures foreign { is_active seat.old.session txn ≡ false → (result ≡ Err NoSuchTxn) × ((locked_of self.new).core ≡ (locked_of self.old).core) }
         ensures served { is_active seat.old.session txn ≡ true → Serves (locked_of self.old).core (Event.Step txn) (reply_by (λ _. Reply.Stepped) result) (locked_of self.new).core }
         ensures ok { OnOk result (seat.new.session ≡ stepped seat.old.session (locked_of self.new).core txn) }
+        ensures row { OnOk result ((change : Write) → unfinished_of txn seat.old.session ≡ Some change → ShowsRow txn change seat.new.session) }
         ensures refused { OnErr result (seat.new.session ≡ seat.old.session) }
         ensures number { seat.new.number ≡ seat.old.number }
         ensures book { (locked_of self.new).book ≡ slice_set (locked_of self.old).book seat.old.number seat.new.session }
@@ -355,9 +394,11 @@ impl<B: Site> Locked<B> {
         self.core.clean_step()
     }
 
-    /// The row at the place, as it is now, also before its transaction's commit.
+    /// The row at the place, as it is now, also before its transaction's commit. If a transaction holds the place, that is the
+    /// row which its seat's session has for it.
     pub fn get(&self, rid: Rid) -> Option<Row>
         ensures row { result ≡ table.get (locked_of self.now).core.heap.rows rid }
+        ensures held { (seat : ℕ) (session : SessionValue) → slice_get (locked_of self.now).book seat ≡ Some session → (txn : ℕ) (row : Option RowValue) → ShowsRow txn (record { rid = rid; row = row }) session → result ≡ row }
         ensures served { Serves (locked_of self.now).core (Event.Get rid) (Reply.RowIs result) (locked_of self.now).core }
     {
         self.core.get(rid)
@@ -385,5 +426,45 @@ impl<B: Site> Locked<B> {
         ensures { IsTrue result ↔ HasNoChange (txn_shown (locked_of self.now).core txn) }
     {
         self.core.may_end(txn)
+    }
+    /// A law: what whoever gets at this finds, whatever the seats, the builder and the cleaner did before. The core and the
+    /// sessions agree; the core has replied to some calls, each reply one that was allowed, and holds the history that they
+    /// tell; the records pushed and then those that wait are a run, each of which can follow the one before, and they leave
+    /// the core's cells over those of the opening.
+    pub fn each_hold(&self)
+        ensures shared { ∥ IsShared B.site.opened (locked_of self.now).core (locked_of self.now).pushed (locked_of self.now).book ∥₁ }
+        ensures holds { ∥ ((calls : List (Event × Reply)) × HasReplied B.site.opened calls (locked_of self.now).pushed (locked_of self.now).core × HoldsHistory B.site.opened (items_of no_writes calls) (locked_of self.now).core) ∥₁ }
+        ensures run { (g : GeometryValue) → g.pages ≡ B.site.opened.pages → ∥ IsRun (run_of g B.site.opened (locked_of self.now)) ∥₁ }
+        ensures last { (g : GeometryValue) → (locked_of self.now).core.last ≡ end_of (run_of g B.site.opened (locked_of self.now)) }
+        ensures cells { (g : GeometryValue) → IsCellsOf (locked_of self.now).core (cells_at (run_of g B.site.opened (locked_of self.now)) (locked_of self.now).core.last) }
+        ensures store { (g : GeometryValue) → g.pages ≡ B.site.opened.pages → g.entries ≡ B.site.opened.places → IsOfGeometry (locked_of self.now).core g }
+    {
+        let _txns = self.core.active_txns();
+    }
+
+    /// All cells, as a chunk with the number of the last record made: they are those that the records pushed and then those
+    /// that wait have left.
+    ///
+    /// The one error is `NoMemory`.
+    pub fn copy_whole(&self, alloc: Global) -> Result<Chunk<Global>, Error>
+        ensures number { IfOk result (λ chunk. chunk.number ≡ (locked_of self.now).core.last) }
+        ensures whole { IfOk result (λ chunk. (g : GeometryValue) → IsAllOf (locked_of self.now).core (cells_at (run_of g B.site.opened (locked_of self.now)) chunk.number) chunk.piece) }
+        ensures no_memory { IfErr result (λ e. e ≡ NoMemory) }
+    {
+        self.each_hold();
+        core_copies::copy_whole(alloc, &self.core)
+    }
+
+    /// The next chunk of an image whose copying has come to this place, with the number of the last record made: a piece of
+    /// the cells that the records pushed and then those that wait have left.
+    ///
+    /// The one error is `NoMemory`.
+    pub fn copy_step(&self, alloc: Global, place: CopyPlace) -> Result<Chunk<Global>, Error>
+        ensures number { IfOk result (λ chunk. chunk.number ≡ (locked_of self.now).core.last) }
+        ensures piece { IfOk result (λ chunk. (g : GeometryValue) → IsPieceOf (locked_of self.now).core (cells_at (run_of g B.site.opened (locked_of self.now)) chunk.number) place chunk.piece) }
+        ensures no_memory { IfErr result (λ e. e ≡ NoMemory) }
+    {
+        self.each_hold();
+        core_copies::copy_step(alloc, &self.core, place)
     }
 }

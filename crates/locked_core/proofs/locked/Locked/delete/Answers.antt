@@ -8,6 +8,7 @@ use Rattle.locked_core.specs.Names.{IsShared}
 use Rattle.locked_core.specs.Seats.{SeatValue}
 use Rattle.locked_core.proofs.Book.{book_set, book_twice, count_set, count_twice, half_at, shown_twice, there}
 use Rattle.locked_core.proofs.Kept.{delete_kept, ready_now}
+use Rattle.locked_core.proofs.ReadBack.{delete_row}
 use Rattle.locked_core.proofs.locked.Locked.delete.Goals as goal
 
 pub delete-deleted-requires : goal.delete-deleted-requires
@@ -87,3 +88,9 @@ returns-clause-book g c =
     let items = c.args.self.now.book.items in
     shown_twice z.table z.seats items c.seat.inside.number c.index_mut.result.now c.args.self.now.seats c.seat.invariant.1 c.index_mut.ensures.value c.args.self.now.halves c.change.new.theirs c.seat.inside.session (c.change.ensures.agree ∙ ap (λ (h : HalfValue). h.session) c.seat.invariant.0) c.change.ensures.theirs c.index_mut-2.result.now c.index_mut-2.ensures.value c.change-2.new.theirs c.delete-deleted.new.self c.change-2.ensures.theirs
     ∙ ap (λ (s : SeatValue). slice_set (map shown items) s.number c.delete-deleted.new.self) c.seat.view_is
+
+pub returns-clause-row : goal.returns-clause-row
+returns-clause-row g c =
+    let z = g.B.Site.site in
+    let is = there z.table z.seats c.args.self.now.book.items c.seat.inside.number c.index_mut.result.now c.args.self.now.seats c.seat.invariant.1 c.index_mut.ensures.value c.args.self.now.halves c.change.new.theirs c.seat.inside.session (c.change.ensures.agree ∙ ap (λ (h : HalfValue). h.session) c.seat.invariant.0) c.change.ensures.theirs in
+    delete_row z.opened (value_of c.args.self.now.core) (value_of c.delete-deleted.new.core) c.args.self.now.pusher.records (map shown c.args.self.now.book.items) c.seat.inside.number c.seat.inside.session c.delete-deleted.new.self is c.args.self.now.shared c.args.txn c.args.rid c.delete-deleted.result c.delete-deleted.ensures.foreign c.delete-deleted.ensures.served c.delete-deleted.ensures.ok

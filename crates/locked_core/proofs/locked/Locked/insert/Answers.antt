@@ -8,6 +8,7 @@ use Rattle.locked_core.specs.Names.{IsShared}
 use Rattle.locked_core.specs.Seats.{SeatValue}
 use Rattle.locked_core.proofs.Book.{book_set, book_twice, count_set, count_twice, half_at, shown_twice, there}
 use Rattle.locked_core.proofs.Kept.{insert_kept, ready_now}
+use Rattle.locked_core.proofs.ReadBack.{insert_row}
 use Rattle.locked_core.proofs.locked.Locked.insert.Goals as goal
 
 pub insert-inserted-requires : goal.insert-inserted-requires
@@ -87,3 +88,9 @@ returns-clause-book g c =
     let items = c.args.self.now.book.items in
     shown_twice z.table z.seats items c.seat.inside.number c.index_mut.result.now c.args.self.now.seats c.seat.invariant.1 c.index_mut.ensures.value c.args.self.now.halves c.change.new.theirs c.seat.inside.session (c.change.ensures.agree ∙ ap (λ (h : HalfValue). h.session) c.seat.invariant.0) c.change.ensures.theirs c.index_mut-2.result.now c.index_mut-2.ensures.value c.change-2.new.theirs c.insert-inserted.new.self c.change-2.ensures.theirs
     ∙ ap (λ (s : SeatValue). slice_set (map shown items) s.number c.insert-inserted.new.self) c.seat.view_is
+
+pub returns-clause-row : goal.returns-clause-row
+returns-clause-row g c =
+    let z = g.B.Site.site in
+    let is = there z.table z.seats c.args.self.now.book.items c.seat.inside.number c.index_mut.result.now c.args.self.now.seats c.seat.invariant.1 c.index_mut.ensures.value c.args.self.now.halves c.change.new.theirs c.seat.inside.session (c.change.ensures.agree ∙ ap (λ (h : HalfValue). h.session) c.seat.invariant.0) c.change.ensures.theirs in
+    insert_row z.opened (value_of c.args.self.now.core) (value_of c.insert-inserted.new.core) c.args.self.now.pusher.records (map shown c.args.self.now.book.items) c.seat.inside.number c.seat.inside.session c.insert-inserted.new.self is c.args.self.now.shared c.args.txn (record { key = c.args.key; body = c.args.body }) c.insert-inserted.result c.insert-inserted.ensures.foreign c.insert-inserted.ensures.served c.insert-inserted.ensures.ok

@@ -1,6 +1,8 @@
-use Rattle.std.proofs.Common.{Some, map, sym, ap, ◌∙◌, subst}
+use Rattle.std.proofs.Common.{Some, OnOk, map, sym, ap, ◌∙◌, ◌≡◌, subst}
 use Rattle.std.proofs.Math.Logic.{∥∥₁_map}
 use Rattle.std.specs.Prelude.{slice_get, slice_set}
+use Rattle.model.specs.declared.write.Write.{Write}
+use Rattle.register.specs.Reading.{ShowsRow, unfinished_of}
 use Rattle.nsf_core.specs.Value.{value_of}
 use Rattle.registry.specs.Halves.{HalfValue, shown}
 use Rattle.sessions.specs.Values.{is_active, is_unfinished}
@@ -8,6 +10,7 @@ use Rattle.locked_core.specs.Names.{IsShared}
 use Rattle.locked_core.specs.Seats.{SeatValue}
 use Rattle.locked_core.proofs.Book.{book_set, book_twice, count_set, count_twice, half_at, shown_twice, there}
 use Rattle.locked_core.proofs.Owed.{next_kept, owes_now}
+use Rattle.locked_core.proofs.ReadBack.{step_row}
 use Rattle.locked_core.proofs.locked.Locked.next_step.Goals as goal
 
 pub next_step-stepped-requires : goal.next_step-stepped-requires
@@ -87,3 +90,10 @@ returns-clause-book g c =
     let items = c.args.self.now.book.items in
     shown_twice z.table z.seats items c.seat.inside.number c.index_mut.result.now c.args.self.now.seats c.seat.invariant.1 c.index_mut.ensures.value c.args.self.now.halves c.change.new.theirs c.seat.inside.session (c.change.ensures.agree ∙ ap (λ (h : HalfValue). h.session) c.seat.invariant.0) c.change.ensures.theirs c.index_mut-2.result.now c.index_mut-2.ensures.value c.change-2.new.theirs c.next_step-stepped.new.self c.change-2.ensures.theirs
     ∙ ap (λ (s : SeatValue). slice_set (map shown items) s.number c.next_step-stepped.new.self) c.seat.view_is
+
+pub returns-clause-row : goal.returns-clause-row
+returns-clause-row g c =
+    let z = g.B.Site.site in
+    let is = there z.table z.seats c.args.self.now.book.items c.seat.inside.number c.index_mut.result.now c.args.self.now.seats c.seat.invariant.1 c.index_mut.ensures.value c.args.self.now.halves c.change.new.theirs c.seat.inside.session (c.change.ensures.agree ∙ ap (λ (h : HalfValue). h.session) c.seat.invariant.0) c.change.ensures.theirs in
+    subst (λ (s : SeatValue). OnOk c.next_step-stepped.result ((change : Write) → unfinished_of c.args.txn s.session ≡ Some change → ShowsRow c.args.txn change c.next_step-stepped.new.self)) c.seat.view_is
+    (step_row z.opened (value_of c.args.self.now.core) (value_of c.next_step-stepped.new.core) c.args.self.now.pusher.records (map shown c.args.self.now.book.items) c.seat.inside.number c.seat.inside.session c.next_step-stepped.new.self is c.args.self.now.shared c.args.txn c.next_step-stepped.result c.next_step-stepped.ensures.foreign c.next_step-stepped.ensures.served c.next_step-stepped.ensures.ok)
