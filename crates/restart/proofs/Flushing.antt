@@ -21,7 +21,7 @@ use Rattle.restart.specs.Handing.{HandsOver, MovesOn}
 use Rattle.restart.specs.Lawful.{FillsGroup, IsFlushAnswer, KeepsRecords, OpensOne, Writes, WritesNothing}
 use Rattle.restart.specs.Parts.{core_of, device_of, has_failed, horizon_of, log_of, unhanded, unwritten, writer_of}
 use Rattle.restart.specs.Store.{CanRun}
-use Rattle.restart.proofs.Moving.{moves_by, moves_then}
+use Rattle.restart.proofs.Moving.{StaysAtPlace, moves_by, moves_then}
 
 -- where nothing was written no slot is open that was not
 no_slot : (old new : Log) → new ≡ old → OpensOne 0 old new
@@ -34,7 +34,7 @@ one_slot n old new some same = record { one = λ _. same; none = λ none. absurd
 
 module _ {D M : Type 0} (history : D → History) (failures : D → ℕ) (old : Parts D M) where
   pub stays : MovesOn history old old
-  stays = moves_by history old old refl refl (λ run handed w. w) (λ run handed w. started (history (device_of old)) (LeftBy run (horizon_of old) handed) w.images) (omega arith)
+  stays = moves_by history old old refl refl (λ run handed w. w) (λ run handed w. started (history (device_of old)) (LeftBy run (horizon_of old) handed) w.images) (omega arith) (record { geometry = refl; place = λ was. was; carried = λ was. was })
 
   pub failed_before : has_failed old ≡ true → IsFlushAnswer failures (reply.Refused DeviceFailed) old old
   failed_before failed = inr (refl, failed, (λ sound. absurd (false≢true (sym sound ∙ failed))), (λ _. refl), record { horizon = refl; unwritten-are = refl; core = refl; later = omega arith })
@@ -71,9 +71,9 @@ module _ {D M : Type 0} (history : D → History) (failures : D → ℕ) (old mi
   module _ (new : Parts D M) (all : unhanded mid ≡ []) (sound : has_failed old ≡ false) (core_is : core_of new ≡ core_of mid) (rest : unhanded new ≡ unhanded mid)
       (can : CanRun history mid) (keeps : (run : Run) (handed : ℕ) → IsWriter history run handed (writer_of mid) → IsWriter history run handed (writer_of new))
       (images : (run : Run) (handed : ℕ) → IsWriter history run handed (writer_of mid) → LeavesOnly (history (device_of mid)) (history (device_of new)) (LeftBy run (horizon_of mid) handed))
-      (later : failures (device_of mid) ≤ failures (device_of new)) where
+      (later : failures (device_of mid) ≤ failures (device_of new)) (place : StaysAtPlace mid new) where
     pub moves : horizon_of mid ≤ horizon_of new → MovesOn history old new
-    moves grows = moves_then history old mid new over.moves (moves_by history mid new core_is rest keeps images grows)
+    moves grows = moves_then history old mid new over.moves (moves_by history mid new core_is rest keeps images grows place)
 
     waited : unwritten old ≡ writer.waiting_of (writer_of mid)
     waited = sym over.unwritten-are ∙ ap (λ (l : List RecordValue). writer.waiting_of (writer_of mid) ++ l) all ∙ append-nil (writer.waiting_of (writer_of mid))

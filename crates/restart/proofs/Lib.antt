@@ -17,4 +17,10 @@ mod ToEnd
 mod BuiltOn
 mod Ended
 mod Living
+mod Copied
+mod Before
+mod Fewer
+mod CopyAnswers
+mod Apart
+mod Flips
 mod Reopened

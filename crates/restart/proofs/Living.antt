@@ -61,6 +61,9 @@ acknowledged_least n (reply.Built b ∷ replies) = acknowledged_least n replies
 acknowledged_least n (reply.Cleaned c ∷ replies) = acknowledged_least n replies
 acknowledged_least n (reply.Horizon m ∷ replies) = let rest = acknowledged_least (max n m) replies in omega (arith, rest)
 acknowledged_least n (reply.LogFull ∷ replies) = acknowledged_least n replies
+acknowledged_least n (reply.Copied ∷ replies) = acknowledged_least n replies
+acknowledged_least n (reply.Flipped m ∷ replies) = let rest = acknowledged_least (max n m) replies in omega (arith, rest)
+acknowledged_least n (reply.Again ∷ replies) = acknowledged_least n replies
 acknowledged_least n (reply.Row row ∷ replies) = acknowledged_least n replies
 acknowledged_least n (reply.Found rids ∷ replies) = acknowledged_least n replies
 acknowledged_least n (reply.Life life ∷ replies) = acknowledged_least n replies

@@ -1,6 +1,6 @@
 -- Records of a run, by their numbers.
 use Rattle.std.proofs.Common.{◌≡◌, ℕ, ◌+◌, ◌-◌, ◌≤◌, List, ◌++◌, length, take, drop, sym, ◌∙◌, ap, arith, length-append, length-drop}
-use Rattle.std.proofs.lemmas.List.{take_all, drop-append-le, drop-drop}
+use Rattle.std.proofs.lemmas.List.{take_all, drop-append-le, drop-drop, length-take-le}
 use Rattle.std.proofs.Math.Seq.{take-append_seam, drop-append_seam}
 use Rattle.records.specs.RecordValue.{RecordValue}
 use Rattle.image_model.specs.Run.{Run, end_of, records_above, records_between}
@@ -34,3 +34,7 @@ pub with_more : (run : Run) (more : List RecordValue) (m : ℕ) → run.last ≤
     → records_between (longer run more) m (end_of (longer run more)) ≡ records_between run m (end_of run) ++ more
 with_more run more m low high =
     to_end (longer run more) m low ∙ drop-append-le (m - run.last) run.records more (omega (arith, low, high)) ∙ ap (λ (l : List RecordValue). l ++ more) (sym (to_end run m low))
+
+-- as many as there are behind record m, up to n
+pub count_between : (run : Run) (m n : ℕ) → run.last ≤ m → n ≤ end_of run → length (records_between run m n) ≡ n - m
+count_between run m n low high = length-take-le (n - m) (records_above run m) (omega (arith, length-drop (m - run.last) run.records, low, high))

@@ -10,7 +10,8 @@ use Rattle.records.specs.declared.error.Error.{Error}
 use Rattle.records.specs.declared.error.Error.TheVariants.{IndexFull, NoMemory}
 use Rattle.model.specs.Cells.{Cells}
 use Rattle.model.specs.Given.{Given, IsBeginning, opening_cells}
-use Rattle.core_model.specs.Histories.{CanOpen, opened}
+use Rattle.core_model.specs.Histories.{CanOpen, Opened, opened}
+use Rattle.core_copies.specs.Lists.{HasLists}
 use Rattle.core_model.specs.Logs.{IsLogOf}
 use Rattle.core_model.specs.Records.{HasCells, IsListOf}
 use Rattle.core_model.specs.States.{State}
@@ -31,8 +32,11 @@ use Rattle.store_writer.specs.Parts as writer
 use Rattle.store_writer.specs.Writer.{IsOpenedAt, IsWriter, opened_run}
 use Rattle.restart.specs.declared.parts.Parts.{Parts}
 use Rattle.restart.specs.Building.{HasCome}
+use Rattle.restart.specs.Copies.{IsCopying}
+use Rattle.restart.specs.declared.copying.Copying.TheVariants.{Idle}
 use Rattle.restart.specs.Parts.{core_of, device_of, horizon_of, writer_of}
 use Rattle.restart.specs.Reopening.{IsCoreOf, IsOpened, IsTurned, Recovers, opening}
+use Rattle.restart.proofs.Moving.{none_open}
 use Rattle.restart.proofs.Numbers.{count_to_end}
 use Rattle.restart.specs.Store.{CanRun, IsAt, Past, StandsAt, Survives, items_told, over, run_of}
 
@@ -49,6 +53,8 @@ begins_with pages places given = record {
 
 module _ {D M : Type 0} (history : D → History) (before : Image) (engine : Parts D M) (halves : HalvesValue) (log : Log) (is : IsCoreOf before (history (device_of engine)) halves log (core_of engine))
     (half : (pages base : ℕ) (cells : Cells) (s : State) → HasCells s cells → IsLogOf pages base cells [] s)
+    (lists : (o : Opened) → HasLists (opened o) (opening_cells o.given))
+    (size : engine.geometry ≡ halves.geometry) (idle : engine.copying ≡ Idle) (no_image : writer.image_of (writer_of engine) ≡ None)
     (takes : (cells : Cells) → IsOpenedAt (history (device_of engine)) halves log is.given.last cells → IsWriter history (opened_run halves is.given.last cells) is.given.last (writer_of engine))
     (none : engine.outgoing.items ≡ []) (reached : horizon_of engine ≡ is.given.last) (sound : writer.has_failed (writer_of engine) ≡ false) where
   abbrev g : GeometryValue
@@ -66,6 +72,10 @@ module _ {D M : Type 0} (history : D → History) (before : Image) (engine : Par
     pages = refl;
     places = refl;
     made = omega arith;
+    lists = lists (over g is.given);
+    geometry = size;
+    copying = λ _. subst (λ c. IsCopying g.pages c (writer.image_of (writer_of engine))) (sym idle) tt;
+    carried = λ _. none_open g.slots (writer.image_of (writer_of engine)) no_image;
   }
 
   pub can_run_opened : CanRun history engine
@@ -125,7 +135,7 @@ module _ {D M : Type 0} (history : D → History) (before : Image) (engine : Par
 -- ---- what is made of what was opened
 
 module _ {D M : Type 0} (history : D → History) (before after : D) (engine : Parts D M) (halves : HalvesValue) (log : Log) (found : IsCoreOf (history before).disk.content (history after) halves log (core_of engine)) (device : device_of engine ≡ after)
-    (half : (pages base : ℕ) (cells : Cells) (s : State) → HasCells s cells → IsLogOf pages base cells [] s)
+    (half : (pages base : ℕ) (cells : Cells) (s : State) → HasCells s cells → IsLogOf pages base cells [] s) (lists : (o : Opened) → HasLists (opened o) (opening_cells o.given)) (size : engine.geometry ≡ halves.geometry) (idle : engine.copying ≡ Idle) (no_image : writer.image_of (writer_of engine) ≡ None)
     (synced : ℕ) (synced_is : synced ≡ (core_of engine).last) (writes : (cells : Cells) → IsOpenedAt (history after) halves log synced cells → IsWriter history (opened_run halves synced cells) synced (writer_of engine))
     (none : engine.outgoing.items ≡ []) (reached_is : horizon_of engine ≡ synced) (sound : writer.has_failed (writer_of engine) ≡ false) where
   number : synced ≡ found.given.last
@@ -139,7 +149,7 @@ module _ {D M : Type 0} (history : D → History) (before after : D) (engine : P
       (writes cells (subst (λ n. IsOpenedAt (history after) halves log n cells) (sym number) (subst (λ d. IsOpenedAt (history d) halves log found.given.last cells) device at)))
 
   pub can_run_made : CanRun history engine
-  can_run_made = can_run_opened history (history before).disk.content engine halves log moved half takes none (reached_is ∙ number) sound
+  can_run_made = can_run_opened history (history before).disk.content engine halves log moved half lists size idle no_image takes none (reached_is ∙ number) sound
 
   pub opened_made : IsTurned history before after → IsOpened history before engine
   opened_made turned = record {
@@ -151,12 +161,12 @@ module _ {D M : Type 0} (history : D → History) (before after : D) (engine : P
     sound = sound;
     device = subst (IsTurned history before) (sym device) turned;
     synced = moved.opened-at.all_synced;
-    begins = λ opens. begins_at history (history before).disk.content engine halves log moved half takes none (reached_is ∙ number) sound opens;
-    come = λ opens. come_to history (history before).disk.content engine halves log moved half takes none (reached_is ∙ number) sound opens;
+    begins = λ opens. begins_at history (history before).disk.content engine halves log moved half lists size idle no_image takes none (reached_is ∙ number) sound opens;
+    come = λ opens. come_to history (history before).disk.content engine halves log moved half lists size idle no_image takes none (reached_is ∙ number) sound opens;
   }
 
   pub recovers_made : (past : Past M) (floor : ℕ) → Survives past floor (history before).disk.content → Recovers history past floor engine
-  recovers_made past floor left = recovers_run history (history before).disk.content engine halves log moved half takes none (reached_is ∙ number) sound past floor left
+  recovers_made past floor left = recovers_run history (history before).disk.content engine halves log moved half lists size idle no_image takes none (reached_is ∙ number) sound past floor left
 
 -- ---- the device
 

@@ -37,6 +37,7 @@ of_kind event.Create r e told p q = λ none. cc
 of_kind event.Build r e told p q = λ none. cc
 of_kind event.Clean r e told p q = λ none. cc
 of_kind event.Flush r e told p q = absurd cc
+of_kind event.Copy r e told p q = absurd cc
 of_kind (event.Get rid) r e told p q = λ none. cc
 of_kind (event.Find key) r e told p q = λ none. cc
 of_kind event.Life r e told p q = λ none. cc

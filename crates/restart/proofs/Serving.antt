@@ -1,5 +1,5 @@
 -- A request is served by the core, or is a flush.
-use Rattle.std.proofs.Common.{None, Option, Some, refl, subst, sym, ℕ, [], ◌∷◌, ◌≡◌}
+use Rattle.std.proofs.Common.{None, Option, Some, refl, subst, sym, ℕ, [], ◌∷◌, ◌≡◌, ◌≢◌}
 use Rattle.core_contracts.specs.Events as core
 use Rattle.sector_device.specs.History.{History}
 use Rattle.restart.specs.declared.parts.Parts.{Parts}
@@ -8,7 +8,7 @@ use Rattle.restart.specs.declared.event.Event.TheVariants as event
 use Rattle.restart.specs.declared.event.Reply.{Reply}
 use Rattle.restart.specs.declared.event.Reply.TheVariants as reply
 use Rattle.restart.specs.History.{acknowledged, answered, asked}
-use Rattle.restart.specs.Lawful.{IsFlushAnswer, IsInCore, IsInCoreBy, IsLawful, ServesInCore}
+use Rattle.restart.specs.Lawful.{IsInCore, IsInCoreBy, IsLawful, ServesInCore}
 use Rattle.restart.specs.Parts.{writer_of}
 use Rattle.restart.specs.Store.{CanRun, ServesOn}
 use Rattle.restart.proofs.Served.{can_run_then, served}
@@ -27,6 +27,9 @@ quiet (reply.Built b) x is n = refl
 quiet (reply.Cleaned c) x is n = refl
 quiet (reply.Horizon m) x is n = absurd cc
 quiet reply.LogFull x is n = refl
+quiet reply.Copied x is n = refl
+quiet (reply.Flipped m) x is n = absurd cc
+quiet reply.Again x is n = refl
 quiet (reply.Row row) x is n = refl
 quiet (reply.Found rids) x is n = refl
 quiet (reply.Life life) x is n = refl
@@ -47,6 +50,7 @@ module _ {D M : Type 0} (failures : D → ℕ) (r : Reply M) (old new : Parts D 
   lawful_in_core event.Build is = is
   lawful_in_core event.Clean is = is
   lawful_in_core event.Flush is = absurd is
+  lawful_in_core event.Copy is = absurd is
   lawful_in_core (event.Get rid) is = is
   lawful_in_core (event.Find key) is = is
   lawful_in_core event.Life is = is
@@ -65,10 +69,29 @@ module _ {D M : Type 0} (history : D → History) (failures : D → ℕ) (x : Ev
   pub can_run_by_core : Laws history (writer_of old) → CanRun history old → CanRun history new
   can_run_by_core laws can = let by = by_core (asked x) refl in_core in can_run_then history x by.0 r old new by.1 by.2 laws can
 
--- a request that the core answers nothing to is a flush
-module _ {D M : Type 0} (x : Event) (r : Reply M) (old mid new : Parts D M) (is : x ≡ event.Flush) (same : mid ≡ old) where
-  pub flush_serves : (history : D → History) → ServesOn history event.Flush r mid new → ServesOn history x r old new
-  flush_serves history serves = subst (λ e. ServesOn history e r old new) (sym is) (subst (λ e. ServesOn history event.Flush r e new) same serves)
+-- a request that the core answers nothing to, and that is no copy, is a flush
+pub is_flush : (x : Event) → asked x ≡ None → x ≢ event.Copy → x ≡ event.Flush
+is_flush event.Begin none other = absurd cc
+is_flush (event.Insert txn key body) none other = absurd cc
+is_flush (event.Delete txn rid) none other = absurd cc
+is_flush (event.Update txn rid key body) none other = absurd cc
+is_flush (event.Step txn) none other = absurd cc
+is_flush (event.Undo txn) none other = absurd cc
+is_flush (event.End txn) none other = absurd cc
+is_flush (event.Commit txn) none other = absurd cc
+is_flush event.Create none other = absurd cc
+is_flush event.Build none other = absurd cc
+is_flush event.Clean none other = absurd cc
+is_flush event.Flush none other = refl
+is_flush event.Copy none other = absurd (other refl)
+is_flush (event.Get rid) none other = absurd cc
+is_flush (event.Find key) none other = absurd cc
+is_flush event.Life none other = absurd cc
 
-  pub flush_lawful : (failures : D → ℕ) → IsFlushAnswer failures r mid new → IsLawful failures x r old new
-  flush_lawful failures answer = subst (λ e. IsLawful failures e r old new) (sym is) (subst (λ e. IsFlushAnswer failures r e new) same answer)
+-- what is answered to a request, where it is known which one it is
+module _ {D M : Type 0} (x y : Event) (r : Reply M) (old mid new : Parts D M) (is : x ≡ y) (same : mid ≡ old) where
+  pub serves_as : (history : D → History) → ServesOn history y r mid new → ServesOn history x r old new
+  serves_as history serves = subst (λ e. ServesOn history e r old new) (sym is) (subst (λ e. ServesOn history y r e new) same serves)
+
+  pub lawful_as : (failures : D → ℕ) → IsLawful failures y r mid new → IsLawful failures x r old new
+  lawful_as failures lawful = subst (λ e. IsLawful failures e r old new) (sym is) (subst (λ e. IsLawful failures y r e new) same lawful)

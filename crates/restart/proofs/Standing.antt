@@ -1,13 +1,15 @@
 -- Where a step of the core leaves the records and the state that they made.
-use Rattle.std.proofs.Common.{◌≡◌, ℕ, ◌+◌, ◌≤◌, List, ◌++◌, Option, None, Some, length, sym, ◌∙◌, ap, subst, arith, append-nil, append_assoc, length-append}
+use Rattle.std.proofs.Common.{◌≡◌, false, ℕ, ◌+◌, ◌≤◌, List, [], ◌∷◌, ◌++◌, Option, None, Some, length, sym, ◌∙◌, ap, subst, arith, append-nil, append_assoc, length-append}
 use Rattle.std.specs.FinMap.{len}
 use Rattle.records.specs.RecordValue.{RecordValue}
 use Rattle.records.specs.declared.record.Action.{Action}
 use Rattle.records.specs.declared.txn.TheConstants.{TXNS_MAX}
-use Rattle.model.specs.Cells.{Cells}
+use Rattle.model.specs.Cells.{Cells, cells_after}
+use Rattle.model.proofs.CellsLaws.{cells_after-append}
 use Rattle.core_model.specs.Invariants.{IsWellFormed}
 use Rattle.core_model.specs.Logs.{IsLogOf, next_number, one_record}
-use Rattle.core_model.specs.Records.{action_of}
+use Rattle.core_model.specs.Records.{action_of, set_by_any}
+use Rattle.core_copies.specs.Lists.{HasLists}
 use Rattle.core_model.specs.States.{State}
 use Rattle.core_model.specs.Steps.{IsEnabled, MachineStep, after}
 use Rattle.core_contracts.specs.Events as core
@@ -22,7 +24,9 @@ use Rattle.sector_device.specs.History.{History}
 use Rattle.store_writer.specs.Writer.{IsWriter, longer}
 use Rattle.store_writer.specs.declared.writer.Writer.{Writer}
 use Rattle.restart.specs.declared.parts.Parts.{Parts}
-use Rattle.restart.specs.Parts.{core_of, unhanded, writer_of}
+use Rattle.restart.specs.Parts.{core_of, has_failed, unhanded, writer_of}
+use Rattle.store_writer.specs.Parts.{image_of}
+use Rattle.restart.specs.Copies.{IsCopying, IsHalfOpen}
 use Rattle.restart.specs.Store.{StandsAt}
 use Rattle.restart.proofs.Numbers.{with_more}
 use Rattle.restart.proofs.Sizes.{of_one_size}
@@ -31,7 +35,13 @@ use Rattle.restart.proofs.Sizes.{of_one_size}
 pub record Laws {D M : Type 0} (history : D → History) (w : Writer D M) : Type 0 where
   pub half : (base : ℕ) (cells : Cells) (log : List RecordValue) (s : State) → IsWellFormed s → IsLogOf s.pages base cells log s → (e : MachineStep) → IsEnabled s e → len s.pledges ≤ TXNS_MAX
       → IsLogOf s.pages base cells (log ++ one_record (base + length log) (action_of s e)) (after s e)
+  pub lists : (s : State) (e : MachineStep) (cells : Cells) → IsWellFormed s → IsEnabled s e → HasLists s cells → HasLists (after s e) (set_by_any cells (action_of s e))
   pub goes : (run : Run) (handed : ℕ) (more : List RecordValue) → IsWriter history run handed w → IsRun (longer run more) → IsWriter history (longer run more) handed w
+
+-- the cells after a step's record, if it makes one
+cells_one : (cells : Cells) (log : List RecordValue) (last : ℕ) (action : Option Action) → set_by_any (cells_after cells log) action ≡ cells_after cells (log ++ one_record last action)
+cells_one cells log last None = ap (cells_after cells) (sym (append-nil log))
+cells_one cells log last (Some action) = sym (cells_after-append cells log (record { number = last + 1; action = action } ∷ []))
 
 count_one : (last : ℕ) (action : Option Action) → next_number last action ≡ last + length (one_record last action)
 count_one last None = omega arith
@@ -48,6 +58,10 @@ module _ {D M : Type 0} (history : D → History) (run : Run) (handed : ℕ) (s 
       subst (λ n. IsLogOf n run.last run.cells (run.records ++ one_record k.made (action_of s e)) (after s e)) (sym is.pages)
       (subst (λ n. IsLogOf s.pages run.last run.cells (run.records ++ one_record n (action_of s e)) (after s e)) is.made
       (laws.half run.last run.cells run.records s is.shown.fit (subst (λ n. IsLogOf n run.last run.cells run.records s) is.pages is.log) e enabled (omega (arith, is.shown.standing.counts.active, is.shown.standing.counts.few))))
+
+  lists_any : (step : Option MachineStep) → IsEnabledAny s step → HasLists (after_any s step) (cells_after run.cells (run.records ++ records_by s k.made step))
+  lists_any None enabled = subst (λ (l : List RecordValue). HasLists s (cells_after run.cells l)) (sym (append-nil run.records)) is.lists
+  lists_any (Some e) enabled = subst (HasLists (after s e)) (cells_one run.cells run.records k.made (action_of s e)) (laws.lists s e (cells_after run.cells run.records) is.shown.fit enabled is.lists)
 
   module _ (new : Parts D M) (e : core.Event) (reply : core.Reply) (a : Answers (core_of old) s k e reply (core_of new)) (rest : new ≡ record old { core = new.core }) where
     move : IsMove s k a.step (standing_after k reply)
@@ -73,6 +87,10 @@ module _ {D M : Type 0} (history : D → History) (run : Run) (handed : ℕ) (s 
       rest = with_more run (records_by s k.made a.step) handed (omega (arith, is.writer.opened, is.writer.reached)) is.writer.made ∙ ap (λ (l : List RecordValue). l ++ records_by s k.made a.step) is.rest ∙ sym outbox_then;
       shown = stands (core_of old) (core_of new) s k e reply is.shown a;
       log = log_then;
+      lists = lists_any a.step move.enabled;
+      geometry = ap (λ (e : Parts D M). e.geometry) rest ∙ is.geometry;
+      copying = subst (λ (e : Parts D M). has_failed e ≡ false → IsCopying run.geometry.pages e.copying (image_of (writer_of e))) (sym rest) is.copying;
+      carried = subst (λ (e : Parts D M). has_failed e ≡ false → IsHalfOpen run.geometry.slots (image_of (writer_of e))) (sym rest) is.carried;
       pages = is.pages ∙ sym (of_one_size s a.step).pages;
       places = is.places ∙ sym (of_one_size s a.step).places;
       made = omega (arith, is.made, move.made, count_any s k.made a.step, length-append run.records (records_by s k.made a.step));

@@ -58,12 +58,34 @@ in_a_row scanned (build.Done ticket) = scanned
 in_a_row scanned build.Idle = scanned
 
 -- a step that is not the last one: it took a page, attempted a pair, or made a checkpoint
+abbrev pub GoesOnBuilding : BuildReply → Type 0
+GoesOnBuilding (build.Scanned page) = Unit {0}
+GoesOnBuilding (build.Placed pair) = Unit {0}
+GoesOnBuilding (build.Rejected pair) = Unit {0}
+GoesOnBuilding (build.Marked pair ticket) = Unit {0}
+GoesOnBuilding (build.Done ticket) = ⊥
+GoesOnBuilding build.Idle = ⊥
+
 abbrev pub IsUnderway : {M : Type 0} → Reply M → Type 0
-IsUnderway (reply.Built (build.Scanned page)) = Unit {0}
-IsUnderway (reply.Built (build.Placed pair)) = Unit {0}
-IsUnderway (reply.Built (build.Rejected pair)) = Unit {0}
-IsUnderway (reply.Built (build.Marked pair ticket)) = Unit {0}
-IsUnderway _ = ⊥
+IsUnderway (reply.Txn t) = ⊥
+IsUnderway (reply.Rid r) = ⊥
+IsUnderway reply.Stepped = ⊥
+IsUnderway reply.Undone = ⊥
+IsUnderway reply.Empty = ⊥
+IsUnderway reply.Ended = ⊥
+IsUnderway (reply.Ticket t) = ⊥
+IsUnderway (reply.Built b) = GoesOnBuilding b
+IsUnderway (reply.Cleaned c) = ⊥
+IsUnderway (reply.Horizon m) = ⊥
+IsUnderway reply.LogFull = ⊥
+IsUnderway reply.Copied = ⊥
+IsUnderway (reply.Flipped m) = ⊥
+IsUnderway reply.Again = ⊥
+IsUnderway (reply.Row row) = ⊥
+IsUnderway (reply.Found rids) = ⊥
+IsUnderway (reply.Life life) = ⊥
+IsUnderway reply.Skipped = ⊥
+IsUnderway (reply.Refused e) = ⊥
 
 -- this reply comes last, and each before it is of a step that is not the last one
 pub record EndsWith {M : Type 0} (last : Reply M) (replies : List (Reply M)) : Type 0 where

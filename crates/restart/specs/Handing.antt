@@ -1,5 +1,5 @@
 -- What handing records to the writer, and what the writer does with them, leaves of an engine. No public clause cites this.
-use Rattle.std.specs.Prelude.{◌≡◌, ◌≤◌, ℕ}
+use Rattle.std.specs.Prelude.{◌≡◌, ◌≤◌, ◌<◌, ℕ, [], None, length}
 use Rattle.core_model.specs.States.{State}
 use Rattle.core_contracts.specs.Events.{Standing}
 use Rattle.image_model.specs.Run.{Run, end_of}
@@ -7,8 +7,10 @@ use Rattle.sector_device.specs.Disk.{Image}
 use Rattle.sector_device.specs.History.{History, LeavesOnly}
 use Rattle.store_writer.specs.Contents.{LeftBy}
 use Rattle.store_writer.specs.Parts.{halves_of, log_of, has_failed, image_of}
+use Rattle.restart.specs.declared.copying.Copying.TheVariants.{Steps}
 use Rattle.restart.specs.declared.parts.Parts.{Parts}
-use Rattle.restart.specs.Parts.{core_of, device_of, horizon_of, unwritten, writer_of}
+use Rattle.restart.specs.Copies.{Succeeds, copies_left}
+use Rattle.restart.specs.Parts.{core_of, device_of, horizon_of, unhanded, unwritten, writer_of}
 use Rattle.restart.specs.Store.{StandsAt}
 
 -- The core is in the state that it was in, and the writer may have more of the records made. A crash at any moment leaves what
@@ -30,3 +32,15 @@ pub record HandsOver {D M : Type 0} (history : D → History) (old new : Parts D
   pub horizon : horizon_of new ≡ horizon_of old
   pub failed : has_failed (writer_of new) ≡ has_failed (writer_of old)
   pub image : image_of (writer_of new) ≡ image_of (writer_of old)
+  pub geometry : new.geometry ≡ old.geometry
+  pub copying : new.copying ≡ old.copying
+
+-- a group more is synced, and a whole image is yet to be made current
+pub record FlushesFirst {D M : Type 0} (failures : D → ℕ) (old new : Parts D M) : Type 0 where
+  pub well : Succeeds failures old new
+  pub further : horizon_of old < horizon_of new
+  pub fewer : length (unwritten new) < length (unwritten old)
+  pub all : unhanded new ≡ []
+  pub copying : new.copying ≡ Steps None
+  pub halves : halves_of (writer_of new) ≡ halves_of (writer_of old)
+  pub left : copies_left new ≤ copies_left old

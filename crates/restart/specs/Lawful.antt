@@ -14,6 +14,7 @@ use Rattle.restart.specs.declared.event.Event.TheVariants as event
 use Rattle.restart.specs.declared.event.Reply.{Reply}
 use Rattle.restart.specs.declared.event.Reply.TheVariants as reply
 use Rattle.restart.specs.declared.parts.Parts.{Parts}
+use Rattle.restart.specs.Copies.{IsCopyAnswer}
 use Rattle.restart.specs.History.{answered, asked}
 use Rattle.restart.specs.Parts.{core_of, device_of, log_of, unhanded, unwritten, writer_of, horizon_of, has_failed}
 
@@ -31,6 +32,7 @@ is_read event.Create = false
 is_read event.Build = false
 is_read event.Clean = false
 is_read event.Flush = false
+is_read event.Copy = false
 is_read (event.Get rid) = true
 is_read (event.Find key) = true
 is_read event.Life = true
@@ -83,7 +85,22 @@ IsFlushAnswer failures (reply.Refused e) old new =
     ((e ≡ NoMemory) × (has_failed old ≡ false) × (has_failed new ≡ false) × (unwritten old ≢ []) × ((¬ IsLogFull (writer_of old)) ⊎ (unhanded new ≢ [])) × WritesNothing failures old new)
     ⊎ ((e ≡ DeviceFailed) × (has_failed new ≡ true) × (has_failed old ≡ false → (unwritten old ≢ []) × Rises (failures (device_of old)) (failures (device_of new)))
     × (has_failed old ≡ true → new ≡ old) × KeepsRecords failures old new)
-IsFlushAnswer failures answer old new = ⊥
+IsFlushAnswer failures (reply.Txn t) old new = ⊥
+IsFlushAnswer failures (reply.Rid r) old new = ⊥
+IsFlushAnswer failures reply.Stepped old new = ⊥
+IsFlushAnswer failures reply.Undone old new = ⊥
+IsFlushAnswer failures reply.Empty old new = ⊥
+IsFlushAnswer failures reply.Ended old new = ⊥
+IsFlushAnswer failures (reply.Ticket t) old new = ⊥
+IsFlushAnswer failures (reply.Built b) old new = ⊥
+IsFlushAnswer failures (reply.Cleaned c) old new = ⊥
+IsFlushAnswer failures reply.Copied old new = ⊥
+IsFlushAnswer failures (reply.Flipped m) old new = ⊥
+IsFlushAnswer failures reply.Again old new = ⊥
+IsFlushAnswer failures (reply.Row row) old new = ⊥
+IsFlushAnswer failures (reply.Found rids) old new = ⊥
+IsFlushAnswer failures (reply.Life life) old new = ⊥
+IsFlushAnswer failures reply.Skipped old new = ⊥
 
 -- the core serves it, with a reply that is allowed, and nothing else of the engine changes
 pub record ServesInCore {D M : Type 0} (e : core.Event) (answer : Reply M) (old new : Parts D M) : Type 0 where
@@ -102,8 +119,22 @@ IsInCore request answer old new = IsInCoreBy (asked request) answer old new
 
 -- what is answered to a request
 abbrev pub IsLawful : {D M : Type 0} → (D → ℕ) → Event → Reply M → Parts D M → Parts D M → Type 0
+IsLawful failures event.Begin answer old new = IsInCore event.Begin answer old new
+IsLawful failures (event.Insert txn key body) answer old new = IsInCore (event.Insert txn key body) answer old new
+IsLawful failures (event.Delete txn rid) answer old new = IsInCore (event.Delete txn rid) answer old new
+IsLawful failures (event.Update txn rid key body) answer old new = IsInCore (event.Update txn rid key body) answer old new
+IsLawful failures (event.Step txn) answer old new = IsInCore (event.Step txn) answer old new
+IsLawful failures (event.Undo txn) answer old new = IsInCore (event.Undo txn) answer old new
+IsLawful failures (event.End txn) answer old new = IsInCore (event.End txn) answer old new
+IsLawful failures (event.Commit txn) answer old new = IsInCore (event.Commit txn) answer old new
+IsLawful failures event.Create answer old new = IsInCore event.Create answer old new
+IsLawful failures event.Build answer old new = IsInCore event.Build answer old new
+IsLawful failures event.Clean answer old new = IsInCore event.Clean answer old new
 IsLawful failures event.Flush answer old new = IsFlushAnswer failures answer old new
-IsLawful failures request answer old new = IsInCore request answer old new
+IsLawful failures event.Copy answer old new = IsCopyAnswer failures answer old new
+IsLawful failures (event.Get rid) answer old new = IsInCore (event.Get rid) answer old new
+IsLawful failures (event.Find key) answer old new = IsInCore (event.Find key) answer old new
+IsLawful failures event.Life answer old new = IsInCore event.Life answer old new
 
 -- each request in turn was answered lawfully
 abbrev pub AreLawful : {D M : Type 0} → (D → ℕ) → List Event → List (Reply M) → Parts D M → Parts D M → Type 0

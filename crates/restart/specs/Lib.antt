@@ -1,7 +1,9 @@
 pub mod Parts
 pub mod History
+pub mod Copies
 pub mod Store
 pub mod Handing
+pub mod Parted
 pub mod Lawful
 pub mod Ran
 pub mod Lives

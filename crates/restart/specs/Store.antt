@@ -1,5 +1,5 @@
 -- What the store has done so far, and what a crash of its device leaves.
-use Rattle.std.specs.Prelude.{◌≡◌, ◌≤◌, ◌+◌, ℕ, List, [], ◌∷◌, ◌++◌, length, take}
+use Rattle.std.specs.Prelude.{false, ◌≡◌, ◌≢◌, ◌≤◌, ◌+◌, ℕ, List, [], ◌∷◌, ◌++◌, length, take}
 use Rattle.records.specs.GeometryValue.{GeometryValue}
 use Rattle.records.specs.RecordValue.{RecordValue}
 use Rattle.model.specs.Given.{Given, IsBeginning, opening_cells}
@@ -15,13 +15,18 @@ use Rattle.image_model.specs.Run.{Run, end_of, records_between}
 use Rattle.sector_device.specs.Disk.{Image, IsCrashImage}
 use Rattle.sector_device.specs.History.{History, LeavesOnly, Spans}
 use Rattle.store_reader.specs.Contents.{Gives}
+use Rattle.store_writer.specs.Parts.{image_of}
 use Rattle.store_writer.specs.Writer.{IsWriter, WritesLogsAlone}
+use Rattle.core_copies.specs.Lists.{HasLists}
+use Rattle.model.specs.Cells.{cells_after}
 use Rattle.restart.specs.declared.event.Event.{Event}
+use Rattle.restart.specs.declared.event.Event.TheVariants as requests
 use Rattle.restart.specs.declared.event.Reply.{Reply}
 use Rattle.restart.specs.declared.parts.Parts.{Parts}
+use Rattle.restart.specs.Copies.{IsCopying, IsHalfOpen}
 use Rattle.restart.specs.History.{AreOfKind, acknowledged, core_calls, standing_over}
 use Rattle.restart.specs.Lawful.{IsLawful}
-use Rattle.restart.specs.Parts.{core_of, device_of, horizon_of, unhanded, writer_of}
+use Rattle.restart.specs.Parts.{core_of, device_of, has_failed, horizon_of, unhanded, writer_of}
 
 -- A run: how large the store is, what it began with, what was asked, and what was answered.
 pub record Past (M : Type 0) : Type 0 where
@@ -68,6 +73,12 @@ pub record StandsAt {D M : Type 0} (history : D → History) (run : Run) (handed
   pub pages : run.geometry.pages ≡ s.pages
   pub places : run.geometry.entries ≡ s.places
   pub made : end_of run ≡ k.made
+  -- the log has the lists that the state's transactions have
+  pub lists : HasLists s (cells_after run.cells run.records)
+  -- an image under way is where the copying goes on, and its log is half open at most
+  pub geometry : engine.geometry ≡ run.geometry
+  pub copying : has_failed engine ≡ false → IsCopying run.geometry.pages engine.copying (image_of (writer_of engine))
+  pub carried : has_failed engine ≡ false → IsHalfOpen run.geometry.slots (image_of (writer_of engine))
 
 -- the records of a run, over what it began with
 abbrev pub run_of : {M : Type 0} → Past M → List RecordValue → Run
@@ -103,6 +114,11 @@ ServesOn {D} {M} history event reply old new = (past : Past M) → IsAt history 
 -- it held before, and so it does after a crash at any moment of the call, if it was synced before.
 abbrev pub KeepsAround : {D M : Type 0} → (D → History) → Parts D M → Parts D M → Type 0
 KeepsAround history old new = WritesLogsAlone history (writer_of old) (writer_of new)
+
+-- none of the requests is a copy
+abbrev pub HaveNoCopy : List Event → Type 0
+HaveNoCopy [] = Unit {0}
+HaveNoCopy (event ∷ events) = (event ≢ requests.Copy) × HaveNoCopy events
 
 -- what a crash between borders j and j + 1 leaves of a run that answered these requests
 abbrev pub SurvivesAt : {M : Type 0} → Past M → List Event → List (Reply M) → ℕ → Image → Type 0

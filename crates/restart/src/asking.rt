@@ -1,5 +1,5 @@
 //! What the core is asked.
-ghost use Rattle.std.specs.Prelude.{◌≡◌, IfSome, IfNone};
+ghost use Rattle.std.specs.Prelude.{◌≡◌, IfSome, IfNone, None};
 ghost use Rattle.core_contracts.specs.Events as events;
 ghost use Rattle.nsf_core.specs.Moves.{IsReadyOrNone, IsUnready, OwesNone, OwesOrNone, txn_shown};
 
@@ -13,12 +13,13 @@ use std::alloc::Allocator;
 impl<D: Device, A: Allocator + Copy> Parts<D, A> {
     ghost use Rattle.std.specs.Prelude.{IsTrue, false};
     ghost use Rattle.restart.specs.Parts.{core_of};
+    ghost use Rattle.restart.specs.History.{asked};
     ghost use Rattle.restart.specs.Lawful.{IsInCore, ServesInCore};
 
-    /// What the core answers; none to a flush, which asks nothing of it.
+    /// What the core answers; none to a flush or a copy, which ask nothing of it.
     pub(crate) fn ask_core(&mut self, event: Event) -> Option<Reply<A>>
         ensures some { IfSome result (λ reply. IsInCore event reply self.old self.new) }
-        ensures none { IfNone result ((event ≡ Event.Flush) × (self.new ≡ self.old)) }
+        ensures none { IfNone result ((asked event ≡ None) × (self.new ≡ self.old)) }
     {
         match event {
             Event::Begin => Some(self.begin()),
@@ -38,6 +39,7 @@ impl<D: Device, A: Allocator + Copy> Parts<D, A> {
             Event::Build => Some(self.build()),
             Event::Clean => Some(self.clean()),
             Event::Flush => None,
+            Event::Copy => None,
             Event::Get { rid } => Some(self.get(rid)),
             Event::Find { key } => Some(self.find(key)),
             Event::Life => Some(self.life()),

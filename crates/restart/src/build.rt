@@ -4,6 +4,7 @@ ghost use Rattle.records.specs.declared.number.TheConstants.{LAST_NUMBER};
 ghost use Rattle.restart.specs.Building.{end_of, in_a_row};
 
 use crate::parts::Parts;
+use core_copies::each_list;
 use core_model::each_half;
 use model::Life;
 use nsf_core::{BuildReply, Ticket};
@@ -25,6 +26,7 @@ impl<D: Device, A: Allocator + Copy> Parts<D, A> {
         ensures can_run { CanRun D.history self.new }
     {
         each_half();
+        each_list();
         self.writer.goes_on();
         if let Life::Complete = self.core.life() {
             return Ok(self.last_ticket());

@@ -8,6 +8,7 @@ use records::Error;
 use sector_device::Device;
 use std::alloc::Allocator;
 use std::marker::Model;
+use store_writer::StoreWriter;
 
 /// A store that serves requests in order. `restart` opens one.
 ///
@@ -37,17 +38,18 @@ impl<D: Device, A: Allocator + Copy> Engine<D, A> {
     ghost use Rattle.nsf_core.specs.Value.{value_of};
     ghost use Rattle.restart.specs.Parts.{core_of, device_of};
     ghost use Rattle.restart.specs.Lawful.{IsLawful, AreLawful};
-    ghost use Rattle.restart.specs.Store.{ServesOn, RunsOn, RunsLawfully, KeepsRun, KeepsAround};
+    ghost use Rattle.restart.specs.Store.{ServesOn, RunsOn, RunsLawfully, KeepsRun, KeepsAround, HaveNoCopy};
+    ghost use Rattle.restart.specs.Parted.{ArePartsOf, LeavesPartsOf, IsGivenBack};
     ghost use Rattle.restart.specs.Ran.{KeepsWholeRun, SurvivesAnyCrash};
     ghost use Rattle.restart.specs.Building.{IsBuiltToEnd, BuildsWhole, HasCome};
 
     /// Serves one request. A crash at any moment of the call leaves a store that `restart` takes back to what was
-    /// told by a prefix of the requests, and nothing that an earlier reply has told to be safe is lost (`serves`). No sector
-    /// is written but those of the store's log and, where an image is under way, of the log of its half (`around`).
+    /// told by a prefix of the requests, and nothing that an earlier reply has told to be safe is lost (`serves`). But by a
+    /// copy no sector is written but those of the store's log and, where an image is under way, of the log of its half (`around`).
     pub fn serve(&mut self, event: Event) -> Reply<A>
         ensures serves { ServesOn D.history event result self.old self.new }
         ensures lawful { IsLawful D.failures event result self.old self.new }
-        ensures around { KeepsAround D.history self.old self.new }
+        ensures around { event ≢ Event.Copy → KeepsAround D.history self.old self.new }
     {
         self.parts.serve(event)
     }
@@ -64,7 +66,7 @@ impl<D: Device, A: Allocator + Copy> Engine<D, A> {
         ensures ran { IfOk result (λ replies. RunsOn D.history events.now replies.items self.old self.new) }
         ensures served { IfOk result (λ replies. RunsLawfully D.history D.failures events.now replies.items self.old self.new) }
         ensures lawful { IfOk result (λ replies. AreLawful D.failures events.now replies.items self.old self.new) }
-        ensures around { OnOk result (KeepsAround D.history self.old self.new) }
+        ensures around { OnOk result (HaveNoCopy events.now → KeepsAround D.history self.old self.new) }
         ensures refused { OnErr result (self.new ≡ self.old) }
         ensures no_memory { IfErr result (λ e. e ≡ Error.NoMemory) }
         ensures some { OnErr result (events.now ≢ []) }
@@ -105,6 +107,22 @@ impl<D: Device, A: Allocator + Copy> Engine<D, A> {
         ensures { value_of result.now ≡ core_of self.now }
     {
         &self.parts.core
+    }
+
+    /// The core, and the writer that owns the device, with every record that the core made (`left`): the device is as it was.
+    /// The writer gives an image under way up at the first piece of another one. The core goes on counting its transactions and
+    /// commits; one that served nothing is as `restart` loaded it.
+    ///
+    /// An `Err` gives the engine back, for want of memory to hand the records over: no record is lost, and the run goes on (`back`).
+    pub fn into_parts(self) -> Result<(Core<A>, StoreWriter<D, A>), Self>
+        ensures parts { IfOk result (λ r. ArePartsOf self (value_of r.0) r.1) }
+        ensures left { IfOk result (λ r. LeavesPartsOf D.history self (value_of r.0) r.1) }
+        ensures back { IfErr result (IsGivenBack D.history self) }
+    {
+        match self.parts.into_parts() {
+            Ok(parts) => Ok(parts),
+            Err(parts) => Err(Engine { parts }),
+        }
     }
 
     /// The device as it is now. What was not written to it is lost, and nothing of it was acknowledged: a crash of the

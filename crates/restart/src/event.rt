@@ -56,6 +56,10 @@ pub enum Event {
     Clean,
     /// Hands the records made to the writer, which writes one group of them.
     Flush,
+    /// Hands the records made to the writer, and takes one step of an image of the store: its start, the rows of a page, some
+    /// entries, or the flip that makes it current. Or it gives the image up, and at the next request takes a whole one and
+    /// makes it current.
+    Copy,
     /// Asks for the row at a place.
     Get {
         rid: Rid,
@@ -86,7 +90,8 @@ impl Event {
             | Event::Create
             | Event::Build
             | Event::Clean
-            | Event::Flush => false,
+            | Event::Flush
+            | Event::Copy => false,
         }
     }
 }
@@ -116,6 +121,12 @@ pub enum Reply<A: Allocator> {
     Horizon(u64),
     /// Every slot of the log is open, and a record waits.
     LogFull,
+    /// A piece of an image was taken.
+    Copied,
+    /// The image is current, and all records up to this number are synced.
+    Flipped(u64),
+    /// The image was given up. The next copy takes a whole one and makes it current.
+    Again,
     /// The row there, if any.
     Row(Option<Row>),
     /// The places of the rows with the key, ascending.
@@ -125,6 +136,7 @@ pub enum Reply<A: Allocator> {
     /// What the request asks for isn't met: the transaction owes a step, or owes none, or is rolling back, or has a change
     /// left. Nothing was done.
     Skipped,
-    /// Nothing was done; but to a flush that meets `DeviceFailed` the group may be in the log or not.
+    /// Nothing was done; but a flush or a copy may have handed records on, a copy may have written groups, and where either
+    /// meets `DeviceFailed`, what it was writing may be there or not.
     Refused(Error),
 }

@@ -3,12 +3,14 @@
 
 mod asking;
 mod build;
+mod copying;
 mod engine;
 mod event;
 mod lives;
 mod parts;
 mod reopen;
 
+pub use copying::copies_flip;
 pub use engine::Engine;
 pub use event::{Event, Reply};
 pub use lives::{any_lives, nothing_opens};

@@ -1,14 +1,16 @@
 //! What an engine consists of, and how it serves a request. That it can is the invariant of the engine.
-ghost use Rattle.std.specs.Prelude.{◌≡◌, ◌↔◌, [], IsTrue};
+ghost use Rattle.std.specs.Prelude.{◌≡◌, ◌≢◌, ◌↔◌, [], IsTrue, IfOk, IfErr};
 
+use crate::copying::Copying;
 use crate::{Event, Reply};
+use core_copies::each_list;
 use core_model::each_half;
 use nsf_core::Core;
-use records::{Error, Record};
+use records::{Error, Geometry, Record};
 use sector_device::Device;
 use std::alloc::Allocator;
 use std::mem;
-use store_writer::{FlushReply, StoreWriter};
+use store_writer::{FlushReply, StoreWriter, kept_place};
 
 /// A core, and the writer that owns the device.
 #[derive(Drop)]
@@ -18,6 +20,8 @@ pub(crate) struct Parts<D: Device, A: Allocator> {
     // The records that were taken from the core, and that the writer doesn't have yet.
     pub(crate) outgoing: Vec<Record, A>,
     pub(crate) alloc: A,
+    pub(crate) geometry: Geometry,
+    pub(crate) copying: Copying,
 }
 
 impl<D: Device, A: Allocator + Copy> Parts<D, A> {
@@ -26,17 +30,23 @@ impl<D: Device, A: Allocator + Copy> Parts<D, A> {
     ghost use Rattle.restart.specs.Lawful.{IsFlushAnswer, IsLawful};
     ghost use Rattle.restart.specs.Store.{CanRun, ServesOn, KeepsAround};
     ghost use Rattle.restart.specs.Handing.{HandsOver};
+    ghost use Rattle.restart.specs.Parted.{ArePartsOf, LeavesPartsOf, IsGivenBack};
+    ghost use Rattle.nsf_core.specs.Value.{value_of};
 
     /// Serves one request.
     pub(crate) fn serve(&mut self, event: Event) -> Reply<A>
         requires { CanRun D.history self.old }
         ensures serves { ServesOn D.history event result self.old self.new }
         ensures lawful { IsLawful D.failures event result self.old self.new }
-        ensures around { KeepsAround D.history self.old self.new }
+        ensures around { event ≢ Event.Copy → KeepsAround D.history self.old self.new }
         ensures can_run { CanRun D.history self.new }
     {
         each_half();
+        each_list();
         self.writer.goes_on();
+        if let Event::Copy = event {
+            return self.copy();
+        }
         match self.ask_core(event) {
             Some(reply) => reply,
             None => self.flush(),
@@ -50,6 +60,23 @@ impl<D: Device, A: Allocator + Copy> Parts<D, A> {
         self.writer.into_device()
     }
 
+    /// The core, and the writer with every record that was made.
+    pub(crate) fn into_parts(mut self) -> Result<(Core<A>, StoreWriter<D, A>), Self>
+        requires { CanRun D.history self }
+        ensures parts { IfOk result (λ r. ArePartsOf self (value_of r.0) r.1) }
+        ensures left { IfOk result (λ r. LeavesPartsOf D.history self (value_of r.0) r.1) }
+        ensures back { IfErr result (IsGivenBack D.history self) }
+        ensures can_run { IfErr result (CanRun D.history) }
+    {
+        let all = self.hand_over();
+        if all {
+            let Parts { core, writer, .. } = self;
+            Ok((core, writer))
+        } else {
+            Err(self)
+        }
+    }
+
     // Whether the writer has every record that was made.
     fn is_handed_over(&self) -> bool
         ensures { IsTrue result ↔ (unhanded self.now ≡ []) }
@@ -58,7 +85,7 @@ impl<D: Device, A: Allocator + Copy> Parts<D, A> {
     }
 
     // Hands the records made to the writer, as far as there is memory: whether it has all of them.
-    fn hand_over(&mut self) -> bool
+    pub(crate) fn hand_over(&mut self) -> bool
         requires { CanRun D.history self.old }
         ensures hands { HandsOver D.history self.old self.new }
         ensures all { IsTrue result ↔ (unhanded self.new ≡ []) }
@@ -82,6 +109,7 @@ impl<D: Device, A: Allocator + Copy> Parts<D, A> {
         ensures around { KeepsAround D.history self.old self.new }
         ensures can_run { CanRun D.history self.new }
     {
+        kept_place();
         if self.writer.has_failed() {
             return Reply::Refused(Error::DeviceFailed);
         }

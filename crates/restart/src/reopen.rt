@@ -12,7 +12,9 @@ ghost use Rattle.flip_image.specs.Store.{IsStore};
 ghost use Rattle.restart.specs.Reopening.{IsCoreOf, IsTurned, IsOpened, IsEmptied, IsNotOpened, RecoversAnyRun, RefusesNoRun, StaysOfAnyRun};
 
 use crate::Engine;
+use crate::copying::Copying;
 use crate::parts::Parts;
+use core_copies::each_list;
 use core_loader::load;
 use core_model::each_half;
 use flip_image::Halves;
@@ -50,6 +52,7 @@ pub fn restart<D: Device, A: Allocator + Copy>(
     ensures quiet { IfOk result (λ engine. D.failures (device_of engine) ≡ D.failures device) }
 {
     each_half();
+    each_list();
     written_back();
     match open_core(alloc, &mut device) {
         Ok((core, halves, log)) => {
@@ -62,6 +65,8 @@ pub fn restart<D: Device, A: Allocator + Copy>(
                     writer,
                     outgoing,
                     alloc,
+                    geometry: halves.geometry(),
+                    copying: Copying::Idle,
                 },
             })
         }

@@ -1,12 +1,12 @@
-use Rattle.std.proofs.Common.{rules, ◌≡◌, length, take, List, [], ◌∷◌, ◌++◌, get_or, refl, sym, ap, subst, arith, length-append, length-take}
+use Rattle.std.proofs.Common.{◌∙◌, rules, ◌≡◌, length, take, List, [], ◌∷◌, ◌++◌, get_or, refl, sym, ap, subst, arith, length-append, length-take}
 use Rattle.std.proofs.lemmas.List.{take_more, take_all}
 use Rattle.restart.specs.declared.event.Event.{Event}
 use Rattle.restart.specs.declared.event.Reply.{Reply}
 use Rattle.restart.specs.Lawful.{IsLawful, AreLawful}
-use Rattle.restart.specs.Store.{Past, IsAt, ServesOn, GoesOn, AreServed, and_then}
+use Rattle.restart.specs.Store.{Past, IsAt, ServesOn, GoesOn, AreServed, HaveNoCopy, and_then}
 use Rattle.store_writer.proofs.Around.{then_around}
 use Rattle.restart.specs.Parts.{writer_of}
-use Rattle.restart.proofs.Around.{around_none}
+use Rattle.restart.proofs.Around.{around_none, no_copy_last}
 use Rattle.restart.proofs.Runs.{goes_nowhere, goes_further, lawful_last, served_last}
 use Rattle.restart.proofs.Crashes.{survives_any_crash}
 use Rattle.restart.proofs.Stories.{crash_now}
@@ -18,7 +18,7 @@ loop-event-init g c = record {
   room = omega (arith, c.in_ok-replies.ensures.exact);
   lawful = subst (λ (rs : List (Reply _)). AreLawful g.D.Device.failures [] rs c.args.self.now c.args.self.now) (sym c.in_ok-replies.ensures.items) refl;
   served = λ past is. subst (λ (rs : List (Reply _)). AreServed g.D.Device.history g.D.Device.failures past [] rs c.args.self.now c.args.self.now) (sym c.in_ok-replies.ensures.items) refl;
-  around = around_none g.D.Device.history c.args.self.now c.args.self.now;
+  around = λ _. around_none g.D.Device.history c.args.self.now c.args.self.now;
   ran = λ past is. subst (λ (rs : List (Reply _)). GoesOn g.D.Device.history past [] rs c.args.self.now c.args.self.now) (sym c.in_ok-replies.ensures.items) (goes_nowhere g.D.Device.history past c.args.self.now is);
 }
 
@@ -41,7 +41,9 @@ loop-event-preserved g c =
           subst (λ (es : List Event). AreServed history g.D.Device.failures past es c.push.new.self.items c.args.self.now c.serve-reply.new.self) (sym (take_more events i c.event-item.result c.loop-event-test.true))
           (subst (λ (rs : List (Reply _)). AreServed history g.D.Device.failures past (take i events ++ get_or events i c.event-item.result ∷ []) rs c.args.self.now c.serve-reply.new.self) (sym c.in-Ok.ensures.items)
           (served_last history g.D.Device.failures past (take i events) c.loop-event.replies.items (get_or events i c.event-item.result) c.serve-reply.result c.args.self.now c.loop-event.self c.serve-reply.new.self is (inv.served past is) (subst (λ e. IsLawful g.D.Device.failures e c.serve-reply.result c.loop-event.self c.serve-reply.new.self) item c.serve-reply.ensures.lawful) (subst (λ e. ServesOn history e c.serve-reply.result c.loop-event.self c.serve-reply.new.self) item c.serve-reply.ensures.serves)));
-      around = then_around history (writer_of c.args.self.now) (writer_of c.loop-event.self) (writer_of c.serve-reply.new.self) inv.around c.serve-reply.ensures.around;
+      around = λ none.
+          let both = no_copy_last (take i events) (get_or events i c.event-item.result) (subst HaveNoCopy (take_more events i c.event-item.result c.loop-event-test.true) none) in
+          then_around history (writer_of c.args.self.now) (writer_of c.loop-event.self) (writer_of c.serve-reply.new.self) (inv.around both.0) (c.serve-reply.ensures.around (λ copy. both.1 (sym item ∙ copy)));
       ran = λ past is.
           subst (λ (es : List Event). GoesOn history past es c.push.new.self.items c.args.self.now c.serve-reply.new.self) (sym (take_more events i c.event-item.result c.loop-event-test.true))
           (subst (λ (rs : List (Reply _)). GoesOn history past (take i events ++ get_or events i c.event-item.result ∷ []) rs c.args.self.now c.serve-reply.new.self) (sym c.in-Ok.ensures.items)
@@ -58,7 +60,7 @@ returns g c =
       served = λ past is. subst (λ (es : List Event). AreServed g.D.Device.history g.D.Device.failures past es c.loop-event.replies.items c.args.self.now c.loop-event.self) (take_all c.loop-event.event-index c.args.events.now c.loop-event-test.false) (c.loop-event.invariant.served past is);
       ran = ran;
       lawful = subst (λ (es : List Event). AreLawful g.D.Device.failures es c.loop-event.replies.items c.args.self.now c.loop-event.self) (take_all c.loop-event.event-index c.args.events.now c.loop-event-test.false) c.loop-event.invariant.lawful;
-      around = c.loop-event.invariant.around;
+      around = λ none. c.loop-event.invariant.around (subst HaveNoCopy (sym (take_all c.loop-event.event-index c.args.events.now c.loop-event-test.false)) none);
       refused = tt;
       no_memory = tt;
       some = tt;

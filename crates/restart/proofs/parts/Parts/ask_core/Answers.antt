@@ -1,4 +1,5 @@
-use Rattle.std.proofs.Common.{refl}
+use Rattle.std.proofs.Common.{ap, refl}
+use Rattle.restart.specs.History.{asked}
 use Rattle.restart.specs.declared.event.Event.TheVariants as event
 use Rattle.restart.proofs.Answered.{as_asked}
 use Rattle.restart.proofs.parts.Parts.ask_core.Goals as goal
@@ -37,7 +38,10 @@ pub returns-in-Clean-clause-some : goal.returns-in-Clean-clause-some
 returns-in-Clean-clause-some g c = as_asked c.args.event event.Clean c.clean.result c.args.self.now c.clean.new.self c.in-Clean.is c.clean.ensures
 
 pub returns-in-Flush-clause-none : goal.returns-in-Flush-clause-none
-returns-in-Flush-clause-none g c = (c.in-Flush.is, refl)
+returns-in-Flush-clause-none g c = (ap asked c.in-Flush.is, refl)
+
+pub returns-in-Copy-clause-none : goal.returns-in-Copy-clause-none
+returns-in-Copy-clause-none g c = (ap asked c.in-Copy.is, refl)
 
 pub returns-in-Get-clause-some : goal.returns-in-Get-clause-some
 returns-in-Get-clause-some g c = as_asked c.args.event (event.Get c.in-Get.rid) c.get.result c.args.self.now c.args.self.now c.in-Get.is c.get.ensures

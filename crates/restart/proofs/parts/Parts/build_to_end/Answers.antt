@@ -16,10 +16,10 @@ pub last_ticket-requires : goal.last_ticket-requires
 last_ticket-requires g c = last_within (core_of c.args.self.now) c.args.self.now.core.safe
 
 pub returns-in-Complete-clause-built : goal.returns-in-Complete-clause-built
-returns-in-Complete-clause-built g c = complete_ends g.D.Device.history g.D.Device.failures c.args.self.now (record { half = c.each_half.ensures.goes_on; goes = c.goes_on.ensures }) (sym c.life.ensures.life ∙ c.in-Complete.is) c.last_ticket.result c.last_ticket.ensures.record c.last_ticket.ensures.no_commit
+returns-in-Complete-clause-built g c = complete_ends g.D.Device.history g.D.Device.failures c.args.self.now (record { half = c.each_half.ensures.goes_on; lists = c.each_list.ensures.goes_on; goes = c.goes_on.ensures }) (sym c.life.ensures.life ∙ c.in-Complete.is) c.last_ticket.result c.last_ticket.ensures.record c.last_ticket.ensures.no_commit
 
 pub returns-in-Complete-clause-whole : goal.returns-in-Complete-clause-whole
-returns-in-Complete-clause-whole g c = complete_whole g.D.Device.history g.D.Device.failures c.args.self.now (record { half = c.each_half.ensures.goes_on; goes = c.goes_on.ensures }) (sym c.life.ensures.life ∙ c.in-Complete.is)
+returns-in-Complete-clause-whole g c = complete_whole g.D.Device.history g.D.Device.failures c.args.self.now (record { half = c.each_half.ensures.goes_on; lists = c.each_list.ensures.goes_on; goes = c.goes_on.ensures }) (sym c.life.ensures.life ∙ c.in-Complete.is)
 
 pub steps-init : goal.steps-init
 steps-init g c = none_built c.args.self.now (λ complete. c.in_default.not-Complete (c.life.ensures.life ∙ complete))
@@ -32,7 +32,7 @@ returns-in_err-reply-clause-built g c =
     let mid = c.steps.self in
     let new : Parts g.row.D.Denot g.row.A.Denot = record c.steps.self { core = c.build_step.new.self } in
     let p = err_from_is_err_and c.from_residual.result c.from_residual.ensures.1 in
-    rw p.1 (subst (λ e. IsBuiltToEnd history (Err e) old new) (sym p.2) (refused_ends old mid new c.steps.scanned c.steps.invariant refl history failures (record { half = c.each_half.ensures.goes_on; goes = c.goes_on.ensures }) _ c.in_err-reply.ensures))
+    rw p.1 (subst (λ e. IsBuiltToEnd history (Err e) old new) (sym p.2) (refused_ends old mid new c.steps.scanned c.steps.invariant refl history failures (record { half = c.each_half.ensures.goes_on; lists = c.each_list.ensures.goes_on; goes = c.goes_on.ensures }) _ c.in_err-reply.ensures))
 
 pub returns-in_err-reply-clause-can_run : goal.returns-in_err-reply-clause-can_run
 returns-in_err-reply-clause-can_run g c =
@@ -41,7 +41,7 @@ returns-in_err-reply-clause-can_run g c =
     let old = c.args.self.now in
     let mid = c.steps.self in
     let new : Parts g.row.D.Denot g.row.A.Denot = record c.steps.self { core = c.build_step.new.self } in
-    can_run_built history failures _ old new (all_built old mid new c.steps.scanned c.steps.invariant refl (Refused _) _ refl c.in_err-reply.ensures) (record { half = c.each_half.ensures.goes_on; goes = c.goes_on.ensures }) c.requires
+    can_run_built history failures _ old new (all_built old mid new c.steps.scanned c.steps.invariant refl (Refused _) _ refl c.in_err-reply.ensures) (record { half = c.each_half.ensures.goes_on; lists = c.each_list.ensures.goes_on; goes = c.goes_on.ensures }) c.requires
 
 pub steps-smaller : goal.steps-smaller
 steps-smaller g c =
@@ -68,7 +68,7 @@ returns-in-Some-clause-built g c =
     let old = c.args.self.now in
     let mid = c.steps.self in
     let new : Parts g.row.D.Denot g.row.A.Denot = record c.steps.self { core = c.build_step.new.self } in
-    done_ends old mid new c.steps.scanned c.steps.invariant refl history failures (record { half = c.each_half.ensures.goes_on; goes = c.goes_on.ensures }) c.in-Some.ticket (subst (λ b. Serves (core_of mid) Build (built b) (core_of new)) (is_done c.in_ok-reply.reply c.in-Some.ticket (sym c.end_of.ensures ∙ c.in-Some.is)) c.in_ok-reply.ensures)
+    done_ends old mid new c.steps.scanned c.steps.invariant refl history failures (record { half = c.each_half.ensures.goes_on; lists = c.each_list.ensures.goes_on; goes = c.goes_on.ensures }) c.in-Some.ticket (subst (λ b. Serves (core_of mid) Build (built b) (core_of new)) (is_done c.in_ok-reply.reply c.in-Some.ticket (sym c.end_of.ensures ∙ c.in-Some.is)) c.in_ok-reply.ensures)
 
 pub returns-in-Some-clause-whole : goal.returns-in-Some-clause-whole
 returns-in-Some-clause-whole g c =
@@ -86,7 +86,7 @@ returns-in-Some-clause-can_run g c =
     let old = c.args.self.now in
     let mid = c.steps.self in
     let new : Parts g.row.D.Denot g.row.A.Denot = record c.steps.self { core = c.build_step.new.self } in
-    can_run_built history failures _ old new (all_built old mid new c.steps.scanned c.steps.invariant refl (Built (Done c.in-Some.ticket)) _ refl (subst (λ b. Serves (core_of mid) Build (built b) (core_of new)) (is_done c.in_ok-reply.reply c.in-Some.ticket (sym c.end_of.ensures ∙ c.in-Some.is)) c.in_ok-reply.ensures)) (record { half = c.each_half.ensures.goes_on; goes = c.goes_on.ensures }) c.requires
+    can_run_built history failures _ old new (all_built old mid new c.steps.scanned c.steps.invariant refl (Built (Done c.in-Some.ticket)) _ refl (subst (λ b. Serves (core_of mid) Build (built b) (core_of new)) (is_done c.in_ok-reply.reply c.in-Some.ticket (sym c.end_of.ensures ∙ c.in-Some.is)) c.in_ok-reply.ensures)) (record { half = c.each_half.ensures.goes_on; lists = c.each_list.ensures.goes_on; goes = c.goes_on.ensures }) c.requires
 
 pub returns-in_err-reply-clause-come : goal.returns-in_err-reply-clause-come
 returns-in_err-reply-clause-come g c =

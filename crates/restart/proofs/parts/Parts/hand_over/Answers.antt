@@ -17,8 +17,8 @@ returns-in-Ok-clause-hands g c =
     let old = c.args.self.now in
     let core_then = value_of c.take_outbox.new.self in
     let hands : HandsOn (value_of old.core) core_then old.outgoing.items c.replace-outgoing.result.items = subst (HandsOn (value_of old.core) core_then old.outgoing.items) (sym (ap (λ v. v.items) c.replace-outgoing.ensures.value)) c.take_outbox.ensures.handed in
-    let new : Parts g.row.D.Denot g.row.A.Denot = record { core = c.take_outbox.new.self; writer = c.hand_in.new.self; outgoing = c.replace-outgoing.new.dest; alloc = old.alloc } in
-    all_over g.D.Device.history old core_then c.replace-outgoing.result.items hands new refl c.hand_in.ensures.device c.hand_in.ensures.halves c.hand_in.ensures.log c.hand_in.ensures.synced c.hand_in.ensures.failed c.hand_in.ensures.image
+    let new : Parts g.row.D.Denot g.row.A.Denot = record { core = c.take_outbox.new.self; writer = c.hand_in.new.self; outgoing = c.replace-outgoing.new.dest; alloc = old.alloc; geometry = old.geometry; copying = old.copying } in
+    all_over g.D.Device.history old core_then c.replace-outgoing.result.items hands new refl c.hand_in.ensures.device c.hand_in.ensures.halves c.hand_in.ensures.log c.hand_in.ensures.synced c.hand_in.ensures.failed c.hand_in.ensures.image refl refl
     c.in-Ok.ensures.writer c.in-Ok.ensures.waits (ap (λ v. v.items) c.replace-outgoing.ensures.after ∙ c.new.ensures.items)
 
 pub returns-in-Err-clause-hands : goal.returns-in-Err-clause-hands
@@ -26,6 +26,6 @@ returns-in-Err-clause-hands g c =
     let old = c.args.self.now in
     let core_then = value_of c.take_outbox.new.self in
     let hands : HandsOn (value_of old.core) core_then old.outgoing.items c.replace-outgoing.result.items = subst (HandsOn (value_of old.core) core_then old.outgoing.items) (sym (ap (λ v. v.items) c.replace-outgoing.ensures.value)) c.take_outbox.ensures.handed in
-    let new : Parts g.row.D.Denot g.row.A.Denot = record { core = c.take_outbox.new.self; writer = c.hand_in.new.self; outgoing = c.in-Err.back; alloc = old.alloc } in
-    none_over g.D.Device.history old core_then c.replace-outgoing.result.items hands new refl c.hand_in.ensures.device c.hand_in.ensures.halves c.hand_in.ensures.log c.hand_in.ensures.synced c.hand_in.ensures.failed c.hand_in.ensures.image
+    let new : Parts g.row.D.Denot g.row.A.Denot = record { core = c.take_outbox.new.self; writer = c.hand_in.new.self; outgoing = c.in-Err.back; alloc = old.alloc; geometry = old.geometry; copying = old.copying } in
+    none_over g.D.Device.history old core_then c.replace-outgoing.result.items hands new refl c.hand_in.ensures.device c.hand_in.ensures.halves c.hand_in.ensures.log c.hand_in.ensures.synced c.hand_in.ensures.failed c.hand_in.ensures.image refl refl
     c.in-Err.ensures.unchanged c.in-Err.ensures.still c.in-Err.ensures.back

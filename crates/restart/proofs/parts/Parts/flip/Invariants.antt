@@ -1,0 +1,20 @@
+use Rattle.std.proofs.Common.{[], ◌≡◌, ◌≤◌, None, length}
+use Rattle.store_writer.specs.Parts.{halves_of}
+use Rattle.restart.specs.declared.copying.Copying.TheVariants.{Steps}
+use Rattle.restart.specs.Copies.{Succeeds, copies_left}
+use Rattle.restart.specs.Handing.{MovesOn}
+use Rattle.restart.specs.Parts.{unhanded, unwritten, writer_of}
+use Rattle.restart.proofs.parts.Parts.flip.Given as goal
+
+abbrev pub invariant-groups : goal.invariant-groups
+invariant-groups g l = record {
+  moves : MovesOn g.D.Device.history l.fn.self l.self;
+  well : Succeeds g.D.Device.failures l.fn.self l.self;
+  all : unhanded l.self ≡ [];
+  copying : l.self.copying ≡ Steps None;
+  halves : halves_of (writer_of l.self) ≡ halves_of (writer_of l.fn.self);
+  left : copies_left l.self ≤ copies_left l.fn.self;
+}
+
+abbrev pub decreases-groups : goal.decreases-groups
+decreases-groups g l = length (unwritten l.self)

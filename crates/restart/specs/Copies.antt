@@ -1,0 +1,211 @@
+-- What is answered to a copy.
+use Rattle.std.specs.Prelude.{◌≡◌, ◌≢◌, ◌⊎◌, ◌≤◌, ◌<◌, ◌+◌, ◌-◌, ◌/◌, ℕ, nat_lt, if◌then◌else◌, true, false, drop, List, [], ◌∷◌, Option, Some, None}
+use Rattle.records.specs.GeometryValue.{GeometryValue}
+use Rattle.records.specs.declared.error.Error.{Error}
+use Rattle.records.specs.declared.error.Error.TheVariants.{NoMemory, DeviceFailed}
+use Rattle.model.specs.Cells.{Cells}
+use Rattle.core_copies.specs.Pieces.{IsPieceOf}
+use Rattle.core_copies.specs.Shown.{IsCellsOf}
+use Rattle.flip_image.specs.Layout.{other}
+use Rattle.image_model.specs.declared.chunk.TheConstants.{CHUNK_ENTRIES}
+use Rattle.image_model.specs.declared.chunk.CopyPlace.{CopyPlace}
+use Rattle.image_model.specs.declared.chunk.CopyPlace.TheVariants as at
+use Rattle.image_model.specs.declared.chunk.Piece.{Piece}
+use Rattle.image_model.specs.Places.{place_behind}
+use Rattle.nsf_core.specs.View.{CoreValue}
+use Rattle.sector_device.specs.History.{Rises}
+use Rattle.store_writer.specs.Image.{reach}
+use Rattle.store_writer.specs.Parts.{halves_of, image_of}
+use Rattle.store_writer.specs.Places.{IsAtPlace}
+use Rattle.store_writer.specs.Writer.{HasPiece, IsLogFull, MustStartAgain}
+use Rattle.store_writer.specs.declared.image.NewImage.{NewImage}
+use Rattle.store_writer.specs.declared.image.Stage.{Stage}
+use Rattle.store_writer.specs.declared.image.Stage.TheVariants as stage
+use Rattle.store_writer.specs.declared.writer.Writer.{Writer}
+use Rattle.restart.specs.declared.copying.Copying.{Copying}
+use Rattle.restart.specs.declared.copying.Copying.TheVariants.{Idle, Steps, GivenUp}
+use Rattle.restart.specs.declared.event.Event.{Event}
+use Rattle.restart.specs.declared.event.Event.TheVariants as event
+use Rattle.restart.specs.declared.event.Reply.{Reply}
+use Rattle.restart.specs.declared.event.Reply.TheVariants as reply
+use Rattle.restart.specs.declared.parts.Parts.{Parts}
+use Rattle.restart.specs.Parts.{core_of, device_of, has_failed, horizon_of, log_of, unwritten, writer_of}
+
+-- ---- where the copying is
+
+-- an image that is copied in steps is at its place, unless a flush gave it up
+abbrev pub IsCopying : (pages : ℕ) → Copying → Option NewImage → Type 0
+IsCopying pages Idle image = Unit {0}
+IsCopying pages (Steps place) image = (image ≡ None) ⊎ IsAtPlace pages place image
+IsCopying pages GivenUp image = Unit {0}
+
+-- the piece of this place is due: the start always, and another as an image that is copied in steps is there
+abbrev pub IsDue : (pages : ℕ) → CopyPlace → Option NewImage → Type 0
+IsDue pages at.Start image = Unit {0}
+IsDue pages (at.Page page) image = IsCopying pages (Steps (Some (at.Page page))) image
+IsDue pages (at.Entries above) image = IsCopying pages (Steps (Some (at.Entries above))) image
+
+-- the log of an image under way has groups in half its slots at most
+abbrev pub IsHalfOpen : (slots : ℕ) → Option NewImage → Type 0
+IsHalfOpen slots image = (i : NewImage) → image ≡ Some i → i.log.open_slots ≤ slots / 2
+
+-- The place of the piece that comes next. There is none where the image is whole, and where it was given up.
+abbrev pub next_place : Copying → Option CopyPlace
+next_place Idle = Some at.Start
+next_place (Steps place) = place
+next_place GivenUp = None
+
+-- ---- how many copies are left
+
+abbrev pub entries_at : Stage → ℕ
+entries_at stage.Whole = 0
+entries_at (stage.Partly pages count highest life) = count
+
+-- the entries copied so far
+abbrev pub entries_copied : Option NewImage → ℕ
+entries_copied None = 0
+entries_copied (Some image) = entries_at image.stage
+
+-- From a whole image on: one copy makes it current. Where records were made since it began it may be given up by that copy, and the
+-- next one takes and flips another; and so it is where a flush gave it up.
+abbrev pub copies_to_flip : (last : ℕ) → Option NewImage → ℕ
+copies_to_flip last None = 2
+copies_to_flip last (Some image) = if nat_lt image.base last then 2 else 1
+
+-- the most copies that an image takes: its start, its pages, its entries by chunks of which the last one isn't full, and the flip
+abbrev pub most_copies : GeometryValue → ℕ
+most_copies g = g.pages + g.entries / CHUNK_ENTRIES + 3
+
+-- at most so many are left
+abbrev pub left_at : GeometryValue → (last : ℕ) → Option NewImage → Copying → ℕ
+left_at g last image Idle = most_copies g
+left_at g last image (Steps None) = copies_to_flip last image
+left_at g last image (Steps (Some at.Start)) = most_copies g
+left_at g last image (Steps (Some (at.Page page))) = (g.pages - page) + (g.entries / CHUNK_ENTRIES + 1) + copies_to_flip last image
+left_at g last image (Steps (Some (at.Entries above))) = ((g.entries - entries_copied image) / CHUNK_ENTRIES + 1) + copies_to_flip last image
+left_at g last image GivenUp = 1
+
+-- How many copies are left to a flip, if they come one behind another and none is refused: no more than these.
+abbrev pub copies_left : {D M : Type 0} → Parts D M → ℕ
+copies_left engine = left_at engine.geometry (core_of engine).last (image_of (writer_of engine)) engine.copying
+
+-- ---- what a copy leaves
+
+-- No record is lost: those that are synced now wait no more, and the others wait. The core keeps the rest of its state, and the
+-- device's count of failures doesn't fall.
+pub record KeepsAll {D M : Type 0} (failures : D → ℕ) (old new : Parts D M) : Type 0 where
+  pub horizon : horizon_of old ≤ horizon_of new
+  pub left : unwritten new ≡ drop (horizon_of new - horizon_of old) (unwritten old)
+  pub core : core_of new ≡ record (core_of old) { outbox = (core_of new).outbox }
+  pub later : failures (device_of old) ≤ failures (device_of new)
+
+-- and no call of the device failed
+pub record Succeeds {D M : Type 0} (failures : D → ℕ) (old new : Parts D M) : Type 0 where
+  pub keeps : KeepsAll failures old new
+  pub sound-before : has_failed old ≡ false
+  pub sound : has_failed new ≡ false
+  pub quiet : failures (device_of new) ≡ failures (device_of old)
+
+-- what an image of the core has at this place
+abbrev pub IsPieceNow : {M : Type 0} → CoreValue → CopyPlace → Piece M → Type 0
+IsPieceNow v place piece = (cells : Cells) → IsCellsOf v cells → IsPieceOf v cells place piece
+
+-- The next piece may be taken, and it was: the image has it as the last record made left it, and the copying goes on behind it. No
+-- group was written.
+pub record TakesPiece {D M : Type 0} (old new : Parts D M) : Type 0 where
+  pub place : CopyPlace
+  pub next : next_place old.copying ≡ Some place
+  pub piece : Piece M
+  pub piece-is : IsPieceNow (core_of old) place piece
+  pub may : ¬ MustStartAgain piece (writer_of old)
+  pub image : NewImage
+  pub image-is : image_of (writer_of new) ≡ Some image
+  pub has : HasPiece (core_of old).last piece (writer_of old) image
+  pub behind : new.copying ≡ Steps (place_behind old.geometry.pages piece)
+  pub log : log_of new ≡ log_of old
+  pub horizon : horizon_of new ≡ horizon_of old
+
+-- The next piece can't be taken: every slot of the current log is open, a flush gave the image up, or its entries would pass the
+-- geometry's. Nothing was written.
+pub record CannotTake {D M : Type 0} (old new : Parts D M) : Type 0 where
+  pub place : CopyPlace
+  pub next : next_place old.copying ≡ Some place
+  pub piece : Piece M
+  pub piece-is : IsPieceNow (core_of old) place piece
+  pub must : MustStartAgain piece (writer_of old)
+  pub device : device_of new ≡ device_of old
+  pub log : log_of new ≡ log_of old
+  pub horizon : horizon_of new ≡ horizon_of old
+
+-- an image is whole, and the records above its base, up to its last piece, are synced
+abbrev pub MayFlip : {D M : Type 0} → Writer D M → Type 0
+MayFlip w = (image : NewImage) × (w.image ≡ Some image) × (image.stage ≡ stage.Whole) × (image.number ≤ reach image w.synced)
+
+-- Every piece was taken, and the image can't be made current: no group more can be written, since no record waits or every slot of
+-- the log is open.
+pub record CannotFlip {D M : Type 0} (old new : Parts D M) : Type 0 where
+  pub whole : old.copying ≡ Steps None
+  pub cannot : ¬ MayFlip (writer_of new)
+  pub no_more : (unwritten new ≡ []) ⊎ (IsLogFull (writer_of new) × (unwritten new ≢ []))
+
+-- The half of a whole image is current, and its log has groups in half the slots at most: where there is more than one slot, or the
+-- image was taken at once, room for a group. An image that was taken at once has every record made, and its log is empty.
+pub record MakesCurrent {D M : Type 0} (old new : Parts D M) : Type 0 where
+  pub whole : next_place old.copying ≡ None
+  pub turned : halves_of (writer_of new) ≡ record { geometry = (halves_of (writer_of old)).geometry; current = other (halves_of (writer_of old)).current }
+  pub none : image_of (writer_of new) ≡ None
+  pub idle : new.copying ≡ Idle
+  pub room : (log_of new).open_slots ≤ (halves_of (writer_of new)).geometry.slots / 2
+  pub emptied : old.copying ≡ GivenUp → (log_of new).open_slots ≡ 0
+  pub all : old.copying ≡ GivenUp → unwritten new ≡ []
+
+abbrev pub IsCopyAnswer : {D M : Type 0} → (D → ℕ) → Reply M → Parts D M → Parts D M → Type 0
+-- A piece of an image was taken. Fewer copies are left.
+IsCopyAnswer failures reply.Copied old new = Succeeds failures old new × TakesPiece old new × (copies_left new < copies_left old)
+-- a whole image is current
+IsCopyAnswer failures (reply.Flipped n) old new = Succeeds failures old new × (n ≡ horizon_of new) × MakesCurrent old new
+-- an image that was copied in steps is given up, behind the groups that it waited for; one that is taken at once isn't
+IsCopyAnswer failures reply.Again old new = Succeeds failures old new × (CannotTake old new ⊎ CannotFlip old new) × (new.copying ≡ GivenUp) × (copies_left new < copies_left old)
+-- There was no memory to hand the records over, for a copy, or for a group; or the device failed, and an engine whose device failed
+-- answers so from then on, and leaves it alone.
+IsCopyAnswer failures (reply.Refused e) old new =
+    ((e ≡ NoMemory) × Succeeds failures old new × (new.copying ≡ old.copying))
+    ⊎ ((e ≡ DeviceFailed) × (has_failed new ≡ true) × (has_failed old ≡ false → Rises (failures (device_of old)) (failures (device_of new))) × (has_failed old ≡ true → new ≡ old) × KeepsAll failures old new)
+IsCopyAnswer failures (reply.Txn t) old new = ⊥
+IsCopyAnswer failures (reply.Rid r) old new = ⊥
+IsCopyAnswer failures reply.Stepped old new = ⊥
+IsCopyAnswer failures reply.Undone old new = ⊥
+IsCopyAnswer failures reply.Empty old new = ⊥
+IsCopyAnswer failures reply.Ended old new = ⊥
+IsCopyAnswer failures (reply.Ticket t) old new = ⊥
+IsCopyAnswer failures (reply.Built b) old new = ⊥
+IsCopyAnswer failures (reply.Cleaned c) old new = ⊥
+IsCopyAnswer failures (reply.Horizon m) old new = ⊥
+IsCopyAnswer failures reply.LogFull old new = ⊥
+IsCopyAnswer failures (reply.Row row) old new = ⊥
+IsCopyAnswer failures (reply.Found rids) old new = ⊥
+IsCopyAnswer failures (reply.Life life) old new = ⊥
+IsCopyAnswer failures reply.Skipped old new = ⊥
+
+-- ---- copies in a row
+
+-- one request to copy for each of these replies
+abbrev pub copies : {M : Type 0} → List (Reply M) → List Event
+copies [] = []
+copies (r ∷ replies) = event.Copy ∷ copies replies
+
+abbrev pub IsRefusal : {M : Type 0} → Reply M → Type 0
+IsRefusal r = (e : Error) × (r ≡ reply.Refused e)
+
+abbrev pub IsFlip : {M : Type 0} → Reply M → Type 0
+IsFlip r = (n : ℕ) × (r ≡ reply.Flipped n)
+
+-- one of the replies tells of a flip
+abbrev pub HaveFlip : {M : Type 0} → List (Reply M) → Type 0
+HaveFlip [] = ⊥
+HaveFlip (r ∷ replies) = IsFlip r ⊎ HaveFlip replies
+
+-- none of them is a refusal
+abbrev pub HaveNoRefusal : {M : Type 0} → List (Reply M) → Type 0
+HaveNoRefusal [] = Unit {0}
+HaveNoRefusal (r ∷ replies) = (¬ IsRefusal r) × HaveNoRefusal replies

@@ -1,0 +1,55 @@
+-- An engine taken apart.
+use Rattle.std.specs.Prelude.{◌≡◌, ◌≢◌, ◌≤◌, List, []}
+use Rattle.records.specs.RecordValue.{RecordValue}
+use Rattle.core_model.specs.Histories.{CanOpen}
+use Rattle.core_model.specs.States.{State}
+use Rattle.core_contracts.specs.Events.{Standing}
+use Rattle.core_contracts.specs.Served.{HasServed}
+use Rattle.image_model.specs.Run.{end_of}
+use Rattle.nsf_core.specs.View.{CoreValue, IsState}
+use Rattle.sector_device.specs.History.{History}
+use Rattle.store_writer.specs.Parts.{halves_of, log_of, synced_of, waiting_of}
+use Rattle.store_writer.specs.Parts as writer
+use Rattle.store_writer.specs.Writer.{IsWriter}
+use Rattle.store_writer.specs.declared.writer.Writer.{Writer}
+use Rattle.restart.specs.declared.parts.Parts.{Parts}
+use Rattle.restart.specs.History.{core_calls}
+use Rattle.restart.specs.Parts.{core_of, device_of, horizon_of, unhanded, unwritten, writer_of}
+use Rattle.restart.specs.Store.{IsAt, Past, acknowledged_by, last_made, over, run_of}
+
+-- The core has every row, entry and transaction, and no record waits in it: the writer has them all. Nothing was written.
+pub record ArePartsOf {D M : Type 0} (engine : Parts D M) (core : CoreValue) (w : Writer D M) : Type 0 where
+  pub core-is : core ≡ record (core_of engine) { outbox = [] }
+  pub waiting : waiting_of w ≡ unwritten engine
+  pub device : writer.device_of w ≡ device_of engine
+  pub halves : halves_of w ≡ halves_of (writer_of engine)
+  pub log : log_of w ≡ log_of (writer_of engine)
+  pub synced : synced_of w ≡ horizon_of engine
+  pub failed : writer.has_failed w ≡ writer.has_failed (writer_of engine)
+
+-- The core has replied as the run tells, and all records that it made, which are as many as the replies tell, were handed to the
+-- writer; those that were acknowledged are synced.
+pub record LeavesParts {D M : Type 0} (history : D → History) (past : Past M) (core : CoreValue) (w : Writer D M) : Type 0 where
+  pub opens : CanOpen (over past.geometry past.given)
+  pub made : List RecordValue
+  pub state : State
+  pub standing : Standing
+  pub served : HasServed (over past.geometry past.given) made (core_calls past.events past.replies) state standing
+  pub shown : IsState core state standing
+  pub many : end_of (run_of past made) ≡ last_made past
+  pub writer : IsWriter history (run_of past made) (end_of (run_of past made)) w
+  pub safe : acknowledged_by past ≤ synced_of w
+
+-- whatever run left the engine so
+abbrev pub LeavesPartsOf : {D M : Type 0} → (D → History) → Parts D M → CoreValue → Writer D M → Type 0
+LeavesPartsOf {D} {M} history engine core w = (past : Past M) → IsAt history past engine → LeavesParts history past core w
+
+-- There was no memory to hand all records over. The engine is where the run left it, and has every record that wasn't synced;
+-- nothing was written.
+pub record IsGivenBack {D M : Type 0} (history : D → History) (old new : Parts D M) : Type 0 where
+  pub some : unhanded new ≢ []
+  pub at : (past : Past M) → IsAt history past old → IsAt history past new
+  pub core : core_of new ≡ record (core_of old) { outbox = (core_of new).outbox }
+  pub unwritten-are : unwritten new ≡ unwritten old
+  pub device : device_of new ≡ device_of old
+  pub horizon : horizon_of new ≡ horizon_of old

@@ -1,0 +1,191 @@
+//! An image of the store is taken from the core, and made current.
+ghost use Rattle.std.specs.Prelude.{◌≡◌, ◌≤◌, List, [], length, false, None, Some, IfSome, IfNone};
+ghost use Rattle.restart.specs.declared.event.Reply.{Reply as ReplyValue};
+ghost use Rattle.restart.specs.declared.parts.Parts.{Parts as PartsValue};
+ghost use Rattle.restart.specs.Copies.{HaveFlip, HaveNoRefusal, copies, most_copies};
+ghost use Rattle.restart.specs.Lawful.{AreLawful};
+
+use crate::Reply;
+use crate::parts::Parts;
+use core_copies::{copy_step, copy_whole, each_list, one_copy};
+use image_model::{Chunk, CopyPlace};
+use records::Error;
+use sector_device::Device;
+use std::alloc::Allocator;
+use store_writer::{FlipReply, FlushReply, StepReply, kept_place};
+
+/// How far the copying of an image has come.
+#[derive(Clone, Copy, Debug, PartialEq, Eq)]
+pub(crate) enum Copying {
+    /// No image is under way.
+    Idle,
+    /// An image is copied in steps, and goes on here; or it is whole, and is to be made current.
+    Steps(Option<CopyPlace>),
+    /// An image was given up, and a whole one is to be taken at once.
+    GivenUp,
+}
+
+/// A law: of as many copies in a row as an image takes at most, none of them refused, one makes an image current: its start, its
+/// pages, its entries by chunks, and the flip.
+pub fn copies_flip<D: Device, A: Allocator>()
+    ensures { (replies : List (ReplyValue A)) (old new : PartsValue D A) → AreLawful D.failures (copies replies) replies old new → HaveNoRefusal replies → most_copies old.geometry ≤ length replies → HaveFlip replies }
+{}
+
+impl<D: Device, A: Allocator + Copy> Parts<D, A> {
+    ghost use Rattle.image_model.specs.declared.chunk.CopyPlace.{CopyPlace};
+    ghost use Rattle.store_writer.specs.Parts.{image_of};
+    ghost use Rattle.store_writer.specs.Writer.{IsChunk};
+    ghost use Rattle.image_model.specs.Run.{Run};
+    ghost use Rattle.restart.specs.declared.copying.Copying.TheVariants.{Steps, GivenUp};
+    ghost use Rattle.restart.specs.declared.event.Event.TheVariants as event;
+    ghost use Rattle.restart.specs.Copies.{IsCopyAnswer, IsDue, next_place};
+    ghost use Rattle.restart.specs.Handing.{FlushesFirst, MovesOn};
+    ghost use Rattle.restart.specs.Parts.{has_failed, unhanded, writer_of};
+    ghost use Rattle.restart.specs.Store.{CanRun, ServesOn, StandsAt};
+
+    /// Takes the next piece of an image, or makes it current.
+    pub(crate) fn copy(&mut self) -> Reply<A>
+        requires { CanRun D.history self.old }
+        ensures serves { ServesOn D.history event.Copy result self.old self.new }
+        ensures answer { IsCopyAnswer D.failures result self.old self.new }
+        ensures can_run { CanRun D.history self.new }
+    {
+        if self.writer.has_failed() {
+            return Reply::Refused(Error::DeviceFailed);
+        }
+        if !self.hand_over() {
+            return Reply::Refused(Error::NoMemory);
+        }
+        self.copy_handed()
+    }
+
+    // So it does where the writer has all records.
+    fn copy_handed(&mut self) -> Reply<A>
+        requires runs { CanRun D.history self.old }
+        requires all { unhanded self.old ≡ [] }
+        requires sound { has_failed self.old ≡ false }
+        ensures moves { MovesOn D.history self.old self.new }
+        ensures answer { IsCopyAnswer D.failures result self.old self.new }
+    {
+        match self.copying {
+            Copying::Idle => self.copy_piece(CopyPlace::Start),
+            Copying::Steps(next) => match next {
+                Some(place) => self.copy_piece(place),
+                None => self.flip(),
+            },
+            Copying::GivenUp => self.copy_all(),
+        }
+    }
+
+    // Takes the piece of this place.
+    fn copy_piece(&mut self, place: CopyPlace) -> Reply<A>
+        requires runs { CanRun D.history self.old }
+        requires all { unhanded self.old ≡ [] }
+        requires sound { has_failed self.old ≡ false }
+        requires due { IsDue self.old.geometry.pages place (image_of (writer_of self.old)) }
+        requires next { next_place self.old.copying ≡ Some place }
+        ensures moves { MovesOn D.history self.old self.new }
+        ensures answer { IsCopyAnswer D.failures result self.old self.new }
+    {
+        each_list();
+        one_copy();
+        self.writer.next_pieces();
+        let chunk = match copy_step(self.alloc, &self.core, place) {
+            Ok(chunk) => chunk,
+            Err(error) => return Reply::Refused(error),
+        };
+        let behind = chunk.place_behind(self.geometry);
+        match self.writer.checkpoint_step(chunk) {
+            Ok(StepReply::Taken) => {
+                self.copying = Copying::Steps(behind);
+                Reply::Copied
+            }
+            Ok(StepReply::StartAgain) => {
+                self.copying = Copying::GivenUp;
+                Reply::Again
+            }
+            Err(error) => Reply::Refused(error),
+        }
+    }
+
+    // Takes all at once, and makes it current.
+    fn copy_all(&mut self) -> Reply<A>
+        requires runs { CanRun D.history self.old }
+        requires all { unhanded self.old ≡ [] }
+        requires sound { has_failed self.old ≡ false }
+        requires given_up { self.old.copying ≡ GivenUp }
+        ensures moves { MovesOn D.history self.old self.new }
+        ensures answer { IsCopyAnswer D.failures result self.old self.new }
+    {
+        each_list();
+        one_copy();
+        self.writer.next_pieces();
+        let chunk = match copy_whole(self.alloc, &self.core) {
+            Ok(chunk) => chunk,
+            Err(error) => return Reply::Refused(error),
+        };
+        match self.writer.checkpoint_step(chunk) {
+            Ok(StepReply::Taken) => {}
+            Ok(StepReply::StartAgain) => unreachable!(),
+            Err(error) => return Reply::Refused(error),
+        }
+        match self.writer.checkpoint_flip() {
+            Ok(FlipReply::Flipped(number)) => {
+                self.copying = Copying::Idle;
+                Reply::Flipped(number)
+            }
+            Ok(FlipReply::Behind) => unreachable!(),
+            Err(error) => Reply::Refused(error),
+        }
+    }
+
+    // Makes the image current, as soon as enough groups are written.
+    fn flip(&mut self) -> Reply<A>
+        requires runs { CanRun D.history self.old }
+        requires all { unhanded self.old ≡ [] }
+        requires sound { has_failed self.old ≡ false }
+        requires whole { self.old.copying ≡ Steps None }
+        ensures moves { MovesOn D.history self.old self.new }
+        ensures answer { IsCopyAnswer D.failures result self.old self.new }
+    {
+        'groups: loop {
+            match self.flip_or_flush() {
+                Some(reply) => return reply,
+                None => {}
+            }
+        }
+    }
+
+    // Makes the image current; or writes one group more, and then there is no answer yet.
+    fn flip_or_flush(&mut self) -> Option<Reply<A>>
+        requires runs { CanRun D.history self.old }
+        requires all { unhanded self.old ≡ [] }
+        requires sound { has_failed self.old ≡ false }
+        requires whole { self.old.copying ≡ Steps None }
+        ensures moves { MovesOn D.history self.old self.new }
+        ensures answer { IfSome result (λ reply. IsCopyAnswer D.failures reply self.old self.new) }
+        ensures flushed { IfNone result (FlushesFirst D.failures self.old self.new) }
+    {
+        kept_place();
+        match self.writer.checkpoint_flip() {
+            Ok(FlipReply::Flipped(number)) => {
+                self.copying = Copying::Idle;
+                return Some(Reply::Flipped(number));
+            }
+            Ok(FlipReply::Behind) => {}
+            Err(error) => return Some(Reply::Refused(error)),
+        }
+        match self.writer.flush_group(self.alloc) {
+            Ok(FlushReply::Flushed(_)) => None,
+            Ok(FlushReply::Nothing) => {
+                self.copying = Copying::GivenUp;
+                Some(Reply::Again)
+            }
+            Ok(FlushReply::LogFull) => {
+                self.copying = Copying::GivenUp;
+                Some(Reply::Again)
+            }
+            Err(error) => Some(Reply::Refused(error)),
+        }
+    }
+}
