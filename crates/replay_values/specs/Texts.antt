@@ -81,6 +81,7 @@ answer_text answer.Empty = codes "empty"
 answer_text (answer.Ticket number) = codes "ticket " ++ decimal number
 answer_text (answer.Made step) = step_text step
 answer_text (answer.Horizon number) = codes "horizon " ++ decimal number
+answer_text answer.Flipped = codes "flipped"
 answer_text (answer.Row row) = codes "row " ++ row_text row
 answer_text answer.NoRow = codes "none"
 answer_text (answer.Found rids) = places_text rids.items

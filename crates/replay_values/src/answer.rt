@@ -24,6 +24,8 @@ pub enum Answer {
     Made(Step),
     /// Every record up to this one is synced: `horizon <n>`.
     Horizon(u64),
+    /// An image of the store is current: `flipped`.
+    Flipped,
     /// The row that was asked for: `row <key> <body>`.
     Row(Row),
     /// No row is there: `none`.
@@ -78,6 +80,7 @@ impl fmt::Display for Answer {
             Answer::Ticket(number) => write!(f, "ticket {number}"),
             Answer::Made(step) => write!(f, "{step}"),
             Answer::Horizon(number) => write!(f, "horizon {number}"),
+            Answer::Flipped => f.write_str("flipped"),
             Answer::Row(row) => write!(f, "row {}", RowText(*row)),
             Answer::NoRow => f.write_str("none"),
             Answer::Found(rids) => write!(f, "{}", Places(rids.as_slice())),

@@ -12,7 +12,7 @@ use Rattle.records.specs.Values.{Place}
 use Rattle.script.specs.declared.fate.Fate.{Fate}
 use Rattle.script.specs.declared.fate.Fate.TheVariants.{Old, New, Zero, Gate, Junk}
 use Rattle.script.specs.declared.command.Command.{Command}
-use Rattle.script.specs.declared.command.Command.TheVariants.{Begin, Insert, Delete, Update, Step, Undo, End, Commit, Create, Build, Clean, Flush, Crash, Get, Find, Dump}
+use Rattle.script.specs.declared.command.Command.TheVariants.{Begin, Insert, Delete, Update, Step, Undo, End, Commit, Create, Build, Clean, Flush, Image, Crash, Get, Find, Dump}
 use Rattle.script.specs.Grammar.{words, IsRid, rid_text, fate_name, IsLineOf, CanBeGiven}
 use Rattle.script.proofs.Numbers.{no_such_byte}
 
@@ -99,6 +99,7 @@ line_of (Build count) h =
 line_of (Clean count) h =
     (join_with_byte 32 (codes "clean" ∷ decimal count ∷ []), inr (spaced (codes "clean") (decimal count ∷ []) (by_test (codes "clean") refl, (number_has_no_space count (omega (arith, h.1)), tt)), h))
 line_of Flush h = (codes "flush", refl)
+line_of Image h = (codes "image", refl)
 line_of (Crash fate) h = (join_with_byte 32 (codes "crash" ∷ fate_name fate ∷ []), spaced (codes "crash") (fate_name fate ∷ []) (by_test (codes "crash") refl, (fate_has_no_space fate, tt)))
 line_of (Get rid) h =
     (join_with_byte 32 (codes "get" ∷ rid_text rid ∷ []), (spaced (codes "get") (rid_text rid ∷ []) (by_test (codes "get") refl, (rid_has_no_space rid h, tt)), h))

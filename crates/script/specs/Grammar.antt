@@ -12,7 +12,7 @@ use Rattle.script.specs.declared.word.TheConstants.{STEPS_MAX}
 use Rattle.script.specs.declared.fate.Fate.{Fate}
 use Rattle.script.specs.declared.fate.Fate.TheVariants.{Old, New, Zero, Gate, Junk}
 use Rattle.script.specs.declared.command.Command.{Command}
-use Rattle.script.specs.declared.command.Command.TheVariants.{Begin, Insert, Delete, Update, Step, Undo, End, Commit, Create, Build, Clean, Flush, Crash, Get, Find, Dump}
+use Rattle.script.specs.declared.command.Command.TheVariants.{Begin, Insert, Delete, Update, Step, Undo, End, Commit, Create, Build, Clean, Flush, Image, Crash, Get, Find, Dump}
 
 -- the parts of a text between its separators: with none, the text itself
 abbrev pub parted_by : ℕ → List ℕ → List (List ℕ)
@@ -76,6 +76,7 @@ Spell words Create = words ≡ codes "create" ∷ []
 Spell words (Build count) = SpellSteps (codes "build") words count
 Spell words (Clean count) = SpellSteps (codes "clean") words count
 Spell words Flush = words ≡ codes "flush" ∷ []
+Spell words Image = words ≡ codes "image" ∷ []
 Spell words (Crash fate) = words ≡ codes "crash" ∷ fate_name fate ∷ []
 Spell words (Get rid) = (words ≡ codes "get" ∷ rid_text rid ∷ []) × IsRid rid
 Spell words (Find key) = (k : List ℕ) × (words ≡ codes "find" ∷ k ∷ []) × IsByteText k key
@@ -119,6 +120,7 @@ CanBeGiven Create = Unit {0}
 CanBeGiven (Build count) = IsCount count
 CanBeGiven (Clean count) = IsCount count
 CanBeGiven Flush = Unit {0}
+CanBeGiven Image = Unit {0}
 CanBeGiven (Crash _) = Unit {0}
 CanBeGiven (Get rid) = IsRid rid
 CanBeGiven (Find key) = IsBytes key

@@ -14,7 +14,7 @@ use Rattle.script.specs.declared.word.TheConstants.{STEPS_MAX}
 use Rattle.script.specs.declared.fate.Fate.{Fate}
 use Rattle.script.specs.declared.fate.Fate.TheVariants.{Old, New, Zero, Gate, Junk}
 use Rattle.script.specs.declared.command.Command.{Command}
-use Rattle.script.specs.declared.command.Command.TheVariants.{Begin, Insert, Delete, Update, Step, Undo, End, Commit, Create, Build, Clean, Flush, Crash, Get, Find, Dump}
+use Rattle.script.specs.declared.command.Command.TheVariants.{Begin, Insert, Delete, Update, Step, Undo, End, Commit, Create, Build, Clean, Flush, Image, Crash, Get, Find, Dump}
 use Rattle.script.specs.Grammar.{parted_by, is_left_out, IsLineOf}
 
 infixl 10 ◌>>=◌
@@ -165,6 +165,7 @@ store_command_at verb args =
     else if bytes_eq verb (codes "build") then option_map Build (steps_at args)
     else if bytes_eq verb (codes "clean") then option_map Clean (steps_at args)
     else if bytes_eq verb (codes "flush") then alone_at Flush args
+    else if bytes_eq verb (codes "image") then alone_at Image args
     else if bytes_eq verb (codes "crash") then crash_at args
     else if bytes_eq verb (codes "get") then get_at args
     else if bytes_eq verb (codes "find") then find_at args

@@ -55,6 +55,8 @@ pub enum Command {
     },
     /// Writes the log until every record made is synced: `flush`.
     Flush,
+    /// Takes an image of the store and makes it current: `image`.
+    Image,
     /// Crashes the device and restarts: `crash <fate>`.
     Crash {
         fate: Fate,

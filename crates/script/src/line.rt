@@ -152,6 +152,8 @@ fn store_command_of(
         Ok(steps_of(rest).map(|count| Command::Clean { count }))
     } else if verb == b"flush".as_slice() {
         Ok(alone(rest, Command::Flush))
+    } else if verb == b"image".as_slice() {
+        Ok(alone(rest, Command::Image))
     } else if verb == b"crash".as_slice() {
         Ok(crash_of(rest))
     } else if verb == b"get".as_slice() {

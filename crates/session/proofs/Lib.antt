@@ -1,4 +1,5 @@
 mod Flushed
+mod Imaged
 mod Entries
 mod Made
 mod Started

@@ -45,6 +45,7 @@ request_of command.Create = Ok (request.Event event.Create)
 request_of (command.Build count) = Ok (request.Build count)
 request_of (command.Clean count) = Ok (request.Clean count)
 request_of command.Flush = Ok request.Flush
+request_of command.Image = Ok request.Image
 request_of (command.Crash fate) = Ok (request.Crash (fate_of fate))
 request_of (command.Get rid) = Ok (request.Event (event.Get rid))
 request_of (command.Find key) = with_key key (request.Event (event.Find key))

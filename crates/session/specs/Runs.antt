@@ -10,7 +10,7 @@ use Rattle.restart.specs.declared.event.Event.TheVariants as event
 use Rattle.restart.specs.declared.event.Reply.{Reply}
 use Rattle.script.specs.declared.command.Command.{Command}
 use Rattle.session.specs.Disk.{LosesPower}
-use Rattle.session.specs.Session.{disk_of, last_made, life_of, outcome_of, LeavesItsRun, ServesEvent, Flushes, calls_to_stop, Reopens}
+use Rattle.session.specs.Session.{disk_of, last_made, life_of, outcome_of, LeavesItsRun, ServesEvent, TakesImage, Flushes, calls_to_stop, Reopens}
 use Rattle.session.specs.Requests.{request_of}
 use Rattle.replay_values.specs.Steps.{is_last_step}
 use Rattle.replay_values.specs.Texts.{line_of}
@@ -76,6 +76,8 @@ module _ {W : Type 0} (contents : W → Option (List ℕ)) where
   Runs (request.Clean count) old next before after = MakesSteps event.Clean count old next before after
   Runs request.Flush old next before after =
       (new : Session) × (reply : Reply Global) × Flushes (last_made old) reply old new × GoesOn (outcome_of new reply) new next before after
+  Runs request.Image old next before after =
+      (new : Session) × (reply : Reply Global) × TakesImage reply old new × GoesOn (outcome_of new reply) new next before after
   Runs (request.Crash fate) old next before after = Restarts fate old next before after
   Runs request.Dump old next before after = (next ≡ Ok old) × Appends (contents before) (contents after) (dump_text old)
 

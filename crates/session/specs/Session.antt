@@ -1,5 +1,5 @@
 -- A store under a script.
-use Rattle.std.specs.Prelude.{◌≡◌, ◌⊎◌, ◌<◌, ◌≤◌, ◌-◌, ◌&&◌, ℕ, nat_lt, Bool, true, false, List, [], ◌∷◌, map, All, Result, Ok, Err, if◌then◌else◌}
+use Rattle.std.specs.Prelude.{◌≡◌, ◌≢◌, ◌⊎◌, ◌<◌, ◌≤◌, ◌-◌, ◌&&◌, ℕ, nat_lt, Bool, true, false, List, [], ◌∷◌, map, All, Result, Ok, Err, if◌then◌else◌}
 use Rattle.std.specs.List.Sorted.{IsStrictlyIncreasing}
 use Rattle.std.specs.declared.alloc.Global.{Global}
 use Rattle.records.specs.GeometryValue.{GeometryValue}
@@ -18,9 +18,9 @@ use Rattle.restart.specs.Store.{KeepsRun}
 use Rattle.restart.specs.Store as store
 use Rattle.restart.specs.declared.engine.Engine.{Engine}
 use Rattle.restart.specs.declared.event.Event.{Event}
-use Rattle.restart.specs.declared.event.Event.TheVariants.{Flush}
+use Rattle.restart.specs.declared.event.Event.TheVariants.{Flush, Copy}
 use Rattle.restart.specs.declared.event.Reply.{Reply}
-use Rattle.restart.specs.declared.event.Reply.TheVariants.{Horizon, Refused}
+use Rattle.restart.specs.declared.event.Reply.TheVariants.{Horizon, LogFull, Copied, Flipped, Again, Refused}
 use Rattle.session.specs.Answers.{answer_of}
 use Rattle.session.specs.Disk.{disk_history, disk_failures}
 use Rattle.replay_values.specs.declared.answer.Answer.{Answer}
@@ -110,9 +110,10 @@ pub record ServesEvent (event : Event) (reply : Reply Global) (old new : Session
   pub replied : IsReply event reply old.engine new.engine
   pub rest : new ≡ record old { engine = new.engine }
 
--- how far the records are synced after a flush with this reply
+-- how far the records are synced after this reply, where they were up to the horizon before it
 abbrev pub horizon_after : ℕ → Reply Global → ℕ
 horizon_after horizon (Horizon number) = number
+horizon_after horizon (Flipped number) = number
 horizon_after horizon _ = horizon
 
 -- whether the reply tells of more synced records than there were, and not yet of all up to the last
@@ -120,10 +121,40 @@ abbrev pub asks_again : ℕ → ℕ → Reply Global → Bool
 asks_again last horizon (Horizon number) = nat_lt horizon number && nat_lt number last
 asks_again last horizon _ = false
 
--- One flush had this reply.
-pub record FlushesOnce (reply : Reply Global) (old new : Session) : Type 0 where
-  pub replied : IsReply Flush reply old.engine new.engine
+-- The event had this reply, and the session knows how far the records are synced after it.
+pub record Writes (event : Event) (reply : Reply Global) (old new : Session) : Type 0 where
+  pub replied : IsReply event reply old.engine new.engine
   pub rest : new ≡ record old { engine = new.engine; horizon = horizon_after (horizon_of old) reply }
+
+-- whether the reply to a copy tells that the image isn't current yet, and that nothing was refused
+abbrev pub is_on_the_way : Reply Global → Bool
+is_on_the_way Copied = true
+is_on_the_way Again = true
+is_on_the_way _ = false
+
+-- One copy after another had these replies.
+abbrev pub AreCopied : List (Reply Global) → Session → Session → Type 0
+AreCopied [] old new = new ≡ old
+AreCopied (reply ∷ replies) old new = (mid : Session) × Writes Copy reply old mid × AreCopied replies mid new
+
+-- The session copied until the image was current, or a copy was refused: that is the final reply.
+pub record TakesImage (final : Reply Global) (old new : Session) : Type 0 where
+  pub mid : Session
+  pub replies : List (Reply Global)
+  pub copied : AreCopied replies old mid
+  pub on_the_way : All (λ reply. is_on_the_way reply ≡ true) replies
+  pub final_copy : Writes Copy final mid new
+  pub ends : is_on_the_way final ≡ false
+
+-- what is told of a flush that took an image: as many records are synced as if it had written groups
+abbrev pub as_flush : Reply Global → Reply Global
+as_flush (Flipped number) = Horizon number
+as_flush reply = reply
+
+-- One flush had this reply; or the log was full, and an image was taken in its place.
+abbrev pub FlushesOnce : Reply Global → Session → Session → Type 0
+FlushesOnce reply old new = ((reply ≢ LogFull) × Writes Flush reply old new)
+    ⊎ ((mid : Session) × (final : Reply Global) × Writes Flush LogFull old mid × TakesImage final mid new × (reply ≡ as_flush final))
 
 -- One flush after another had these replies.
 abbrev pub AreFlushed : List (Reply Global) → Session → Session → Type 0

@@ -101,6 +101,10 @@ fn serve<W: Write>(
             let answer = session.flush();
             go_on(session, answer, output)
         }
+        Request::Image => {
+            let answer = session.image();
+            go_on(session, answer, output)
+        }
         Request::Crash(fate) => crash(session, fate, output),
         Request::Dump => {
             session.dump(output)?;

@@ -23,6 +23,8 @@ pub fn answer_of(reply: Reply<Global>, horizon: u64) -> Answer
         Reply::Cleaned(cleaned) => Answer::Made(clean_step_of(cleaned)),
         Reply::Horizon(number) => Answer::Horizon(number),
         Reply::LogFull => Answer::Horizon(horizon),
+        Reply::Copied | Reply::Again => Answer::Done,
+        Reply::Flipped(_) => Answer::Flipped,
         Reply::Row(row) => answer_of_row(row),
         Reply::Found(rids) => Answer::Found(rids),
         Reply::Life(life) => Answer::Life(life),

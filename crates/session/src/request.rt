@@ -18,6 +18,8 @@ pub enum Request {
     Clean(u32),
     /// As many flushes as it takes until every record made is synced.
     Flush,
+    /// An image of the store, taken and made current.
+    Image,
     /// A crash of the device with this fate for every unsynced sector, and a restart.
     Crash(Fate),
     /// Every row, every entry, and how far the index is.
@@ -52,6 +54,7 @@ impl Request {
             Command::Build { count } => Ok(Request::Build(*count)),
             Command::Clean { count } => Ok(Request::Clean(*count)),
             Command::Flush => Ok(Request::Flush),
+            Command::Image => Ok(Request::Image),
             Command::Crash { fate } => Ok(Request::Crash(device_fate(*fate))),
             Command::Get { rid } => Ok(Request::Event(Event::Get { rid: *rid })),
             Command::Find { key } => search(key),

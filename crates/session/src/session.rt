@@ -6,7 +6,7 @@ ghost use Rattle.sector_device.specs.declared.fault.FaultDisk.{FaultDisk};
 ghost use Rattle.btree_node.specs.Above.{IsLeastAbove};
 ghost use Rattle.sector_device.specs.declared.memory.MemDisk.{MemDisk};
 ghost use Rattle.session.specs.Disk.{LosesPower};
-ghost use Rattle.session.specs.Session.{asks_again, tells_stop};
+ghost use Rattle.session.specs.Session.{as_flush, asks_again, horizon_after, is_on_the_way, tells_stop};
 ghost use Rattle.replay_values.specs.Texts.{line_of};
 ghost use Rattle.session.specs.Dump.{row_line, slot_lines, entry_lines, dump_text};
 
@@ -59,7 +59,7 @@ fn crashed(disk: Disk, fate: Fate, fails_at: u64) -> Disk
 }
 
 // Whether the error tells that the write or sync of this number was made, which was to be cut short.
-// The disk in memory fails by itself nowhere: it has room to record all its calls.
+// The disk in memory fails by itself only where there is no memory to record its calls, and it has room for many.
 fn tells_stop(fails_at: u64, error: Error) -> bool
     ensures { result ≡ tells_stop fails_at error }
 {
@@ -80,6 +80,36 @@ fn asks_again(last: u64, horizon: u64, reply: &Reply<Global>) -> bool
     }
 }
 
+// How far the records are synced after this reply, where they were up to the horizon before it.
+fn horizon_after(horizon: u64, reply: &Reply<Global>) -> u64
+    ensures { result ≡ horizon_after horizon reply.now }
+{
+    match reply {
+        Reply::Horizon(number) | Reply::Flipped(number) => *number,
+        _ => horizon,
+    }
+}
+
+// Whether a copy with this reply is followed by another: the image isn't current yet.
+fn is_on_the_way(reply: &Reply<Global>) -> bool
+    ensures { result ≡ is_on_the_way reply.now }
+{
+    match reply {
+        Reply::Copied | Reply::Again => true,
+        _ => false,
+    }
+}
+
+// What is told of a flush that took an image: as many records are synced as if it had written groups.
+fn as_flush(reply: Reply<Global>) -> Reply<Global>
+    ensures { result ≡ as_flush reply }
+{
+    match reply {
+        Reply::Flipped(number) => Reply::Horizon(number),
+        other => other,
+    }
+}
+
 // Prints an entry.
 fn dump_entry<W: Write>(pair: Pair, mark: Mark, output: &mut W) -> io::Result<()>
     ensures { OnOk result (Appends (W.contents output.old) (W.contents output.new) (line_of (Answer.Entry pair mark))) }
@@ -90,7 +120,7 @@ fn dump_entry<W: Write>(pair: Pair, mark: Mark, output: &mut W) -> io::Result<()
 
 impl Session {
     ghost use Rattle.restart.specs.declared.event.Reply.{Reply};
-    ghost use Rattle.session.specs.Session.{OpensOn, IsRefusedOn, LeavesItsRun, disk_of, last_made, is_stop, outcome_of, ServesEvent, FlushesOnce, Flushes, calls_to_stop, Reopens, rows_of, entries_of, life_of};
+    ghost use Rattle.session.specs.Session.{OpensOn, IsRefusedOn, LeavesItsRun, disk_of, last_made, is_stop, outcome_of, ServesEvent, Writes, TakesImage, FlushesOnce, Flushes, calls_to_stop, Reopens, rows_of, entries_of, life_of};
 
     /// Opens the store on the disk, whose write or sync of this number is cut short, or none at 0.
     /// Where the restart is refused, the disk comes back.
@@ -181,18 +211,47 @@ impl Session {
         self.outcome_of(reply)
     }
 
-    // Flushes once.
-    fn flush_once(&mut self) -> Reply<Global>
-        ensures { FlushesOnce result self.old self.new }
+    // Serves an event that may write records, and knows how far they are synced then.
+    fn write(&mut self, event: Event) -> Reply<Global>
+        ensures { Writes event result self.old self.new }
     {
-        let reply = self.reply_to(Event::Flush);
-        if let Reply::Horizon(number) = reply {
-            self.horizon = number;
-        }
+        let reply = self.reply_to(event);
+        self.horizon = horizon_after(self.horizon, &reply);
         reply
     }
 
-    /// Flushes until every record made is synced, or a flush is refused, or the log is full.
+    // Takes an image of the store, piece by piece, and makes it current.
+    fn take_image(&mut self) -> Reply<Global>
+        ensures { TakesImage result self.old self.new }
+    {
+        'copies: loop {
+            let reply = self.write(Event::Copy);
+            if !is_on_the_way(&reply) {
+                return reply;
+            }
+        }
+    }
+
+    // Flushes once, or takes an image where the log is full.
+    fn flush_once(&mut self) -> Reply<Global>
+        ensures { FlushesOnce result self.old self.new }
+    {
+        match self.write(Event::Flush) {
+            Reply::LogFull => as_flush(self.take_image()),
+            reply => reply,
+        }
+    }
+
+    /// Takes an image of the store and makes it current, unless that is refused.
+    pub fn image(&mut self) -> Result<Answer, Stopped>
+        ensures { (reply : Reply Global) × TakesImage reply self.old self.new × (result ≡ outcome_of self.new reply) }
+    {
+        let reply = self.take_image();
+        self.outcome_of(reply)
+    }
+
+    /// Flushes until every record made is synced, or a flush is refused. Where the log is full, an image is taken and made
+    /// current, and it goes on.
     pub fn flush(&mut self) -> Result<Answer, Stopped>
         ensures { (reply : Reply Global) × Flushes (last_made self.old) reply self.old self.new × (result ≡ outcome_of self.new reply) }
     {

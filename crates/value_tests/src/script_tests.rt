@@ -99,6 +99,7 @@ fn commands_without_bytes(rt: HostRuntime) -> Result<(), Fail> {
         (b"clean", Command::Clean { count: 1 }),
         (b"clean 64", Command::Clean { count: 64 }),
         (b"flush", Command::Flush),
+        (b"image", Command::Image),
         (b"dump", Command::Dump),
         (b"step 4294967295", Command::Step { txn }),
         (b"undo 4294967295", Command::Undo { txn }),

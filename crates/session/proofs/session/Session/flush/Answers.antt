@@ -1,6 +1,6 @@
 use Rattle.std.proofs.Common.{◌≡◌, ℕ, true, false, subst, ap, ◌∙◌, arith, rules}
 use Rattle.nsf_core.specs.View.{CoreValue}
-use Rattle.session.specs.Session.{horizon_after, last_made, asks_again, Flushes}
+use Rattle.session.specs.Session.{last_made, asks_again, Flushes}
 use Rattle.session.specs.declared.session.Session.{Session}
 use Rattle.session.proofs.Flushed.{none_flushed, one_more, is_final, rises}
 use Rattle.session.proofs.session.Session.flush.Goals as goal
@@ -36,6 +36,5 @@ pub loop-self-smaller : goal.loop-self-smaller
 loop-self-smaller c =
     let reply = c.flush_once-reply.result in
     let again : asks_again c.last-last.result c.loop-self.self.horizon reply ≡ true = cc in
-    let at : c.flush_once-reply.new.self.horizon ≡ horizon_after c.loop-self.self.horizon reply = ap (λ (s : Session). s.horizon) c.flush_once-reply.ensures.rest in
-    let up = rises c.last-last.result c.loop-self.self.horizon reply again in
-    first_of (omega (arith, at, up.0, up.1), grind (arith, at, up.0, up.1), search (rules, at, up.0, up.1))
+    let up = rises c.last-last.result c.loop-self.self c.flush_once-reply.new.self reply again c.flush_once-reply.ensures in
+    first_of (omega (arith, up.0, up.1), grind (arith, up.0, up.1), search (rules, up.0, up.1))
