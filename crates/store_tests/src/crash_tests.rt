@@ -4,7 +4,7 @@ use crate::phases::{Contents, NOTHING, Phase, held_by, worked_run};
 use crate::requests::Answer;
 use crate::store::{Memory, memory_of, reply_to};
 use restart::{Engine, Event, restart};
-use sector_device::{Device, Fate, FaultDisk, Which};
+use sector_device::{Device, Fate, FaultDisk, MemDisk, Which};
 use std::alloc::Global;
 use std::process::Abort;
 use std::test::Fail;
@@ -39,7 +39,27 @@ struct Stopped {
     failed: bool,
 }
 
-// The device fails at this call, and what was not synced then comes to this fate.
+// Opens the store that is left on the disk, once a restart was stopped at this of its calls, another four calls later, and so
+// on until one is not stopped: what is held then.
+fn held_at_last(
+    memory: &Memory,
+    mut disk: MemDisk<Global>,
+    first: u64,
+    fates: &[Fate],
+) -> Result<Contents, Fail> {
+    for more in 0..CALLS {
+        let call = first.saturating_add(more.saturating_mul(4));
+        disk.crash(fates);
+        match restart(memory, FaultDisk::new(disk, Which::WritesAndSyncs, call)) {
+            Ok(engine) => return Ok(held_by(engine.core())),
+            Err((_, stopped)) => disk = stopped.into_inner(),
+        }
+    }
+    Err("fewer calls")?
+}
+
+// The device fails at this call, and what was not synced then comes to this fate; and so it goes with the restarts behind it
+// that are stopped: over four calls, at each of theirs.
 fn stop_at(alloc: Global, phases: &[Phase], call: u64, fates: &[Fate]) -> Result<Stopped, Fail> {
     let memory = memory_of(alloc)?;
     let disk = FaultDisk::new(formatted_for_long(alloc)?, Which::WritesAndSyncs, call);
@@ -48,12 +68,7 @@ fn stop_at(alloc: Global, phases: &[Phase], call: u64, fates: &[Fate]) -> Result
         Err((_, disk)) => (0, disk),
     };
     let failed = call <= disk.made();
-    let mut disk = disk.into_inner();
-    disk.crash(fates);
-    let Ok(engine) = restart(&memory, disk) else {
-        return Err("a store")?;
-    };
-    let left = held_by(engine.core());
+    let left = held_at_last(&memory, disk.into_inner(), 1 + call % 4, fates)?;
     Ok(Stopped { safe, left, failed })
 }
 

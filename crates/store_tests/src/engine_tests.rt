@@ -5,7 +5,7 @@ use crate::requests::{Answer, Asked, answer_of, commit_ticket, insertion};
 use crate::store::{Memory, memory_of, open, serve};
 use crate::values::{row, txn};
 use flip_image::Halves;
-use records::{Error, Rid};
+use records::{Error, Geometry, Rid};
 use restart::Event;
 use sector_device::{Fate, MemDisk};
 use std::alloc::Global;
@@ -43,6 +43,53 @@ fn a_full_log(rt: HostRuntime) -> Result<(), Fail> {
         asked.push((Event::Flush, flushed))?;
     }
     play(&rt, &memory, formatted(rt.alloc())?, &asked)?;
+    Ok(())
+}
+
+// An image is copied piece by piece while a transaction works, and then current: what was made meanwhile is there too.
+#[test]
+fn an_image_between_requests(rt: HostRuntime) -> Result<(), Fail> {
+    let memory = memory_of(rt.alloc())?;
+    let (one, two) = (txn(1)?, txn(2)?);
+    let (ant, bee) = (row(b"a", b"")?, row(b"b", b"")?);
+    let next = Rid { page: 0, slot: 1 };
+    let asked = [
+        (Event::Begin, Answer::Txn(one)),
+        (insertion(one, ant), Answer::Rid(FIRST)),
+        (
+            Event::Commit { txn: one },
+            Answer::Ticket(commit_ticket(2, 1)?),
+        ),
+        (Event::Copy, Answer::Copied),
+        (Event::Copy, Answer::Copied),
+        (Event::Begin, Answer::Txn(two)),
+        (insertion(two, bee), Answer::Rid(next)),
+        (
+            Event::Commit { txn: two },
+            Answer::Ticket(commit_ticket(4, 2)?),
+        ),
+        (Event::Copy, Answer::Copied),
+        (Event::Copy, Answer::Copied),
+        (Event::Copy, Answer::Flipped(4)),
+    ];
+    let mut disk = MemDisk::new(rt.alloc(), 2_000, 1_000)?;
+    Halves::format(&mut disk, Geometry::new(2, 128, 4)?)?;
+    let Ok(mut engine) = open(&memory, disk, &mut None) else {
+        return Err("a store")?;
+    };
+    serve(&rt, &memory, &mut engine, &asked, &mut None);
+    let mut disk = engine.into_device();
+    disk.crash(&[Fate::Junk]);
+    let after = [
+        (Event::Get { rid: FIRST }, Answer::Row(Some(ant))),
+        (Event::Get { rid: next }, Answer::Row(Some(bee))),
+        (Event::Begin, Answer::Txn(one)),
+        (
+            Event::Commit { txn: one },
+            Answer::Ticket(commit_ticket(5, 1)?),
+        ),
+    ];
+    play(&rt, &memory, disk, &after)?;
     Ok(())
 }
 

@@ -74,6 +74,10 @@ fn play(
         (Event::Life, Answer::Life(Life::Complete)),
         (Event::Begin, Answer::Txn(txn(1)?)),
         (Event::Flush, Answer::Horizon(given.last)),
+        (Event::Copy, Answer::Copied),
+        (Event::Copy, Answer::Copied),
+        (Event::Copy, Answer::Copied),
+        (Event::Copy, Answer::Flipped(given.last)),
     ];
     serve(rt, memory, &mut engine, &after, &mut refused);
     Ok(refused)
