@@ -1,0 +1,75 @@
+-- What contracts see of the flusher's part, and what it keeps.
+use Rattle.std.specs.Prelude.{◌≡◌, ℕ, ◌+◌, ◌-◌, ◌≤◌, List, ◌++◌, length, take}
+use Rattle.std.specs.declared.alloc.Global.{Global}
+use Rattle.atomic_table.specs.Seated.{TableId}
+use Rattle.records.specs.RecordValue.{RecordValue}
+use Rattle.model.specs.Given.{opening_cells}
+use Rattle.core_model.specs.Histories.{Opened}
+use Rattle.sector_device.specs.History.{History, LeavesOnly}
+use Rattle.board.specs.Views.{FlusherCount}
+use Rattle.image_model.specs.Run.{Run}
+use Rattle.store_writer.specs.declared.writer.Writer.{Writer}
+use Rattle.store_writer.specs.Contents.{LeftBy}
+use Rattle.store_writer.specs.Parts.{device_of, halves_of, log_of, waiting_of, synced_of, has_failed, image_of}
+use Rattle.store_writer.specs.Writer.{IsWriter}
+
+-- The records that the writer has got, in order, and those that were popped behind them; the writer; and what was published.
+pub record FlushValue (D : Type 0) : Type 0 where
+  pub handed : List RecordValue
+  pub held : List RecordValue
+  pub writer : Writer D Global
+  pub published : FlusherCount
+
+-- of the records that were popped, these are held, and the writer has got those before them
+abbrev pub flush_value : {D : Type 0} → (popped held : List RecordValue) → Writer D Global → FlusherCount → FlushValue D
+flush_value popped held writer published = record { handed = take (length popped - length held) popped; held = held; writer = writer; published = published }
+
+-- all records that were popped, in order, each once
+abbrev pub popped_by : {D : Type 0} → FlushValue D → List RecordValue
+popped_by f = f.handed ++ f.held
+
+-- the store as it was opened, with the records that the writer has got since
+abbrev pub run_of : {D : Type 0} → Opened → FlushValue D → Run
+run_of o f = record { geometry = (halves_of f.writer).geometry; last = o.given.last; cells = opening_cells o.given; records = f.handed }
+
+-- the number of the last of them
+abbrev pub last_handed : {D : Type 0} → Opened → FlushValue D → ℕ
+last_handed o f = o.given.last + length f.handed
+
+-- The writer stands for the records that it got over what was opened. What was published is not above what it has synced, and
+-- tells whether its device failed.
+pub record IsFlusher {D : Type 0} (history : D → History) (o : Opened) (f : FlushValue D) : Type 0 where
+  pub pages : (halves_of f.writer).geometry.pages ≡ o.pages
+  pub writer : IsWriter history (run_of o f) (last_handed o f) f.writer
+  pub horizon : f.published.horizon ≤ synced_of f.writer
+  pub failed : f.published.failed ≡ has_failed f.writer
+
+-- what is published of a writer
+abbrev pub count_of : {D : Type 0} → TableId → Writer D Global → FlusherCount
+count_of board writer = record { board = board; horizon = synced_of writer; failed = has_failed writer }
+
+-- The writer has got these records more, which wait; and nothing else of it changed.
+pub record HasGot {D : Type 0} (more : List RecordValue) (old new : Writer D Global) : Type 0 where
+  pub device : device_of new ≡ device_of old
+  pub halves : halves_of new ≡ halves_of old
+  pub log : log_of new ≡ log_of old
+  pub waiting : waiting_of new ≡ waiting_of old ++ more
+  pub synced : synced_of new ≡ synced_of old
+  pub failed : has_failed new ≡ has_failed old
+  pub image : image_of new ≡ image_of old
+
+-- no record was popped or handed in, and what was published is now what the writer has synced, and whether its device failed
+pub record Publishes {D : Type 0} (old new : FlushValue D) : Type 0 where
+  pub handed : new.handed ≡ old.handed
+  pub held : new.held ≡ old.held
+  pub published : new.published ≡ count_of old.published.board new.writer
+
+-- The writer has flushed some groups more, and no record was popped or handed in. A crash at any moment since leaves what some of
+-- the records that the writer has got make of what was opened, the first ones, with all that were synced at first.
+pub record FlushesOn {D : Type 0} (history : D → History) (o : Opened) (old new : FlushValue D) : Type 0 where
+  pub handed : new.handed ≡ old.handed
+  pub held : new.held ≡ old.held
+  pub board : new.published.board ≡ old.published.board
+  pub halves : halves_of new.writer ≡ halves_of old.writer
+  pub rises : synced_of old.writer ≤ synced_of new.writer
+  pub images : LeavesOnly (history (device_of old.writer)) (history (device_of new.writer)) (LeftBy (run_of o old) (synced_of old.writer) (last_handed o old))
