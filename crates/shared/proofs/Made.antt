@@ -1,0 +1,130 @@
+-- A change of a seat, for whoever was not under the lock.
+use Rattle.std.proofs.Common.{◌≡◌, ◌≢◌, ℕ, Bool, true, false, List, Option, None, Some, Result, Ok, Err, IfOk, OnOk, is_some, refl, sym, ap, ◌∙◌, subst}
+use Rattle.std.proofs.Math.Logic.{∥∥₁_elim}
+use Rattle.std.specs.Prelude.{slice_get}
+use Rattle.records.specs.RecordValue.{RecordValue}
+use Rattle.records.specs.Values.{Place}
+use Rattle.records.specs.declared.error.Error.{Error}
+use Rattle.records.specs.declared.error.Error.TheVariants.{NoSuchTxn}
+use Rattle.records.specs.declared.row.Row.{Row}
+use Rattle.model.specs.declared.write.Write.{Write}
+use Rattle.core_contracts.specs.Events.{Event, Reply}
+use Rattle.core_model.specs.Histories.{Opened}
+use Rattle.nsf_core.specs.Replies.{reply_by}
+use Rattle.nsf_core.specs.View.{CoreValue, Serves}
+use Rattle.locked_core.specs.Names.{IsShared}
+use Rattle.sessions.specs.Steps.{changed, stepped}
+use Rattle.sessions.specs.Values.{active_of, ActiveValue, has_unfinished, is_active, is_ready, is_unfinished, SessionValue}
+use Rattle.shared.specs.Changed.{HasChanged, IsUnderWay, unfinished_of}
+use Rattle.shared.proofs.Advances.{deleted, followed, inserted, updated}
+use Rattle.shared.proofs.Lookups.{unfinished_is_some}
+use Rattle.shared.proofs.Single.{under_way_single}
+
+-- what is asked of a transaction that is the seat's
+owned : {T : Type 0} (b : Bool) (result : Result T Error) (x : T) → result ≡ Ok x → (b ≡ false → result ≡ Err NoSuchTxn) → b ≡ true
+owned true result x is foreign = refl
+owned false result x is foreign = absurd (not_both (sym is ∙ foreign refl))
+  where
+    not_both : Ok x ≡ Err NoSuchTxn → ⊥
+    not_both e = absurd cc
+
+module _ (o : Opened) (core new : CoreValue) (pushed : List RecordValue) (book : List SessionValue) (shared : ∥ IsShared o core pushed book ∥₁)
+    (seat : ℕ) (p q : SessionValue) (there : slice_get book seat ≡ Some p) (t : ℕ) where
+  pub insert_made : (is_active p t ≡ true → is_ready p t ≡ true) → (row : Row) (result : Result Place Error) → (is_active p t ≡ false → result ≡ Err NoSuchTxn)
+      → (is_active p t ≡ true → Serves core (Event.Insert t row) (reply_by Reply.Rid result) new) → IfOk result (λ rid. q ≡ changed p new t (record { rid = rid; row = Some row }))
+      → IfOk result (λ rid. IsUnderWay p t (record { rid = rid; row = Some row }) q)
+  insert_made ready row (Ok rid) foreign served is =
+      let own = owned (is_active p t) (Ok rid) rid refl foreign in
+      let w : Write = record { rid = rid; row = Some row } in
+      subst (IsUnderWay p t w) (sym is) (∥∥₁_elim shared (under_way_single p t w (changed p new t w)) (λ all. inserted o all.opens pushed core new book all.register seat p there t own (ready own) row rid (served own)))
+  insert_made ready row (Err e) foreign served is = tt
+
+  pub delete_made : (is_active p t ≡ true → is_ready p t ≡ true) → (rid : Place) (result : Result (Unit {0}) Error) → (is_active p t ≡ false → result ≡ Err NoSuchTxn)
+      → (is_active p t ≡ true → Serves core (Event.Delete t rid) (reply_by (λ _. Reply.Stepped) result) new) → OnOk result (q ≡ changed p new t (record { rid = rid; row = None }))
+      → OnOk result (IsUnderWay p t (record { rid = rid; row = None }) q)
+  delete_made ready rid (Ok x) foreign served is =
+      let own = owned (is_active p t) (Ok x) x refl foreign in
+      let w : Write = record { rid = rid; row = None } in
+      subst (IsUnderWay p t w) (sym is) (∥∥₁_elim shared (under_way_single p t w (changed p new t w)) (λ all. deleted o all.opens pushed core new book all.register seat p there t own (ready own) rid (served own)))
+  delete_made ready rid (Err e) foreign served is = tt
+
+  pub update_made : (is_active p t ≡ true → is_ready p t ≡ true) → (rid : Place) (row : Row) (result : Result (Unit {0}) Error) → (is_active p t ≡ false → result ≡ Err NoSuchTxn)
+      → (is_active p t ≡ true → Serves core (Event.Update t rid row) (reply_by (λ _. Reply.Stepped) result) new) → OnOk result (q ≡ changed p new t (record { rid = rid; row = Some row }))
+      → OnOk result (IsUnderWay p t (record { rid = rid; row = Some row }) q)
+  update_made ready rid row (Ok x) foreign served is =
+      let own = owned (is_active p t) (Ok x) x refl foreign in
+      let w : Write = record { rid = rid; row = Some row } in
+      subst (IsUnderWay p t w) (sym is) (∥∥₁_elim shared (under_way_single p t w (changed p new t w)) (λ all. updated o all.opens pushed core new book all.register seat p there t own (ready own) rid row (served own)))
+  update_made ready rid row (Err e) foreign served is = tt
+
+  pub step_made : (result : Result (Unit {0}) Error) → (is_active p t ≡ false → result ≡ Err NoSuchTxn)
+      → (is_active p t ≡ true → Serves core (Event.Step t) (reply_by (λ _. Reply.Stepped) result) new) → OnOk result (q ≡ stepped p new t)
+      → OnOk result ((w : Write) → unfinished_of p t ≡ Some w → IsUnderWay p t w q)
+  step_made (Ok x) foreign served is = λ w asked.
+      let own = owned (is_active p t) (Ok x) x refl foreign in
+      subst (IsUnderWay p t w) (sym is) (∥∥₁_elim shared (under_way_single p t w (stepped p new t)) (λ all. followed o all.opens pushed core new book all.register seat p there t own w asked (served own)))
+  step_made (Err e) foreign served is = tt
+
+-- ---- one step after another
+
+module _ (t : ℕ) (w : Write) where
+  -- nothing is made yet, of a change that is to be finished
+  pub nothing_made : (p : SessionValue) → unfinished_of p t ≡ Some w → IsUnderWay p t w p
+  nothing_made p is = record { others = refl; rows = λ q apart. refl; unfinished = λ there. is; row = λ none. absurd (never none); ready = λ none. absurd (never none) }
+    where
+      never : unfinished_of p t ≡ None → ⊥
+      never none = not_both (sym is ∙ none)
+        where
+          not_both : Some w ≡ None → ⊥
+          not_both e = absurd cc
+
+  pub more_made : (p q r : SessionValue) → IsUnderWay p t w q → IsUnderWay q t w r → IsUnderWay p t w r
+  more_made p q r a b = record { others = b.others ∙ a.others; rows = λ x apart. b.rows x apart ∙ a.rows x apart; unfinished = b.unfinished; row = b.row; ready = b.ready }
+
+  -- the first step, and then those that follow
+  pub all_made : (p q r : SessionValue) (refusal : Option Error) → IsUnderWay p t w q → (unfinished_of q t ≡ None → (refusal ≡ None) × (r ≡ q)) → ((v : Write) → unfinished_of q t ≡ Some v → HasChanged q t v refusal r) → HasChanged p t w refusal r
+  all_made p q r refusal first none some = by (unfinished_of q t) refl
+    where
+      rest : (e : Option Error) → HasChanged q t w e r → HasChanged p t w e r
+      rest None h = (more_made p q r first h.0, h.1)
+      rest (Some e) h = (more_made p q r first h.0, h.1)
+
+      by : (u : Option Write) → unfinished_of q t ≡ u → HasChanged p t w refusal r
+      by None is =
+          let done = none is in
+          subst (λ e. HasChanged p t w e r) (sym done.0) (subst (IsUnderWay p t w) (sym done.1) first, ap (λ (v : SessionValue). unfinished_of v t) done.1 ∙ is)
+      by (Some v) is = rest refusal (some w (first.unfinished (λ none. never (sym is ∙ none))))
+        where
+          never : Some v ≡ None → ⊥
+          never e = absurd cc
+
+pub not_unfinished : (p : SessionValue) (t : ℕ) → is_unfinished p t ≡ false → unfinished_of p t ≡ None
+not_unfinished p t is = by (unfinished_of p t) refl (sym (unfinished_is_some p t) ∙ is)
+  where
+    by : (u : Option Write) → unfinished_of p t ≡ u → is_some u ≡ false → u ≡ None
+    by None e none = refl
+    by (Some w) e none = absurd cc
+
+pub has_change : (p : SessionValue) (t : ℕ) → is_unfinished p t ≡ true → (w : Write) × (unfinished_of p t ≡ Some w)
+has_change p t is = by (unfinished_of p t) refl (sym (unfinished_is_some p t) ∙ is)
+  where
+    by : (u : Option Write) → unfinished_of p t ≡ u → is_some u ≡ true → (w : Write) × (unfinished_of p t ≡ Some w)
+    by None e none = absurd cc
+    by (Some w) e some = (w, e)
+
+pub active_too : (p : SessionValue) (t : ℕ) → is_unfinished p t ≡ true → is_active p t ≡ true
+active_too p t = by (active_of t p.active)
+  where
+    by : (o : Option ActiveValue) → has_unfinished o ≡ true → is_some o ≡ true
+    by None e = absurd cc
+    by (Some a) e = refl
+
+pub not_none : (p : SessionValue) (t : ℕ) → is_unfinished p t ≡ true → unfinished_of p t ≢ None
+not_none p t is none = never (sym is ∙ (unfinished_is_some p t ∙ ap is_some none))
+  where
+    never : true ≡ false → ⊥
+    never e = absurd cc
+
+-- a step was refused
+pub left_over : (t : ℕ) (w : Write) (p q r : SessionValue) → IsUnderWay p t w q → is_unfinished q t ≡ true → r ≡ q → IsUnderWay p t w r × (unfinished_of r t ≡ Some w)
+left_over t w p q r made is same = subst (λ (v : SessionValue). IsUnderWay p t w v × (unfinished_of v t ≡ Some w)) (sym same) (made, made.unfinished (not_none q t is))

@@ -1,0 +1,20 @@
+-- Facts that have one proof.
+use Rattle.std.proofs.Common.{ℕ, Option}
+use Rattle.std.proofs.Props.{props}
+use Rattle.std.specs.Coded.{Coded, Coded-set, codes}
+use Rattle.model.specs.declared.write.Write.{Write}
+use Rattle.records.specs.declared.row.Row.{Row}
+use Rattle.sessions.specs.Values.{SessionValue}
+use Rattle.shared.specs.Changed.{IsUnderWay}
+
+sessions_coded : Coded SessionValue
+sessions_coded = hlevel codes
+
+writes_coded : Coded (Option Write)
+writes_coded = hlevel codes
+
+rows_coded : Coded (Option (Option Row))
+rows_coded = hlevel codes
+
+pub under_way_single : (old : SessionValue) (txn : ℕ) (w : Write) (new : SessionValue) → IsProp (IsUnderWay old txn w new)
+under_way_single old txn w new = hlevel (Coded-set sessions_coded, Coded-set writes_coded, Coded-set rows_coded, props)

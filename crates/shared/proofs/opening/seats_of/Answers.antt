@@ -1,0 +1,19 @@
+use Rattle.std.proofs.Common.{ap, ◌∙◌, arith, length}
+use Rattle.board.specs.Views.{Sighting}
+use Rattle.locked_core.specs.Seats.{SeatValue}
+use Rattle.shared.proofs.Seats.{first_half, more_seats, rest_halves}
+use Rattle.shared.proofs.opening.seats_of.Goals as goal
+
+pub new-part-requires-clause-half : goal.new-part-requires-clause-half
+new-part-requires-clause-half g c = first_half g.B.Site.site.table c.loop-half.number _ _ c.in-Some.half c.loop-half.invariant.halves c.in-Some.ensures.steps.0
+
+pub loop-half-preserved : goal.loop-half-preserved
+loop-half-preserved g c =
+    let was = c.loop-half.invariant in
+    let is = c.new-part.ensures in
+    record {
+      seats = more_seats c.loop-half.number c.loop-half.seats.items c.push.new.self.items _ was.seats (ap (λ (s : SeatValue). s.number) is) (ap (λ (s : SeatValue). s.session) is) c.in_ok-push.ensures.items;
+      board = ap (λ (v : Sighting). v.board) c.another-view.ensures.stays ∙ was.board;
+      left = omega (arith, was.left, ap length c.in-Some.ensures.steps.0);
+      halves = rest_halves g.B.Site.site.table c.loop-half.number _ _ c.in-Some.half was.halves c.in-Some.ensures.steps.0;
+    }

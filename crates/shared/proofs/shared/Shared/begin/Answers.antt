@@ -1,0 +1,17 @@
+use Rattle.std.proofs.Common.{map, subst}
+use Rattle.core_contracts.specs.Events.{Event, Reply}
+use Rattle.nsf_core.specs.Replies.{reply_by}
+use Rattle.nsf_core.specs.Value.{value_of}
+use Rattle.registry.specs.Halves.{shown}
+use Rattle.shared.specs.Seats.{SeatValue}
+use Rattle.shared.specs.Served.{WasServedTo}
+use Rattle.shared.proofs.Moments.{served_to}
+use Rattle.shared.proofs.shared.Shared.begin.Goals as goal
+
+pub returns-clause-served : goal.returns-clause-served
+returns-clause-served g c =
+    let o = g.B.Site.site.opened in
+    let was = c.deref_mut-2.result.now in
+    let reply = reply_by Reply.Txn c.begin.result in
+    subst (λ (s : SeatValue). ∥ WasServedTo o s.number s.session Event.Begin reply ∥₁) c.seat.view_is
+    (served_to o (value_of was.core) (value_of c.begin.new.self.core) was.pusher.records (map shown was.book.items) was.shared Event.Begin reply c.begin.ensures.served _ _ c.begin.ensures.before)

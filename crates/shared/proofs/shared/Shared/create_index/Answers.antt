@@ -1,0 +1,17 @@
+use Rattle.std.proofs.Common.{map, subst}
+use Rattle.core_contracts.specs.Events.{Event}
+use Rattle.nsf_core.specs.Replies.{reply_by, reply_of_ticket}
+use Rattle.nsf_core.specs.Value.{value_of}
+use Rattle.registry.specs.Halves.{shown}
+use Rattle.shared.specs.Seats.{SeatValue}
+use Rattle.shared.specs.Served.{WasServedTo}
+use Rattle.shared.proofs.Moments.{served_to}
+use Rattle.shared.proofs.shared.Shared.create_index.Goals as goal
+
+pub returns-clause-served : goal.returns-clause-served
+returns-clause-served g c =
+    let o = g.B.Site.site.opened in
+    let was = c.deref_mut-2.result.now in
+    let reply = reply_by reply_of_ticket c.create_index-created.result in
+    subst (λ (s : SeatValue). ∥ WasServedTo o s.number s.session Event.Create reply ∥₁) c.seat.view_is
+    (served_to o (value_of was.core) (value_of c.create_index-created.new.self.core) was.pusher.records (map shown was.book.items) was.shared Event.Create reply c.create_index-created.ensures.served _ _ c.create_index-created.ensures.before)

@@ -1,0 +1,12 @@
+use Rattle.std.proofs.Common.{map}
+use Rattle.core_contracts.specs.Events.{Event, Reply}
+use Rattle.nsf_core.specs.Replies.{reply_by}
+use Rattle.nsf_core.specs.Value.{value_of}
+use Rattle.registry.specs.Halves.{shown}
+use Rattle.shared.proofs.Moments.{served}
+use Rattle.shared.proofs.shared.Shared.find.Goals as goal
+
+pub returns : goal.returns
+returns g c =
+    let is = c.deref.result.now in
+    served g.B.Site.site.opened (value_of is.core) (value_of is.core) is.pusher.records (map shown is.book.items) is.shared (Event.Find c.args.key) (reply_by (λ rids. Reply.Found rids.items) c.find.result) c.find.ensures

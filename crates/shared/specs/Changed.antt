@@ -1,0 +1,38 @@
+-- What a change of a transaction makes of its seat's session.
+use Rattle.std.specs.Prelude.{Bool, false, None, Option, Some, option_and_then, true, ℕ, ◌≡◌, ◌≢◌}
+use Rattle.records.specs.Values.{Place}
+use Rattle.records.specs.declared.error.Error.{Error}
+use Rattle.records.specs.declared.row.Row.{Row}
+use Rattle.model.specs.declared.write.Write.{Write}
+use Rattle.register.specs.Agreement.{row_at}
+use Rattle.sessions.specs.Steps.{ended}
+use Rattle.sessions.specs.Values.{active_of, ActiveValue, is_ready, rows_of, SessionValue}
+
+-- the row that the session has for a place, if the transaction holds the place
+abbrev pub row_of : SessionValue → (txn : ℕ) → Place → Option (Option Row)
+row_of s txn q = row_at q (rows_of txn s.active)
+
+-- the change that the transaction has not finished
+abbrev pub unfinished_of : SessionValue → (txn : ℕ) → Option Write
+unfinished_of s txn = option_and_then (λ a. a.unfinished) (active_of txn s.active)
+
+-- Some steps of this change of a transaction are made. The rows at all other places, the other transactions, the commits and the creations are as before. If a step is left, the change is the transaction's unfinished one; and else its row is there, and the transaction may begin another change.
+pub record IsUnderWay (old : SessionValue) (txn : ℕ) (change : Write) (new : SessionValue) : Type 0 where
+  pub others : ended new txn ≡ ended old txn
+  pub rows : (q : Place) → q ≢ change.rid → row_of new txn q ≡ row_of old txn q
+  pub unfinished : unfinished_of new txn ≢ None → unfinished_of new txn ≡ Some change
+  pub row : unfinished_of new txn ≡ None → row_of new txn change.rid ≡ Some change.row
+  pub ready : unfinished_of new txn ≡ None → is_ready new txn ≡ true
+
+-- All its steps are made, or where one was refused some of them, and the change is left to finish.
+abbrev pub HasChanged : SessionValue → (txn : ℕ) → (change : Write) → (refusal : Option Error) → SessionValue → Type 0
+HasChanged old txn change None new = IsUnderWay old txn change new × (unfinished_of new txn ≡ None)
+HasChanged old txn change (Some e) new = IsUnderWay old txn change new × (unfinished_of new txn ≡ Some change)
+
+abbrev pub goes_back : Option ActiveValue → Bool
+goes_back None = false
+goes_back (Some a) = a.rolling
+
+-- active, and rolling back
+abbrev pub is_rolling : SessionValue → (txn : ℕ) → Bool
+is_rolling s txn = goes_back (active_of txn s.active)

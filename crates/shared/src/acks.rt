@@ -1,0 +1,105 @@
+//! What a seat learns from the board. No call here takes the lock.
+ghost use Rattle.std.specs.Prelude.{◌≡◌, ◌≤◌, ◌↔◌, ◌⊎◌, true, IfErr, IfOk, IfSome, IsTrue};
+ghost use Rattle.records.specs.declared.error.Error.TheVariants.{DeviceFailed, Stopped};
+ghost use Rattle.board.specs.Views.{stays_as};
+
+use crate::seat::{Ack, Seat};
+use crate::shared::Shared;
+use crate::site::Group;
+use nsf_core::Ticket;
+use records::Error;
+use std::marker::PhantomData;
+use std::sync::Wait;
+use std::thread;
+
+impl<B: Group> Shared<B> {
+    /// Whether the record of the ticket is safe on the device, by the horizon as it is read now. It takes no memory and
+    /// waits for nothing.
+    pub fn is_acked(&self, seat: &mut Seat<B>, ticket: Ticket) -> bool
+        ensures reached { IsTrue result ↔ (ticket.«record» ≤ seat.new.sight.horizon) }
+        ensures seen { seat.new ≡ record seat.old { sight = record seat.old.sight { horizon = seat.new.sight.horizon } } }
+        ensures rises { seat.old.sight.horizon ≤ seat.new.sight.horizon }
+    {
+        self.board.horizon(&mut seat.view) >= ticket.record.get()
+    }
+
+    // An acknowledgement, where the horizon that is read reaches the record.
+    fn try_ack(&self, seat: &mut Seat<B>, ticket: &Ticket) -> Option<Ack<B>>
+        ensures ticket { IfSome result (λ ack. ack.ticket ≡ ticket.now) }
+        ensures reached { IfSome result (λ ack. ticket.now.«record» ≤ ack.sight.horizon) }
+        ensures horizon { IfSome result (λ ack. ack.sight.horizon ≡ seat.new.sight.horizon) }
+        ensures rises { seat.old.sight.horizon ≤ seat.new.sight.horizon }
+        ensures number { seat.new.number ≡ seat.old.number }
+        ensures session { seat.new.session ≡ seat.old.session }
+    {
+        if self.board.horizon(&mut seat.view) < ticket.record.get() {
+            return None;
+        }
+        let view = self.board.another(&mut seat.view);
+        Some(Ack {
+            ticket: *ticket,
+            view,
+            site: PhantomData,
+        })
+    }
+
+    // Why the seat waits no longer, if so.
+    fn ended(&self, seat: &mut Seat<B>) -> Option<Error>
+        ensures why { IfSome result (λ e. ((e ≡ DeviceFailed) × IsTrue seat.new.sight.failed) ⊎ ((e ≡ Stopped) × IsTrue seat.new.sight.stopped)) }
+        ensures horizon { seat.new.sight.horizon ≡ seat.old.sight.horizon }
+        ensures number { seat.new.number ≡ seat.old.number }
+        ensures session { seat.new.session ≡ seat.old.session }
+    {
+        if self.board.failed(&mut seat.view) {
+            return Some(Error::DeviceFailed);
+        }
+        if self.board.stopped(&mut seat.view) {
+            return Some(Error::Stopped);
+        }
+        None
+    }
+
+    /// Waits until the record of the ticket is safe on the device.
+    ///
+    /// `DeviceFailed` where the flusher says that its device failed, and `Stopped` where the threads are asked to stop.
+    pub fn await_ack<R: Wait>(
+        &self,
+        rt: &R,
+        seat: &mut Seat<B>,
+        ticket: Ticket,
+    ) -> Result<Ack<B>, Error>
+        ensures ticket { IfOk result (λ ack. ack.ticket ≡ ticket) }
+        ensures reached { IfOk result (λ ack. ticket.«record» ≤ ack.sight.horizon) }
+        ensures horizon { IfOk result (λ ack. ack.sight.horizon ≡ seat.new.sight.horizon) }
+        ensures why { IfErr result (λ e. ((e ≡ DeviceFailed) × IsTrue seat.new.sight.failed) ⊎ ((e ≡ Stopped) × IsTrue seat.new.sight.stopped)) }
+        ensures rises { seat.old.sight.horizon ≤ seat.new.sight.horizon }
+        ensures number { seat.new.number ≡ seat.old.number }
+        ensures session { seat.new.session ≡ seat.old.session }
+    {
+        for _ in rt.forever() {
+            if let Some(ack) = self.try_ack(seat, &ticket) {
+                return Ok(ack);
+            }
+            if let Some(error) = self.ended(seat) {
+                return Err(error);
+            }
+            thread::yield_now();
+        }
+        unreachable!()
+    }
+
+    /// How many attempts the builder has made in this run, as it has published. It takes no memory and waits for nothing.
+    pub fn progress(&self, seat: &mut Seat<B>) -> u64
+        ensures seen { seat.new ≡ record seat.old { sight = record seat.old.sight { progress = result } } }
+        ensures rises { seat.old.sight.progress ≤ result }
+    {
+        self.board.progress(&mut seat.view)
+    }
+
+    /// Asks all threads to stop. It takes no memory and waits for nothing.
+    pub fn stop(&self, seat: &mut Seat<B>)
+        ensures { seat.new ≡ record seat.old { sight = record seat.old.sight { stopped = true; stops = true } } }
+    {
+        self.board.stop(&mut seat.view);
+    }
+}

@@ -1,0 +1,91 @@
+//! The calls of a seat that make one step of the core, or read it.
+ghost use Rattle.std.specs.Prelude.{◌≡◌, Err, IfOk, OnErr, false, true};
+ghost use Rattle.records.specs.declared.error.Error.TheVariants.{NoSuchTxn};
+ghost use Rattle.core_contracts.specs.Events.{Event, Reply};
+ghost use Rattle.nsf_core.specs.Replies.{reply_by, reply_of_ticket};
+ghost use Rattle.sessions.specs.Steps.{begun, committed, with_creation};
+ghost use Rattle.sessions.specs.Values.{is_active, is_ready};
+ghost use Rattle.shared.specs.Served.{WasServed, WasServedTo};
+
+use crate::seat::Seat;
+use crate::shared::Shared;
+use crate::site::Group;
+use model::Life;
+use nsf_core::Ticket;
+use records::{Error, Key, Rid, Row, Txn};
+use std::sync::Wait;
+
+impl<B: Group> Shared<B> {
+    /// Begins a transaction of the seat.
+    ///
+    /// The refusals are those of the core's `begin`. After a refusal the seat is as before.
+    pub fn begin<R: Wait>(&self, rt: &R, seat: &mut Seat<B>) -> Result<Txn, Error>
+        ensures served { ∥ WasServedTo B.site.opened seat.old.number seat.old.session Event.Begin (reply_by Reply.Txn result) ∥₁ }
+        ensures ok { IfOk result (λ txn. seat.new ≡ record seat.old { session = begun seat.old.session txn }) }
+        ensures refused { OnErr result (seat.new ≡ seat.old) }
+    {
+        let mut locked = self.locked.lock(rt);
+        locked.push_outbox(rt, &self.queue);
+        locked.begin(&self.registry, &mut seat.part)
+    }
+
+    /// Commits a transaction of the seat: it is none of the seat's active ones from then on, and the commit is the last one
+    /// of the seat's session.
+    ///
+    /// `NoSuchTxn` where the transaction isn't one of the seat's, and else the refusals of the core's `commit`. After a
+    /// refusal the seat is as before.
+    pub fn commit<R: Wait>(&self, rt: &R, seat: &mut Seat<B>, txn: Txn) -> Result<Ticket, Error>
+        requires { is_active seat.old.session txn ≡ true → is_ready seat.old.session txn ≡ true }
+        ensures foreign { is_active seat.old.session txn ≡ false → result ≡ Err NoSuchTxn }
+        ensures served { is_active seat.old.session txn ≡ true → ∥ WasServedTo B.site.opened seat.old.number seat.old.session (Event.Commit txn) (reply_by reply_of_ticket result) ∥₁ }
+        ensures ok { IfOk result (λ ticket. seat.new ≡ record seat.old { session = committed seat.old.session txn ticket }) }
+        ensures refused { OnErr result (seat.new ≡ seat.old) }
+    {
+        let mut locked = self.locked.lock(rt);
+        locked.push_outbox(rt, &self.queue);
+        let committed = locked.commit(&self.registry, &mut seat.part, txn);
+        locked.push_outbox(rt, &self.queue);
+        committed
+    }
+
+    /// Creates the index, and keeps the number of its record with the seat.
+    ///
+    /// The refusals are those of the core's `create_index`. After a refusal the seat is as before.
+    pub fn create_index<R: Wait>(&self, rt: &R, seat: &mut Seat<B>) -> Result<Ticket, Error>
+        ensures served { ∥ WasServedTo B.site.opened seat.old.number seat.old.session Event.Create (reply_by reply_of_ticket result) ∥₁ }
+        ensures ok { IfOk result (λ ticket. seat.new ≡ record seat.old { session = with_creation seat.old.session ticket.«record» }) }
+        ensures refused { OnErr result (seat.new ≡ seat.old) }
+    {
+        let mut locked = self.locked.lock(rt);
+        locked.push_outbox(rt, &self.queue);
+        let created = locked.create_index(&self.registry, &mut seat.part);
+        locked.push_outbox(rt, &self.queue);
+        created
+    }
+
+    /// The row at the place, as it is now, also before its transaction's commit.
+    pub fn get<R: Wait>(&self, rt: &R, rid: Rid) -> Option<Row>
+        ensures { ∥ WasServed B.site.opened (Event.Get rid) (Reply.RowIs result) ∥₁ }
+    {
+        let locked = self.locked.lock(rt);
+        locked.get(rid)
+    }
+
+    /// The places of the rows with this key, by the index.
+    ///
+    /// The refusals are those of the core's `find`.
+    pub fn find<R: Wait>(&self, rt: &R, key: Key) -> Result<Vec<Rid>, Error>
+        ensures { ∥ WasServed B.site.opened (Event.Find key) (reply_by (λ rids. Reply.Found rids.items) result) ∥₁ }
+    {
+        let locked = self.locked.lock(rt);
+        locked.find(key)
+    }
+
+    /// How far the index is.
+    pub fn life<R: Wait>(&self, rt: &R) -> Life
+        ensures { ∥ WasServed B.site.opened Event.Life (Reply.LifeIs result) ∥₁ }
+    {
+        let locked = self.locked.lock(rt);
+        locked.life()
+    }
+}

@@ -1,0 +1,143 @@
+//! What the threads share, made before it has its names.
+ghost use Rattle.std.specs.Prelude.{◌≡◌, [], false, length, IfOk};
+ghost use Rattle.board.specs.Views.{nothing_seen};
+ghost use Rattle.nsf_core.specs.Value.{value_of};
+ghost use Rattle.registry.specs.Halves.{IsNew};
+ghost use Rattle.shared.specs.Openings.{IsJustOpened, IsOpening, names_of};
+ghost use Rattle.shared.specs.Seats.{AreNewSeats};
+
+use crate::seat::Seat;
+use crate::shared::Shared;
+use crate::site::Group;
+use board::{Board, BuildView, FlushView, View};
+use locked_core::{Locked, SeatPart};
+use nsf_core::Core;
+use records::Error;
+use registry::{Half, Registry};
+use std::alloc::Global;
+use std::marker::PhantomData;
+use std::sync::Mutex;
+use tail::{Popper, Pusher, RecordQueue};
+
+/// What is made for the threads, before it has its names.
+#[derive(Drop)]
+pub struct Opening {
+    pub(crate) alloc: Global,
+    pub(crate) core: Core<Global>,
+    pub(crate) queue: RecordQueue,
+    pub(crate) pusher: Pusher,
+    pub(crate) popper: Popper,
+    pub(crate) registry: Registry,
+    pub(crate) book: Vec<Half>,
+    pub(crate) halves: Vec<Half>,
+    pub(crate) board: Board<Global>,
+    pub(crate) flush: FlushView,
+    pub(crate) build: BuildView,
+    pub(crate) view: View,
+}
+
+/// What the threads are given: the seats, the end of the queue and the view of the flusher, and the builder's view.
+#[derive(Drop)]
+pub struct Parts<B: Group> {
+    pub seats: Vec<Seat<B>>,
+    pub popper: Popper,
+    pub flush: FlushView,
+    pub build: BuildView,
+}
+
+/// Makes what so many threads with a seat each share.
+///
+/// The one error is `NoMemory`.
+pub fn open(alloc: Global, core: Core<Global>, count: usize) -> Result<Opening, Error>
+    ensures made { IfOk result (λ o. IsOpening count o) }
+    ensures core { IfOk result (λ o. value_of o.core ≡ value_of core) }
+{
+    let (queue, pusher, popper) = RecordQueue::new(alloc)?;
+    let (registry, book, halves) = Registry::open(alloc, count)?;
+    let (board, flush, build, view) = Board::new(alloc)?;
+    Ok(Opening {
+        alloc,
+        core,
+        queue,
+        pusher,
+        popper,
+        registry,
+        book,
+        halves,
+        board,
+        flush,
+        build,
+        view,
+    })
+}
+
+impl Opening {
+    /// What the threads share, and their parts.
+    ///
+    /// The one error is `NoMemory`.
+    pub fn start<B: Group>(self) -> Result<(Shared<B>, Parts<B>), Error>
+        requires names { names_of self ≡ B.site }
+        requires board { self.board ≡ B.board }
+        requires made { IsOpening B.site.seats self }
+        requires opened { IsJustOpened (value_of self.core) }
+        ensures seats { IfOk result (λ r. AreNewSeats B.site.seats r.1.seats.items) }
+        ensures popper { IfOk result (λ r. r.1.popper ≡ record { queue = B.site.queue; records = [] }) }
+        ensures flush { IfOk result (λ r. r.1.flush ≡ record { board = B.board; horizon = 0; failed = false }) }
+        ensures build { IfOk result (λ r. r.1.build ≡ record { board = B.board; progress = 0 }) }
+    {
+        let Opening {
+            alloc,
+            core,
+            queue,
+            pusher,
+            popper,
+            registry,
+            book,
+            halves,
+            board,
+            flush,
+            build,
+            view,
+        } = self;
+        let seats = seats_of::<B>(alloc, &board, view, halves)?;
+        let locked = Locked::<B>::new(core, pusher, book);
+        let shared = Shared {
+            locked: Mutex::new(locked),
+            queue,
+            registry,
+            board,
+            site: PhantomData,
+        };
+        let parts = Parts {
+            seats,
+            popper,
+            flush,
+            build,
+        };
+        Ok((shared, parts))
+    }
+}
+
+// A seat for each half.
+fn seats_of<B: Group>(
+    alloc: Global,
+    board: &Board<Global>,
+    mut view: View,
+    halves: Vec<Half>,
+) -> Result<Vec<Seat<B>>, Error>
+    requires board { board.now ≡ B.board }
+    requires view { view.board ≡ B.board }
+    requires counted { length halves.items ≡ B.site.seats }
+    requires halves { IsNew B.site.table halves.items }
+    ensures { IfOk result (λ v. AreNewSeats B.site.seats v.items) }
+{
+    let mut seats = Vec::with_capacity(alloc, halves.len())?;
+    let mut number = 0;
+    for half in halves {
+        let view = board.another(&mut view);
+        let part = SeatPart::new(alloc, number, half);
+        seats.push(Seat { part, view })?;
+        number += 1;
+    }
+    Ok(seats)
+}

@@ -1,0 +1,72 @@
+//! A seat, and what it is given for a ticket.
+ghost use Rattle.std.specs.Prelude.{◌≡◌};
+
+use crate::site::Group;
+use board::View;
+use locked_core::SeatPart;
+use nsf_core::Ticket;
+use records::Txn;
+use std::marker::{Model, PhantomData};
+
+/// One thread's place among those that share a core. To a contract it is a `SeatValue`.
+#[derive(Drop)]
+pub struct Seat<B: Group> {
+    pub(crate) part: SeatPart<B>,
+    pub(crate) view: View,
+}
+
+impl<B: Group> Model for Seat<B> {
+    ghost use Rattle.std.specs.Prelude.{◌≡◌};
+    ghost use Rattle.shared.specs.Seats.{SeatValue};
+
+    ghost Value = { SeatValue };
+
+    ghost view = { λ s. record { number = s.part.number; session = s.part.session; sight = s.view } };
+
+    ghost invariant = { λ s. s.view.board ≡ B.board };
+}
+
+/// Says that the record of a ticket is safe on the device. To a contract it is an `AckValue`.
+#[derive(Drop)]
+pub struct Ack<B: Group> {
+    pub(crate) ticket: Ticket,
+    pub(crate) view: View,
+    pub(crate) site: PhantomData<B>,
+}
+
+impl<B: Group> Model for Ack<B> {
+    ghost use Rattle.std.specs.Prelude.{◌≡◌, ◌≤◌};
+    ghost use Rattle.shared.specs.Seats.{AckValue};
+
+    ghost Value = { AckValue };
+
+    ghost view = { λ a. record { ticket = a.ticket; sight = a.view } };
+
+    ghost invariant = { λ a. (a.view.board ≡ B.board) × (a.ticket.«record» ≤ a.view.horizon) };
+}
+
+impl<B: Group> Seat<B> {
+    ghost use Rattle.sessions.specs.Values.{is_active, is_ready, is_unfinished};
+
+    /// Whether the transaction is one of the seat's.
+    pub fn is_active(&self, txn: Txn) -> bool
+        ensures { result ≡ is_active self.now.session txn }
+    {
+        self.part.is_active(txn)
+    }
+
+    /// Whether the transaction may begin a change or commit: it is one of the seat's, has no change to finish, and isn't
+    /// rolling back.
+    pub fn ready(&self, txn: Txn) -> bool
+        ensures { result ≡ is_ready self.now.session txn }
+    {
+        self.part.ready(txn)
+    }
+
+    /// Whether the transaction is one of the seat's and has a change to finish.
+    pub fn unfinished(&self, txn: Txn) -> bool
+        ensures { result ≡ is_unfinished self.now.session txn }
+    {
+        self.part.unfinished(txn)
+    }
+}

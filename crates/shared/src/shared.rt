@@ -1,0 +1,61 @@
+//! What the threads share.
+ghost use Rattle.std.specs.Prelude.{◌≡◌};
+
+use crate::site::Group;
+use board::Board;
+use locked_core::Locked;
+use registry::Registry;
+use std::alloc::Global;
+use std::marker::PhantomData;
+use std::sync::Mutex;
+use tail::RecordQueue;
+
+/// A core that several threads share by a `&`, each with its seat.
+#[derive(Drop)]
+pub struct Shared<B: Group> {
+    pub(crate) locked: Mutex<Locked<B>>,
+    pub(crate) queue: RecordQueue,
+    pub(crate) registry: Registry,
+    pub(crate) board: Board<Global>,
+    pub(crate) site: PhantomData<B>,
+    ghost queue_is: { queue ≡ B.site.queue },
+    ghost registry_is: { registry ≡ B.site.table },
+    ghost board_is: { board ≡ B.board },
+}
+
+impl<B: Group> Shared<B> {
+    /// The lock with what lies under it, for the threads that take no seat.
+    pub fn locked(&self) -> &Mutex<Locked<B>> {
+        &self.locked
+    }
+
+    /// The queue of records to the flusher.
+    pub fn queue(&self) -> &RecordQueue
+        ensures { result.now ≡ B.site.queue }
+    {
+        &self.queue
+    }
+
+    /// The board.
+    pub fn board(&self) -> &Board<Global>
+        ensures { result.now ≡ B.board }
+    {
+        &self.board
+    }
+
+    /// What lay under the lock, the queue, the registry of the sessions and the board, in one hand.
+    pub fn into_parts(self) -> (Locked<B>, RecordQueue, Registry, Board<Global>)
+        ensures queue { result.1 ≡ B.site.queue }
+        ensures registry { result.2 ≡ B.site.table }
+        ensures board { result.3 ≡ B.board }
+    {
+        let Shared {
+            locked,
+            queue,
+            registry,
+            board,
+            site: _,
+        } = self;
+        (locked.into_inner(), queue, registry, board)
+    }
+}
