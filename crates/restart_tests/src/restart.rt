@@ -18,20 +18,20 @@ use std::test::Fail;
 use store_reader::read_store;
 
 // The first places of the one page.
-pub(crate) const FIRST: Rid = Rid { page: 0, slot: 0 };
+const FIRST: Rid = Rid { page: 0, slot: 0 };
 
-pub(crate) const NEXT: Rid = Rid { page: 0, slot: 1 };
+const NEXT: Rid = Rid { page: 0, slot: 1 };
 
-pub(crate) const THIRD: Rid = Rid { page: 0, slot: 2 };
+const THIRD: Rid = Rid { page: 0, slot: 2 };
 
-pub(crate) fn row(key: &[u8]) -> Result<Row, Fail> {
+fn row(key: &[u8]) -> Result<Row, Fail> {
     Ok(Row {
         key: Key::new(key)?,
         body: Body::new(b"x")?,
     })
 }
 
-pub(crate) fn pair(key: &[u8], rid: Rid) -> Result<Pair, Fail> {
+fn pair(key: &[u8], rid: Rid) -> Result<Pair, Fail> {
     Ok(Pair {
         key: Key::new(key)?,
         rid,
@@ -123,9 +123,9 @@ fn restored<D: Device>(alloc: Global, disk: &mut D) -> Result<Core<Global>, Erro
     load(alloc, found.restored)
 }
 
-/// The store of `with_image`, and behind the image the builder places the first row's pair, and transaction 5 deletes that row
-/// and comes to no end.
-pub(crate) fn with_log(rt: &impl Abort, alloc: Global) -> Result<MemDisk<Global>, Fail> {
+// The store of `with_image`, and behind the image the builder places the first row's pair, and transaction 5 deletes that row
+// and comes to no end.
+fn with_log(rt: &impl Abort, alloc: Global) -> Result<MemDisk<Global>, Fail> {
     let mut disk = with_image(rt, alloc)?;
     let old = row(b"ant")?;
     let group = [placed(5)?, marked(old)?, gone(old)?];

@@ -44,13 +44,14 @@ struct Stopped {
 fn held_at_last(
     memory: &Memory,
     mut disk: MemDisk<Global>,
+    which: Which,
     first: u64,
     fates: &[Fate],
 ) -> Result<Contents, Fail> {
     for more in 0..CALLS {
         let call = first.saturating_add(more.saturating_mul(4));
         disk.crash(fates);
-        match restart(memory, FaultDisk::new(disk, Which::WritesAndSyncs, call)) {
+        match restart(memory, FaultDisk::new(disk, which, call)) {
             Ok(engine) => return Ok(held_by(engine.core())),
             Err((_, stopped)) => disk = stopped.into_inner(),
         }
@@ -58,31 +59,38 @@ fn held_at_last(
     Err("fewer calls")?
 }
 
-// The device fails at this call, and what was not synced then comes to this fate; and so it goes with the restarts behind it
-// that are stopped: over four calls, at each of theirs.
-fn stop_at(alloc: Global, phases: &[Phase], call: u64, fates: &[Fate]) -> Result<Stopped, Fail> {
+// The device fails at this of those calls, and what was not synced then comes to this fate; and so it goes with the restarts
+// behind it that are stopped: over four calls, at each of theirs.
+fn stop_at(
+    alloc: Global,
+    phases: &[Phase],
+    which: Which,
+    call: u64,
+    fates: &[Fate],
+) -> Result<Stopped, Fail> {
     let memory = memory_of(alloc)?;
-    let disk = FaultDisk::new(formatted_for_long(alloc)?, Which::WritesAndSyncs, call);
+    let disk = FaultDisk::new(formatted_for_long(alloc)?, which, call);
     let (safe, disk) = match restart(&memory, disk) {
         Ok(mut engine) => (serve_all(&mut engine, phases), engine.into_device()),
         Err((_, disk)) => (0, disk),
     };
     let failed = call <= disk.made();
-    let left = held_at_last(&memory, disk.into_inner(), 1 + call % 4, fates)?;
+    let left = held_at_last(&memory, disk.into_inner(), which, 1 + call % 4, fates)?;
     Ok(Stopped { safe, left, failed })
 }
 
-// Stops a run at each call in turn. What is left is what one of the phases says, with all that was told to be safe, and
+// Stops a run at each of those calls in turn. What is left is what one of the phases says, with all that was told to be safe, and
 // never less than a stop before left.
 fn stop_at_each(
     rt: &impl Abort,
     alloc: Global,
     phases: &[Phase],
+    which: Which,
     fates: &[Fate],
 ) -> Result<Contents, Fail> {
     let mut before = NOTHING;
     for call in 1..CALLS {
-        let Stopped { safe, left, failed } = stop_at(alloc, phases, call, fates)?;
+        let Stopped { safe, left, failed } = stop_at(alloc, phases, which, call, fates)?;
         let is_known = left == NOTHING || phases.iter().any(|phase| phase.given == left);
         assert!(rt; is_known, "call {call}, {fates:?}: {left:?}");
         assert!(rt;
@@ -100,15 +108,15 @@ fn stop_at_each(
 #[test]
 fn each_stop_leaves_a_phase(rt: HostRuntime) -> Result<(), Fail> {
     let phases = worked_run(rt.alloc())?;
-    let fates: [&[Fate]; 5] = [
-        &[Fate::Old],
-        &[Fate::New],
-        &[Fate::Zero],
-        &[Fate::Gate],
-        &[Fate::Junk],
+    let cases: [(Which, &[Fate]); 5] = [
+        (Which::All, &[Fate::Old]),
+        (Which::WritesAndSyncs, &[Fate::New]),
+        (Which::WritesAndSyncs, &[Fate::Zero]),
+        (Which::WritesAndSyncs, &[Fate::Gate]),
+        (Which::WritesAndSyncs, &[Fate::Junk]),
     ];
-    for fates in fates {
-        let left = stop_at_each(&rt, rt.alloc(), &phases, fates)?;
+    for (which, fates) in cases {
+        let left = stop_at_each(&rt, rt.alloc(), &phases, which, fates)?;
         assert_eq!(rt; Some(left), phases.last().map(|phase| phase.given));
     }
     Ok(())
