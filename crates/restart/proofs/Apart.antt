@@ -14,6 +14,7 @@ use Rattle.restart.specs.Parts.{core_of, unhanded, writer_of}
 use Rattle.restart.specs.Store.{IsAt, Past, StandsAt, last_made, over, run_of}
 use Rattle.restart.specs.History.{core_calls}
 use Rattle.restart.proofs.Copied.{all_handed}
+use Rattle.restart.proofs.Keeping.{keeps_over}
 use Rattle.restart.proofs.Told.{stands_over}
 
 both_none : (a b : List RecordValue) → a ++ b ≡ [] → b ≡ []
@@ -65,9 +66,10 @@ module _ {D M : Type 0} (history : D → History) (old new : Parts D M) (hands :
     device = hands.device;
     halves = hands.halves;
     log = hands.log;
+    image = hands.image;
     synced = hands.horizon;
     failed = hands.failed;
   }
 
   pub given_back : unhanded new ≢ [] → IsGivenBack history old new
-  given_back some = record { some = some; at = at_over; core = hands.moves.core; unwritten-are = hands.unwritten-are; device = hands.device; horizon = hands.horizon }
+  given_back some = record { some = some; at = at_over; core = hands.moves.core; unwritten-are = hands.unwritten-are; keeps = keeps_over history old new hands; failed = hands.failed; geometry = hands.geometry; copying = hands.copying }

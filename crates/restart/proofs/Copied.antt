@@ -39,6 +39,7 @@ use Rattle.restart.specs.declared.parts.Parts.{Parts}
 use Rattle.restart.specs.Copies.{CannotFlip, CannotTake, IsCopying, IsDue, IsHalfOpen, IsPieceNow, MakesCurrent, MayFlip, TakesPiece, copies_left, copies_to_flip, left_at, next_place}
 use Rattle.image_model.specs.Places.{place_behind}
 use Rattle.restart.proofs.Fewer.{fewer_taken, flip_bounds, two_left}
+use Rattle.restart.proofs.Keeping.{keeps_same}
 use Rattle.restart.proofs.Moving.{StaysAtPlace}
 use Rattle.restart.proofs.Numbers.{count_to_end}
 use Rattle.restart.specs.Parts.{core_of, has_failed, horizon_of, unhanded, unwritten, writer_of}
@@ -229,6 +230,7 @@ module _ {D M : Type 0} (old new : Parts D M) (number : ℕ) (place : CopyPlace)
     image-is = is.1.1.0;
     has = subst (λ n. HasPiece n piece (writer_of old) is.1.0) told is.1.2;
     behind = behind;
+    halves = is.1.1.1;
     log = is.1.1.2;
     horizon = level;
   }
@@ -241,9 +243,7 @@ module _ {D M : Type 0} (old new : Parts D M) (number : ℕ) (place : CopyPlace)
     piece = piece;
     piece-is = of;
     must = is.1;
-    device = ap (λ w. writer.device_of w) is.0;
-    log = ap (λ w. writer.log_of w) is.0;
-    horizon = ap (λ w. writer.synced_of w) is.0;
+    keeps = keeps_same old new is.0;
   }
 
 -- fewer copies are left behind a piece
@@ -351,6 +351,7 @@ module _ {D M : Type 0} (old new : Parts D M) where
         let log_is : (writer.log_of (writer_of new)).open_slots ≡ image.log.open_slots = ap (λ (l : Log). l.open_slots) (flipped.5.log-is image flipped.2.1) in
         let slots_is : (writer.halves_of (writer_of new)).geometry.slots / 2 ≡ old.geometry.slots / 2 = ap (λ h. h.geometry.slots / 2) flipped.5.halves-are ∙ ap (λ n. n / 2) size in
         omega (arith, log_is, slots_is, half_open image flipped.2.1);
+    no-group = λ _ may image there. record { log = flipped.5.log-is image there; reached = sym flipped.0 ∙ flipped.3 image there };
     emptied = λ given. absurd (stepped given);
     all = λ given. absurd (stepped given);
   }
@@ -368,7 +369,9 @@ module _ {D M : Type 0} (old new : Parts D M) where
   pub cannot_flip : old.copying ≡ Steps None → unhanded new ≡ [] → writer_of new ≡ writer_of old → ¬ MayFlip (writer_of old) → (writer.waiting_of (writer_of new) ≡ []) ⊎ (IsLogFull (writer_of new) × (writer.waiting_of (writer_of new) ≢ [])) → CannotFlip old new
   cannot_flip whole all same cannot why = record {
     whole = whole;
+    could-not = cannot;
     cannot = subst (λ w. ¬ MayFlip w) (sym same) cannot;
+    halves = ap (λ w. writer.halves_of w) same;
     no_more = ⊎_elim (λ none. inl (waits ∙ none)) (λ full. inr (full.0, (λ none. full.1 (sym waits ∙ none)))) why;
   }
     where
@@ -384,9 +387,13 @@ module _ {D M : Type 0} (old new : Parts D M) where
       none = flipped.4;
       idle = idle;
       room = let none : (writer.log_of (writer_of new)).open_slots ≡ 0 = ap (λ (l : Log). l.open_slots) (flipped.5.log-is taken.1.0 taken.1.1.0) ∙ whole_empty v number piece (writer_of old) mid of taken in omega (arith, none);
+      no-group = λ steps. absurd (stepped steps);
       emptied = λ _. ap (λ (l : Log). l.open_slots) (flipped.5.log-is taken.1.0 taken.1.1.0) ∙ whole_empty v number piece (writer_of old) mid of taken;
       all = λ _. all;
     }
+      where
+        stepped : old.copying ≡ Steps None → ⊥
+        stepped steps = cc (given, steps)
 
     pub whole_synced : number ≤ horizon_of new
     whole_synced = omega (arith, flipped.0, flipped.3 taken.1.0 taken.1.1.0, whole_base v number piece (writer_of old) mid of taken)

@@ -9,8 +9,10 @@ use Rattle.image_model.specs.Run.{Run, records_above, records_between}
 use Rattle.image_model.specs.declared.chunk.CopyPlace.{CopyPlace}
 use Rattle.nsf_core.specs.View.{CoreValue}
 use Rattle.sector_device.specs.History.{History, Rises}
+use Rattle.store_writer.specs.Image.{reach}
 use Rattle.store_writer.specs.Parts as writer
 use Rattle.store_writer.specs.Writer.{HasFailed, HasPiece, IsWriter}
+use Rattle.store_writer.specs.declared.image.NewImage.{NewImage}
 use Rattle.flip_image.specs.Layout.{other}
 use Rattle.image_model.specs.declared.chunk.Piece.{Piece}
 use Rattle.image_model.specs.Places.{place_behind}
@@ -18,13 +20,14 @@ use Rattle.restart.specs.declared.copying.Copying.TheVariants.{GivenUp, Steps}
 use Rattle.restart.specs.declared.event.Reply.{Reply}
 use Rattle.restart.specs.declared.event.Reply.TheVariants as reply
 use Rattle.restart.specs.declared.parts.Parts.{Parts}
-use Rattle.restart.specs.Copies.{CannotFlip, CannotTake, IsCopyAnswer, IsPieceNow, KeepsAll, MakesCurrent, Succeeds, TakesPiece, copies_left, left_at, next_place}
+use Rattle.restart.specs.Copies.{CannotFlip, CannotTake, IsCopyAnswer, IsFlippedAtOnce, IsPieceNow, IsPutOff, KeepsAll, MakesCurrent, MayFlip, Succeeds, TakesPiece, copies_left, left_at, next_place}
 use Rattle.restart.specs.Handing.{HandsOver}
 use Rattle.restart.specs.History.{IsOfCopy, acknowledged}
 use Rattle.restart.specs.Parts.{core_of, device_of, has_failed, horizon_of, unhanded, unwritten, writer_of}
 use Rattle.restart.specs.Store.{CanRun}
 use Rattle.restart.proofs.Numbers.{count_between}
 use Rattle.restart.proofs.Before.{has_as, must_as, piece_before}
+use Rattle.restart.proofs.Keeping.{keeps_both, keeps_over, keeps_same}
 
 -- those that wait behind a later record are the rest of those that waited
 between_later : (run : Run) (m n handed : ℕ) → run.last ≤ m → m ≤ n → n ≤ handed → records_between run n handed ≡ drop (n - m) (records_between run m handed)
@@ -92,23 +95,27 @@ module _ {D M : Type 0} (failures : D → ℕ) (old mid new : Parts D M) where
 
   -- what is answered where a whole image was to be made current
   pub answer_then : (r : Reply M) → Succeeds failures old mid → mid.copying ≡ Steps None → old.copying ≡ Steps None → writer.halves_of (writer_of mid) ≡ writer.halves_of (writer_of old) → copies_left mid ≤ copies_left old
-      → IsCopyAnswer failures r mid new → IsCopyAnswer failures r old new
-  answer_then (reply.Txn t) first whole was halves left is = absurd is
-  answer_then (reply.Rid r) first whole was halves left is = absurd is
-  answer_then reply.Stepped first whole was halves left is = absurd is
-  answer_then reply.Undone first whole was halves left is = absurd is
-  answer_then reply.Empty first whole was halves left is = absurd is
-  answer_then reply.Ended first whole was halves left is = absurd is
-  answer_then (reply.Ticket t) first whole was halves left is = absurd is
-  answer_then (reply.Built b) first whole was halves left is = absurd is
-  answer_then (reply.Cleaned c) first whole was halves left is = absurd is
-  answer_then (reply.Horizon m) first whole was halves left is = absurd is
-  answer_then reply.LogFull first whole was halves left is = absurd is
-  answer_then reply.Copied first whole was halves left is = absurd (no_next whole is.1.place is.1.next)
-  answer_then (reply.Flipped n) first whole was halves left is = (well_then first is.0, is.1, current is.2)
+      → (MayFlip (writer_of old) → mid ≡ old) → IsCopyAnswer failures r mid new → IsCopyAnswer failures r old new
+  answer_then (reply.Txn t) first whole was halves left no_group is = absurd is
+  answer_then (reply.Rid r) first whole was halves left no_group is = absurd is
+  answer_then reply.Stepped first whole was halves left no_group is = absurd is
+  answer_then reply.Undone first whole was halves left no_group is = absurd is
+  answer_then reply.Empty first whole was halves left no_group is = absurd is
+  answer_then reply.Ended first whole was halves left no_group is = absurd is
+  answer_then (reply.Ticket t) first whole was halves left no_group is = absurd is
+  answer_then (reply.Built b) first whole was halves left no_group is = absurd is
+  answer_then (reply.Cleaned c) first whole was halves left no_group is = absurd is
+  answer_then (reply.Horizon m) first whole was halves left no_group is = absurd is
+  answer_then reply.LogFull first whole was halves left no_group is = absurd is
+  answer_then reply.Copied first whole was halves left no_group is = absurd (no_next whole is.1.place is.1.next)
+  answer_then (reply.Flipped n) first whole was halves left no_group is = (well_then first is.0, is.1, current is.2)
     where
       not_at_once : old.copying ≡ GivenUp → ⊥
       not_at_once given = cc (was, given)
+
+      flipped_from : mid ≡ old → MayFlip (writer_of old) → (image : NewImage) → writer.image_of (writer_of old) ≡ Some image → IsFlippedAtOnce old new image
+      flipped_from same may image there = subst (λ (e : Parts D M). IsFlippedAtOnce e new image) same
+          (is.2.no-group whole (subst (λ (e : Parts D M). MayFlip (writer_of e)) (sym same) may) image (ap (λ (e : Parts D M). writer.image_of (writer_of e)) same ∙ there))
 
       current : MakesCurrent mid new → MakesCurrent old new
       current made = record {
@@ -117,21 +124,31 @@ module _ {D M : Type 0} (failures : D → ℕ) (old mid new : Parts D M) where
         none = made.none;
         idle = made.idle;
         room = made.room;
+        no-group = λ _ may image there. flipped_from (no_group may) may image there;
         emptied = λ given. absurd (not_at_once given);
         all = λ given. absurd (not_at_once given);
       }
-  answer_then reply.Again first whole was halves left is = (well_then first is.0, given_up is.1, is.2, omega (arith, is.3, left))
+  answer_then reply.Again first whole was halves left no_group is = (well_then first is.0, given_up is.1, is.2, omega (arith, is.3, left))
     where
       given_up : CannotTake mid new ⊎ CannotFlip mid new → CannotTake old new ⊎ CannotFlip old new
-      given_up why = ⊎_elim (λ piece. absurd (no_next whole piece.place piece.next)) (λ flip. inr (record { whole = was; cannot = flip.cannot; no_more = flip.no_more })) why
-  answer_then (reply.Row row) first whole was halves left is = absurd is
-  answer_then (reply.Found rids) first whole was halves left is = absurd is
-  answer_then (reply.Life life) first whole was halves left is = absurd is
-  answer_then reply.Skipped first whole was halves left is = absurd is
-  answer_then (reply.Refused e) first whole was halves left is = ⊎_elim
-      (λ none. inl (none.0, well_then first none.1, none.2 ∙ whole ∙ sym was))
+      given_up why = ⊎_elim (λ piece. absurd (no_next whole piece.place piece.next)) (λ flip. inr (record { whole = was; could-not = λ may. flip.could-not (subst (λ (e : Parts D M). MayFlip (writer_of e)) (sym (no_group may)) may); cannot = flip.cannot; halves = flip.halves ∙ halves; no_more = flip.no_more })) why
+  answer_then (reply.Row row) first whole was halves left no_group is = absurd is
+  answer_then (reply.Found rids) first whole was halves left no_group is = absurd is
+  answer_then (reply.Life life) first whole was halves left no_group is = absurd is
+  answer_then reply.Skipped first whole was halves left no_group is = absurd is
+  answer_then (reply.Refused e) first whole was halves left no_group is = ⊎_elim
+      (λ none. inl (none.0, put_off none.1))
       (λ failed. inr (failed.0, failed.1, (λ before. subst (λ n. Rises n (failures (device_of new))) first.quiet (failed.2 first.sound)), (λ before. absurd (false≢true (sym first.sound-before ∙ before))), keeps_then first.keeps failed.4))
       is
+    where
+      put_off : IsPutOff failures mid new → IsPutOff failures old new
+      put_off off = record {
+        succeeds = well_then first off.succeeds;
+        copying = off.copying ∙ whole ∙ sym was;
+        left = omega (arith, off.left, left);
+        halves = off.halves ∙ halves;
+        keeps = λ stepped. absurd (stepped was);
+      }
 
 -- ---- behind a handing over
 
@@ -173,9 +190,13 @@ module _ {D M : Type 0} (history : D → History) (failures : D → ℕ) (old mi
     image-is = takes.image-is;
     has = has_as (core_of old).last takes.piece (writer_of mid) (writer_of old) takes.image over.image (subst (λ n. HasPiece n takes.piece (writer_of mid) takes.image) (ap (λ (v : CoreValue). v.last) over.moves.core) takes.has);
     behind = takes.behind ∙ ap (λ g. Steps (place_behind g.pages takes.piece)) over.geometry;
+    halves = takes.halves ∙ over.halves;
     log = takes.log ∙ over.log;
     horizon = takes.horizon ∙ over.horizon;
   }
+
+  may_over : MayFlip (writer_of old) → MayFlip (writer_of mid)
+  may_over (image, there, whole, reached) = (image, over.image ∙ there, whole, subst (λ n. image.number ≤ reach image n) (sym over.horizon) reached)
 
   given_up_over : (new : Parts D M) → CannotTake mid new ⊎ CannotFlip mid new → CannotTake old new ⊎ CannotFlip old new
   given_up_over new why = ⊎_elim
@@ -185,11 +206,9 @@ module _ {D M : Type 0} (history : D → History) (failures : D → ℕ) (old mi
         piece = cannot.piece;
         piece-is = piece_over cannot.place cannot.piece cannot.piece-is;
         must = must_as cannot.piece (writer_of mid) (writer_of old) (sym over.image) (sym over.log) (sym over.halves) cannot.must;
-        device = cannot.device ∙ over.device;
-        log = cannot.log ∙ over.log;
-        horizon = cannot.horizon ∙ over.horizon;
+        keeps = keeps_both old mid new (keeps_over history old mid over) cannot.keeps;
       }))
-      (λ cannot. inr (record { whole = sym over.copying ∙ cannot.whole; cannot = cannot.cannot; no_more = cannot.no_more }))
+      (λ cannot. inr (record { whole = sym over.copying ∙ cannot.whole; could-not = λ may. cannot.could-not (may_over may); cannot = cannot.cannot; halves = cannot.halves ∙ over.halves; no_more = cannot.no_more }))
       why
 
   current_over : (new : Parts D M) → MakesCurrent mid new → MakesCurrent old new
@@ -199,8 +218,18 @@ module _ {D M : Type 0} (history : D → History) (failures : D → ℕ) (old mi
     none = made.none;
     idle = made.idle;
     room = made.room;
+    no-group = λ stepped may image there. let at = made.no-group (over.copying ∙ stepped) (may_over may) image (over.image ∙ there) in record { log = at.log; reached = at.reached ∙ ap (λ n. reach image n) over.horizon };
     emptied = λ given. made.emptied (over.copying ∙ given);
     all = λ given. made.all (over.copying ∙ given);
+  }
+
+  put_off_over : (new : Parts D M) → IsPutOff failures mid new → IsPutOff failures old new
+  put_off_over new off = record {
+    succeeds = over_well new off.succeeds;
+    copying = off.copying ∙ over.copying;
+    left = omega (arith, off.left, left_same);
+    halves = off.halves ∙ over.halves;
+    keeps = λ other. keeps_both old mid new (keeps_over history old mid over) (off.keeps (λ stepped. other (sym over.copying ∙ stepped)));
   }
 
   pub answer_over : (new : Parts D M) (r : Reply M) → IsCopyAnswer failures r mid new → has_failed mid ≡ false → IsCopyAnswer failures r old new
@@ -223,13 +252,22 @@ module _ {D M : Type 0} (history : D → History) (failures : D → ℕ) (old mi
   answer_over new (reply.Life life) is sound = absurd is
   answer_over new reply.Skipped is sound = absurd is
   answer_over new (reply.Refused e) is sound = ⊎_elim
-      (λ none. inl (none.0, over_well new none.1, none.2 ∙ over.copying))
+      (λ none. inl (none.0, put_off_over new none.1))
       (λ failed. inr (failed.0, failed.1, (λ before. subst (λ n. Rises n (failures (device_of new))) (ap failures over.device) (failed.2 sound)), (λ before. absurd (false≢true (sym sound ∙ over.failed ∙ before))), over_keeps new failed.4))
       is
 
   -- where not all could be handed over
   pub copy_not_over : has_failed old ≡ false → IsCopyAnswer failures (reply.Refused NoMemory) old mid
-  copy_not_over sound = inl (refl, over_well mid (record { keeps = keeps_none failures mid; sound-before = over.failed ∙ sound; sound = over.failed ∙ sound; quiet = refl }), over.copying)
+  copy_not_over sound = inl (
+    refl,
+    record {
+      succeeds = over_well mid (record { keeps = keeps_none failures mid; sound-before = over.failed ∙ sound; sound = over.failed ∙ sound; quiet = refl });
+      copying = over.copying;
+      left = omega (arith, left_same);
+      halves = over.halves;
+      keeps = λ _. keeps_over history old mid over;
+    },
+  )
 
 pub copy_failed_before : {D M : Type 0} (failures : D → ℕ) (old : Parts D M) → has_failed old ≡ true → IsCopyAnswer failures (reply.Refused DeviceFailed) old old
 copy_failed_before failures old failed = inr (refl, failed, (λ sound. absurd (false≢true (sym sound ∙ failed))), (λ _. refl), keeps_none failures old)
@@ -237,9 +275,26 @@ copy_failed_before failures old failed = inr (refl, failed, (λ sound. absurd (f
 pub none_well : {D M : Type 0} (failures : D → ℕ) (old : Parts D M) → has_failed old ≡ false → Succeeds failures old old
 none_well failures old sound = record { keeps = keeps_none failures old; sound-before = sound; sound = sound; quiet = refl }
 
+-- there was no memory, and the writer is as it was
+pub put_off_as : {D M : Type 0} (failures : D → ℕ) (old new : Parts D M) → Succeeds failures old new → writer_of new ≡ writer_of old → core_of new ≡ core_of old → new.geometry ≡ old.geometry → new.copying ≡ old.copying → IsPutOff failures old new
+put_off_as failures old new well same core_is size copying = record {
+  succeeds = well;
+  copying = copying;
+  left = omega (arith, level);
+  halves = ap (λ w. writer.halves_of w) same;
+  keeps = λ _. keeps_same old new same;
+}
+  where
+    level : copies_left new ≡ copies_left old
+    level =
+        ap (λ g. left_at g (core_of new).last (writer.image_of (writer_of new)) new.copying) size
+        ∙ ap (λ (v : CoreValue). left_at old.geometry v.last (writer.image_of (writer_of new)) new.copying) core_is
+        ∙ ap (λ w. left_at old.geometry (core_of old).last (writer.image_of w) new.copying) same
+        ∙ ap (left_at old.geometry (core_of old).last (writer.image_of (writer_of old))) copying
+
 -- where nothing could be copied
 pub none_copied : {D M : Type 0} (failures : D → ℕ) (old : Parts D M) (e : Error) → e ≡ NoMemory → has_failed old ≡ false → IsCopyAnswer failures (reply.Refused e) old old
-none_copied failures old e none sound = inl (none, record { keeps = keeps_none failures old; sound-before = sound; sound = sound; quiet = refl }, refl)
+none_copied failures old e none sound = inl (none, put_off_as failures old old (none_well failures old sound) refl refl refl refl)
 
 -- ---- what a copy tells
 

@@ -5,14 +5,16 @@ use Rattle.std.proofs.lemmas.List.{length-take-le}
 use Rattle.records.specs.RecordValue.{RecordValue}
 use Rattle.records.specs.declared.error.Error.{Error}
 use Rattle.records.specs.declared.error.Error.TheVariants.{NoMemory, DeviceFailed}
+use Rattle.flip_image.specs.Layout.{HalvesValue}
 use Rattle.gate_log.specs.Area.{Log}
 use Rattle.image_model.specs.Run.{Run, end_of, records_between}
 use Rattle.sector_device.specs.History.{History, LeavesOnly, Rises}
 use Rattle.sector_device.proofs.Moments.{started}
 use Rattle.store_writer.specs.Contents.{LeftBy}
+use Rattle.store_writer.specs.Image.{BecomesImage}
 use Rattle.store_writer.specs.Parts as writer
 use Rattle.store_writer.specs.Writer as told
-use Rattle.store_writer.specs.Writer.{IsFlushReply, IsLogFull, IsNotFlushed, IsWriter}
+use Rattle.store_writer.specs.Writer.{IsBeforeFlush, IsFlushReply, IsLogFull, IsNotFlushed, IsWriter}
 use Rattle.store_writer.specs.declared.writer.FlushReply.TheVariants.{Flushed, Nothing}
 use Rattle.store_writer.specs.declared.writer.FlushReply.TheVariants as flush
 use Rattle.restart.specs.declared.event.Reply.TheVariants as reply
@@ -21,6 +23,7 @@ use Rattle.restart.specs.Handing.{HandsOver, MovesOn}
 use Rattle.restart.specs.Lawful.{FillsGroup, IsFlushAnswer, KeepsRecords, OpensOne, Writes, WritesNothing}
 use Rattle.restart.specs.Parts.{core_of, device_of, has_failed, horizon_of, log_of, unhanded, unwritten, writer_of}
 use Rattle.restart.specs.Store.{CanRun}
+use Rattle.restart.proofs.Keeping.{keeps_both, keeps_over, keeps_same}
 use Rattle.restart.proofs.Moving.{StaysAtPlace, moves_by, moves_then}
 
 -- where nothing was written no slot is open that was not
@@ -37,7 +40,7 @@ module _ {D M : Type 0} (history : D → History) (failures : D → ℕ) (old : 
   stays = moves_by history old old refl refl (λ run handed w. w) (λ run handed w. started (history (device_of old)) (LeftBy run (horizon_of old) handed) w.images) (omega arith) (record { geometry = refl; place = λ was. was; carried = λ was. was })
 
   pub failed_before : has_failed old ≡ true → IsFlushAnswer failures (reply.Refused DeviceFailed) old old
-  failed_before failed = inr (refl, failed, (λ sound. absurd (false≢true (sym sound ∙ failed))), (λ _. refl), record { horizon = refl; unwritten-are = refl; core = refl; later = omega arith })
+  failed_before failed = inr (refl, failed, (λ sound. absurd (false≢true (sym sound ∙ failed))), (λ _. refl), record { horizon = refl; unwritten-are = refl; core = refl; later = omega arith; copying = refl; image = refl })
 
 -- ---- where not all records could be handed over
 
@@ -51,9 +54,10 @@ module _ {D M : Type 0} (history : D → History) (failures : D → ℕ) (old mi
       slots = no_slot (log_of old) (log_of mid) over.log;
       core = over.moves.core;
       later = omega (arith, ap failures over.device);
+      copying = over.copying;
+      image = λ some. absurd (omega (arith, some));
     };
-    device = over.device;
-    log = over.log;
+    keeps = keeps_over history old mid over;
   }
 
   append_none : (a b : List RecordValue) → a ++ b ≡ [] → b ≡ []
@@ -68,7 +72,7 @@ module _ {D M : Type 0} (history : D → History) (failures : D → ℕ) (old mi
 
   -- ---- where all were
 
-  module _ (new : Parts D M) (all : unhanded mid ≡ []) (sound : has_failed old ≡ false) (core_is : core_of new ≡ core_of mid) (rest : unhanded new ≡ unhanded mid)
+  module _ (new : Parts D M) (all : unhanded mid ≡ []) (sound : has_failed old ≡ false) (core_is : core_of new ≡ core_of mid) (rest : unhanded new ≡ unhanded mid) (copying : new.copying ≡ mid.copying)
       (can : CanRun history mid) (keeps : (run : Run) (handed : ℕ) → IsWriter history run handed (writer_of mid) → IsWriter history run handed (writer_of new))
       (images : (run : Run) (handed : ℕ) → IsWriter history run handed (writer_of mid) → LeavesOnly (history (device_of mid)) (history (device_of new)) (LeftBy run (horizon_of mid) handed))
       (later : failures (device_of mid) ≤ failures (device_of new)) (place : StaysAtPlace mid new) where
@@ -94,26 +98,31 @@ module _ {D M : Type 0} (history : D → History) (failures : D → ℕ) (old mi
         let after = keeps can.0 can.1 before in
         omega (arith, after.reached, before.reached, ap length before.waits, count_between can.0 (horizon_of mid) can.1 before.opened before.made)
 
-    wrote : (count : ℕ) → horizon_of new ≡ horizon_of mid + count → writer.waiting_of (writer_of new) ≡ drop count (writer.waiting_of (writer_of mid)) → OpensOne count (log_of mid) (log_of new) → Writes failures old new count
-    wrote count horizon waiting slots = record {
+    wrote : (count : ℕ) → horizon_of new ≡ horizon_of mid + count → writer.waiting_of (writer_of new) ≡ drop count (writer.waiting_of (writer_of mid)) → OpensOne count (log_of mid) (log_of new)
+        → (0 < count → BecomesImage (writer.halves_of (writer_of mid)).geometry.slots (horizon_of mid) count (writer.image_of (writer_of mid)) (writer.image_of (writer_of new))) → Writes failures old new count
+    wrote count horizon waiting slots becomes = record {
       within = omega (arith, within, horizon, ap length waited);
       horizon = omega (arith, horizon, over.horizon);
       left = waits ∙ waiting ∙ ap (drop count) (sym waited);
       slots = subst (λ (l : Log). OpensOne count l (log_of new)) over.log slots;
       core = (core_is ∙ over.moves.core) ∙ ap (λ (o : List RecordValue). record (core_of old) { outbox = o }) (sym (ap (λ v. v.outbox) core_is));
       later = omega (arith, later, ap failures over.device);
+      copying = copying ∙ over.copying;
+      image = λ some.
+          subst (λ (h : HalvesValue). BecomesImage h.geometry.slots (horizon_of old) count (writer.image_of (writer_of old)) (writer.image_of (writer_of new))) over.halves
+          (subst (λ n. BecomesImage (writer.halves_of (writer_of mid)).geometry.slots n count (writer.image_of (writer_of old)) (writer.image_of (writer_of new))) over.horizon
+          (subst (λ i. BecomesImage (writer.halves_of (writer_of mid)).geometry.slots (horizon_of mid) count i (writer.image_of (writer_of new))) over.image (becomes some)));
     }
 
     wrote_none : writer_of new ≡ writer_of mid → WritesNothing failures old new
     wrote_none same = record {
-      none = wrote 0 (omega (arith, ap (λ w. writer.synced_of w) same)) (ap (λ w. writer.waiting_of w) same) (no_slot (log_of mid) (log_of new) (ap (λ w. writer.log_of w) same));
-      device = ap (λ w. writer.device_of w) same ∙ over.device;
-      log = ap (λ w. writer.log_of w) same ∙ over.log;
+      none = wrote 0 (omega (arith, ap (λ w. writer.synced_of w) same)) (ap (λ w. writer.waiting_of w) same) (no_slot (log_of mid) (log_of new) (ap (λ w. writer.log_of w) same)) (λ some. absurd (omega (arith, some)));
+      keeps = keeps_both old mid new (keeps_over history old mid over) (keeps_same mid new same);
     }
 
     -- a group was written
-    pub flushed : (n : ℕ) → IsFlushReply (Flushed n) (writer_of mid) (writer_of new) → has_failed new ≡ false → failures (device_of new) ≡ failures (device_of mid) → IsFlushAnswer failures (reply.Horizon n) old new
-    flushed n is after quiet =
+    pub flushed : (n : ℕ) → IsFlushReply (Flushed n) (writer_of mid) (writer_of new) → BecomesImage (writer.halves_of (writer_of mid)).geometry.slots (horizon_of mid) (n - horizon_of mid) (writer.image_of (writer_of mid)) (writer.image_of (writer_of new)) → has_failed new ≡ false → failures (device_of new) ≡ failures (device_of mid) → IsFlushAnswer failures (reply.Horizon n) old new
+    flushed n is becomes after quiet =
         let count : ℕ = n - horizon_of mid in
         let size : horizon_of new - horizon_of mid ≡ count = ap (λ m. m - horizon_of mid) (sym is.0) in
         let fills : told.FillsGroup (writer.waiting_of (writer_of mid)) count = is.2 in (
@@ -123,7 +132,7 @@ module _ {D M : Type 0} (history : D → History) (failures : D → ℕ) (old mi
           (λ _. omega (arith, is.1, over.horizon)),
           (
             count,
-            wrote count (omega (arith, is.0, is.1)) (is.3.waiting-are ∙ ap (λ m. drop m (writer.waiting_of (writer_of mid))) size) (one_slot count (log_of mid) (log_of new) (omega (arith, is.1)) is.3.log-is),
+            wrote count (omega (arith, is.0, is.1)) (is.3.waiting-are ∙ ap (λ m. drop m (writer.waiting_of (writer_of mid))) size) (one_slot count (log_of mid) (log_of new) (omega (arith, is.1)) is.3.log-is) (λ _. becomes),
             subst (λ (rs : List RecordValue). FillsGroup rs count) (sym waited) (record { fits = λ _. fills.fits; full = fills.full }),
           ),
           (λ none. absurd (omega (arith, within, is.0, is.1, ap length (sym waited ∙ none)))),
@@ -151,12 +160,14 @@ module _ {D M : Type 0} (history : D → History) (failures : D → ℕ) (old mi
     pub log_full : IsFlushReply flush.LogFull (writer_of mid) (writer_of new) → has_failed new ≡ false → IsFlushAnswer failures reply.LogFull old new
     log_full is after = (sound, after, full_then is.1, some_waited is.2, wrote_none is.0)
 
-    kept_records : horizon_of new ≡ horizon_of mid → KeepsRecords failures old new
-    kept_records kept = record {
+    kept_records : horizon_of new ≡ horizon_of mid → IsBeforeFlush (writer_of mid) (writer_of new) → KeepsRecords failures old new
+    kept_records kept left = record {
       horizon = kept ∙ over.horizon;
       unwritten-are = waits ∙ (after.waits ∙ ap (λ n. records_between can.0 n can.1) kept ∙ sym before.waits) ∙ sym waited;
       core = (core_is ∙ over.moves.core) ∙ ap (λ (o : List RecordValue). record (core_of old) { outbox = o }) (sym (ap (λ v. v.outbox) core_is));
       later = omega (arith, later, ap failures over.device);
+      copying = copying ∙ over.copying;
+      image = ap (λ w. writer.image_of w) left.rest ∙ over.image;
     }
       where
         before : IsWriter history can.0 can.1 (writer_of mid)
@@ -165,8 +176,8 @@ module _ {D M : Type 0} (history : D → History) (failures : D → ℕ) (old mi
         after : IsWriter history can.0 can.1 (writer_of new)
         after = keeps can.0 can.1 before
 
-    pub not_flushed : (e : Error) → IsNotFlushed failures e (writer_of mid) (writer_of new) → horizon_of new ≡ horizon_of mid → IsFlushAnswer failures (reply.Refused e) old new
-    not_flushed e why kept = ⊎_elim
+    pub not_flushed : (e : Error) → IsNotFlushed failures e (writer_of mid) (writer_of new) → horizon_of new ≡ horizon_of mid → IsBeforeFlush (writer_of mid) (writer_of new) → IsFlushAnswer failures (reply.Refused e) old new
+    not_flushed e why kept left = ⊎_elim
         (λ none. inl (none.0, sound, ap (λ w. writer.has_failed w) none.4 ∙ none.1, some_waited none.2, inl (λ full. none.3 (full_before full)), wrote_none none.4))
-        (λ failed. inr (failed.0, failed.1, (λ before. let f = failed.2 (over.failed ∙ before) in (some_waited f.0, subst (λ n. Rises n (failures (device_of new))) (ap failures over.device) f.1)), (λ before. absurd (false≢true (sym sound ∙ before))), kept_records kept))
+        (λ failed. inr (failed.0, failed.1, (λ before. let f = failed.2 (over.failed ∙ before) in (some_waited f.0, subst (λ n. Rises n (failures (device_of new))) (ap failures over.device) f.1)), (λ before. absurd (false≢true (sym sound ∙ before))), kept_records kept left))
         why

@@ -8,9 +8,11 @@ mod Served
 mod Serving
 mod Moving
 mod Handed
+mod Keeping
 mod Flushing
 mod Runs
 mod Around
+mod CopiesAround
 mod Crashes
 mod Climbing
 mod ToEnd

@@ -29,7 +29,7 @@ use Rattle.restart.specs.declared.event.Event.TheVariants as event
 use Rattle.restart.specs.declared.event.Reply.{Reply}
 use Rattle.restart.specs.declared.event.Reply.TheVariants as reply
 use Rattle.restart.specs.declared.parts.Parts.{Parts}
-use Rattle.restart.specs.Parts.{core_of, device_of, has_failed, horizon_of, log_of, unwritten, writer_of}
+use Rattle.restart.specs.Parts.{KeepsStore, core_of, device_of, has_failed, horizon_of, log_of, unwritten, writer_of}
 
 -- ---- where the copying is
 
@@ -122,6 +122,7 @@ pub record TakesPiece {D M : Type 0} (old new : Parts D M) : Type 0 where
   pub image-is : image_of (writer_of new) ≡ Some image
   pub has : HasPiece (core_of old).last piece (writer_of old) image
   pub behind : new.copying ≡ Steps (place_behind old.geometry.pages piece)
+  pub halves : halves_of (writer_of new) ≡ halves_of (writer_of old)
   pub log : log_of new ≡ log_of old
   pub horizon : horizon_of new ≡ horizon_of old
 
@@ -133,43 +134,60 @@ pub record CannotTake {D M : Type 0} (old new : Parts D M) : Type 0 where
   pub piece : Piece M
   pub piece-is : IsPieceNow (core_of old) place piece
   pub must : MustStartAgain piece (writer_of old)
-  pub device : device_of new ≡ device_of old
-  pub log : log_of new ≡ log_of old
-  pub horizon : horizon_of new ≡ horizon_of old
+  pub keeps : KeepsStore old new
 
 -- an image is whole, and the records above its base, up to its last piece, are synced
 abbrev pub MayFlip : {D M : Type 0} → Writer D M → Type 0
 MayFlip w = (image : NewImage) × (w.image ≡ Some image) × (image.stage ≡ stage.Whole) × (image.number ≤ reach image w.synced)
 
--- Every piece was taken, and the image can't be made current: no group more can be written, since no record waits or every slot of
--- the log is open.
+-- Every piece was taken, and the image can't be made current, before and now: no group more can be written, since no record waits or
+-- every slot of the log is open. The same half is current.
 pub record CannotFlip {D M : Type 0} (old new : Parts D M) : Type 0 where
   pub whole : old.copying ≡ Steps None
+  pub could-not : ¬ MayFlip (writer_of old)
   pub cannot : ¬ MayFlip (writer_of new)
+  pub halves : halves_of (writer_of new) ≡ halves_of (writer_of old)
   pub no_more : (unwritten new ≡ []) ⊎ (IsLogFull (writer_of new) × (unwritten new ≢ []))
 
+-- The image was made current without a group more: its log is the log, and what it reached is synced.
+pub record IsFlippedAtOnce {D M : Type 0} (old new : Parts D M) (image : NewImage) : Type 0 where
+  pub log : log_of new ≡ image.log
+  pub reached : horizon_of new ≡ reach image (horizon_of old)
+
 -- The half of a whole image is current, and its log has groups in half the slots at most: where there is more than one slot, or the
--- image was taken at once, room for a group. An image that was taken at once has every record made, and its log is empty.
+-- image was taken at once, room for a group. An image that was copied in steps and could be made current waited for no group; one
+-- that was taken at once has every record made, and its log is empty.
 pub record MakesCurrent {D M : Type 0} (old new : Parts D M) : Type 0 where
   pub whole : next_place old.copying ≡ None
   pub turned : halves_of (writer_of new) ≡ record { geometry = (halves_of (writer_of old)).geometry; current = other (halves_of (writer_of old)).current }
   pub none : image_of (writer_of new) ≡ None
   pub idle : new.copying ≡ Idle
   pub room : (log_of new).open_slots ≤ (halves_of (writer_of new)).geometry.slots / 2
+  pub no-group : old.copying ≡ Steps None → MayFlip (writer_of old) → (image : NewImage) → image_of (writer_of old) ≡ Some image → IsFlippedAtOnce old new image
   pub emptied : old.copying ≡ GivenUp → (log_of new).open_slots ≡ 0
   pub all : old.copying ≡ GivenUp → unwritten new ≡ []
+
+-- There was no memory, and the copying is where it was, with no more copies left. Nothing was written, but where a whole image waits
+-- for groups: then some may have been, and one of them may have given the image up.
+pub record IsPutOff {D M : Type 0} (failures : D → ℕ) (old new : Parts D M) : Type 0 where
+  pub succeeds : Succeeds failures old new
+  pub copying : new.copying ≡ old.copying
+  pub left : copies_left new ≤ copies_left old
+  pub halves : halves_of (writer_of new) ≡ halves_of (writer_of old)
+  pub keeps : old.copying ≢ Steps None → KeepsStore old new
 
 abbrev pub IsCopyAnswer : {D M : Type 0} → (D → ℕ) → Reply M → Parts D M → Parts D M → Type 0
 -- A piece of an image was taken. Fewer copies are left.
 IsCopyAnswer failures reply.Copied old new = Succeeds failures old new × TakesPiece old new × (copies_left new < copies_left old)
 -- a whole image is current
 IsCopyAnswer failures (reply.Flipped n) old new = Succeeds failures old new × (n ≡ horizon_of new) × MakesCurrent old new
--- an image that was copied in steps is given up, behind the groups that it waited for; one that is taken at once isn't
+-- An image that was copied in steps is given up, behind the groups that it waited for; one that is taken at once isn't. Fewer copies
+-- are left.
 IsCopyAnswer failures reply.Again old new = Succeeds failures old new × (CannotTake old new ⊎ CannotFlip old new) × (new.copying ≡ GivenUp) × (copies_left new < copies_left old)
 -- There was no memory to hand the records over, for a copy, or for a group; or the device failed, and an engine whose device failed
 -- answers so from then on, and leaves it alone.
 IsCopyAnswer failures (reply.Refused e) old new =
-    ((e ≡ NoMemory) × Succeeds failures old new × (new.copying ≡ old.copying))
+    ((e ≡ NoMemory) × IsPutOff failures old new)
     ⊎ ((e ≡ DeviceFailed) × (has_failed new ≡ true) × (has_failed old ≡ false → Rises (failures (device_of old)) (failures (device_of new))) × (has_failed old ≡ true → new ≡ old) × KeepsAll failures old new)
 IsCopyAnswer failures (reply.Txn t) old new = ⊥
 IsCopyAnswer failures (reply.Rid r) old new = ⊥

@@ -9,7 +9,7 @@ use Rattle.store_writer.specs.Contents.{LeftBy}
 use Rattle.store_writer.specs.Parts.{halves_of, log_of, has_failed, image_of}
 use Rattle.restart.specs.declared.copying.Copying.TheVariants.{Steps}
 use Rattle.restart.specs.declared.parts.Parts.{Parts}
-use Rattle.restart.specs.Copies.{Succeeds, copies_left}
+use Rattle.restart.specs.Copies.{MayFlip, Succeeds, copies_left}
 use Rattle.restart.specs.Parts.{core_of, device_of, horizon_of, unhanded, unwritten, writer_of}
 use Rattle.restart.specs.Store.{StandsAt}
 
@@ -42,5 +42,6 @@ pub record FlushesFirst {D M : Type 0} (failures : D → ℕ) (old new : Parts D
   pub fewer : length (unwritten new) < length (unwritten old)
   pub all : unhanded new ≡ []
   pub copying : new.copying ≡ Steps None
+  pub could-not : ¬ MayFlip (writer_of old)
   pub halves : halves_of (writer_of new) ≡ halves_of (writer_of old)
   pub left : copies_left new ≤ copies_left old

@@ -8,6 +8,8 @@ use Rattle.gate_log.specs.Group.{FitsGroup, spellings}
 use Rattle.gate_log.specs.declared.group.TheConstants.{GROUP_MAX}
 use Rattle.core_contracts.specs.Events as core
 use Rattle.nsf_core.specs.View as view
+use Rattle.store_writer.specs.Image.{BecomesImage}
+use Rattle.store_writer.specs.Parts.{halves_of, image_of}
 use Rattle.store_writer.specs.Writer.{IsLogFull}
 use Rattle.restart.specs.declared.event.Event.{Event}
 use Rattle.restart.specs.declared.event.Event.TheVariants as event
@@ -16,7 +18,7 @@ use Rattle.restart.specs.declared.event.Reply.TheVariants as reply
 use Rattle.restart.specs.declared.parts.Parts.{Parts}
 use Rattle.restart.specs.Copies.{IsCopyAnswer}
 use Rattle.restart.specs.History.{answered, asked}
-use Rattle.restart.specs.Parts.{core_of, device_of, log_of, unhanded, unwritten, writer_of, horizon_of, has_failed}
+use Rattle.restart.specs.Parts.{KeepsStore, core_of, device_of, log_of, unhanded, unwritten, writer_of, horizon_of, has_failed}
 
 -- whether a request only reads
 abbrev pub is_read : Event → Bool
@@ -49,7 +51,8 @@ pub record OpensOne (n : ℕ) (old new : Log) : Type 0 where
   pub none : n ≡ 0 → new ≡ old
 
 -- So many of the records that were not synced, the first of them, now are, in one slot of the log; the core keeps the rest of its
--- state, and the device's count of failures doesn't fall.
+-- state, and the device's count of failures doesn't fall. The copying of an image stays where it is, and the image becomes what such a
+-- group makes of it: its log has the records above its base too, or it is given up.
 pub record Writes {D M : Type 0} (failures : D → ℕ) (old new : Parts D M) (n : ℕ) : Type 0 where
   pub within : n ≤ length (unwritten old)
   pub horizon : horizon_of new ≡ horizon_of old + n
@@ -57,19 +60,23 @@ pub record Writes {D M : Type 0} (failures : D → ℕ) (old new : Parts D M) (n
   pub slots : OpensOne n (log_of old) (log_of new)
   pub core : core_of new ≡ record (core_of old) { outbox = (core_of new).outbox }
   pub later : failures (device_of old) ≤ failures (device_of new)
+  pub copying : new.copying ≡ old.copying
+  pub image : 0 < n → BecomesImage (halves_of (writer_of old)).geometry.slots (horizon_of old) n (image_of (writer_of old)) (image_of (writer_of new))
 
--- Nothing was written, and the device and the log are as they were; some of the records may wait elsewhere than in the core.
+-- Nothing was written; some of the records may wait elsewhere than in the core.
 pub record WritesNothing {D M : Type 0} (failures : D → ℕ) (old new : Parts D M) : Type 0 where
   pub none : Writes failures old new 0
-  pub device : device_of new ≡ device_of old
-  pub log : log_of new ≡ log_of old
+  pub keeps : KeepsStore old new
 
--- No record was synced, and none is lost; the core keeps the rest of its state, and the device's count of failures doesn't fall.
+-- No record was synced, and none is lost; the core keeps the rest of its state, and the device's count of failures doesn't fall. The
+-- copying and the image under way stay.
 pub record KeepsRecords {D M : Type 0} (failures : D → ℕ) (old new : Parts D M) : Type 0 where
   pub horizon : horizon_of new ≡ horizon_of old
   pub unwritten-are : unwritten new ≡ unwritten old
   pub core : core_of new ≡ record (core_of old) { outbox = (core_of new).outbox }
   pub later : failures (device_of old) ≤ failures (device_of new)
+  pub copying : new.copying ≡ old.copying
+  pub image : image_of (writer_of new) ≡ image_of (writer_of old)
 
 -- what is answered to a flush
 abbrev pub IsFlushAnswer : {D M : Type 0} → (D → ℕ) → Reply M → Parts D M → Parts D M → Type 0

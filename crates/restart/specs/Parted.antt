@@ -8,13 +8,13 @@ use Rattle.core_contracts.specs.Served.{HasServed}
 use Rattle.image_model.specs.Run.{end_of}
 use Rattle.nsf_core.specs.View.{CoreValue, IsState}
 use Rattle.sector_device.specs.History.{History}
-use Rattle.store_writer.specs.Parts.{halves_of, log_of, synced_of, waiting_of}
+use Rattle.store_writer.specs.Parts.{halves_of, image_of, log_of, synced_of, waiting_of}
 use Rattle.store_writer.specs.Parts as writer
 use Rattle.store_writer.specs.Writer.{IsWriter}
 use Rattle.store_writer.specs.declared.writer.Writer.{Writer}
 use Rattle.restart.specs.declared.parts.Parts.{Parts}
 use Rattle.restart.specs.History.{core_calls}
-use Rattle.restart.specs.Parts.{core_of, device_of, horizon_of, unhanded, unwritten, writer_of}
+use Rattle.restart.specs.Parts.{KeepsStore, core_of, device_of, has_failed, horizon_of, unhanded, unwritten, writer_of}
 use Rattle.restart.specs.Store.{IsAt, Past, acknowledged_by, last_made, over, run_of}
 
 -- The core has every row, entry and transaction, and no record waits in it: the writer has them all. Nothing was written.
@@ -24,6 +24,7 @@ pub record ArePartsOf {D M : Type 0} (engine : Parts D M) (core : CoreValue) (w 
   pub device : writer.device_of w ≡ device_of engine
   pub halves : halves_of w ≡ halves_of (writer_of engine)
   pub log : log_of w ≡ log_of (writer_of engine)
+  pub image : image_of w ≡ image_of (writer_of engine)
   pub synced : synced_of w ≡ horizon_of engine
   pub failed : writer.has_failed w ≡ writer.has_failed (writer_of engine)
 
@@ -45,11 +46,13 @@ abbrev pub LeavesPartsOf : {D M : Type 0} → (D → History) → Parts D M → 
 LeavesPartsOf {D} {M} history engine core w = (past : Past M) → IsAt history past engine → LeavesParts history past core w
 
 -- There was no memory to hand all records over. The engine is where the run left it, and has every record that wasn't synced;
--- nothing was written.
+-- nothing was written, and the copying is where it was.
 pub record IsGivenBack {D M : Type 0} (history : D → History) (old new : Parts D M) : Type 0 where
   pub some : unhanded new ≢ []
   pub at : (past : Past M) → IsAt history past old → IsAt history past new
   pub core : core_of new ≡ record (core_of old) { outbox = (core_of new).outbox }
   pub unwritten-are : unwritten new ≡ unwritten old
-  pub device : device_of new ≡ device_of old
-  pub horizon : horizon_of new ≡ horizon_of old
+  pub keeps : KeepsStore old new
+  pub failed : has_failed new ≡ has_failed old
+  pub geometry : new.geometry ≡ old.geometry
+  pub copying : new.copying ≡ old.copying

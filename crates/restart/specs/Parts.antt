@@ -1,5 +1,5 @@
 -- The parts of an engine.
-use Rattle.std.specs.Prelude.{ℕ, Bool, List, ◌++◌}
+use Rattle.std.specs.Prelude.{ℕ, Bool, List, ◌++◌, ◌≡◌}
 use Rattle.records.specs.RecordValue.{RecordValue}
 use Rattle.gate_log.specs.Area.{Log}
 use Rattle.nsf_core.specs.Value.{value_of}
@@ -36,3 +36,11 @@ horizon_of engine = writer.synced_of engine.writer
 -- whether the device has failed
 abbrev pub has_failed : {D M : Type 0} → Parts D M → Bool
 has_failed engine = writer.has_failed engine.writer
+
+-- Nothing was written: the device is as it was, and so are the halves, the log, the image under way, and how far all is synced.
+pub record KeepsStore {D M : Type 0} (old new : Parts D M) : Type 0 where
+  pub device : device_of new ≡ device_of old
+  pub halves : writer.halves_of (writer_of new) ≡ writer.halves_of (writer_of old)
+  pub log : log_of new ≡ log_of old
+  pub image : writer.image_of (writer_of new) ≡ writer.image_of (writer_of old)
+  pub horizon : horizon_of new ≡ horizon_of old

@@ -16,6 +16,7 @@ use Rattle.core_model.specs.Histories.{CanOpen, opened}
 use Rattle.core_contracts.specs.Events.{standing_at}
 use Rattle.nsf_core.specs.View.{CoreValue, IsState}
 use Rattle.store_writer.specs.Writer.{IsOpenedAt}
+use Rattle.restart.specs.declared.copying.Copying.TheVariants.{Idle}
 use Rattle.restart.specs.declared.parts.Parts.{Parts}
 use Rattle.store_writer.specs.Parts.{halves_of, image_of}
 use Rattle.restart.specs.Parts.{core_of, device_of, log_of, horizon_of, has_failed, writer_of}
@@ -47,9 +48,9 @@ pub record IsOpened {D M : Type 0} (history : D → History) (before : D) (engin
   pub begins : CanOpen (over geometry given) → IsAt history (opening geometry given) engine
   pub come : CanOpen (over geometry given) → HasCome (core_of engine)
 
--- the half that wasn't current now is, its log is empty, and no image is under way
+-- the half that wasn't current now is, its log is empty, and no image is under way, nor is a whole one to be taken
 abbrev pub IsEmptied : {D M : Type 0} → (D → History) → D → Parts D M → Type 0
-IsEmptied history before engine = IsStore (halves_of (writer_of engine)).geometry (other (halves_of (writer_of engine)).current) (history before).disk.content × ((log_of engine).open_slots ≡ 0) × (image_of (writer_of engine) ≡ None)
+IsEmptied history before engine = IsStore (halves_of (writer_of engine)).geometry (other (halves_of (writer_of engine)).current) (history before).disk.content × ((log_of engine).open_slots ≡ 0) × (image_of (writer_of engine) ≡ None) × (engine.copying ≡ Idle)
 
 -- Why nothing was opened: there was no memory, the device failed in the call, or it gives nothing. With any answer but
 -- `DeviceFailed` no call of the device failed, and the device is synced.

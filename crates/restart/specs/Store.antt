@@ -1,5 +1,5 @@
 -- What the store has done so far, and what a crash of its device leaves.
-use Rattle.std.specs.Prelude.{false, ◌≡◌, ◌≢◌, ◌≤◌, ◌+◌, ℕ, List, [], ◌∷◌, ◌++◌, length, take}
+use Rattle.std.specs.Prelude.{false, ◌≡◌, ◌≢◌, ◌⊎◌, ◌≤◌, ◌+◌, ℕ, List, [], ◌∷◌, ◌++◌, length, take}
 use Rattle.records.specs.GeometryValue.{GeometryValue}
 use Rattle.records.specs.RecordValue.{RecordValue}
 use Rattle.model.specs.Given.{Given, IsBeginning, opening_cells}
@@ -15,8 +15,10 @@ use Rattle.image_model.specs.Run.{Run, end_of, records_between}
 use Rattle.sector_device.specs.Disk.{Image, IsCrashImage}
 use Rattle.sector_device.specs.History.{History, LeavesOnly, Spans}
 use Rattle.store_reader.specs.Contents.{Gives}
-use Rattle.store_writer.specs.Parts.{image_of}
-use Rattle.store_writer.specs.Writer.{IsWriter, WritesLogsAlone}
+use Rattle.flip_image.specs.Layout.{HalvesValue, InHalf, InLog, other}
+use Rattle.flip_image.specs.declared.half.TheConstants.{FLIP_SECTOR}
+use Rattle.store_writer.specs.Parts.{halves_of, image_of}
+use Rattle.store_writer.specs.Writer.{IsWriter, WritesLogsAlone, WritesOnly}
 use Rattle.core_copies.specs.Lists.{HasLists}
 use Rattle.model.specs.Cells.{cells_after}
 use Rattle.restart.specs.declared.event.Event.{Event}
@@ -114,6 +116,15 @@ ServesOn {D} {M} history event reply old new = (past : Past M) → IsAt history 
 -- it held before, and so it does after a crash at any moment of the call, if it was synced before.
 abbrev pub KeepsAround : {D M : Type 0} → (D → History) → Parts D M → Parts D M → Type 0
 KeepsAround history old new = WritesLogsAlone history (writer_of old) (writer_of new)
+
+-- a sector of the current half's log or of the other half, or the one that tells which half is current
+abbrev pub InCopy : HalvesValue → ℕ → Type 0
+InCopy h n = InLog h.geometry h.current n ⊎ (InHalf h.geometry (other h.current) n ⊎ (n ≡ FLIP_SECTOR))
+
+-- Of these alone some were written: each other sector of the device holds what it held before, and so it does after a crash at any
+-- moment of the call, if it was synced before.
+abbrev pub CopiesAround : {D M : Type 0} → (D → History) → Parts D M → Parts D M → Type 0
+CopiesAround history old new = WritesOnly history (InCopy (halves_of (writer_of old))) (device_of old) (device_of new)
 
 -- none of the requests is a copy
 abbrev pub HaveNoCopy : List Event → Type 0

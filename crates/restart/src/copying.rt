@@ -41,13 +41,14 @@ impl<D: Device, A: Allocator + Copy> Parts<D, A> {
     ghost use Rattle.restart.specs.Copies.{IsCopyAnswer, IsDue, next_place};
     ghost use Rattle.restart.specs.Handing.{FlushesFirst, MovesOn};
     ghost use Rattle.restart.specs.Parts.{has_failed, unhanded, writer_of};
-    ghost use Rattle.restart.specs.Store.{CanRun, ServesOn, StandsAt};
+    ghost use Rattle.restart.specs.Store.{CanRun, CopiesAround, ServesOn, StandsAt};
 
     /// Takes the next piece of an image, or makes it current.
     pub(crate) fn copy(&mut self) -> Reply<A>
         requires { CanRun D.history self.old }
         ensures serves { ServesOn D.history event.Copy result self.old self.new }
         ensures answer { IsCopyAnswer D.failures result self.old self.new }
+        ensures around { CopiesAround D.history self.old self.new }
         ensures can_run { CanRun D.history self.new }
     {
         if self.writer.has_failed() {
@@ -66,6 +67,7 @@ impl<D: Device, A: Allocator + Copy> Parts<D, A> {
         requires sound { has_failed self.old ≡ false }
         ensures moves { MovesOn D.history self.old self.new }
         ensures answer { IsCopyAnswer D.failures result self.old self.new }
+        ensures around { CopiesAround D.history self.old self.new }
     {
         match self.copying {
             Copying::Idle => self.copy_piece(CopyPlace::Start),
@@ -86,6 +88,7 @@ impl<D: Device, A: Allocator + Copy> Parts<D, A> {
         requires next { next_place self.old.copying ≡ Some place }
         ensures moves { MovesOn D.history self.old self.new }
         ensures answer { IsCopyAnswer D.failures result self.old self.new }
+        ensures around { CopiesAround D.history self.old self.new }
     {
         each_list();
         one_copy();
@@ -116,6 +119,7 @@ impl<D: Device, A: Allocator + Copy> Parts<D, A> {
         requires given_up { self.old.copying ≡ GivenUp }
         ensures moves { MovesOn D.history self.old self.new }
         ensures answer { IsCopyAnswer D.failures result self.old self.new }
+        ensures around { CopiesAround D.history self.old self.new }
     {
         each_list();
         one_copy();
@@ -147,6 +151,7 @@ impl<D: Device, A: Allocator + Copy> Parts<D, A> {
         requires whole { self.old.copying ≡ Steps None }
         ensures moves { MovesOn D.history self.old self.new }
         ensures answer { IsCopyAnswer D.failures result self.old self.new }
+        ensures around { CopiesAround D.history self.old self.new }
     {
         'groups: loop {
             match self.flip_or_flush() {
@@ -165,6 +170,7 @@ impl<D: Device, A: Allocator + Copy> Parts<D, A> {
         ensures moves { MovesOn D.history self.old self.new }
         ensures answer { IfSome result (λ reply. IsCopyAnswer D.failures reply self.old self.new) }
         ensures flushed { IfNone result (FlushesFirst D.failures self.old self.new) }
+        ensures around { CopiesAround D.history self.old self.new }
     {
         kept_place();
         match self.writer.checkpoint_flip() {

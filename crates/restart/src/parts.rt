@@ -28,7 +28,7 @@ impl<D: Device, A: Allocator + Copy> Parts<D, A> {
     ghost use Rattle.restart.specs.declared.event.Event.TheVariants.{Flush};
     ghost use Rattle.restart.specs.Parts.{device_of, unhanded};
     ghost use Rattle.restart.specs.Lawful.{IsFlushAnswer, IsLawful};
-    ghost use Rattle.restart.specs.Store.{CanRun, ServesOn, KeepsAround};
+    ghost use Rattle.restart.specs.Store.{CanRun, CopiesAround, ServesOn, KeepsAround};
     ghost use Rattle.restart.specs.Handing.{HandsOver};
     ghost use Rattle.restart.specs.Parted.{ArePartsOf, LeavesPartsOf, IsGivenBack};
     ghost use Rattle.nsf_core.specs.Value.{value_of};
@@ -39,6 +39,7 @@ impl<D: Device, A: Allocator + Copy> Parts<D, A> {
         ensures serves { ServesOn D.history event result self.old self.new }
         ensures lawful { IsLawful D.failures event result self.old self.new }
         ensures around { event ≢ Event.Copy → KeepsAround D.history self.old self.new }
+        ensures copied { event ≡ Event.Copy → CopiesAround D.history self.old self.new }
         ensures can_run { CanRun D.history self.new }
     {
         each_half();

@@ -3,6 +3,7 @@ use Rattle.records.specs.declared.error.Error.TheVariants.{DeviceFailed, NoMemor
 use Rattle.restart.specs.declared.event.Event.TheVariants.{Copy}
 use Rattle.restart.specs.declared.event.Reply.TheVariants.{Refused}
 use Rattle.restart.specs.Parts.{has_failed}
+use Rattle.restart.proofs.CopiesAround.{copied_over, device_copied, none_copied_around}
 use Rattle.restart.proofs.CopyAnswers.{answer_over, copy_failed_before, copy_not_over, copy_safe, of_copy}
 use Rattle.restart.proofs.Flushing.{stays}
 use Rattle.restart.proofs.Moving.{can_run_on, moves_then, serves_by}
@@ -51,3 +52,12 @@ returns-clause-answer g c =
 
 pub returns-clause-can_run : goal.returns-clause-can_run
 returns-clause-can_run g c = can_run_on g.D.Device.history c.args.self.now c.copy_handed.new.self (moves_then g.D.Device.history c.args.self.now c.hand_over.new.self c.copy_handed.new.self c.hand_over.ensures.hands.moves c.copy_handed.ensures.moves) c.requires
+
+pub returns-then-has_failed-clause-around : goal.returns-then-has_failed-clause-around
+returns-then-has_failed-clause-around g c = none_copied_around g.D.Device.history c.args.self.now
+
+pub returns-then-not-hand_over-clause-around : goal.returns-then-not-hand_over-clause-around
+returns-then-not-hand_over-clause-around g c = device_copied g.D.Device.history c.args.self.now c.hand_over.new.self c.hand_over.ensures.hands.device
+
+pub returns-clause-around : goal.returns-clause-around
+returns-clause-around g c = copied_over g.D.Device.history c.args.self.now c.hand_over.new.self c.copy_handed.new.self c.hand_over.ensures.hands c.copy_handed.ensures.around

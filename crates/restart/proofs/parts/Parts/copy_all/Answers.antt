@@ -1,4 +1,5 @@
 use Rattle.std.proofs.Common.{◌∙◌, refl, arith, subst}
+use Rattle.store_writer.specs.Parts as writer
 use Rattle.store_writer.specs.Writer.{IsFlipReply, IsStepReply, IsWriter}
 use Rattle.store_writer.specs.declared.writer.FlipReply.{FlipReply}
 use Rattle.store_writer.specs.declared.writer.FlipReply.TheVariants.{Behind, Flipped}
@@ -8,11 +9,12 @@ use Rattle.nsf_core.specs.Value.{value_of}
 use Rattle.restart.specs.declared.copying.Copying.TheVariants.{Idle}
 use Rattle.restart.specs.declared.parts.Parts.{Parts}
 use Rattle.restart.specs.Handing.{MovesOn}
-use Rattle.restart.specs.Parts.{writer_of}
+use Rattle.restart.specs.Parts.{device_of, writer_of}
 use Rattle.restart.proofs.Copied.{CopyLaws, all_handed, is_taken, may_flip, none_unwritten, whole_current, whole_empty, whole_is, whole_synced}
+use Rattle.restart.proofs.CopiesAround.{copies_then, flip_copied, half_copied, none_copied_around}
 use Rattle.restart.proofs.CopyAnswers.{all_well, copy_failed, failed_later, none_copied}
 use Rattle.restart.proofs.Flushing.{stays}
-use Rattle.restart.proofs.Moving.{moves_at, moves_by, moves_then, stays_begun, stays_failed, stays_idle}
+use Rattle.restart.proofs.Moving.{can_run_on, moves_at, moves_by, moves_then, stays_begun, stays_failed, stays_idle}
 use Rattle.restart.proofs.parts.Parts.copy_all.Goals as goal
 
 pub checkpoint_step-requires : goal.checkpoint_step-requires
@@ -142,3 +144,41 @@ returns-in-Err-checkpoint_flip-clause-answer g c =
     let step : IsWriter history can.0 can.1 (writer_of mid) = c.checkpoint_step.ensures.writer can.0 can.1 can.4.writer (whole_is history old laws c.requires.sound chunk.number chunk.piece c.in-Ok.ensures.number c.in-Ok.ensures.whole can.0 can.1 can.2 can.3 can.4) in
     let new : Parts g.row.D.Denot g.row.A.Denot = record old { writer = c.checkpoint_flip.new.self } in
     failed_later history failures old mid new c.requires.all can refl refl (c.checkpoint_flip.ensures.writer can.0 can.1 step) (omega (arith, c.checkpoint_step.ensures.kept, c.in-Err-checkpoint_flip.ensures.kept)) (omega (arith, c.checkpoint_step.ensures.later, c.checkpoint_flip.ensures.later)) c.in-Err-checkpoint_flip.error c.requires.sound c.in-Ok-Taken.ensures.sound.1 c.in-Ok-Taken.ensures.quiet c.in-Err-checkpoint_flip.ensures.err
+
+pub returns-in-Err-clause-around : goal.returns-in-Err-clause-around
+returns-in-Err-clause-around g c = none_copied_around g.D.Device.history c.args.self.now
+
+pub returns-in-Err-checkpoint_step-clause-around : goal.returns-in-Err-checkpoint_step-clause-around
+returns-in-Err-checkpoint_step-clause-around g c = let old = c.args.self.now in half_copied g.D.Device.history (writer.halves_of (writer_of old)) (device_of old) (writer.device_of c.checkpoint_step.new.self) c.checkpoint_step.ensures.around
+
+pub returns-in-Ok-Flipped-clause-around : goal.returns-in-Ok-Flipped-clause-around
+returns-in-Ok-Flipped-clause-around g c =
+    let history = g.D.Device.history in
+    let old = c.args.self.now in
+    let laws : CopyLaws history old = record { txns = c.copy_whole.ensures.sound; shown = c.each_list.ensures.shown; one = c.one_copy.ensures; page = c.next_pieces.ensures.page; entries = c.next_pieces.ensures.entries } in
+    let chunk = c.in-Ok.chunk in
+    let mid : Parts g.row.D.Denot g.row.A.Denot = record old { writer = c.checkpoint_step.new.self } in
+    let told : IsStepReply chunk.number chunk.piece Taken (writer_of old) (writer_of mid) = subst (λ (r : StepReply). IsStepReply chunk.number chunk.piece r (writer_of old) c.checkpoint_step.new.self) c.in-Ok-Taken.field-0-is c.in-Ok-Taken.ensures.stepped in
+    let first : MovesOn history old mid = moves_at history old mid refl refl
+    (λ run handed s k is. c.checkpoint_step.ensures.writer run handed is.writer (whole_is history old laws c.requires.sound chunk.number chunk.piece c.in-Ok.ensures.number c.in-Ok.ensures.whole run handed s k is))
+    c.checkpoint_step.ensures.images (omega (arith, c.checkpoint_step.ensures.kept)) (stays_begun old mid refl c.requires.given_up told.1.0 told.1.1.0 (whole_empty (value_of old.core) chunk.number chunk.piece (writer_of old) (writer_of mid) c.in-Ok.ensures.whole told)) in
+    let new : Parts g.row.D.Denot g.row.A.Denot = record old { writer = c.checkpoint_flip.new.self; copying = Idle } in
+    copies_then history old mid new (can_run_on history old mid first c.requires.runs) c.in-Ok-Taken.ensures.sound.1 told.1.1.1
+    (half_copied history (writer.halves_of (writer_of old)) (device_of old) (device_of mid) c.checkpoint_step.ensures.around)
+    (flip_copied history (writer.halves_of (writer_of mid)) (device_of mid) (device_of new) c.checkpoint_flip.ensures.around)
+
+pub returns-in-Err-checkpoint_flip-clause-around : goal.returns-in-Err-checkpoint_flip-clause-around
+returns-in-Err-checkpoint_flip-clause-around g c =
+    let history = g.D.Device.history in
+    let old = c.args.self.now in
+    let laws : CopyLaws history old = record { txns = c.copy_whole.ensures.sound; shown = c.each_list.ensures.shown; one = c.one_copy.ensures; page = c.next_pieces.ensures.page; entries = c.next_pieces.ensures.entries } in
+    let chunk = c.in-Ok.chunk in
+    let mid : Parts g.row.D.Denot g.row.A.Denot = record old { writer = c.checkpoint_step.new.self } in
+    let told : IsStepReply chunk.number chunk.piece Taken (writer_of old) (writer_of mid) = subst (λ (r : StepReply). IsStepReply chunk.number chunk.piece r (writer_of old) c.checkpoint_step.new.self) c.in-Ok-Taken.field-0-is c.in-Ok-Taken.ensures.stepped in
+    let first : MovesOn history old mid = moves_at history old mid refl refl
+    (λ run handed s k is. c.checkpoint_step.ensures.writer run handed is.writer (whole_is history old laws c.requires.sound chunk.number chunk.piece c.in-Ok.ensures.number c.in-Ok.ensures.whole run handed s k is))
+    c.checkpoint_step.ensures.images (omega (arith, c.checkpoint_step.ensures.kept)) (stays_begun old mid refl c.requires.given_up told.1.0 told.1.1.0 (whole_empty (value_of old.core) chunk.number chunk.piece (writer_of old) (writer_of mid) c.in-Ok.ensures.whole told)) in
+    let new : Parts g.row.D.Denot g.row.A.Denot = record old { writer = c.checkpoint_flip.new.self } in
+    copies_then history old mid new (can_run_on history old mid first c.requires.runs) c.in-Ok-Taken.ensures.sound.1 told.1.1.1
+    (half_copied history (writer.halves_of (writer_of old)) (device_of old) (device_of mid) c.checkpoint_step.ensures.around)
+    (flip_copied history (writer.halves_of (writer_of mid)) (device_of mid) (device_of new) c.checkpoint_flip.ensures.around)

@@ -7,8 +7,9 @@ use Rattle.store_writer.specs.declared.writer.StepReply.{StepReply}
 use Rattle.store_writer.specs.declared.writer.StepReply.TheVariants.{StartAgain, Taken}
 use Rattle.restart.specs.declared.copying.Copying.TheVariants.{GivenUp, Steps}
 use Rattle.restart.specs.declared.parts.Parts.{Parts}
-use Rattle.restart.specs.Parts.{core_of, horizon_of, writer_of}
+use Rattle.restart.specs.Parts.{core_of, device_of, horizon_of, writer_of}
 use Rattle.restart.proofs.Copied.{CopyLaws, cannot_take, fewer_now, piece_is, stays_taken, takes_piece}
+use Rattle.restart.proofs.CopiesAround.{half_copied, none_copied_around}
 use Rattle.restart.proofs.CopyAnswers.{all_well, copy_failed, none_copied}
 use Rattle.restart.proofs.Fewer.{fewer_given_up}
 use Rattle.restart.proofs.Flushing.{stays}
@@ -115,3 +116,15 @@ returns-in-Err-checkpoint_step-clause-answer g c =
     let after = c.checkpoint_step.ensures.writer can.0 can.1 can.4.writer (piece_is history old laws c.requires.sound chunk.number c.args.place chunk.piece c.in-Ok.ensures.number c.requires.due c.in-Ok.ensures.piece can.0 can.1 can.2 can.3 can.4) in
     let grows : horizon_of old ≤ horizon_of new = omega (arith, c.checkpoint_step.ensures.kept) in
     copy_failed history g.D.Device.failures old new c.requires.all can refl refl after grows c.checkpoint_step.ensures.later c.in-Err-checkpoint_step.error c.requires.sound c.in-Err-checkpoint_step.ensures.err
+
+pub returns-in-Err-clause-around : goal.returns-in-Err-clause-around
+returns-in-Err-clause-around g c = none_copied_around g.D.Device.history c.args.self.now
+
+pub returns-in-Ok-Taken-clause-around : goal.returns-in-Ok-Taken-clause-around
+returns-in-Ok-Taken-clause-around g c = let old = c.args.self.now in half_copied g.D.Device.history (writer.halves_of (writer_of old)) (device_of old) (writer.device_of c.checkpoint_step.new.self) c.checkpoint_step.ensures.around
+
+pub returns-in-Ok-StartAgain-clause-around : goal.returns-in-Ok-StartAgain-clause-around
+returns-in-Ok-StartAgain-clause-around g c = let old = c.args.self.now in half_copied g.D.Device.history (writer.halves_of (writer_of old)) (device_of old) (writer.device_of c.checkpoint_step.new.self) c.checkpoint_step.ensures.around
+
+pub returns-in-Err-checkpoint_step-clause-around : goal.returns-in-Err-checkpoint_step-clause-around
+returns-in-Err-checkpoint_step-clause-around g c = let old = c.args.self.now in half_copied g.D.Device.history (writer.halves_of (writer_of old)) (device_of old) (writer.device_of c.checkpoint_step.new.self) c.checkpoint_step.ensures.around

@@ -1,4 +1,7 @@
-use Rattle.std.proofs.Common.{refl, arith, ◌∙◌}
+use Rattle.std.proofs.Common.{refl, arith, subst, sym, ◌∙◌}
+use Rattle.restart.specs.Copies.{MayFlip}
+use Rattle.restart.specs.Parts.{writer_of}
+use Rattle.restart.proofs.CopiesAround.{copies_then, none_copied_around}
 use Rattle.restart.proofs.CopyAnswers.{answer_then, none_well, well_then}
 use Rattle.restart.proofs.Flushing.{stays}
 use Rattle.restart.proofs.Moving.{can_run_on, moves_then}
@@ -12,6 +15,8 @@ groups-init g c = record {
   copying = c.requires.whole;
   halves = refl;
   left = omega arith;
+  behind = λ _. refl;
+  around = none_copied_around g.D.Device.history c.args.self.now;
 }
 
 pub flip_or_flush-requires-clause-runs : goal.flip_or_flush-requires-clause-runs
@@ -37,6 +42,8 @@ groups-preserved g c =
       copying = more.copying;
       halves = more.halves ∙ first.halves;
       left = omega (arith, first.left, more.left);
+      behind = λ may. absurd (more.could-not (subst (λ engine. MayFlip (writer_of engine)) (sym (first.behind may)) may));
+      around = copies_then g.D.Device.history c.args.self.now c.groups.self c.flip_or_flush.new.self (can_run_on g.D.Device.history c.args.self.now c.groups.self first.moves c.requires.runs) first.well.sound first.halves first.around c.flip_or_flush.ensures.around;
     }
 
 pub groups-smaller : goal.groups-smaller
@@ -46,4 +53,9 @@ pub returns-in-Some-clause-moves : goal.returns-in-Some-clause-moves
 returns-in-Some-clause-moves g c = moves_then g.D.Device.history c.args.self.now c.groups.self c.flip_or_flush.new.self c.groups.invariant.moves c.flip_or_flush.ensures.moves
 
 pub returns-in-Some-clause-answer : goal.returns-in-Some-clause-answer
-returns-in-Some-clause-answer g c = answer_then g.D.Device.failures c.args.self.now c.groups.self c.flip_or_flush.new.self c.in-Some.reply c.groups.invariant.well c.groups.invariant.copying c.requires.whole c.groups.invariant.halves c.groups.invariant.left c.in-Some.ensures.answer
+returns-in-Some-clause-answer g c = answer_then g.D.Device.failures c.args.self.now c.groups.self c.flip_or_flush.new.self c.in-Some.reply c.groups.invariant.well c.groups.invariant.copying c.requires.whole c.groups.invariant.halves c.groups.invariant.left c.groups.invariant.behind c.in-Some.ensures.answer
+
+pub returns-in-Some-clause-around : goal.returns-in-Some-clause-around
+returns-in-Some-clause-around g c =
+    let first = c.groups.invariant in
+    copies_then g.D.Device.history c.args.self.now c.groups.self c.flip_or_flush.new.self (can_run_on g.D.Device.history c.args.self.now c.groups.self first.moves c.requires.runs) first.well.sound first.halves first.around c.flip_or_flush.ensures.around

@@ -1,9 +1,10 @@
 use Rattle.std.proofs.Common.{[], ◌≡◌, ◌≤◌, None, length}
 use Rattle.store_writer.specs.Parts.{halves_of}
 use Rattle.restart.specs.declared.copying.Copying.TheVariants.{Steps}
-use Rattle.restart.specs.Copies.{Succeeds, copies_left}
+use Rattle.restart.specs.Copies.{MayFlip, Succeeds, copies_left}
 use Rattle.restart.specs.Handing.{MovesOn}
 use Rattle.restart.specs.Parts.{unhanded, unwritten, writer_of}
+use Rattle.restart.specs.Store.{CopiesAround}
 use Rattle.restart.proofs.parts.Parts.flip.Given as goal
 
 abbrev pub invariant-groups : goal.invariant-groups
@@ -14,6 +15,8 @@ invariant-groups g l = record {
   copying : l.self.copying ≡ Steps None;
   halves : halves_of (writer_of l.self) ≡ halves_of (writer_of l.fn.self);
   left : copies_left l.self ≤ copies_left l.fn.self;
+  behind : MayFlip (writer_of l.fn.self) → l.self ≡ l.fn.self;
+  around : CopiesAround g.D.Device.history l.fn.self l.self;
 }
 
 abbrev pub decreases-groups : goal.decreases-groups

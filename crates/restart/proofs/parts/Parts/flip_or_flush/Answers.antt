@@ -1,6 +1,6 @@
 use Rattle.std.proofs.Common.{◌≡◌, ◌≤◌, ◌-◌, ◌∙◌, ⊎_elim, inl, inr, Ok, false, refl, sym, ap, arith, subst}
 use Rattle.store_writer.specs.Parts as writer
-use Rattle.store_writer.specs.Writer.{IsFlipReply, IsFlushReply, IsLogFull, IsWriter}
+use Rattle.store_writer.specs.Writer.{IsFlipReply, IsFlushReply, IsLogFull, IsWriter, WritesLogsAlone}
 use Rattle.store_writer.specs.declared.writer.FlipReply.{FlipReply}
 use Rattle.store_writer.specs.declared.writer.FlipReply.TheVariants.{Behind, Flipped}
 use Rattle.store_writer.specs.declared.writer.FlushReply.{FlushReply}
@@ -8,9 +8,10 @@ use Rattle.store_writer.specs.declared.writer.FlushReply.TheVariants.{Flushed, L
 use Rattle.restart.specs.declared.copying.Copying.TheVariants.{GivenUp, Idle}
 use Rattle.restart.specs.declared.parts.Parts.{Parts}
 use Rattle.restart.specs.Handing.{MovesOn}
-use Rattle.restart.specs.Parts.{has_failed, horizon_of, writer_of}
+use Rattle.restart.specs.Parts.{device_of, has_failed, horizon_of, writer_of}
 use Rattle.restart.proofs.Copied.{cannot_flip, few_behind, flip_current, may_not_flip, two_to_flip}
-use Rattle.restart.proofs.CopyAnswers.{all_well, copy_failed, count_left, failed_later}
+use Rattle.restart.proofs.CopiesAround.{flip_copied, logs_copied}
+use Rattle.restart.proofs.CopyAnswers.{all_well, copy_failed, count_left, failed_later, put_off_as}
 use Rattle.restart.proofs.Moving.{moves_by, moves_then, open_now, slots_are, stays_failed, stays_flushed, stays_given_up, stays_idle, stays_same}
 use Rattle.restart.proofs.parts.Parts.flip_or_flush.Goals as goal
 
@@ -95,6 +96,7 @@ returns-in-Ok-Flushed-clause-flushed g c =
       fewer = omega (arith, count_left history can.0 can.1 new after c.requires.all, count_left history can.0 can.1 old can.4.writer c.requires.all, is.0, is.1, level, after.reached);
       all = c.requires.all;
       copying = c.requires.whole;
+      could-not = may_not_flip history can.0 can.1 can.2 can.3 old can.4 c.requires.sound c.requires.all behind.1;
       halves = is.3.halves-are ∙ ap (λ w. writer.halves_of w) same;
       left = few_behind old new c.requires.whole c.requires.whole (two_to_flip history can.0 can.1 can.2 can.3 old can.4 c.requires.sound c.requires.all behind.1 c.requires.whole);
     }
@@ -219,6 +221,48 @@ returns-in-Err-flush_group-clause-answer g c =
     let new : Parts g.row.D.Denot g.row.A.Denot = record mid { writer = c.flush_group.new.self } in
     let kept : horizon_of new ≡ horizon_of mid = c.in-Err-flush_group.ensures.kept in
     ⊎_elim
-    (λ none. inl (none.0, all_well history failures old new c.requires.all can refl refl after (omega (arith, kept, level)) (omega (arith, c.flush_group.ensures.later, counts)) c.requires.sound (ap (λ w. writer.has_failed w) none.4 ∙ sound) (ap (λ w. failures (writer.device_of w)) none.4 ∙ counts), refl))
+    (λ none. inl (
+      none.0,
+      put_off_as failures old new (all_well history failures old new c.requires.all can refl refl after (omega (arith, kept, level)) (omega (arith, c.flush_group.ensures.later, counts)) c.requires.sound (ap (λ w. writer.has_failed w) none.4 ∙ sound) (ap (λ w. failures (writer.device_of w)) none.4 ∙ counts))
+          (none.4 ∙ same) refl refl refl,
+    ))
     (λ failed. failed_later history failures old mid new c.requires.all can refl refl after (omega (arith, kept, level)) (omega (arith, c.flush_group.ensures.later, counts)) c.in-Err-flush_group.error c.requires.sound sound counts (failed.0, failed.1, (λ before. (failed.2 before).1), failed.3))
     c.in-Err-flush_group.ensures.err
+
+pub returns-in-Ok-Flipped-clause-around : goal.returns-in-Ok-Flipped-clause-around
+returns-in-Ok-Flipped-clause-around g c = let old = c.args.self.now in flip_copied g.D.Device.history (writer.halves_of (writer_of old)) (device_of old) (writer.device_of c.checkpoint_flip.new.self) c.checkpoint_flip.ensures.around
+
+pub returns-in-Err-clause-around : goal.returns-in-Err-clause-around
+returns-in-Err-clause-around g c = let old = c.args.self.now in flip_copied g.D.Device.history (writer.halves_of (writer_of old)) (device_of old) (writer.device_of c.checkpoint_flip.new.self) c.checkpoint_flip.ensures.around
+
+pub returns-in-Ok-Flushed-clause-around : goal.returns-in-Ok-Flushed-clause-around
+returns-in-Ok-Flushed-clause-around g c =
+    let history = g.D.Device.history in
+    let old = c.args.self.now in
+    let can = c.requires.runs in
+    let behind : IsFlipReply can.1 Behind (writer_of old) c.checkpoint_flip.new.self = subst (λ (r : FlipReply). IsFlipReply can.1 r (writer_of old) c.checkpoint_flip.new.self) c.in-Ok-Behind.field-0-is (c.in-Ok-Behind.ensures.flipped can.0 can.1 can.4.writer) in
+    logs_copied history (writer_of old) c.flush_group.new.self (subst (λ w. WritesLogsAlone history w c.flush_group.new.self) behind.0 c.flush_group.ensures.around)
+
+pub returns-in-Ok-Nothing-clause-around : goal.returns-in-Ok-Nothing-clause-around
+returns-in-Ok-Nothing-clause-around g c =
+    let history = g.D.Device.history in
+    let old = c.args.self.now in
+    let can = c.requires.runs in
+    let behind : IsFlipReply can.1 Behind (writer_of old) c.checkpoint_flip.new.self = subst (λ (r : FlipReply). IsFlipReply can.1 r (writer_of old) c.checkpoint_flip.new.self) c.in-Ok-Behind.field-0-is (c.in-Ok-Behind.ensures.flipped can.0 can.1 can.4.writer) in
+    logs_copied history (writer_of old) c.flush_group.new.self (subst (λ w. WritesLogsAlone history w c.flush_group.new.self) behind.0 c.flush_group.ensures.around)
+
+pub returns-in-Ok-LogFull-clause-around : goal.returns-in-Ok-LogFull-clause-around
+returns-in-Ok-LogFull-clause-around g c =
+    let history = g.D.Device.history in
+    let old = c.args.self.now in
+    let can = c.requires.runs in
+    let behind : IsFlipReply can.1 Behind (writer_of old) c.checkpoint_flip.new.self = subst (λ (r : FlipReply). IsFlipReply can.1 r (writer_of old) c.checkpoint_flip.new.self) c.in-Ok-Behind.field-0-is (c.in-Ok-Behind.ensures.flipped can.0 can.1 can.4.writer) in
+    logs_copied history (writer_of old) c.flush_group.new.self (subst (λ w. WritesLogsAlone history w c.flush_group.new.self) behind.0 c.flush_group.ensures.around)
+
+pub returns-in-Err-flush_group-clause-around : goal.returns-in-Err-flush_group-clause-around
+returns-in-Err-flush_group-clause-around g c =
+    let history = g.D.Device.history in
+    let old = c.args.self.now in
+    let can = c.requires.runs in
+    let behind : IsFlipReply can.1 Behind (writer_of old) c.checkpoint_flip.new.self = subst (λ (r : FlipReply). IsFlipReply can.1 r (writer_of old) c.checkpoint_flip.new.self) c.in-Ok-Behind.field-0-is (c.in-Ok-Behind.ensures.flipped can.0 can.1 can.4.writer) in
+    logs_copied history (writer_of old) c.flush_group.new.self (subst (λ w. WritesLogsAlone history w c.flush_group.new.self) behind.0 c.flush_group.ensures.around)

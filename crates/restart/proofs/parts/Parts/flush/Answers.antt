@@ -74,7 +74,7 @@ returns-in-Ok-Flushed-clause-serves g c =
     let can = can_run_on history old mid over.moves c.requires in
     let is : IsFlushReply (flush.Flushed c.in-Ok-Flushed.number) (writer_of mid) (writer_of new) = subst (λ (f : FlushReply). IsFlushReply f (writer_of mid) c.flush_group.new.self) c.in-Ok-Flushed.field-0-is c.in-Ok-Flushed.ensures.flushed in
     let grows : horizon_of mid ≤ horizon_of new = omega (arith, is.0, is.1) in
-    serves_by history old new Flush (Horizon c.in-Ok-Flushed.number) (moves history failures old mid over new all sound refl refl can c.flush_group.ensures.writer c.flush_group.ensures.images c.flush_group.ensures.later (stays_flushed mid new refl refl (writer.halves_of (writer_of mid)).geometry.slots (horizon_of mid) (c.in-Ok-Flushed.number - horizon_of mid) (slots_are history mid can) (over.failed ∙ sound) (c.flush_group.ensures.image c.in-Ok-Flushed.number (c.in-Ok-Flushed.is ∙ ap Ok c.in-Ok-Flushed.field-0-is)) c.kept_place.ensures) grows) refl tt (λ n le. omega (arith, le, is.0))
+    serves_by history old new Flush (Horizon c.in-Ok-Flushed.number) (moves history failures old mid over new all sound refl refl refl can c.flush_group.ensures.writer c.flush_group.ensures.images c.flush_group.ensures.later (stays_flushed mid new refl refl (writer.halves_of (writer_of mid)).geometry.slots (horizon_of mid) (c.in-Ok-Flushed.number - horizon_of mid) (slots_are history mid can) (over.failed ∙ sound) (c.flush_group.ensures.image c.in-Ok-Flushed.number (c.in-Ok-Flushed.is ∙ ap Ok c.in-Ok-Flushed.field-0-is)) c.kept_place.ensures) grows) refl tt (λ n le. omega (arith, le, is.0))
 
 pub returns-in-Ok-Flushed-clause-answer : goal.returns-in-Ok-Flushed-clause-answer
 returns-in-Ok-Flushed-clause-answer g c =
@@ -88,7 +88,7 @@ returns-in-Ok-Flushed-clause-answer g c =
     let all : unhanded mid ≡ [] = c.hand_over.ensures.all.0 c.if-not-hand_over.false in
     let can = can_run_on history old mid over.moves c.requires in
     let is : IsFlushReply (flush.Flushed c.in-Ok-Flushed.number) (writer_of mid) (writer_of new) = subst (λ (f : FlushReply). IsFlushReply f (writer_of mid) c.flush_group.new.self) c.in-Ok-Flushed.field-0-is c.in-Ok-Flushed.ensures.flushed in
-    flushed history failures old mid over new all sound refl refl can c.flush_group.ensures.writer c.flush_group.ensures.images c.flush_group.ensures.later (stays_flushed mid new refl refl (writer.halves_of (writer_of mid)).geometry.slots (horizon_of mid) (c.in-Ok-Flushed.number - horizon_of mid) (slots_are history mid can) (over.failed ∙ sound) (c.flush_group.ensures.image c.in-Ok-Flushed.number (c.in-Ok-Flushed.is ∙ ap Ok c.in-Ok-Flushed.field-0-is)) c.kept_place.ensures) c.in-Ok-Flushed.number is c.in-Ok-Flushed.ensures.sound.1 c.in-Ok-Flushed.ensures.quiet
+    flushed history failures old mid over new all sound refl refl refl can c.flush_group.ensures.writer c.flush_group.ensures.images c.flush_group.ensures.later (stays_flushed mid new refl refl (writer.halves_of (writer_of mid)).geometry.slots (horizon_of mid) (c.in-Ok-Flushed.number - horizon_of mid) (slots_are history mid can) (over.failed ∙ sound) (c.flush_group.ensures.image c.in-Ok-Flushed.number (c.in-Ok-Flushed.is ∙ ap Ok c.in-Ok-Flushed.field-0-is)) c.kept_place.ensures) c.in-Ok-Flushed.number is (c.flush_group.ensures.image c.in-Ok-Flushed.number (c.in-Ok-Flushed.is ∙ ap Ok c.in-Ok-Flushed.field-0-is)) c.in-Ok-Flushed.ensures.sound.1 c.in-Ok-Flushed.ensures.quiet
 
 pub returns-in-Ok-Flushed-clause-can_run : goal.returns-in-Ok-Flushed-clause-can_run
 returns-in-Ok-Flushed-clause-can_run g c =
@@ -103,7 +103,7 @@ returns-in-Ok-Flushed-clause-can_run g c =
     let can = can_run_on history old mid over.moves c.requires in
     let is : IsFlushReply (flush.Flushed c.in-Ok-Flushed.number) (writer_of mid) (writer_of new) = subst (λ (f : FlushReply). IsFlushReply f (writer_of mid) c.flush_group.new.self) c.in-Ok-Flushed.field-0-is c.in-Ok-Flushed.ensures.flushed in
     let grows : horizon_of mid ≤ horizon_of new = omega (arith, is.0, is.1) in
-    can_run_on history old new (moves history failures old mid over new all sound refl refl can c.flush_group.ensures.writer c.flush_group.ensures.images c.flush_group.ensures.later (stays_flushed mid new refl refl (writer.halves_of (writer_of mid)).geometry.slots (horizon_of mid) (c.in-Ok-Flushed.number - horizon_of mid) (slots_are history mid can) (over.failed ∙ sound) (c.flush_group.ensures.image c.in-Ok-Flushed.number (c.in-Ok-Flushed.is ∙ ap Ok c.in-Ok-Flushed.field-0-is)) c.kept_place.ensures) grows) c.requires
+    can_run_on history old new (moves history failures old mid over new all sound refl refl refl can c.flush_group.ensures.writer c.flush_group.ensures.images c.flush_group.ensures.later (stays_flushed mid new refl refl (writer.halves_of (writer_of mid)).geometry.slots (horizon_of mid) (c.in-Ok-Flushed.number - horizon_of mid) (slots_are history mid can) (over.failed ∙ sound) (c.flush_group.ensures.image c.in-Ok-Flushed.number (c.in-Ok-Flushed.is ∙ ap Ok c.in-Ok-Flushed.field-0-is)) c.kept_place.ensures) grows) c.requires
 
 pub returns-in-Ok-Nothing-clause-serves : goal.returns-in-Ok-Nothing-clause-serves
 returns-in-Ok-Nothing-clause-serves g c =
@@ -118,7 +118,7 @@ returns-in-Ok-Nothing-clause-serves g c =
     let can = can_run_on history old mid over.moves c.requires in
     let is : IsFlushReply (flush.Nothing) (writer_of mid) (writer_of new) = subst (λ (f : FlushReply). IsFlushReply f (writer_of mid) c.flush_group.new.self) c.in-Ok-Nothing.field-0-is c.in-Ok-Nothing.ensures.flushed in
     let grows : horizon_of mid ≤ horizon_of new = omega (arith, ap (λ w. writer.synced_of w) is.0) in
-    serves_by history old new Flush (Horizon c.synced.result) (moves history failures old mid over new all sound refl refl can c.flush_group.ensures.writer c.flush_group.ensures.images c.flush_group.ensures.later (stays_same mid new refl refl is.0) grows) refl tt (λ n le. omega (arith, le, c.synced.ensures))
+    serves_by history old new Flush (Horizon c.synced.result) (moves history failures old mid over new all sound refl refl refl can c.flush_group.ensures.writer c.flush_group.ensures.images c.flush_group.ensures.later (stays_same mid new refl refl is.0) grows) refl tt (λ n le. omega (arith, le, c.synced.ensures))
 
 pub returns-in-Ok-Nothing-clause-answer : goal.returns-in-Ok-Nothing-clause-answer
 returns-in-Ok-Nothing-clause-answer g c =
@@ -132,7 +132,7 @@ returns-in-Ok-Nothing-clause-answer g c =
     let all : unhanded mid ≡ [] = c.hand_over.ensures.all.0 c.if-not-hand_over.false in
     let can = can_run_on history old mid over.moves c.requires in
     let is : IsFlushReply (flush.Nothing) (writer_of mid) (writer_of new) = subst (λ (f : FlushReply). IsFlushReply f (writer_of mid) c.flush_group.new.self) c.in-Ok-Nothing.field-0-is c.in-Ok-Nothing.ensures.flushed in
-    none_to_flush history failures old mid over new all sound refl refl can c.flush_group.ensures.writer c.flush_group.ensures.images c.flush_group.ensures.later (stays_same mid new refl refl is.0) c.synced.result c.synced.ensures is c.in-Ok-Nothing.ensures.sound.1 c.in-Ok-Nothing.ensures.quiet
+    none_to_flush history failures old mid over new all sound refl refl refl can c.flush_group.ensures.writer c.flush_group.ensures.images c.flush_group.ensures.later (stays_same mid new refl refl is.0) c.synced.result c.synced.ensures is c.in-Ok-Nothing.ensures.sound.1 c.in-Ok-Nothing.ensures.quiet
 
 pub returns-in-Ok-Nothing-clause-can_run : goal.returns-in-Ok-Nothing-clause-can_run
 returns-in-Ok-Nothing-clause-can_run g c =
@@ -147,7 +147,7 @@ returns-in-Ok-Nothing-clause-can_run g c =
     let can = can_run_on history old mid over.moves c.requires in
     let is : IsFlushReply (flush.Nothing) (writer_of mid) (writer_of new) = subst (λ (f : FlushReply). IsFlushReply f (writer_of mid) c.flush_group.new.self) c.in-Ok-Nothing.field-0-is c.in-Ok-Nothing.ensures.flushed in
     let grows : horizon_of mid ≤ horizon_of new = omega (arith, ap (λ w. writer.synced_of w) is.0) in
-    can_run_on history old new (moves history failures old mid over new all sound refl refl can c.flush_group.ensures.writer c.flush_group.ensures.images c.flush_group.ensures.later (stays_same mid new refl refl is.0) grows) c.requires
+    can_run_on history old new (moves history failures old mid over new all sound refl refl refl can c.flush_group.ensures.writer c.flush_group.ensures.images c.flush_group.ensures.later (stays_same mid new refl refl is.0) grows) c.requires
 
 pub returns-in-Ok-LogFull-clause-serves : goal.returns-in-Ok-LogFull-clause-serves
 returns-in-Ok-LogFull-clause-serves g c =
@@ -162,7 +162,7 @@ returns-in-Ok-LogFull-clause-serves g c =
     let can = can_run_on history old mid over.moves c.requires in
     let is : IsFlushReply (flush.LogFull) (writer_of mid) (writer_of new) = subst (λ (f : FlushReply). IsFlushReply f (writer_of mid) c.flush_group.new.self) c.in-Ok-LogFull.field-0-is c.in-Ok-LogFull.ensures.flushed in
     let grows : horizon_of mid ≤ horizon_of new = omega (arith, ap (λ w. writer.synced_of w) is.0) in
-    serves_by history old new Flush (LogFull) (moves history failures old mid over new all sound refl refl can c.flush_group.ensures.writer c.flush_group.ensures.images c.flush_group.ensures.later (stays_same mid new refl refl is.0) grows) refl tt (λ n le. le)
+    serves_by history old new Flush (LogFull) (moves history failures old mid over new all sound refl refl refl can c.flush_group.ensures.writer c.flush_group.ensures.images c.flush_group.ensures.later (stays_same mid new refl refl is.0) grows) refl tt (λ n le. le)
 
 pub returns-in-Ok-LogFull-clause-answer : goal.returns-in-Ok-LogFull-clause-answer
 returns-in-Ok-LogFull-clause-answer g c =
@@ -176,7 +176,7 @@ returns-in-Ok-LogFull-clause-answer g c =
     let all : unhanded mid ≡ [] = c.hand_over.ensures.all.0 c.if-not-hand_over.false in
     let can = can_run_on history old mid over.moves c.requires in
     let is : IsFlushReply (flush.LogFull) (writer_of mid) (writer_of new) = subst (λ (f : FlushReply). IsFlushReply f (writer_of mid) c.flush_group.new.self) c.in-Ok-LogFull.field-0-is c.in-Ok-LogFull.ensures.flushed in
-    log_full history failures old mid over new all sound refl refl can c.flush_group.ensures.writer c.flush_group.ensures.images c.flush_group.ensures.later (stays_same mid new refl refl is.0) is c.in-Ok-LogFull.ensures.sound.1
+    log_full history failures old mid over new all sound refl refl refl can c.flush_group.ensures.writer c.flush_group.ensures.images c.flush_group.ensures.later (stays_same mid new refl refl is.0) is c.in-Ok-LogFull.ensures.sound.1
 
 pub returns-in-Ok-LogFull-clause-can_run : goal.returns-in-Ok-LogFull-clause-can_run
 returns-in-Ok-LogFull-clause-can_run g c =
@@ -191,7 +191,7 @@ returns-in-Ok-LogFull-clause-can_run g c =
     let can = can_run_on history old mid over.moves c.requires in
     let is : IsFlushReply (flush.LogFull) (writer_of mid) (writer_of new) = subst (λ (f : FlushReply). IsFlushReply f (writer_of mid) c.flush_group.new.self) c.in-Ok-LogFull.field-0-is c.in-Ok-LogFull.ensures.flushed in
     let grows : horizon_of mid ≤ horizon_of new = omega (arith, ap (λ w. writer.synced_of w) is.0) in
-    can_run_on history old new (moves history failures old mid over new all sound refl refl can c.flush_group.ensures.writer c.flush_group.ensures.images c.flush_group.ensures.later (stays_same mid new refl refl is.0) grows) c.requires
+    can_run_on history old new (moves history failures old mid over new all sound refl refl refl can c.flush_group.ensures.writer c.flush_group.ensures.images c.flush_group.ensures.later (stays_same mid new refl refl is.0) grows) c.requires
 
 pub returns-in-Err-clause-serves : goal.returns-in-Err-clause-serves
 returns-in-Err-clause-serves g c =
@@ -206,7 +206,7 @@ returns-in-Err-clause-serves g c =
     let can = can_run_on history old mid over.moves c.requires in
     let kept : horizon_of new ≡ horizon_of mid = c.in-Err.ensures.kept in
     let grows : horizon_of mid ≤ horizon_of new = omega (arith, kept) in
-    serves_by history old new Flush (Refused c.in-Err.error) (moves history failures old mid over new all sound refl refl can c.flush_group.ensures.writer c.flush_group.ensures.images c.flush_group.ensures.later (⊎_elim (λ none. stays_same mid new refl refl none.4) (λ failed. stays_failed mid new refl refl failed.1) c.in-Err.ensures.err) grows) refl tt (λ n le. le)
+    serves_by history old new Flush (Refused c.in-Err.error) (moves history failures old mid over new all sound refl refl refl can c.flush_group.ensures.writer c.flush_group.ensures.images c.flush_group.ensures.later (⊎_elim (λ none. stays_same mid new refl refl none.4) (λ failed. stays_failed mid new refl refl failed.1) c.in-Err.ensures.err) grows) refl tt (λ n le. le)
 
 pub returns-in-Err-clause-answer : goal.returns-in-Err-clause-answer
 returns-in-Err-clause-answer g c =
@@ -221,7 +221,7 @@ returns-in-Err-clause-answer g c =
     let can = can_run_on history old mid over.moves c.requires in
     let kept : horizon_of new ≡ horizon_of mid = c.in-Err.ensures.kept in
     let grows : horizon_of mid ≤ horizon_of new = omega (arith, kept) in
-    not_flushed history failures old mid over new all sound refl refl can c.flush_group.ensures.writer c.flush_group.ensures.images c.flush_group.ensures.later (⊎_elim (λ none. stays_same mid new refl refl none.4) (λ failed. stays_failed mid new refl refl failed.1) c.in-Err.ensures.err) c.in-Err.error c.in-Err.ensures.err kept
+    not_flushed history failures old mid over new all sound refl refl refl can c.flush_group.ensures.writer c.flush_group.ensures.images c.flush_group.ensures.later (⊎_elim (λ none. stays_same mid new refl refl none.4) (λ failed. stays_failed mid new refl refl failed.1) c.in-Err.ensures.err) c.in-Err.error c.in-Err.ensures.err kept c.in-Err.ensures.left
 
 pub returns-in-Err-clause-can_run : goal.returns-in-Err-clause-can_run
 returns-in-Err-clause-can_run g c =
@@ -236,7 +236,7 @@ returns-in-Err-clause-can_run g c =
     let can = can_run_on history old mid over.moves c.requires in
     let kept : horizon_of new ≡ horizon_of mid = c.in-Err.ensures.kept in
     let grows : horizon_of mid ≤ horizon_of new = omega (arith, kept) in
-    can_run_on history old new (moves history failures old mid over new all sound refl refl can c.flush_group.ensures.writer c.flush_group.ensures.images c.flush_group.ensures.later (⊎_elim (λ none. stays_same mid new refl refl none.4) (λ failed. stays_failed mid new refl refl failed.1) c.in-Err.ensures.err) grows) c.requires
+    can_run_on history old new (moves history failures old mid over new all sound refl refl refl can c.flush_group.ensures.writer c.flush_group.ensures.images c.flush_group.ensures.later (⊎_elim (λ none. stays_same mid new refl refl none.4) (λ failed. stays_failed mid new refl refl failed.1) c.in-Err.ensures.err) grows) c.requires
 
 pub returns-then-has_failed-clause-around : goal.returns-then-has_failed-clause-around
 returns-then-has_failed-clause-around g c = around_none g.D.Device.history c.args.self.now c.args.self.now

@@ -37,3 +37,9 @@ returns-in-None-clause-around g c other = subst (λ parts. KeepsAround g.D.Devic
 
 pub returns-in-Copy-clause-around : goal.returns-in-Copy-clause-around
 returns-in-Copy-clause-around g c other = absurd (other c.in-Copy.is)
+
+pub returns-in-Some-clause-copied : goal.returns-in-Some-clause-copied
+returns-in-Some-clause-copied g c copy = absurd (c.in_default.not-Copy copy)
+
+pub returns-in-None-clause-copied : goal.returns-in-None-clause-copied
+returns-in-None-clause-copied g c copy = absurd (c.in_default.not-Copy copy)
