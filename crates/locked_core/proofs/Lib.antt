@@ -5,3 +5,5 @@ mod Copied
 mod ReadBack
 mod Following
 mod Popped
+mod Codes
+mod Recorded

@@ -1,9 +1,12 @@
 //! What lies under the lock, and the steps on it.
 ghost use Rattle.std.specs.FinMap as table;
-ghost use Rattle.std.specs.Prelude.{◌≡◌, ◌↔◌, [], IsTrue, false, true, Err, None, Option, Some, IfErr, IfOk, List, OnErr, OnOk, length, map, slice_get, slice_set, take, ℕ};
+ghost use Rattle.std.specs.Prelude.{◌≡◌, ◌↔◌, ◌++◌, ◌∷◌, [], IsTrue, false, true, Err, None, Option, Some, IfErr, IfOk, List, OnErr, OnOk, length, map, slice_get, slice_set, take, ℕ};
 ghost use Rattle.records.specs.GeometryValue.{GeometryValue};
 ghost use Rattle.core_contracts.specs.Events.{Event, Reply};
 ghost use Rattle.records.specs.declared.error.Error.TheVariants.{NoMemory, NoSuchTxn};
+ghost use Rattle.records.specs.declared.record.Action.TheVariants.{OfIndex, OfTxn};
+ghost use Rattle.records.specs.declared.record.IndexAction.{IndexAction};
+ghost use Rattle.records.specs.declared.record.TxnAction.{TxnAction};
 ghost use Rattle.image_model.specs.Run.{IsRun, cells_at, end_of};
 ghost use Rattle.core_copies.specs.Pieces.{IsPieceOf};
 ghost use Rattle.core_copies.specs.Shown.{IsCellsOf, IsOfGeometry};
@@ -36,6 +39,7 @@ use image_model::{Chunk, CopyPlace};
 use model::Life;
 use nsf_core::{BuildReply, CleanReply, Core, Ticket, Undone};
 use records::{Body, Error, Key, Rid, Row, Txn};
+use register::each_number;
 use registry::{Half, Registry};
 use std::alloc::Global;
 use std::marker::PhantomData;
@@ -271,7 +275,8 @@ impl<B: Site> Locked<B> {
         undone
     }
 
-    /// Creates the index, and keeps the number of its record with the seat.
+    /// Creates the index, and keeps the number of its record with the seat. The record that is made is the creation, with the
+    /// ticket's number.
     ///
     /// The refusals are those of the core's `create_index`. After a refusal all is as before.
     pub fn create_index(
@@ -283,11 +288,13 @@ impl<B: Site> Locked<B> {
         ensures before { slice_get (locked_of self.old).book seat.old.number ≡ Some seat.old.session }
         ensures served { Serves (locked_of self.old).core Event.Create (reply_by reply_of_ticket result) (locked_of self.new).core }
         ensures ok { IfOk result (λ ticket. seat.new.session ≡ with_creation seat.old.session ticket.«record») }
+        ensures recorded { IfOk result (λ ticket. (locked_of self.new).core.outbox ≡ (locked_of self.old).core.outbox ++ record { number = ticket.«record»; action = OfIndex IndexAction.Create } ∷ []) }
         ensures refused { OnErr result (seat.new.session ≡ seat.old.session) }
         ensures number { seat.new.number ≡ seat.old.number }
         ensures book { (locked_of self.new).book ≡ slice_set (locked_of self.old).book seat.old.number seat.new.session }
         ensures pushed { (locked_of self.new).pushed ≡ (locked_of self.old).pushed }
     {
+        each_number();
         let created = seat.session.create_index(&mut self.core);
         registry.change(&mut seat.half, &mut self.book[seat.number], &seat.session);
         created
@@ -346,7 +353,7 @@ impl<B: Site> Locked<B> {
     }
 
     /// Commits a transaction of the seat: it is none of the active ones from then on, and the commit is the last one of the
-    /// seat's session.
+    /// seat's session. The record that is made is the transaction's commit, with the ticket's number.
     ///
     /// The refusals are those of the session's `commit`. After a refusal all is as before.
     pub fn commit(
@@ -361,11 +368,13 @@ impl<B: Site> Locked<B> {
         ensures foreign { is_active seat.old.session txn ≡ false → (result ≡ Err NoSuchTxn) × ((locked_of self.new).core ≡ (locked_of self.old).core) }
         ensures served { is_active seat.old.session txn ≡ true → Serves (locked_of self.old).core (Event.Commit txn) (reply_by reply_of_ticket result) (locked_of self.new).core }
         ensures ok { IfOk result (λ ticket. seat.new.session ≡ committed seat.old.session txn ticket) }
+        ensures recorded { IfOk result (λ ticket. (locked_of self.new).core.outbox ≡ (locked_of self.old).core.outbox ++ record { number = ticket.«record»; action = OfTxn txn TxnAction.Commit } ∷ []) }
         ensures refused { OnErr result (seat.new.session ≡ seat.old.session) }
         ensures number { seat.new.number ≡ seat.old.number }
         ensures book { (locked_of self.new).book ≡ slice_set (locked_of self.old).book seat.old.number seat.new.session }
         ensures pushed { (locked_of self.new).pushed ≡ (locked_of self.old).pushed }
     {
+        each_number();
         registry.change(&mut seat.half, &mut self.book[seat.number], &seat.session);
         let committed = seat.session.commit(&mut self.core, txn);
         registry.change(&mut seat.half, &mut self.book[seat.number], &seat.session);

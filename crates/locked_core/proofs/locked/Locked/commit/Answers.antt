@@ -1,6 +1,9 @@
 use Rattle.std.proofs.Common.{Some, map, sym, ap, ◌∙◌, subst}
 use Rattle.std.proofs.Math.Logic.{∥∥₁_map}
 use Rattle.std.specs.Prelude.{slice_get, slice_set}
+use Rattle.records.specs.declared.record.Action.TheVariants.{OfTxn}
+use Rattle.records.specs.declared.record.TxnAction.{TxnAction}
+use Rattle.core_contracts.specs.Events.{Event}
 use Rattle.nsf_core.specs.Value.{value_of}
 use Rattle.registry.specs.Halves.{HalfValue, shown}
 use Rattle.sessions.specs.Values.{is_active, is_ready}
@@ -8,6 +11,7 @@ use Rattle.locked_core.specs.Names.{IsShared}
 use Rattle.locked_core.specs.Seats.{SeatValue}
 use Rattle.locked_core.proofs.Book.{book_set, book_twice, count_set, count_twice, half_at, shown_twice, there}
 use Rattle.locked_core.proofs.Kept.{commit_kept, ready_now}
+use Rattle.locked_core.proofs.Recorded.{recorded_own}
 use Rattle.locked_core.proofs.locked.Locked.commit.Goals as goal
 
 pub commit-committed-requires : goal.commit-committed-requires
@@ -87,3 +91,12 @@ returns-clause-book g c =
     let items = c.args.self.now.book.items in
     shown_twice z.table z.seats items c.seat.inside.number c.index_mut.result.now c.args.self.now.seats c.seat.invariant.1 c.index_mut.ensures.value c.args.self.now.halves c.change.new.theirs c.seat.inside.session (c.change.ensures.agree ∙ ap (λ (h : HalfValue). h.session) c.seat.invariant.0) c.change.ensures.theirs c.index_mut-2.result.now c.index_mut-2.ensures.value c.change-2.new.theirs c.commit-committed.new.self c.change-2.ensures.theirs
     ∙ ap (λ (s : SeatValue). slice_set (map shown items) s.number c.commit-committed.new.self) c.seat.view_is
+
+pub returns-clause-recorded : goal.returns-clause-recorded
+returns-clause-recorded g c =
+    let o = g.B.Site.site.opened in
+    let was = c.args.self.now in
+    let new = value_of c.commit-committed.new.core in
+    recorded_own o (value_of was.core) new was.pusher.records (map shown was.book.items) was.shared (Event.Commit c.args.txn) (OfTxn c.args.txn TxnAction.Commit)
+    (λ kept ticket serves. c.each_number.ensures.commit_record o was.pusher.records (value_of was.core) kept c.args.txn ticket new serves)
+    (is_active c.seat.inside.session c.args.txn) c.commit-committed.result c.commit-committed.ensures.foreign c.commit-committed.ensures.served

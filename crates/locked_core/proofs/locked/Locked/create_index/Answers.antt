@@ -1,12 +1,16 @@
 use Rattle.std.proofs.Common.{Some, map, sym, ap, ◌∙◌, subst, rules}
 use Rattle.std.proofs.Math.Logic.{∥∥₁_map}
 use Rattle.std.specs.Prelude.{slice_get, slice_set}
+use Rattle.records.specs.declared.record.Action.TheVariants.{OfIndex}
+use Rattle.records.specs.declared.record.IndexAction.{IndexAction}
+use Rattle.core_contracts.specs.Events.{Event}
 use Rattle.nsf_core.specs.Value.{value_of}
 use Rattle.registry.specs.Halves.{HalfValue, shown}
 use Rattle.locked_core.specs.Names.{IsShared}
 use Rattle.locked_core.specs.Seats.{SeatValue}
 use Rattle.locked_core.proofs.Book.{book_set, count_set, shown_at, shown_set}
 use Rattle.locked_core.proofs.Kept.{create_kept}
+use Rattle.locked_core.proofs.Recorded.{recorded}
 use Rattle.locked_core.proofs.locked.Locked.create_index.Goals as goal
 
 pub invariant_of-self : goal.invariant_of-self
@@ -48,3 +52,12 @@ returns-clause-book g c =
 
 pub returns-clause-ok : goal.returns-clause-ok
 returns-clause-ok g c = search rules
+
+pub returns-clause-recorded : goal.returns-clause-recorded
+returns-clause-recorded g c =
+    let o = g.B.Site.site.opened in
+    let was = c.args.self.now in
+    let new = value_of c.create_index-created.new.core in
+    recorded o (value_of was.core) new was.pusher.records (map shown was.book.items) was.shared Event.Create (OfIndex IndexAction.Create)
+    (λ kept ticket serves. c.each_number.ensures.create_record o was.pusher.records (value_of was.core) kept ticket new serves)
+    c.create_index-created.result c.create_index-created.ensures.served
