@@ -1,0 +1,4 @@
+mod Found
+mod Steps
+mod Chunks
+mod Opened
