@@ -255,6 +255,37 @@ fn misplaced_records(rt: HostRuntime) -> Result<(), Fail> {
     Ok(())
 }
 
+// Behind an image whose last record is number 4, a group with a record that can't be there.
+fn check_not_the_images(
+    rt: &impl Abort,
+    alloc: Global,
+    name: &str,
+    first: Record,
+) -> Result<(), Fail> {
+    let mut disk = formatted(alloc)?;
+    set(rt, &mut disk, 2, 40, 4)?;
+    append(rt, alloc, &mut disk, &[first])?;
+    let wanted = Error::Damaged { sector: 528 };
+    assert_eq!(rt; find(alloc, &mut disk).err(), Some(wanted), "{name}");
+    Ok(())
+}
+
+#[test]
+fn a_log_that_is_not_the_images(rt: HostRuntime) -> Result<(), Fail> {
+    let cases = [
+        (
+            "a record from before the image",
+            insertion(1, 1, FIRST, b"ant")?,
+        ),
+        ("the image's last record", insertion(4, 1, FIRST, b"ant")?),
+        ("a number left out", insertion(6, 1, FIRST, b"ant")?),
+    ];
+    for (name, first) in cases {
+        check_not_the_images(&rt, rt.alloc(), name, first)?;
+    }
+    Ok(())
+}
+
 // Reads a log whose one record is misplaced, where the k-th call fails. So many calls are made.
 fn check_failed(
     rt: &impl Abort,
