@@ -28,7 +28,7 @@ ghost use Rattle.register.specs.Reading.{ReadsBack, ShowsRow, unfinished_of};
 ghost use Rattle.register.specs.Register.{AreEmpty};
 ghost use Rattle.sessions.specs.Steps.{begun, changed, committed, ended, rolling_back, stepped, with_creation};
 ghost use Rattle.sessions.specs.Values.{SessionValue, is_active, is_ready, is_unfinished};
-ghost use Rattle.locked_core.specs.Following.{FollowOpening};
+ghost use Rattle.locked_core.specs.Following.{FitPlaces, FollowOpening};
 ghost use Rattle.locked_core.specs.Names.{IsShared};
 ghost use Rattle.registry.specs.Halves.{IsBook, IsNew, shown};
 
@@ -123,13 +123,14 @@ impl<B: Site> Locked<B> {
         self.core.waiting() == 0
     }
 
-    /// Compares what was popped of the queue with what was pushed to it: it is the first of that, in order, and its records can
-    /// follow what was opened. Nothing changes.
+    /// Compares what was popped of the queue with what was pushed to it: it is the first of that, in order, its records can
+    /// follow what was opened, and after each of them there are places for the entries. Nothing changes.
     pub fn compare<R: Wait>(&mut self, rt: &R, queue: &RecordQueue, popper: &mut Popper)
         requires queue { queue.now ≡ B.site.queue }
         requires popper { popper.old.queue ≡ B.site.queue }
         ensures beginning { popper.old.records ≡ take (length popper.old.records) (locked_of self.old).pushed }
         ensures following { FollowOpening B.site.opened popper.old.records }
+        ensures fits { FitPlaces B.site.opened popper.old.records }
         ensures same { locked_of self.new ≡ locked_of self.old }
         ensures popper { popper.new ≡ popper.old }
     {
