@@ -1,29 +1,36 @@
 -- What each call leaves of the flusher's part.
 use Rattle.std.proofs.Common.{◌≡◌, ℕ, ◌+◌, ◌-◌, ◌≤◌, false, true≢false, List, [], ◌++◌, length, take, Result, Ok, Err, refl, sym, ap, subst, ◌∙◌, arith, append-nil, length-append, IfOk, IfErr, OnOk, OnErr, inl, inr}
-use Rattle.std.proofs.Math.Seq.{take-append_seam, take-length}
+use Rattle.std.proofs.Math.Seq.{take-append_seam, take-length, take-nil}
+use Rattle.std.proofs.lemmas.List.{length-take-le}
+use Rattle.std.specs.FinMap.{len}
 use Rattle.std.specs.declared.alloc.Global.{Global}
 use Rattle.atomic_table.specs.Seated.{TableId}
 use Rattle.records.specs.RecordValue.{RecordValue}
 use Rattle.records.specs.GeometryValue.{GeometryValue}
 use Rattle.records.specs.declared.error.Error.{Error}
 use Rattle.records.specs.declared.number.TheConstants.{LAST_NUMBER}
+use Rattle.model.specs.Cells.{cells_after}
 use Rattle.model.specs.Following.{AreFollowing}
-use Rattle.model.specs.Given.{opening_cells}
+use Rattle.model.specs.Given.{Given, given_after, opening_cells, recovered}
+use Rattle.model.proofs.GivenLaws.{given_again}
 use Rattle.core_model.specs.Histories.{Opened}
+use Rattle.sector_device.specs.Disk.{Image}
 use Rattle.sector_device.specs.History.{History, LeavesOnly}
+use Rattle.sector_device.proofs.Moments.{weaker}
 use Rattle.board.specs.Views.{FlusherCount}
 use Rattle.image_model.specs.declared.chunk.Piece.{Piece}
-use Rattle.image_model.specs.Run.{IsRun, Run, end_of}
+use Rattle.image_model.specs.Run.{IsRun, Run, cells_at, end_of}
 use Rattle.store_writer.specs.declared.writer.Writer.{Writer}
 use Rattle.store_writer.specs.declared.writer.FlushReply.{FlushReply}
 use Rattle.store_writer.specs.declared.writer.FlushReply.TheVariants.{Flushed, Nothing, LogFull}
 use Rattle.store_writer.specs.declared.writer.FlipReply.{FlipReply}
 use Rattle.store_writer.specs.declared.writer.FlipReply.TheVariants.{Flipped, Behind}
 use Rattle.store_writer.specs.Parts.{device_of, halves_of, synced_of, has_failed}
-use Rattle.store_writer.specs.Contents.{LeftBy}
+use Rattle.store_reader.specs.Contents.{Gives}
+use Rattle.store_writer.specs.Contents.{LeftBy, StoreHas}
 use Rattle.store_writer.specs.Writer.{AreNext, CanFlip, HasFailed, IsChunk, IsFlipReply, IsFlushReply, IsNotFlushed, IsWriter, longer, opened_run}
-use Rattle.locked_core.specs.Following.{FollowOpening}
-use Rattle.flusher.specs.Part.{FlushValue, IsFlusher, count_of, flush_value, last_handed, popped_by, run_of}
+use Rattle.locked_core.specs.Following.{FitPlaces, FollowOpening}
+use Rattle.flusher.specs.Part.{FlushValue, GivesBeginning, IsFlusher, IsLeft, count_of, flush_value, last_handed, popped_by, run_of}
 
 -- ---- lists
 
@@ -46,14 +53,49 @@ module _ {D : Type 0} (history : D → History) (o : Opened) where
   with_run g now records more m n w geometry list number is =
       subst (λ k. IsWriter history (over now more) k w) number (subst (λ l. IsWriter history (over now l) m w) list (subst (λ x. IsWriter history (over x records) m w) geometry is))
 
-  pub begun : (w : Writer D Global) (v : FlusherCount) → IsWriter history (opened_run (halves_of w) o.given.last (opening_cells o.given)) o.given.last w → (halves_of w).geometry.pages ≡ o.pages → v.horizon ≤ synced_of w → v.failed ≡ has_failed w
-      → IsFlusher history o (flush_value [] [] w v)
-  begun w v is pages low flag = record { pages = pages; writer = subst (λ n. IsWriter history (over (halves_of w).geometry []) n w) (omega arith) is; horizon = low; failed = flag }
+  -- before the first record
+  fits_none : len o.given.entries ≤ o.places → FitPlaces o []
+  fits_none room n le =
+      subst (λ (l : List RecordValue). len (given_after o.given l).entries ≤ o.places) (sym (take-nil n))
+      (subst (λ (x : Given). len x.entries ≤ o.places) (sym (given_again o.given)) room)
+
+  pub begun : (w : Writer D Global) (v : FlusherCount) → IsWriter history (opened_run (halves_of w) o.given.last (opening_cells o.given)) o.given.last w → (halves_of w).geometry.pages ≡ o.pages → (halves_of w).geometry.entries ≡ o.places
+      → len o.given.entries ≤ o.places → v.horizon ≤ synced_of w → v.failed ≡ has_failed w → IsFlusher history o (flush_value [] [] w v)
+  begun w v is pages places room low flag = record {
+    pages = pages;
+    places = places;
+    fits = fits_none room;
+    writer = subst (λ n. IsWriter history (over (halves_of w).geometry []) n w) (omega arith) is;
+    horizon = low;
+    failed = flag;
+  }
+
+  -- what a crash leaves
+  pub left_gives : (g : GeometryValue) (handed : List RecordValue) (floor : ℕ) → g.entries ≡ o.places → FitPlaces o handed → o.given.last ≤ floor → (image : Image) → LeftBy (over g handed) floor (o.given.last + length handed) image → GivesBeginning o g handed floor image
+  left_gives g handed floor places fits low image left =
+      let count : ℕ = left.number - o.given.last in
+      let most : count ≤ length handed = omega (arith, left.most) in
+      let size : length (take count handed) ≡ count = length-take-le count handed most in
+      let number : left.number ≡ o.given.last + length (take count handed) = omega (arith, size, low, left.least) in
+      let same : recovered (cells_at (over g handed) left.number) left.number ≡ given_after o.given (take count handed) = ap (recovered (cells_at (over g handed) left.number)) number in
+      let room : len (given_after o.given (take count handed)).entries ≤ g.entries = subst (λ n. len (given_after o.given (take count handed)).entries ≤ n) (sym places) (fits count most) in
+      record {
+        count = count;
+        most = most;
+        least = omega (arith, low, left.least);
+        has = subst (λ n. StoreHas g image n (cells_after (opening_cells o.given) (take count handed))) (omega (arith, low, left.least)) left.has;
+        gives = subst (Gives image g) same (left.gives (subst (λ (x : Given). len x.entries ≤ g.entries) (sym same) room));
+      }
+
+  pub is_left : (f : FlushValue D) → IsFlusher history o f → (image : Image) → LeftBy (run_of o f) (synced_of f.writer) (last_handed o f) image → IsLeft o f image
+  is_left f is = left_gives (halves_of f.writer).geometry f.handed (synced_of f.writer) is.places is.fits is.writer.opened
 
   -- the writer has gone on, and stands for the same records
   pub goes_on : (f : FlushValue D) (w : Writer D Global) (v : FlusherCount) → IsFlusher history o f → IsWriter history (run_of o f) (last_handed o f) w → v.horizon ≤ synced_of w → v.failed ≡ has_failed w → IsFlusher history o (record f { writer = w; published = v })
   goes_on f w v is stands low flag = record {
     pages = ap (λ (g : GeometryValue). g.pages) stands.geometry-is ∙ is.pages;
+    places = ap (λ (g : GeometryValue). g.entries) stands.geometry-is ∙ is.places;
+    fits = is.fits;
     writer = with_run (halves_of f.writer).geometry (halves_of w).geometry f.handed f.handed (last_handed o f) (last_handed o f) w (sym stands.geometry-is) refl refl stands;
     horizon = low;
     failed = flag;
@@ -64,7 +106,7 @@ module _ {D : Type 0} (history : D → History) (o : Opened) where
     handed = take (length popped - length held) popped
 
     -- what is held comes next, where all can follow
-    module _ (follow : FollowOpening o popped) (longer_stands : (run : Run) (n : ℕ) (more : List RecordValue) → IsWriter history run n w → IsRun (longer run more) → IsWriter history (longer run more) n w)
+    module _ (follow : FollowOpening o popped) (fits : FitPlaces o popped) (longer_stands : (run : Run) (n : ℕ) (more : List RecordValue) → IsWriter history run n w → IsRun (longer run more) → IsWriter history (longer run more) n w)
         (next : (run : Run) (more : List RecordValue) → end_of run + length more ≤ LAST_NUMBER → AreNext (longer run more) (end_of run) more) where
       abbrev run : Run
       run = run_of o (flush_value popped held w v)
@@ -89,6 +131,8 @@ module _ {D : Type 0} (history : D → History) (o : Opened) where
           let list : handed ++ held ≡ take (length popped - 0) popped = sym all ∙ sym (all_handed popped) in
           record {
             pages = ap (λ (g : GeometryValue). g.pages) now.geometry-is ∙ is.pages;
+            places = ap (λ (g : GeometryValue). g.entries) now.geometry-is ∙ is.places;
+            fits = subst (FitPlaces o) (sym (all_handed popped)) fits;
             writer = with_run (halves_of w).geometry (halves_of new).geometry (handed ++ held) (take (length popped - 0) popped) (end_of run + length held) (o.given.last + length (take (length popped - 0) popped)) new
                 (sym now.geometry-is) list (omega (arith, ap length list, length-append handed held)) now;
             horizon = subst (λ n. v.horizon ≤ n) (sym synced) is.horizon;
@@ -112,7 +156,7 @@ module _ {D : Type 0} (history : D → History) (o : Opened) where
   pub still_flusher : (old : FlushValue D) (more popped held : List RecordValue) (w : Writer D Global) (v : FlusherCount) → popped ≡ old.handed ++ (old.held ++ more) → held ≡ old.held ++ more → w ≡ old.writer → v ≡ old.published
       → IsFlusher history o old → IsFlusher history o (flush_value popped held w v)
   still_flusher old more popped held w v all is same told stands =
-      subst (IsFlusher history o) (sym (value_is old more popped held w v all is same told)) (record { pages = stands.pages; writer = stands.writer; horizon = stands.horizon; failed = stands.failed })
+      subst (IsFlusher history o) (sym (value_is old more popped held w v all is same told)) (record { pages = stands.pages; places = stands.places; fits = stands.fits; writer = stands.writer; horizon = stands.horizon; failed = stands.failed })
 
 -- ---- answers
 
@@ -147,16 +191,16 @@ module _ {D : Type 0} (history : D → History) (o : Opened) where
   abbrev pub AreKept : (popped held : List RecordValue) → Writer D Global → FlusherCount → Type 0
   AreKept popped held w v = (popped ≡ popped_by (flush_value popped held w v)) × IsFlusher history o (flush_value popped held w v)
 
-  module _ (popped held : List RecordValue) (w : Writer D Global) (v : FlusherCount) (kept : AreKept popped held w v) (follow : FollowOpening o popped) (longer_stands : (run : Run) (n : ℕ) (more : List RecordValue) → IsWriter history run n w → IsRun (longer run more) → IsWriter history (longer run more) n w)
+  module _ (popped held : List RecordValue) (w : Writer D Global) (v : FlusherCount) (kept : AreKept popped held w v) (follow : FollowOpening o popped) (fits : FitPlaces o popped) (longer_stands : (run : Run) (n : ℕ) (more : List RecordValue) → IsWriter history run n w → IsRun (longer run more) → IsWriter history (longer run more) n w)
       (next : (run : Run) (more : List RecordValue) → end_of run + length more ≤ LAST_NUMBER → AreNext (longer run more) (end_of run) more) (records : List RecordValue) (same : records ≡ held) where
     pub can_hand_in : (run : Run) × (n : ℕ) × IsWriter history run n w × AreNext run n records
-    can_hand_in = subst (λ (l : List RecordValue). (run : Run) × (n : ℕ) × IsWriter history run n w × AreNext run n l) (sym same) (can_take history o popped held w v kept.0 kept.1 follow longer_stands next)
+    can_hand_in = subst (λ (l : List RecordValue). (run : Run) × (n : ℕ) × IsWriter history run n w × AreNext run n l) (sym same) (can_take history o popped held w v kept.0 kept.1 follow fits longer_stands next)
 
     pub kept_by_taking : (p h : List RecordValue) (new : Writer D Global) → p ≡ popped → h ≡ [] → ((run : Run) (n : ℕ) → IsWriter history run n w → AreNext run n records → IsWriter history run (n + length records) new) → synced_of new ≡ synced_of w → has_failed new ≡ has_failed w → AreKept p h new v
     kept_by_taking p h new all none took synced failed =
         let takes_held : (run : Run) (n : ℕ) → IsWriter history run n w → AreNext run n held → IsWriter history run (n + length held) new =
         subst (λ (l : List RecordValue). (run : Run) (n : ℕ) → IsWriter history run n w → AreNext run n l → IsWriter history run (n + length l) new) same took in
-        let now : AreKept popped [] new v = (sym (append-nil _ ∙ all_handed popped), takes history o popped held w v kept.0 kept.1 follow longer_stands next new takes_held synced failed) in
+        let now : AreKept popped [] new v = (sym (append-nil _ ∙ all_handed popped), takes history o popped held w v kept.0 kept.1 follow fits longer_stands next new takes_held synced failed) in
         subst (λ x. AreKept x h new v) (sym all) (subst (λ x. AreKept popped x new v) (sym none) now)
 
     pub kept_by_refusal : (p h : List RecordValue) (new : Writer D Global) → p ≡ popped → h ≡ records → ((run : Run) (n : ℕ) → IsWriter history run n w → IsWriter history run n new) → synced_of new ≡ synced_of w → has_failed new ≡ has_failed w → AreKept p h new v
@@ -164,6 +208,15 @@ module _ {D : Type 0} (history : D → History) (o : Opened) where
         let f : FlushValue D = flush_value popped held w v in
         let now : AreKept popped held new v = (kept.0, goes_on history o f new v kept.1 (keeps (run_of o f) (last_handed o f) kept.1.writer) (subst (λ n. v.horizon ≤ n) (sym synced) kept.1.horizon) (kept.1.failed ∙ sym failed)) in
         subst (λ x. AreKept x h new v) (sym all) (subst (λ x. AreKept popped x new v) (sym (back ∙ same)) now)
+
+  -- at first
+  pub kept_at_first : (popped held : List RecordValue) (w : Writer D Global) (v : FlusherCount) (last : ℕ) → popped ≡ [] → held ≡ [] → IsWriter history (opened_run (halves_of w) o.given.last (opening_cells o.given)) o.given.last w
+      → (halves_of w).geometry.pages ≡ o.pages → (halves_of w).geometry.entries ≡ o.places → len o.given.entries ≤ o.places → v.horizon ≤ synced_of w → v.failed ≡ has_failed w → last ≡ synced_of w
+      → AreKept popped held w v × (last ≡ last_handed o (flush_value popped held w v))
+  kept_at_first popped held w v last none none_held is pages places room low flag told =
+      subst (λ (p : List RecordValue). AreKept p held w v × (last ≡ last_handed o (flush_value p held w v))) (sym none)
+      (subst (λ (h : List RecordValue). AreKept [] h w v × (last ≡ last_handed o (flush_value [] h w v))) (sym none_held)
+      ((refl, begun history o w v is pages places room low flag), omega (arith, told, is.opened, is.reached)))
 
   -- as the popping begins
   pub begins_popping : (old : FlushValue D) (popped held : List RecordValue) (w : Writer D Global) (v : FlusherCount) → flush_value popped held w v ≡ old → AreKept popped held w v
@@ -201,9 +254,10 @@ module _ {D : Type 0} (history : D → History) (o : Opened) where
 
   module _ (old f : FlushValue D) (is : f ≡ old) (new : Writer D Global) where
     pub images_of : IsFlusher history o f → ((run : Run) (n : ℕ) → IsWriter history run n f.writer → LeavesOnly (history (device_of f.writer)) (history (device_of new)) (LeftBy run (synced_of f.writer) n))
-        → LeavesOnly (history (device_of old.writer)) (history (device_of new)) (LeftBy (run_of o old) (synced_of old.writer) (last_handed o old))
+        → LeavesOnly (history (device_of old.writer)) (history (device_of new)) (IsLeft o old)
     images_of stands images =
-        subst (λ (x : FlushValue D). LeavesOnly (history (device_of x.writer)) (history (device_of new)) (LeftBy (run_of o x) (synced_of x.writer) (last_handed o x))) is (images (run_of o f) (last_handed o f) stands.writer)
+        subst (λ (x : FlushValue D). LeavesOnly (history (device_of x.writer)) (history (device_of new)) (IsLeft o x)) is
+        (weaker (history (device_of f.writer)) (history (device_of new)) (LeftBy (run_of o f) (synced_of f.writer) (last_handed o f)) (IsLeft o f) (is_left history o f stands) (images (run_of o f) (last_handed o f) stands.writer))
 
     pub nothing_of : (result : Result FlushReply Error) → IsFlusher history o f → (result ≡ Ok Nothing → (run : Run) (n : ℕ) → IsWriter history run n f.writer → synced_of f.writer ≡ n) → result ≡ Ok Nothing → synced_of old.writer ≡ last_handed o old
     nothing_of result stands nothing same = subst (λ (x : FlushValue D). synced_of x.writer ≡ last_handed o x) is (nothing same (run_of o f) (last_handed o f) stands.writer)

@@ -2,14 +2,19 @@
 use Rattle.std.specs.Prelude.{◌≡◌, ℕ, ◌+◌, ◌-◌, ◌≤◌, List, ◌++◌, length, take}
 use Rattle.std.specs.declared.alloc.Global.{Global}
 use Rattle.atomic_table.specs.Seated.{TableId}
+use Rattle.records.specs.GeometryValue.{GeometryValue}
 use Rattle.records.specs.RecordValue.{RecordValue}
-use Rattle.model.specs.Given.{opening_cells}
+use Rattle.model.specs.Cells.{cells_after}
+use Rattle.model.specs.Given.{given_after, opening_cells}
 use Rattle.core_model.specs.Histories.{Opened}
+use Rattle.sector_device.specs.Disk.{Image}
 use Rattle.sector_device.specs.History.{History, LeavesOnly}
 use Rattle.board.specs.Views.{FlusherCount}
 use Rattle.image_model.specs.Run.{Run}
+use Rattle.locked_core.specs.Following.{FitPlaces}
+use Rattle.store_reader.specs.Contents.{Gives}
 use Rattle.store_writer.specs.declared.writer.Writer.{Writer}
-use Rattle.store_writer.specs.Contents.{LeftBy}
+use Rattle.store_writer.specs.Contents.{StoreHas}
 use Rattle.store_writer.specs.Parts.{device_of, halves_of, log_of, waiting_of, synced_of, has_failed, image_of}
 use Rattle.store_writer.specs.Writer.{IsWriter}
 
@@ -36,13 +41,28 @@ run_of o f = record { geometry = (halves_of f.writer).geometry; last = o.given.l
 abbrev pub last_handed : {D : Type 0} → Opened → FlushValue D → ℕ
 last_handed o f = o.given.last + length f.handed
 
--- The writer stands for the records that it got over what was opened. What was published is not above what it has synced, and
--- tells whether its device failed.
+-- The writer stands for the records that it got over what was opened, and its store has the pages of that, and places for the
+-- entries after each of the records. What was published is not above what the writer has synced, and tells whether its device failed.
 pub record IsFlusher {D : Type 0} (history : D → History) (o : Opened) (f : FlushValue D) : Type 0 where
   pub pages : (halves_of f.writer).geometry.pages ≡ o.pages
+  pub places : (halves_of f.writer).geometry.entries ≡ o.places
+  pub fits : FitPlaces o f.handed
   pub writer : IsWriter history (run_of o f) (last_handed o f) f.writer
   pub horizon : f.published.horizon ≤ synced_of f.writer
   pub failed : f.published.failed ≡ has_failed f.writer
+
+-- The image has the cells as some of these records, the first ones, left those that were opened, with every record up to the
+-- floor; and a reader finds what these records make of what was opened.
+pub record GivesBeginning (o : Opened) (g : GeometryValue) (handed : List RecordValue) (floor : ℕ) (image : Image) : Type 0 where
+  pub count : ℕ
+  pub most : count ≤ length handed
+  pub least : floor ≤ o.given.last + count
+  pub has : StoreHas g image (o.given.last + count) (cells_after (opening_cells o.given) (take count handed))
+  pub gives : Gives image g (given_after o.given (take count handed))
+
+-- So does each image that a crash leaves of the flusher's device: with all that its writer has synced.
+abbrev pub IsLeft : {D : Type 0} → Opened → FlushValue D → Image → Type 0
+IsLeft o f = GivesBeginning o (halves_of f.writer).geometry f.handed (synced_of f.writer)
 
 -- what is published of a writer
 abbrev pub count_of : {D : Type 0} → TableId → Writer D Global → FlusherCount
@@ -64,12 +84,12 @@ pub record Publishes {D : Type 0} (old new : FlushValue D) : Type 0 where
   pub held : new.held ≡ old.held
   pub published : new.published ≡ count_of old.published.board new.writer
 
--- The writer has flushed some groups more, and no record was popped or handed in. A crash at any moment since leaves what some of
--- the records that the writer has got make of what was opened, the first ones, with all that were synced at first.
+-- The writer has flushed some groups more, and no record was popped or handed in. A crash at any moment since leaves what one at
+-- first could.
 pub record FlushesOn {D : Type 0} (history : D → History) (o : Opened) (old new : FlushValue D) : Type 0 where
   pub handed : new.handed ≡ old.handed
   pub held : new.held ≡ old.held
   pub board : new.published.board ≡ old.published.board
   pub halves : halves_of new.writer ≡ halves_of old.writer
   pub rises : synced_of old.writer ≤ synced_of new.writer
-  pub images : LeavesOnly (history (device_of old.writer)) (history (device_of new.writer)) (LeftBy (run_of o old) (synced_of old.writer) (last_handed o old))
+  pub images : LeavesOnly (history (device_of old.writer)) (history (device_of new.writer)) (IsLeft o old)

@@ -1,4 +1,5 @@
 //! What the flusher owns.
+ghost use Rattle.std.specs.FinMap.{len};
 ghost use Rattle.std.specs.Prelude.{◌≡◌, ◌≢◌, ◌⊎◌, ◌-◌, ◌≤◌, ◌++◌, ℕ, List, [], length, take, false, true, Ok, OnOk, OnErr, IfOk, IfErr};
 ghost use Rattle.sector_device.specs.Disk.{Image, IsCrashImage};
 ghost use Rattle.sector_device.specs.History.{LeavesOnly};
@@ -7,7 +8,6 @@ ghost use Rattle.model.specs.Given.{opening_cells};
 ghost use Rattle.image_model.specs.Places.{place_behind};
 ghost use Rattle.board.specs.Views.{FlusherCount};
 ghost use Rattle.flusher.specs.Part.{count_of};
-ghost use Rattle.store_writer.specs.Contents.{LeftBy};
 ghost use Rattle.store_writer.specs.Image.{BecomesImage};
 ghost use Rattle.store_writer.specs.Parts.{device_of, halves_of, has_failed, image_of, synced_of, waiting_of};
 ghost use Rattle.store_writer.specs.Places.{IsAtPiece, IsAtPlace};
@@ -76,7 +76,7 @@ fn publish<D: Device>(board: &Board<Global>, view: &mut FlushView, writer: &Stor
 
 impl<B: Site, D: Device> FlushPart<B, D> {
     ghost use Rattle.locked_core.specs.Locked.{locked_of};
-    ghost use Rattle.flusher.specs.Part.{FlushesOn, HasGot, IsFlusher, Publishes, last_handed, popped_by, run_of};
+    ghost use Rattle.flusher.specs.Part.{FlushesOn, HasGot, IsFlusher, IsLeft, Publishes, last_handed, popped_by, run_of};
 
     /// The part of a flusher that has popped nothing, with a writer over what was opened.
     pub fn new(
@@ -88,6 +88,8 @@ impl<B: Site, D: Device> FlushPart<B, D> {
         requires popper { popper ≡ record { queue = B.site.queue; records = [] } }
         requires writer { IsWriter D.history (opened_run (halves_of writer) B.site.opened.given.last (opening_cells B.site.opened.given)) B.site.opened.given.last writer }
         requires pages { (halves_of writer).geometry.pages ≡ B.site.opened.pages }
+        requires places { (halves_of writer).geometry.entries ≡ B.site.opened.places }
+        requires fits { len B.site.opened.given.entries ≤ B.site.opened.places }
         requires horizon { view.horizon ≤ synced_of writer }
         requires failed { view.failed ≡ has_failed writer }
         ensures { result ≡ record { handed = []; held = []; writer = writer; published = view } }
@@ -173,7 +175,7 @@ impl<B: Site, D: Device> FlushPart<B, D> {
     pub fn flush(&mut self, board: &Board<Global>) -> Result<FlushReply, Error>
         requires { board.now ≡ self.old.published.board }
         ensures publishes { Publishes self.old self.new }
-        ensures images { LeavesOnly (D.history (device_of self.old.writer)) (D.history (device_of self.new.writer)) (LeftBy (run_of B.site.opened self.old) (synced_of self.old.writer) (last_handed B.site.opened self.old)) }
+        ensures images { LeavesOnly (D.history (device_of self.old.writer)) (D.history (device_of self.new.writer)) (IsLeft B.site.opened self.old) }
         ensures flushed { IfOk result (λ reply. IsFlushReply reply self.old.writer self.new.writer) }
         ensures image { (n : ℕ) → result ≡ Ok (FlushReply.Flushed n) → BecomesImage (halves_of self.old.writer).geometry.slots (synced_of self.old.writer) (n - synced_of self.old.writer) (image_of self.old.writer) (image_of self.new.writer) }
         ensures nothing { result ≡ Ok FlushReply.Nothing → synced_of self.old.writer ≡ last_handed B.site.opened self.old }
@@ -226,7 +228,7 @@ impl<B: Site, D: Device> FlushPart<B, D> {
         requires board { board.now ≡ self.old.published.board }
         requires chunk { IsChunk (run_of B.site.opened self.old) self.old.writer chunk.number chunk.piece }
         ensures publishes { Publishes self.old self.new }
-        ensures images { LeavesOnly (D.history (device_of self.old.writer)) (D.history (device_of self.new.writer)) (LeftBy (run_of B.site.opened self.old) (synced_of self.old.writer) (last_handed B.site.opened self.old)) }
+        ensures images { LeavesOnly (D.history (device_of self.old.writer)) (D.history (device_of self.new.writer)) (IsLeft B.site.opened self.old) }
         ensures stepped { IfOk result (λ reply. IsStepReply chunk.number chunk.piece reply self.old.writer self.new.writer) }
         ensures place { result ≡ Ok StepReply.Taken → IsAtPiece (halves_of self.old.writer).geometry.pages chunk.piece (image_of self.old.writer) → IsAtPlace (halves_of self.old.writer).geometry.pages (place_behind (halves_of self.old.writer).geometry.pages chunk.piece) (image_of self.new.writer) }
         ensures again { has_failed self.old.writer ≡ false → MustStartAgain chunk.piece self.old.writer → result ≡ Ok StepReply.StartAgain }
@@ -250,7 +252,7 @@ impl<B: Site, D: Device> FlushPart<B, D> {
     pub fn flip(&mut self, board: &Board<Global>) -> Result<FlipReply, Error>
         requires { board.now ≡ self.old.published.board }
         ensures publishes { Publishes self.old self.new }
-        ensures images { LeavesOnly (D.history (device_of self.old.writer)) (D.history (device_of self.new.writer)) (LeftBy (run_of B.site.opened self.old) (synced_of self.old.writer) (last_handed B.site.opened self.old)) }
+        ensures images { LeavesOnly (D.history (device_of self.old.writer)) (D.history (device_of self.new.writer)) (IsLeft B.site.opened self.old) }
         ensures flipped { IfOk result (λ reply. IsFlipReply (last_handed B.site.opened self.old) reply self.old.writer self.new.writer) }
         ensures behind { has_failed self.old.writer ≡ false → ¬ CanFlip (last_handed B.site.opened self.old) self.old.writer → result ≡ Ok FlipReply.Behind }
         ensures sound { OnOk result ((has_failed self.old.writer ≡ false) × (has_failed self.new.writer ≡ false)) }
@@ -286,7 +288,7 @@ impl<B: Site, D: Device> FlushPart<B, D> {
     pub fn into_parts(self) -> (D, Popper)
         ensures device { result.0 ≡ device_of self.writer }
         ensures popper { result.1 ≡ record { queue = B.site.queue; records = popped_by self } }
-        ensures images { (image : Image) → IsCrashImage (D.history result.0).disk image → LeftBy (run_of B.site.opened self) (synced_of self.writer) (last_handed B.site.opened self) image }
+        ensures images { (image : Image) → IsCrashImage (D.history result.0).disk image → IsLeft B.site.opened self image }
     {
         let FlushPart {
             alloc: _,

@@ -1,6 +1,9 @@
-use Rattle.flusher.proofs.Flushing.{flushes_more}
+use Rattle.flusher.proofs.Flushing.{flushes_more, flushes_none}
 use Rattle.flusher.proofs.Keeping.{flush_rises}
 use Rattle.flusher.proofs.part.FlushPart.flush_all.Goals as goal
+
+pub loop-self-init : goal.loop-self-init
+loop-self-init g c = flushes_none g.D.Device.history g.B.Site.site.opened _ c.stands.ensures
 
 pub returns-in_err-flush-clause-flushes : goal.returns-in_err-flush-clause-flushes
 returns-in_err-flush-clause-flushes g c =
