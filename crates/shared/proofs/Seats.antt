@@ -1,11 +1,12 @@
 -- Seats as they are made, one for each half.
-use Rattle.std.proofs.Common.{◌≡◌, ◌⊎◌, ℕ, ◌+◌, List, [], ◌∷◌, ◌++◌, length, Some, zero, suc, inl, inr, ⊎_elim, refl, sym, ap, ◌∙◌, arith}
+use Rattle.std.proofs.Common.{◌≡◌, ◌⊎◌, Bool, false, subst, ℕ, ◌+◌, List, [], ◌∷◌, ◌++◌, length, Some, zero, suc, inl, inr, ⊎_elim, refl, sym, ap, ◌∙◌, arith}
 use Rattle.std.proofs.lemmas.List.{length-append}
 use Rattle.std.specs.Prelude.{slice_get}
 use Rattle.atomic_table.specs.Seated.{TableId}
 use Rattle.sessions.specs.Values.{empty_session}
 use Rattle.registry.specs.Halves.{HalfValue}
-use Rattle.shared.specs.Seats.{SeatValue, AreNewSeats}
+use Rattle.board.specs.Views.{Sighting}
+use Rattle.shared.specs.Seats.{AreNewSeats, HasSeenNothing, IsNewSeat, SeatValue}
 
 -- the halves of new sessions, the first of them with this number
 abbrev pub AreFrom : TableId → ℕ → List HalfValue → Type 0
@@ -23,10 +24,18 @@ get_snoc [] a b (suc k) e = absurd (cc)
 get_snoc (x ∷ xs) a b zero e = inl e
 get_snoc (x ∷ xs) a b (suc k) e = ⊎_elim (λ (t : slice_get xs k ≡ Some b). inl t) (λ (t : (k ≡ length xs) × (a ≡ b)). inr (ap suc t.0, t.1)) (get_snoc xs a b k e)
 
-pub more_seats : (n : ℕ) (seats items : List SeatValue) (s : SeatValue) → AreNewSeats n seats → s.number ≡ n → s.session ≡ empty_session → items ≡ seats ++ s ∷ [] → AreNewSeats (n + 1) items
-more_seats n seats items s are number session e = record {
+-- a view that is made of one that has seen nothing
+pub sees_nothing : (z : TableId) (old new : Sighting) (name : List Bool) → HasSeenNothing z old → new ≡ record old { name = name; stops = false } → HasSeenNothing z new
+sees_nothing z old new name nothing is = ap (λ (v : Sighting). record v { name = [] }) is ∙ ap (λ (v : Sighting). record v { stops = false }) nothing
+
+-- and that one, which stays
+pub stays_blind : (z : TableId) (old new : Sighting) (name : List Bool) → HasSeenNothing z old → new ≡ record old { name = name } → HasSeenNothing z new
+stays_blind z old new name nothing is = ap (λ (v : Sighting). record v { name = [] }) is ∙ nothing
+
+pub more_seats : (z : TableId) (n : ℕ) (seats items : List SeatValue) (s : SeatValue) → AreNewSeats z n seats → IsNewSeat z n s → items ≡ seats ++ s ∷ [] → AreNewSeats z (n + 1) items
+more_seats z n seats items s are new e = record {
   counted = omega (arith, ap length e, length-append seats (s ∷ []), are.counted);
   each = λ k t at. ⊎_elim (λ (x : slice_get seats k ≡ Some t). are.each k t x)
-      (λ (x : (k ≡ length seats) × (s ≡ t)). (ap (λ (y : SeatValue). y.number) (sym x.1) ∙ (number ∙ (sym are.counted ∙ sym x.0)), ap (λ (y : SeatValue). y.session) (sym x.1) ∙ session))
+      (λ (x : (k ≡ length seats) × (s ≡ t)). subst (IsNewSeat z k) x.1 (subst (λ m. IsNewSeat z m s) (sym are.counted ∙ sym x.0) new))
       (get_snoc seats s t k (ap (λ l. slice_get l k) (sym e) ∙ at));
 }

@@ -1,6 +1,7 @@
 -- What contracts see of a seat and of an acknowledgement.
-use Rattle.std.specs.Prelude.{List, slice_get, Some, length, ℕ, ◌≡◌}
-use Rattle.board.specs.Views.{Sighting}
+use Rattle.std.specs.Prelude.{[], List, slice_get, Some, length, ℕ, ◌≡◌}
+use Rattle.atomic_table.specs.Seated.{TableId}
+use Rattle.board.specs.Views.{nothing_seen, Sighting}
 use Rattle.nsf_core.specs.declared.parts.Ticket.{Ticket}
 use Rattle.sessions.specs.Values.{SessionValue, empty_session}
 
@@ -15,7 +16,15 @@ pub record AckValue : Type 0 where
   pub ticket : Ticket
   pub sight : Sighting
 
--- so many seats, each at its number with nothing in its session
-pub record AreNewSeats (count : ℕ) (seats : List SeatValue) : Type 0 where
+-- the view of a board, whatever its name, has seen nothing
+abbrev pub HasSeenNothing : TableId → Sighting → Type 0
+HasSeenNothing board sight = record sight { name = [] } ≡ nothing_seen board
+
+-- a seat of this number, with nothing in its session, that has seen nothing of the board
+abbrev pub IsNewSeat : TableId → ℕ → SeatValue → Type 0
+IsNewSeat board k s = (s.number ≡ k) × (s.session ≡ empty_session) × HasSeenNothing board s.sight
+
+-- so many seats, each new and at its number
+pub record AreNewSeats (board : TableId) (count : ℕ) (seats : List SeatValue) : Type 0 where
   pub counted : length seats ≡ count
-  pub each : (k : ℕ) (s : SeatValue) → slice_get seats k ≡ Some s → (s.number ≡ k) × (s.session ≡ empty_session)
+  pub each : (k : ℕ) (s : SeatValue) → slice_get seats k ≡ Some s → IsNewSeat board k s

@@ -1,10 +1,12 @@
 //! The calls of a seat that make one step of the core, or read it.
-ghost use Rattle.std.specs.Prelude.{◌≡◌, Err, IfOk, OnErr, false, true};
+ghost use Rattle.std.specs.Prelude.{◌≡◌, Err, IfOk, OnErr, Option, Some, false, true, ℕ};
 ghost use Rattle.records.specs.declared.error.Error.TheVariants.{NoSuchTxn};
+ghost use Rattle.records.specs.declared.row.Row.{Row as RowValue};
 ghost use Rattle.core_contracts.specs.Events.{Event, Reply};
 ghost use Rattle.nsf_core.specs.Replies.{reply_by, reply_of_ticket};
 ghost use Rattle.sessions.specs.Steps.{begun, committed, with_creation};
 ghost use Rattle.sessions.specs.Values.{is_active, is_ready};
+ghost use Rattle.shared.specs.Changed.{row_of};
 ghost use Rattle.shared.specs.Served.{WasServed, WasServedTo};
 
 use crate::seat::Seat;
@@ -63,11 +65,16 @@ impl<B: Group> Shared<B> {
         created
     }
 
-    /// The row at the place, as it is now, also before its transaction's commit.
-    pub fn get<R: Wait>(&self, rt: &R, rid: Rid) -> Option<Row>
-        ensures { ∥ WasServed B.site.opened (Event.Get rid) (Reply.RowIs result) ∥₁ }
+    /// The row at the place, as it is now, also before its transaction's commit. If a transaction of the seat holds the place,
+    /// that is the row which the seat's session has for it.
+    pub fn get<R: Wait>(&self, rt: &R, seat: &mut Seat<B>, rid: Rid) -> Option<Row>
+        ensures served { ∥ WasServedTo B.site.opened seat.old.number seat.old.session (Event.Get rid) (Reply.RowIs result) ∥₁ }
+        ensures own { (txn : ℕ) (row : Option RowValue) → row_of seat.old.session txn rid ≡ Some row → result ≡ row }
+        ensures seat { seat.new ≡ seat.old }
     {
-        let locked = self.locked.lock(rt);
+        let mut guard = self.locked.lock(rt);
+        let locked = &mut *guard;
+        locked.compare_seat(&self.registry, &mut seat.part);
         locked.get(rid)
     }
 

@@ -1,7 +1,8 @@
 //! What the threads share, made before it has its names.
-ghost use Rattle.std.specs.Prelude.{◌≡◌, [], false, length, IfOk};
+ghost use Rattle.std.specs.Prelude.{◌≡◌, [], false, length, IfErr, IfOk};
 ghost use Rattle.board.specs.Views.{nothing_seen};
 ghost use Rattle.nsf_core.specs.Value.{value_of};
+ghost use Rattle.records.specs.declared.error.Error.TheVariants.{NoMemory};
 ghost use Rattle.registry.specs.Halves.{IsNew};
 ghost use Rattle.shared.specs.Openings.{IsJustOpened, IsOpening, names_of};
 ghost use Rattle.shared.specs.Seats.{AreNewSeats};
@@ -51,6 +52,7 @@ pub struct Parts<B: Group> {
 pub fn open(alloc: Global, core: Core<Global>, count: usize) -> Result<Opening, Error>
     ensures made { IfOk result (λ o. IsOpening count o) }
     ensures core { IfOk result (λ o. value_of o.core ≡ value_of core) }
+    ensures no_memory { IfErr result (λ e. e ≡ NoMemory) }
 {
     let (queue, pusher, popper) = RecordQueue::new(alloc)?;
     let (registry, book, halves) = Registry::open(alloc, count)?;
@@ -80,10 +82,11 @@ impl Opening {
         requires board { self.board ≡ B.board }
         requires made { IsOpening B.site.seats self }
         requires opened { IsJustOpened (value_of self.core) }
-        ensures seats { IfOk result (λ r. AreNewSeats B.site.seats r.1.seats.items) }
+        ensures seats { IfOk result (λ r. AreNewSeats B.board B.site.seats r.1.seats.items) }
         ensures popper { IfOk result (λ r. r.1.popper ≡ record { queue = B.site.queue; records = [] }) }
         ensures flush { IfOk result (λ r. r.1.flush ≡ record { board = B.board; horizon = 0; failed = false }) }
         ensures build { IfOk result (λ r. r.1.build ≡ record { board = B.board; progress = 0 }) }
+        ensures no_memory { IfErr result (λ e. e ≡ NoMemory) }
     {
         let Opening {
             alloc,
@@ -126,10 +129,11 @@ fn seats_of<B: Group>(
     halves: Vec<Half>,
 ) -> Result<Vec<Seat<B>>, Error>
     requires board { board.now ≡ B.board }
-    requires view { view.board ≡ B.board }
+    requires view { view ≡ nothing_seen B.board }
     requires counted { length halves.items ≡ B.site.seats }
     requires halves { IsNew B.site.table halves.items }
-    ensures { IfOk result (λ v. AreNewSeats B.site.seats v.items) }
+    ensures seats { IfOk result (λ v. AreNewSeats B.board B.site.seats v.items) }
+    ensures no_memory { IfErr result (λ e. e ≡ NoMemory) }
 {
     let mut seats = Vec::with_capacity(alloc, halves.len())?;
     let mut number = 0;

@@ -1,7 +1,7 @@
 use Rattle.std.proofs.Common.{ap, ◌∙◌, arith, length}
 use Rattle.board.specs.Views.{Sighting}
 use Rattle.locked_core.specs.Seats.{SeatValue}
-use Rattle.shared.proofs.Seats.{first_half, more_seats, rest_halves}
+use Rattle.shared.proofs.Seats.{first_half, more_seats, rest_halves, sees_nothing, stays_blind}
 use Rattle.shared.proofs.opening.seats_of.Goals as goal
 
 pub new-part-requires-clause-half : goal.new-part-requires-clause-half
@@ -12,8 +12,10 @@ loop-half-preserved g c =
     let was = c.loop-half.invariant in
     let is = c.new-part.ensures in
     record {
-      seats = more_seats c.loop-half.number c.loop-half.seats.items c.push.new.self.items _ was.seats (ap (λ (s : SeatValue). s.number) is) (ap (λ (s : SeatValue). s.session) is) c.in_ok-push.ensures.items;
+      seats = more_seats g.B.Group.board c.loop-half.number c.loop-half.seats.items c.push.new.self.items _ was.seats
+          (ap (λ (s : SeatValue). s.number) is, ap (λ (s : SeatValue). s.session) is, sees_nothing g.B.Group.board c.loop-half.view _ _ was.nothing c.another-view.ensures.leaves) c.in_ok-push.ensures.items;
       board = ap (λ (v : Sighting). v.board) c.another-view.ensures.stays ∙ was.board;
+      nothing = stays_blind g.B.Group.board c.loop-half.view _ _ was.nothing c.another-view.ensures.stays;
       left = omega (arith, was.left, ap length c.in-Some.ensures.steps.0);
       halves = rest_halves g.B.Site.site.table c.loop-half.number _ _ c.in-Some.half was.halves c.in-Some.ensures.steps.0;
     }

@@ -1,12 +1,13 @@
 use Rattle.std.proofs.Common.{◌≡◌, ◌+◌, length}
-use Rattle.shared.specs.Seats.{AreNewSeats}
+use Rattle.shared.specs.Seats.{AreNewSeats, HasSeenNothing}
 use Rattle.shared.proofs.Seats.{AreFrom}
 use Rattle.shared.proofs.opening.seats_of.Given as goal
 
 abbrev pub invariant-loop-half : goal.invariant-loop-half
 invariant-loop-half g l = record {
-  seats : AreNewSeats l.number l.seats.items;
+  seats : AreNewSeats g.B.Group.board l.number l.seats.items;
   board : l.view.board ≡ g.B.Group.board;
+  nothing : HasSeenNothing g.B.Group.board l.view;
   left : l.number + length l.half-iterator.rest.items ≡ g.B.Site.site.seats;
   halves : AreFrom g.B.Site.site.table l.number l.half-iterator.rest.items;
 }
