@@ -5,3 +5,5 @@ mod Stepped
 mod Advances
 mod Single
 mod Made
+mod Backward
+mod Ends

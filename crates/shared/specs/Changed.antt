@@ -1,12 +1,12 @@
 -- What a change of a transaction makes of its seat's session.
-use Rattle.std.specs.Prelude.{Bool, false, None, Option, Some, option_and_then, true, ℕ, ◌≡◌, ◌≢◌}
+use Rattle.std.specs.Prelude.{Bool, false, is_some, None, Option, Some, option_and_then, true, ℕ, ◌≡◌, ◌≢◌}
 use Rattle.records.specs.Values.{Place}
 use Rattle.records.specs.declared.error.Error.{Error}
 use Rattle.records.specs.declared.row.Row.{Row}
 use Rattle.model.specs.declared.write.Write.{Write}
 use Rattle.register.specs.Agreement.{row_at}
 use Rattle.sessions.specs.Steps.{ended}
-use Rattle.sessions.specs.Values.{active_of, ActiveValue, is_ready, rows_of, SessionValue}
+use Rattle.sessions.specs.Values.{active_of, ActiveValue, is_active, is_ready, rows_of, SessionValue}
 
 -- the row that the session has for a place, if the transaction holds the place
 abbrev pub row_of : SessionValue → (txn : ℕ) → Place → Option (Option Row)
@@ -36,3 +36,10 @@ goes_back (Some a) = a.rolling
 -- active, and rolling back
 abbrev pub is_rolling : SessionValue → (txn : ℕ) → Bool
 is_rolling s txn = goes_back (active_of txn s.active)
+
+-- The transaction is rolling back, and holds the places that it held. The other transactions, the commits and the creations are as before.
+pub record IsGoingBack (old : SessionValue) (txn : ℕ) (new : SessionValue) : Type 0 where
+  pub others : ended new txn ≡ ended old txn
+  pub active : is_active new txn ≡ true
+  pub rolling : is_rolling new txn ≡ true
+  pub places : (q : Place) → is_some (row_of new txn q) ≡ is_some (row_of old txn q)

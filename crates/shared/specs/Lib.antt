@@ -1,4 +1,4 @@
 pub mod Seats
-pub mod Served
 pub mod Changed
+pub mod Served
 pub mod Openings

@@ -1,11 +1,17 @@
 -- What happened under the lock.
-use Rattle.std.specs.Prelude.{List, slice_get, Some, ℕ, ◌≡◌}
+use Rattle.std.specs.FinMap.{get}
+use Rattle.std.specs.Prelude.{List, Option, slice_get, Some, ℕ, ◌≡◌, ◌⊎◌}
 use Rattle.records.specs.RecordValue.{RecordValue}
+use Rattle.records.specs.Values.{Place}
+use Rattle.records.specs.declared.row.Row.{Row}
 use Rattle.core_contracts.specs.Events.{Event, Reply}
+use Rattle.core_laws.specs.Holds.{committed_rows}
 use Rattle.core_model.specs.Histories.{Opened}
+use Rattle.nsf_core.specs.Moves.{HasNoChange, txn_shown}
 use Rattle.nsf_core.specs.View.{CoreValue, Serves}
 use Rattle.sessions.specs.Values.{SessionValue}
 use Rattle.locked_core.specs.Names.{IsShared}
+use Rattle.shared.specs.Changed.{IsGoingBack, row_of}
 
 -- A core that may lie under the lock, with records pushed and with sessions, replies so to this call.
 pub record WasServed (o : Opened) (e : Event) (reply : Reply) : Type 0 where
@@ -25,3 +31,15 @@ pub record WasServedTo (o : Opened) (seat : ℕ) (session : SessionValue) (e : E
   pub shared : IsShared o core pushed book
   pub here : slice_get book seat ≡ Some session
   pub serves : Serves core e reply new
+
+-- The end of a transaction of the seat was served so, while the seat had this session of it: no change was left to take back, and each place that it held had its committed row.
+pub record WasTakenBack (o : Opened) (seat : ℕ) (session : SessionValue) (txn : ℕ) : Type 0 where
+  pub end : WasServedTo o seat session (Event.End txn) Reply.Ended
+  pub none_left : HasNoChange (txn_shown end.core txn)
+  pub rows : (q : Place) (row : Option Row) → row_of session txn q ≡ Some row → row ≡ get (committed_rows end.core) q
+
+-- And so it was, after undo steps or none, of a seat that had the other session at first.
+pub record WasAborted (o : Opened) (seat : ℕ) (old : SessionValue) (txn : ℕ) : Type 0 where
+  pub last : SessionValue
+  pub back : (last ≡ old) ⊎ IsGoingBack old txn last
+  pub taken : WasTakenBack o seat last txn

@@ -5,6 +5,7 @@
 //! step with the core. A seat learns from the board, without the lock, which of the records are safe on the device.
 #![tactic(auto)]
 
+mod abort;
 mod acks;
 mod calls;
 mod changes;

@@ -1,0 +1,78 @@
+//! The call of a seat that takes a transaction back.
+ghost use Rattle.std.specs.Prelude.{◌≡◌, ◌⊎◌, Err, IfErr, IfOk, OnErr, OnOk, false, true};
+ghost use Rattle.records.specs.declared.error.Error.TheVariants.{NoSuchTxn};
+ghost use Rattle.core_contracts.specs.Events.{Event, Refused};
+ghost use Rattle.sessions.specs.Steps.{ended};
+ghost use Rattle.sessions.specs.Values.{is_active};
+ghost use Rattle.shared.specs.Changed.{IsGoingBack};
+ghost use Rattle.shared.specs.Served.{WasAborted, WasServedTo, WasTakenBack};
+
+use crate::seat::Seat;
+use crate::shared::Shared;
+use crate::site::Group;
+use records::{Error, Txn};
+use std::sync::Wait;
+
+impl<B: Group> Shared<B> {
+    /// Takes all changes of a transaction of the seat back, each step under the lock anew, and then ends it: it is none of the
+    /// seat's from then on. At its end each place that it held has its committed row.
+    ///
+    /// `NoSuchTxn` where the transaction isn't one of the seat's, and else the refusals of the core's `undo_step` and `end`.
+    /// After one of them the transaction is as before or rolling back, and `abort` may be called again.
+    pub fn abort<R: Wait>(&self, rt: &R, seat: &mut Seat<B>, txn: Txn) -> Result<(), Error>
+        ensures foreign { is_active seat.old.session txn ≡ false → (result ≡ Err NoSuchTxn) × (seat.new ≡ seat.old) }
+        ensures ok { OnOk result (seat.new.session ≡ ended seat.old.session txn) }
+        ensures aborted { OnOk result ∥ WasAborted B.site.opened seat.old.number seat.old.session txn ∥₁ }
+        ensures err { OnErr result ((seat.new.session ≡ seat.old.session) ⊎ IsGoingBack seat.old.session txn seat.new.session) }
+        ensures served { IfErr result (λ e. is_active seat.old.session txn ≡ true → ∥ WasServedTo B.site.opened seat.new.number seat.new.session (Event.End txn) (Refused e) ∥₁ ⊎ ∥ WasServedTo B.site.opened seat.new.number seat.new.session (Event.Undo txn) (Refused e) ∥₁) }
+        ensures seat { seat.new ≡ record seat.old { session = seat.new.session } }
+    {
+        if !seat.part.is_active(txn) {
+            return Err(Error::NoSuchTxn);
+        }
+        for _ in rt.forever() {
+            match self.take_back(rt, seat, txn) {
+                Ok(last) => {
+                    if last {
+                        return Ok(());
+                    }
+                }
+                Err(error) => return Err(error),
+            }
+        }
+        unreachable!()
+    }
+
+    // The end of a transaction that has no change left, or else a step that takes a change back; answers whether it was the
+    // end.
+    fn take_back<R: Wait>(&self, rt: &R, seat: &mut Seat<B>, txn: Txn) -> Result<bool, Error>
+        requires { is_active seat.old.session txn ≡ true }
+        ensures last { IfOk result (λ last. last ≡ true → seat.new.session ≡ ended seat.old.session txn) }
+        ensures taken { IfOk result (λ last. last ≡ true → ∥ WasTakenBack B.site.opened seat.old.number seat.old.session txn ∥₁) }
+        ensures back { IfOk result (λ last. last ≡ false → IsGoingBack seat.old.session txn seat.new.session) }
+        ensures refused { OnErr result (seat.new ≡ seat.old) }
+        ensures served { IfErr result (λ e. ∥ WasServedTo B.site.opened seat.old.number seat.old.session (Event.End txn) (Refused e) ∥₁ ⊎ ∥ WasServedTo B.site.opened seat.old.number seat.old.session (Event.Undo txn) (Refused e) ∥₁) }
+        ensures seat { seat.new ≡ record seat.old { session = seat.new.session } }
+    {
+        let mut guard = self.locked.lock(rt);
+        let locked = &mut *guard;
+        locked.push_outbox(rt, &self.queue);
+        if locked.may_end(txn) {
+            match locked.end(&self.registry, &mut seat.part, txn) {
+                Ok(()) => {
+                    locked.push_outbox(rt, &self.queue);
+                    Ok(true)
+                }
+                Err(error) => Err(error),
+            }
+        } else {
+            match locked.undo_step(&self.registry, &mut seat.part, txn) {
+                Ok(_) => {
+                    locked.push_outbox(rt, &self.queue);
+                    Ok(false)
+                }
+                Err(error) => Err(error),
+            }
+        }
+    }
+}
