@@ -1,3 +1,4 @@
+use Rattle.std.proofs.Common.{rules}
 use Rattle.flusher.proofs.Flushing.{flushes_more, flushes_none}
 use Rattle.flusher.proofs.Keeping.{flush_rises}
 use Rattle.flusher.proofs.part.FlushPart.flush_all.Goals as goal
@@ -14,3 +15,6 @@ pub loop-self-preserved : goal.loop-self-preserved
 loop-self-preserved g c =
     flushes_more g.D.Device.history g.B.Site.site.opened _ _ _ c.loop-self.invariant c.flush.ensures.publishes c.flush.ensures.around.halves-are
     (flush_rises g.D.Device.failures c.loop-self.self.writer c.flush.new.self.writer c.flush.result c.flush.ensures.flushed c.flush.ensures.kept) c.flush.ensures.images
+
+pub returns-in-LogFull-clause-all : goal.returns-in-LogFull-clause-all
+returns-in-LogFull-clause-all g c = search rules
