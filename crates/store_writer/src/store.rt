@@ -24,7 +24,7 @@ use crate::{FlipReply, FlushReply, StepReply};
 use flip_image::Halves;
 use gate_log::LogArea;
 use image_model::Chunk;
-use records::{Error, Record};
+use records::{Error, Geometry, Record};
 use sector_device::Device;
 use std::alloc::Allocator;
 use std::marker::Model;
@@ -207,6 +207,20 @@ impl<D: Device, A: Allocator + Copy> StoreWriter<D, A> {
         ensures { result ≡ has_failed self.now }
     {
         self.writer.failed
+    }
+
+    /// How large the store is.
+    pub fn geometry(&self) -> Geometry
+        ensures { result ≡ (halves_of self.now).geometry }
+    {
+        self.writer.halves.geometry()
+    }
+
+    /// How many slots of the current half's log are open.
+    pub fn open_slots(&self) -> u64
+        ensures { result ≡ (log_of self.now).open_slots }
+    {
+        self.writer.log.open_slots()
     }
 
     /// The device as it is now. The records that wait are lost.
