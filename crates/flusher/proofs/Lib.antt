@@ -1,2 +1,5 @@
-mod Keeping
+pub mod Keeping
 mod Flushing
+pub mod Taking
+mod Pieces
+pub mod Going

@@ -3,9 +3,11 @@
 //! It pops records from the queue, hands them in to the writer of the store, which owns the device, and publishes on the board
 //! how far they are safe. Each step is a method on a `&mut`, with no lock and no thread, so that a loop above adds nothing to
 //! believe. That a popped record can follow the ones before it is known under the lock alone: there the queue's two ends are
-//! compared, and what was popped is handed in.
+//! compared, and what was popped is handed in; and there an image is copied, behind all records made.
 #![tactic(auto)]
 
+mod copying;
 mod part;
+mod settling;
 
 pub use part::FlushPart;

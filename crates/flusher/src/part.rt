@@ -35,14 +35,14 @@ use tail::{Popper, RecordQueue};
 /// last synced one.
 #[derive(Drop)]
 pub struct FlushPart<B: Site, D: Device> {
-    alloc: Global,
+    pub(crate) alloc: Global,
     popper: Popper,
     // The records that were popped, and that the writer doesn't have yet.
-    held: Vec<Record>,
-    writer: StoreWriter<D, Global>,
+    pub(crate) held: Vec<Record>,
+    pub(crate) writer: StoreWriter<D, Global>,
     // The number of the last record that the writer has got.
     last: u64,
-    view: FlushView,
+    pub(crate) view: FlushView,
     site: PhantomData<B>,
 }
 
@@ -113,7 +113,7 @@ impl<B: Site, D: Device> FlushPart<B, D> {
         let _synced = self.writer.synced();
     }
 
-    /// Pops the records that wait in the queue, until it finds none, and holds them.
+    /// Pops the records that wait in the queue, as far as it finds any, and holds them. No clause says how many.
     ///
     /// The one error is `NoMemory`, where there is no room for one more. What was popped before is held, and the others wait in
     /// the queue.

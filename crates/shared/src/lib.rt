@@ -13,6 +13,8 @@ mod opening;
 mod seat;
 mod shared;
 mod site;
+mod taken_back;
+mod views;
 mod work;
 
 pub use changes::Change;

@@ -1,0 +1,134 @@
+-- How the flusher's part goes on from call to call.
+use Rattle.std.proofs.Common.{◌≡◌, ℕ, ◌+◌, ◌≤◌, List, [], ◌++◌, length, take, Result, Ok, Err, IfOk, OnErr, refl, sym, ap, ◌∙◌, subst, arith, append-nil, append_assoc, length-append}
+use Rattle.std.proofs.lemmas.List.{take-append-le}
+use Rattle.std.specs.declared.alloc.Global.{Global}
+use Rattle.records.specs.GeometryValue.{GeometryValue}
+use Rattle.records.specs.RecordValue.{RecordValue}
+use Rattle.records.specs.declared.error.Error.{Error}
+use Rattle.model.specs.Cells.{cells_after}
+use Rattle.model.specs.Given.{given_after, opening_cells}
+use Rattle.core_model.specs.Histories.{Opened}
+use Rattle.sector_device.specs.Disk.{Image}
+use Rattle.sector_device.specs.History.{History, LeavesOnly}
+use Rattle.sector_device.proofs.Moments.{joined, started, weaker}
+use Rattle.board.specs.Views.{FlusherCount}
+use Rattle.flip_image.specs.Layout.{HalvesValue}
+use Rattle.store_reader.specs.Contents.{Gives}
+use Rattle.image_model.specs.declared.chunk.Piece.{Piece}
+use Rattle.store_writer.specs.Contents.{StoreHas}
+use Rattle.store_writer.specs.Parts.{device_of, halves_of, synced_of}
+use Rattle.store_writer.specs.Writer.{IsAsBefore, IsFlipReply, IsStepReply}
+use Rattle.store_writer.specs.declared.writer.FlipReply.{FlipReply}
+use Rattle.store_writer.specs.declared.writer.FlipReply.TheVariants.{Flipped, Behind}
+use Rattle.store_writer.specs.declared.writer.StepReply.{StepReply}
+use Rattle.store_writer.specs.declared.writer.StepReply.TheVariants.{Taken, StartAgain}
+use Rattle.store_writer.specs.declared.writer.Writer.{Writer}
+use Rattle.flusher.specs.Going.{GoesOn, TakesIn}
+use Rattle.flusher.specs.Part.{FlushValue, GivesBeginning, IsFlusher, IsLeft, Publishes, popped_by}
+use Rattle.flusher.proofs.Keeping.{is_left}
+
+-- ---- the store is the same
+
+module _ {D : Type 0} (old new : Writer D Global) where
+  same_geometry : new ≡ old → (halves_of new).geometry ≡ (halves_of old).geometry
+  same_geometry is = ap (λ (w : Writer D Global). (halves_of w).geometry) is
+
+  left_geometry : IsAsBefore old new → (halves_of new).geometry ≡ (halves_of old).geometry
+  left_geometry is = ap (λ (w : Writer D Global). (halves_of w).geometry) is
+
+  pub step_geometry : {A : Type 0} (number : ℕ) (piece : Piece A) (result : Result StepReply Error) → IfOk result (λ reply. IsStepReply number piece reply old new) → OnErr result (IsAsBefore old new) → (halves_of new).geometry ≡ (halves_of old).geometry
+  step_geometry number piece (Ok Taken) is left = ap (λ (h : HalvesValue). h.geometry) is.1.1.1
+  step_geometry number piece (Ok StartAgain) is left = same_geometry is.0
+  step_geometry number piece (Err e) is left = left_geometry left
+
+  pub flip_geometry : (n : ℕ) (result : Result FlipReply Error) → IfOk result (λ reply. IsFlipReply n reply old new) → OnErr result (IsAsBefore old new) → (halves_of new).geometry ≡ (halves_of old).geometry
+  flip_geometry n (Ok (Flipped m)) is left = ap (λ (h : HalvesValue). h.geometry) is.5.halves-are
+  flip_geometry n (Ok Behind) is left = same_geometry is.0
+  flip_geometry n (Err e) is left = left_geometry left
+
+-- ---- the part goes on
+
+module _ {D : Type 0} (history : D → History) (o : Opened) where
+  -- what gives a beginning of some records gives one of more, with every record up to a lower floor
+  beginning_of : (g : GeometryValue) (handed more now : List RecordValue) (floor low : ℕ) (image : Image) → now ≡ handed ++ more → low ≤ floor → GivesBeginning o g handed floor image → GivesBeginning o g now low image
+  beginning_of g handed more now floor low image is below left =
+      let first : take left.count now ≡ take left.count handed = ap (take left.count) is ∙ take-append-le left.count handed more left.most in
+      record {
+        count = left.count;
+        most = omega (arith, left.most, ap length is, length-append handed more);
+        least = omega (arith, below, left.least);
+        has = subst (λ (rs : List RecordValue). StoreHas g image (o.given.last + left.count) (cells_after (opening_cells o.given) rs)) (sym first) left.has;
+        gives = subst (λ (rs : List RecordValue). Gives image g (given_after o.given rs)) (sym first) left.gives;
+      }
+
+  same_store : (g now : GeometryValue) (handed : List RecordValue) (floor : ℕ) (image : Image) → now ≡ g → GivesBeginning o g handed floor image → GivesBeginning o now handed floor image
+  same_store g now handed floor image is left = subst (λ (x : GeometryValue). GivesBeginning o x handed floor image) (sym is) left
+
+  -- by no call
+  pub goes_nowhere : (f : FlushValue D) → IsFlusher history o f → GoesOn history o f f
+  goes_nowhere f is = record {
+    popped = [];
+    popped-are = sym (append-nil (popped_by f));
+    more = [];
+    handed = sym (append-nil f.handed);
+    geometry = refl;
+    board = refl;
+    rises = omega arith;
+    horizon = omega arith;
+    images = started (history (device_of f.writer)) (IsLeft o f) (λ image crash. is_left history o f is image (is.writer.images image crash));
+  }
+
+  -- by records that are popped and handed in
+  pub goes_by_taking : (old new : FlushValue D) → IsFlusher history o new → TakesIn old new → GoesOn history o old new
+  goes_by_taking old new is takes = record {
+    popped = takes.popped;
+    popped-are = takes.popped-are;
+    more = takes.more;
+    handed = takes.handed;
+    geometry = ap (λ (h : HalvesValue). h.geometry) takes.got.halves;
+    board = ap (λ (c : FlusherCount). c.board) takes.published;
+    rises = omega (arith, takes.got.synced);
+    horizon = omega (arith, ap (λ (c : FlusherCount). c.horizon) takes.published);
+    images =
+        subst (λ (n : ℕ). LeavesOnly (history (device_of old.writer)) (history (device_of new.writer)) (GivesBeginning o (halves_of new.writer).geometry new.handed n)) takes.got.synced
+        (subst (λ (d : D). LeavesOnly (history d) (history (device_of new.writer)) (IsLeft o new)) takes.got.device
+        (started (history (device_of new.writer)) (IsLeft o new) (λ image crash. is_left history o new is image (is.writer.images image crash))));
+  }
+
+  -- by a call of the writer
+  pub goes_by_call : (old new : FlushValue D) → old.published.horizon ≤ synced_of old.writer → Publishes old new → (halves_of new.writer).geometry ≡ (halves_of old.writer).geometry → synced_of old.writer ≤ synced_of new.writer
+      → LeavesOnly (history (device_of old.writer)) (history (device_of new.writer)) (IsLeft o old) → GoesOn history o old new
+  goes_by_call old new low publishes geometry rises images = record {
+    popped = [];
+    popped-are = ap (λ l. l ++ new.held) publishes.handed ∙ ap (λ l. old.handed ++ l) publishes.held ∙ sym (append-nil (popped_by old));
+    more = [];
+    handed = publishes.handed ∙ sym (append-nil old.handed);
+    geometry = geometry;
+    board = ap (λ (c : FlusherCount). c.board) publishes.published;
+    rises = rises;
+    horizon = omega (arith, low, rises, ap (λ (c : FlusherCount). c.horizon) publishes.published);
+    images = weaker (history (device_of old.writer)) (history (device_of new.writer)) (IsLeft o old) (GivesBeginning o (halves_of new.writer).geometry new.handed (synced_of old.writer))
+        (λ image left. subst (λ (rs : List RecordValue). GivesBeginning o (halves_of new.writer).geometry rs (synced_of old.writer) image) (sym publishes.handed)
+        (same_store (halves_of old.writer).geometry (halves_of new.writer).geometry old.handed (synced_of old.writer) image geometry left)) images;
+  }
+
+  -- by one and then another
+  pub goes_then : (old mid new : FlushValue D) → GoesOn history o old mid → GoesOn history o mid new → GoesOn history o old new
+  goes_then old mid new first second = record {
+    popped = first.popped ++ second.popped;
+    popped-are = second.popped-are ∙ ap (λ l. l ++ second.popped) first.popped-are ∙ append_assoc (popped_by old) first.popped second.popped;
+    more = first.more ++ second.more;
+    handed = second.handed ∙ ap (λ l. l ++ second.more) first.handed ∙ append_assoc old.handed first.more second.more;
+    geometry = second.geometry ∙ first.geometry;
+    board = second.board ∙ first.board;
+    rises = omega (arith, first.rises, second.rises);
+    horizon = omega (arith, first.horizon, second.horizon);
+    images =
+        let P : Image → Type 0 = GivesBeginning o (halves_of new.writer).geometry new.handed (synced_of old.writer) in
+        joined (history (device_of old.writer)) (history (device_of mid.writer)) (history (device_of new.writer)) P
+        (weaker (history (device_of old.writer)) (history (device_of mid.writer)) (GivesBeginning o (halves_of mid.writer).geometry mid.handed (synced_of old.writer)) P
+        (λ image left. beginning_of (halves_of new.writer).geometry mid.handed second.more new.handed (synced_of old.writer) (synced_of old.writer) image second.handed (omega arith)
+        (same_store (halves_of mid.writer).geometry (halves_of new.writer).geometry mid.handed (synced_of old.writer) image second.geometry left)) first.images)
+        (weaker (history (device_of mid.writer)) (history (device_of new.writer)) (GivesBeginning o (halves_of new.writer).geometry new.handed (synced_of mid.writer)) P
+        (λ image left. beginning_of (halves_of new.writer).geometry new.handed [] new.handed (synced_of mid.writer) (synced_of old.writer) image (sym (append-nil new.handed)) first.rises left) second.images);
+  }

@@ -1,0 +1,36 @@
+-- When an image is wanted, and which piece of it is due.
+use Rattle.std.specs.Prelude.{◌≡◌, ◌⊎◌, ◌/◌, ◌≤◌, ◌<◌, ℕ, List, Option, Some, None, false}
+use Rattle.std.specs.declared.alloc.Global.{Global}
+use Rattle.records.specs.declared.pair.Mark.{Mark}
+use Rattle.records.specs.declared.pair.Pair.{Pair}
+use Rattle.model.specs.Table.{Table}
+use Rattle.core_model.specs.Histories.{Opened}
+use Rattle.image_model.specs.declared.chunk.CopyPlace.{CopyPlace}
+use Rattle.image_model.specs.declared.chunk.CopyPlace.TheVariants as at
+use Rattle.store_writer.specs.Parts.{halves_of, has_failed, image_of, log_of}
+use Rattle.store_writer.specs.Places.{AreEntriesNow, AreRowsNow, IsAtPlace}
+use Rattle.store_writer.specs.Writer.{IsEntriesChunk, IsPageChunk}
+use Rattle.store_writer.specs.declared.image.NewImage.{NewImage}
+use Rattle.store_writer.specs.declared.writer.Writer.{Writer}
+use Rattle.flusher.specs.Part.{FlushValue, last_handed, run_of}
+
+-- half the slots of the current half's log are open, and one at least
+abbrev pub IsHalfFull : {D : Type 0} → Writer D Global → Type 0
+IsHalfFull w = (0 < (log_of w).open_slots) × ((halves_of w).geometry.slots / 2 ≤ (log_of w).open_slots)
+
+-- an image is copied in steps and is at this place, or whole where there is none, unless a flush gave it up
+abbrev pub IsAt : (pages : ℕ) → Option CopyPlace → Option NewImage → Type 0
+IsAt pages place image = (image ≡ None) ⊎ IsAtPlace pages place image
+
+-- the piece of this place is due: the start always, and another as an image that is copied in steps is there
+abbrev pub IsDue : (pages : ℕ) → CopyPlace → Option NewImage → Type 0
+IsDue pages at.Start image = Unit {0}
+IsDue pages (at.Page page) image = IsAt pages (Some (at.Page page)) image
+IsDue pages (at.Entries above) image = IsAt pages (Some (at.Entries above)) image
+
+-- the piece of an image that is due may be taken, as the last record handed in left its cells (no public clause cites this)
+pub record TakesNext {D : Type 0} (o : Opened) (f : FlushValue D) : Type 0 where
+  pub page : (page : ℕ) (rows : Table) → has_failed f.writer ≡ false → IsAtPlace (halves_of f.writer).geometry.pages (Some (at.Page page)) (image_of f.writer) → AreRowsNow (run_of o f) page rows
+      → (i : NewImage) → image_of f.writer ≡ Some i → IsPageChunk (run_of o f) i (last_handed o f) page rows
+  pub entries : (above : Option Pair) (entries : List (Pair × Mark)) → has_failed f.writer ≡ false → IsAtPlace (halves_of f.writer).geometry.pages (Some (at.Entries above)) (image_of f.writer) → AreEntriesNow (run_of o f) above entries
+      → (i : NewImage) → image_of f.writer ≡ Some i → IsEntriesChunk (run_of o f) i (last_handed o f) entries

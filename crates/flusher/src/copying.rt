@@ -1,0 +1,151 @@
+//! When an image is wanted, and its copying under the lock.
+ghost use Rattle.std.specs.Prelude.{◌≡◌, ◌≢◌, ◌↔◌, [], length, take, false, IsTrue, OnOk, IfOk, IfErr};
+ghost use Rattle.records.specs.GeometryValue.{GeometryValue};
+ghost use Rattle.image_model.specs.Run.{cells_at};
+ghost use Rattle.core_copies.specs.Pieces.{IsPieceOf};
+ghost use Rattle.nsf_core.specs.Outbox.{HandsOn};
+ghost use Rattle.store_writer.specs.Parts.{halves_of, has_failed, image_of};
+ghost use Rattle.store_writer.specs.Places.{IsAtPiece};
+ghost use Rattle.store_writer.specs.Writer.{IsChunk, MustStartAgain};
+ghost use Rattle.flusher.specs.Images.{IsDue, IsHalfFull, TakesNext};
+
+use crate::part::FlushPart;
+use image_model::{Chunk, CopyPlace};
+use locked_core::{Locked, Site};
+use records::{Error, Geometry};
+use sector_device::Device;
+use std::alloc::Global;
+use std::sync::Wait;
+use tail::RecordQueue;
+
+impl<B: Site, D: Device> FlushPart<B, D> {
+    ghost use Rattle.locked_core.specs.Locked.{locked_of};
+    ghost use Rattle.locked_core.specs.Made.{IsAllOf};
+    ghost use Rattle.locked_core.specs.Made as made;
+    ghost use Rattle.flusher.specs.Going.{TakesIn};
+    ghost use Rattle.flusher.specs.Part.{last_handed, run_of};
+
+    // Where a chunk gets its memory.
+    fn allocator(&self) -> Global {
+        self.alloc
+    }
+
+    // A law: the piece of an image that is due may be taken, as the last record handed in left its cells.
+    fn next_pieces(&self)
+        ensures { TakesNext B.site.opened self.now }
+    {
+        self.writer.next_pieces();
+    }
+
+    /// How large the store is.
+    pub fn geometry(&self) -> Geometry
+        ensures { result ≡ (halves_of self.now.writer).geometry }
+    {
+        self.writer.geometry()
+    }
+
+    /// Whether the device has failed.
+    pub fn has_failed(&self) -> bool
+        ensures { result ≡ has_failed self.now.writer }
+    {
+        self.writer.has_failed()
+    }
+
+    /// Whether records were popped that the writer doesn't have yet.
+    pub fn holds_some(&self) -> bool
+        ensures { IsTrue result ↔ (self.now.held ≢ []) }
+    {
+        !self.held.is_empty()
+    }
+
+    /// Whether half the slots of the current half's log are open, and one at least: an image is wanted, which empties it.
+    pub fn wants_image(&self) -> bool
+        ensures { IsTrue result ↔ IsHalfFull self.now.writer }
+    {
+        let open = self.writer.open_slots();
+        open > 0 && open >= u64::from(self.writer.geometry().slots / 2)
+    }
+
+    /// Pushes the records that wait in the core to the queue, pops those that wait there, until it finds none, and hands in all
+    /// that is held. A record that the queue refuses waits on in the core.
+    ///
+    /// The one error is `NoMemory`, and then what was popped is held, and no record is lost.
+    pub fn take_in<R: Wait>(
+        &mut self,
+        rt: &R,
+        queue: &RecordQueue,
+        locked: &mut Locked<B>,
+    ) -> Result<(), Error>
+        requires { queue.now ≡ B.site.queue }
+        ensures takes { TakesIn self.old self.new }
+        ensures none_held { OnOk result (self.new.held ≡ []) }
+        ensures beginning { OnOk result (self.new.handed ≡ take (length self.new.handed) (locked_of locked.new).pushed) }
+        ensures no_memory { IfErr result (λ e. e ≡ Error.NoMemory) }
+        ensures pushed { HandsOn (locked_of locked.old).core (locked_of locked.new).core (locked_of locked.old).pushed (locked_of locked.new).pushed }
+        ensures book { (locked_of locked.new).book ≡ (locked_of locked.old).book }
+    {
+        locked.push_outbox(rt, queue);
+        self.take(rt, queue)?;
+        self.hand_in(rt, queue, locked)
+    }
+
+    /// Copies all cells, as the last record made left them, as a chunk that may be taken: every record made was handed in first.
+    ///
+    /// The one error is `NoMemory`, also where the queue refused a record.
+    pub fn copy_whole<R: Wait>(
+        &mut self,
+        rt: &R,
+        queue: &RecordQueue,
+        locked: &mut Locked<B>,
+    ) -> Result<Chunk<Global>, Error>
+        requires { queue.now ≡ B.site.queue }
+        ensures takes { TakesIn self.old self.new }
+        ensures number { IfOk result (λ chunk. chunk.number ≡ last_handed B.site.opened self.new) }
+        ensures chunk { IfOk result (λ chunk. IsChunk (run_of B.site.opened self.new) self.new.writer chunk.number chunk.piece) }
+        ensures whole { IfOk result (λ chunk. (g : GeometryValue) → IsAllOf (locked_of locked.new).core (cells_at (made.run_of g B.site.opened (locked_of locked.new)) chunk.number) chunk.piece) }
+        ensures at { IfOk result (λ chunk. IsAtPiece (halves_of self.new.writer).geometry.pages chunk.piece (image_of self.new.writer)) }
+        ensures no_memory { IfErr result (λ e. e ≡ Error.NoMemory) }
+        ensures pushed { HandsOn (locked_of locked.old).core (locked_of locked.new).core (locked_of locked.old).pushed (locked_of locked.new).pushed }
+        ensures book { (locked_of locked.new).book ≡ (locked_of locked.old).book }
+    {
+        self.take_in(rt, queue, locked)?;
+        self.stands();
+        locked.each_hold();
+        let chunk = locked.copy_whole(self.allocator())?;
+        if self.last_handed() < chunk.number {
+            return Err(Error::NoMemory);
+        }
+        Ok(chunk)
+    }
+
+    /// Copies the piece of this place, as `copy_whole` copies all cells.
+    pub fn copy_step<R: Wait>(
+        &mut self,
+        rt: &R,
+        queue: &RecordQueue,
+        locked: &mut Locked<B>,
+        place: CopyPlace,
+    ) -> Result<Chunk<Global>, Error>
+        requires queue { queue.now ≡ B.site.queue }
+        requires sound { has_failed self.old.writer ≡ false }
+        requires due { IsDue (halves_of self.old.writer).geometry.pages place (image_of self.old.writer) }
+        ensures takes { TakesIn self.old self.new }
+        ensures number { IfOk result (λ chunk. chunk.number ≡ last_handed B.site.opened self.new) }
+        ensures chunk { IfOk result (λ chunk. IsChunk (run_of B.site.opened self.new) self.new.writer chunk.number chunk.piece) }
+        ensures piece { IfOk result (λ chunk. (g : GeometryValue) → IsPieceOf (locked_of locked.new).core (cells_at (made.run_of g B.site.opened (locked_of locked.new)) chunk.number) place chunk.piece) }
+        ensures at { IfOk result (λ chunk. ¬ MustStartAgain chunk.piece self.new.writer → IsAtPiece (halves_of self.new.writer).geometry.pages chunk.piece (image_of self.new.writer)) }
+        ensures no_memory { IfErr result (λ e. e ≡ Error.NoMemory) }
+        ensures pushed { HandsOn (locked_of locked.old).core (locked_of locked.new).core (locked_of locked.old).pushed (locked_of locked.new).pushed }
+        ensures book { (locked_of locked.new).book ≡ (locked_of locked.old).book }
+    {
+        self.take_in(rt, queue, locked)?;
+        self.stands();
+        self.next_pieces();
+        locked.each_hold();
+        let chunk = locked.copy_step(self.allocator(), place)?;
+        if self.last_handed() < chunk.number {
+            return Err(Error::NoMemory);
+        }
+        Ok(chunk)
+    }
+}
