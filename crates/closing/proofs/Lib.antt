@@ -1,0 +1,7 @@
+mod Lists
+mod Gathering
+mod Going
+mod Taking
+mod Pieces
+mod Tables
+mod Ending

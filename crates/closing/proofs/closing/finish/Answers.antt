@@ -1,0 +1,137 @@
+use Rattle.std.proofs.Common.{◌≡◌, ◌∙◌, ℕ, List, map, ap, refl, subst}
+use Rattle.nsf_core.specs.Value.{value_of}
+use Rattle.locked_core.specs.Locked.{LockedValue, locked_of}
+use Rattle.sessions.specs.Values.{CommitValue}
+use Rattle.shared.specs.Seats.{SeatValue}
+use Rattle.register.specs.Register.{AreAllCommits}
+use Rattle.store_writer.specs.Parts.{halves_of, synced_of}
+use Rattle.flusher.specs.Part.{FlushValue}
+use Rattle.closing.specs.Gathered.{sessions_of}
+use Rattle.closing.specs.Written.{WritesOn}
+use Rattle.closing.proofs.Ending.{all_at_end, book_is, commits_closed, core_closed, failed_at_end, horizon_closed, left_at_end}
+use Rattle.closing.proofs.closing.finish.Goals as goal
+
+pub returns-in-Ok-clause-commits : goal.returns-in-Ok-clause-commits
+returns-in-Ok-clause-commits g c =
+    let history = g.D.Device.history in
+    let failures = g.D.Device.failures in
+    let z = g.B.Site.site in
+    let old = c.args.flush in
+    let f = c.close.new.flush in
+    let seats = c.args.seats.items in
+    let under = c.close.new.locked in
+    let l = locked_of under in
+    let first = (locked_of c.into_parts-locked.result.0).book in
+    let same = c.close.ensures.book ∙ ap (λ (x : LockedValue). x.book) c.compare_all.ensures.same in
+    let book = book_is z.seats first l.book under.book.items seats under.seats refl same c.requires.seats c.compare_all.ensures.seen in
+    let writes : WritesOn history failures z.opened old f = subst (λ (x : FlushValue _). WritesOn history failures z.opened x f) c.settle_all.ensures.same c.close.ensures.writes in
+    let core = c.into_parts-core.ensures.core in
+    let commits = c.in-Ok.commits.items in
+    let from = subst (λ (ss : List SeatValue). (count : ℕ) (all : AreAllCommits (sessions_of ss) count) → commits ≡ map (λ (e : ℕ × CommitValue). e.1) all.commits) c.compare_all.ensures.seats c.in-Ok.ensures.gathered in
+    commits_closed history z.opened seats l book under.shared (value_of c.into_parts-core.result.0) core c.in-Ok.ensures.none_waits commits from
+
+pub returns-in-Ok-clause-core : goal.returns-in-Ok-clause-core
+returns-in-Ok-clause-core g c =
+    let history = g.D.Device.history in
+    let failures = g.D.Device.failures in
+    let z = g.B.Site.site in
+    let old = c.args.flush in
+    let f = c.close.new.flush in
+    let seats = c.args.seats.items in
+    let under = c.close.new.locked in
+    let l = locked_of under in
+    let first = (locked_of c.into_parts-locked.result.0).book in
+    let same = c.close.ensures.book ∙ ap (λ (x : LockedValue). x.book) c.compare_all.ensures.same in
+    let book = book_is z.seats first l.book under.book.items seats under.seats refl same c.requires.seats c.compare_all.ensures.seen in
+    let writes : WritesOn history failures z.opened old f = subst (λ (x : FlushValue _). WritesOn history failures z.opened x f) c.settle_all.ensures.same c.close.ensures.writes in
+    let core = c.into_parts-core.ensures.core in
+    let commits = c.in-Ok.commits.items in
+    let from = subst (λ (ss : List SeatValue). (count : ℕ) (all : AreAllCommits (sessions_of ss) count) → commits ≡ map (λ (e : ℕ × CommitValue). e.1) all.commits) c.compare_all.ensures.seats c.in-Ok.ensures.gathered in
+    core_closed history z.opened seats l book under.shared (value_of c.into_parts-core.result.0) core c.in-Ok.ensures.none_waits commits from
+
+pub returns-in-Ok-clause-device : goal.returns-in-Ok-clause-device
+returns-in-Ok-clause-device g c =
+    let history = g.D.Device.history in
+    let failures = g.D.Device.failures in
+    let z = g.B.Site.site in
+    let old = c.args.flush in
+    let f = c.close.new.flush in
+    let seats = c.args.seats.items in
+    let under = c.close.new.locked in
+    let l = locked_of under in
+    let first = (locked_of c.into_parts-locked.result.0).book in
+    let same = c.close.ensures.book ∙ ap (λ (x : LockedValue). x.book) c.compare_all.ensures.same in
+    let book = book_is z.seats first l.book under.book.items seats under.seats refl same c.requires.seats c.compare_all.ensures.seen in
+    let writes : WritesOn history failures z.opened old f = subst (λ (x : FlushValue _). WritesOn history failures z.opened x f) c.settle_all.ensures.same c.close.ensures.writes in
+    let core = c.into_parts-core.ensures.core in
+    let commits = c.in-Ok.commits.items in
+    let from = subst (λ (ss : List SeatValue). (count : ℕ) (all : AreAllCommits (sessions_of ss) count) → commits ≡ map (λ (e : ℕ × CommitValue). e.1) all.commits) c.compare_all.ensures.seats c.in-Ok.ensures.gathered in
+    all_at_end history failures z.opened seats l book under.shared old f writes c.into_parts-device.result.0 c.into_parts-device.ensures.device (value_of c.into_parts-core.result.0) core c.in-Ok.ensures.none_waits commits from
+    c.each_hold.ensures.last c.each_hold.ensures.cells c.in-Ok.ensures.all c.in-Ok.ensures.synced c.into_parts-device.ensures.images
+
+pub returns-in-Ok-clause-horizon : goal.returns-in-Ok-clause-horizon
+returns-in-Ok-clause-horizon g c =
+    let history = g.D.Device.history in
+    let failures = g.D.Device.failures in
+    let z = g.B.Site.site in
+    let old = c.args.flush in
+    let f = c.close.new.flush in
+    let seats = c.args.seats.items in
+    let under = c.close.new.locked in
+    let l = locked_of under in
+    let first = (locked_of c.into_parts-locked.result.0).book in
+    let same = c.close.ensures.book ∙ ap (λ (x : LockedValue). x.book) c.compare_all.ensures.same in
+    let book = book_is z.seats first l.book under.book.items seats under.seats refl same c.requires.seats c.compare_all.ensures.seen in
+    let writes : WritesOn history failures z.opened old f = subst (λ (x : FlushValue _). WritesOn history failures z.opened x f) c.settle_all.ensures.same c.close.ensures.writes in
+    let core = c.into_parts-core.ensures.core in
+    let commits = c.in-Ok.commits.items in
+    let from = subst (λ (ss : List SeatValue). (count : ℕ) (all : AreAllCommits (sessions_of ss) count) → commits ≡ map (λ (e : ℕ × CommitValue). e.1) all.commits) c.compare_all.ensures.seats c.in-Ok.ensures.gathered in
+    c.synced-horizon.ensures ∙ horizon_closed history z.opened seats l book under.shared (value_of c.into_parts-core.result.0) core c.in-Ok.ensures.none_waits commits from c.each_hold.ensures.last (halves_of f.writer).geometry f.handed (synced_of f.writer) c.in-Ok.ensures.all c.in-Ok.ensures.synced
+
+pub returns-in-Ok-clause-images : goal.returns-in-Ok-clause-images
+returns-in-Ok-clause-images g c =
+    let history = g.D.Device.history in
+    let failures = g.D.Device.failures in
+    let z = g.B.Site.site in
+    let old = c.args.flush in
+    let f = c.close.new.flush in
+    let seats = c.args.seats.items in
+    let under = c.close.new.locked in
+    let l = locked_of under in
+    let first = (locked_of c.into_parts-locked.result.0).book in
+    let same = c.close.ensures.book ∙ ap (λ (x : LockedValue). x.book) c.compare_all.ensures.same in
+    let book = book_is z.seats first l.book under.book.items seats under.seats refl same c.requires.seats c.compare_all.ensures.seen in
+    let writes : WritesOn history failures z.opened old f = subst (λ (x : FlushValue _). WritesOn history failures z.opened x f) c.settle_all.ensures.same c.close.ensures.writes in
+    left_at_end history failures z.opened seats l book under.shared old f writes c.into_parts-device.result.0 c.into_parts-device.ensures.device c.close.ensures.beginning
+
+pub returns-in-Err-clause-left : goal.returns-in-Err-clause-left
+returns-in-Err-clause-left g c =
+    let history = g.D.Device.history in
+    let failures = g.D.Device.failures in
+    let z = g.B.Site.site in
+    let old = c.args.flush in
+    let f = c.close.new.flush in
+    let seats = c.args.seats.items in
+    let under = c.close.new.locked in
+    let l = locked_of under in
+    let first = (locked_of c.into_parts-locked.result.0).book in
+    let same = c.close.ensures.book ∙ ap (λ (x : LockedValue). x.book) c.compare_all.ensures.same in
+    let book = book_is z.seats first l.book under.book.items seats under.seats refl same c.requires.seats c.compare_all.ensures.seen in
+    let writes : WritesOn history failures z.opened old f = subst (λ (x : FlushValue _). WritesOn history failures z.opened x f) c.settle_all.ensures.same c.close.ensures.writes in
+    left_at_end history failures z.opened seats l book under.shared old f writes c.into_parts-rest.result.0 c.into_parts-rest.ensures.device c.close.ensures.beginning
+
+pub returns-in-Err-clause-err : goal.returns-in-Err-clause-err
+returns-in-Err-clause-err g c =
+    let history = g.D.Device.history in
+    let failures = g.D.Device.failures in
+    let z = g.B.Site.site in
+    let old = c.args.flush in
+    let f = c.close.new.flush in
+    let seats = c.args.seats.items in
+    let under = c.close.new.locked in
+    let l = locked_of under in
+    let first = (locked_of c.into_parts-locked.result.0).book in
+    let same = c.close.ensures.book ∙ ap (λ (x : LockedValue). x.book) c.compare_all.ensures.same in
+    let book = book_is z.seats first l.book under.book.items seats under.seats refl same c.requires.seats c.compare_all.ensures.seen in
+    let writes : WritesOn history failures z.opened old f = subst (λ (x : FlushValue _). WritesOn history failures z.opened x f) c.settle_all.ensures.same c.close.ensures.writes in
+    failed_at_end history failures z.opened seats l book under.shared old f writes c.into_parts-rest.result.0 c.into_parts-rest.ensures.device c.in-Err.error c.in-Err.ensures.err

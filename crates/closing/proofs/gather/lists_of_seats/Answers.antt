@@ -1,0 +1,21 @@
+use Rattle.std.proofs.Common.{ap, ◌∙◌, sym, ◌++◌, ◌∷◌, [], ◌≡◌}
+use Rattle.sessions.specs.Values.{CommitValue, SessionValue}
+use Rattle.shared.specs.Seats.{SeatValue}
+use Rattle.std.specs.declared.vec.Vec.{Vec}
+use Rattle.std.specs.declared.alloc.Global.{Global}
+use Rattle.closing.specs.Gathered.{commits_of, lists_of, sessions_of}
+use Rattle.closing.proofs.Lists.{map_more}
+use Rattle.closing.proofs.gather.lists_of_seats.Goals as goal
+
+pub loop-seat-preserved : goal.loop-seat-preserved
+loop-seat-preserved g c =
+    let was = c.loop-seat.invariant in
+    let commits = c.into_commits.ensures ∙ ap (λ (s : SessionValue). s.commits) c.into_session.ensures in record {
+      can = tt;
+      finite = tt;
+      lists =
+          ap lists_of c.in_ok-push.ensures.items
+          ∙ (map_more (λ (v : Vec CommitValue Global). v.items) c.loop-seat.lists.items c.into_commits.result
+          ∙ ((λ i. was.lists i ++ commits i ∷ [])
+          ∙ sym (ap commits_of (map_more (λ (s : SeatValue). s.session) c.loop-seat.yielded c.in-Some.seat) ∙ map_more (λ (s : SessionValue). s.commits) (sessions_of c.loop-seat.yielded) c.in-Some.seat.session)));
+    }

@@ -1,0 +1,11 @@
+use Rattle.std.proofs.Common.{◌≡◌, length, take}
+use Rattle.locked_core.specs.Locked.{locked_of}
+use Rattle.closing.specs.Written.{HasTaken}
+use Rattle.closing.proofs.writing.hand_in_all.Given as goal
+
+abbrev pub invariant-loop : goal.invariant-loop
+invariant-loop g l = record {
+  taken : HasTaken l.fn.flush l.flush;
+  begins : l.flush.handed ≡ take (length l.flush.handed) (locked_of l.locked).pushed;
+  same : locked_of l.locked ≡ locked_of l.initial.locked;
+}

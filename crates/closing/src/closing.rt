@@ -1,0 +1,129 @@
+//! Taking all that was shared back into one hand.
+ghost use Rattle.std.specs.Prelude.{◌≡◌, ◌⊎◌, ◌≤◌, ℕ, [], All, IfErr, IfOk, OnOk, false, length, map, take, true};
+ghost use Rattle.sector_device.specs.Disk.{Image, IsCrashImage};
+ghost use Rattle.sector_device.specs.History.{LeavesOnly, Rises};
+ghost use Rattle.records.specs.declared.error.Error.TheVariants.{DeviceFailed, NoMemory};
+ghost use Rattle.nsf_core.specs.Value.{value_of};
+ghost use Rattle.store_writer.specs.Parts.{device_of, halves_of, has_failed, synced_of};
+ghost use Rattle.closing.specs.Closing.{GivesAll, GivesSome, IsCoreOf};
+ghost use Rattle.locked_core.specs.Locked.{locked_of};
+ghost use Rattle.register.specs.Register.{AreAllCommits};
+ghost use Rattle.flusher.specs.Part.{last_handed};
+ghost use Rattle.closing.specs.Gathered.{AreAllSeats, AreCommitsOf, sessions_of};
+ghost use Rattle.closing.specs.Written.{WritesOn};
+
+use crate::gather::{compare_all, gather_commits};
+use crate::writing::write_out;
+use board::Board;
+use flusher::FlushPart;
+use locked_core::Locked;
+use nsf_core::Core;
+use records::Error;
+use sector_device::Device;
+use sessions::Commit;
+use shared::{Ack, Group, Seat, Shared};
+use std::alloc::Global;
+use std::sync::Wait;
+use tail::RecordQueue;
+
+/// What is left at the end: the device, to which every record was written; the core; the number of the last record; and the
+/// commits of all seats, in the order of their numbers.
+#[derive(Drop)]
+pub struct Closed<D> {
+    pub device: D,
+    pub core: Core<Global>,
+    pub horizon: u64,
+    pub commits: Vec<Commit>,
+}
+
+// No acknowledgement names a record that isn't synced.
+fn settle_all<B: Group, D: Device>(
+    board: &Board<Global>,
+    flush: &mut FlushPart<B, D>,
+    acks: Vec<Ack<B>>,
+)
+    requires board { board.now ≡ B.board }
+    requires flush { flush.old.published.board ≡ B.board }
+    ensures same { flush.new ≡ flush.old }
+    ensures reached { All (λ a. a.ticket.«record» ≤ synced_of flush.old.writer) acks.items }
+{
+    for ack in acks {
+        flush.settle(board, &mut ack.into_view());
+    }
+}
+
+// Writes every record out, and gathers the commits of the seats by number.
+fn close<B: Group, D: Device, R: Wait>(
+    rt: &R,
+    alloc: Global,
+    queue: &RecordQueue,
+    board: &Board<Global>,
+    locked: &mut Locked<B>,
+    seats: Vec<Seat<B>>,
+    flush: &mut FlushPart<B, D>,
+) -> Result<Vec<Commit>, Error>
+    requires queue { queue.now ≡ B.site.queue }
+    requires board { board.now ≡ flush.old.published.board }
+    ensures writes { WritesOn D.history D.failures B.site.opened flush.old flush.new }
+    ensures beginning { flush.new.handed ≡ take (length flush.new.handed) (locked_of locked.new).pushed }
+    ensures all { OnOk result (flush.new.handed ≡ (locked_of locked.new).pushed) }
+    ensures none_waits { OnOk result ((locked_of locked.new).core.outbox ≡ []) }
+    ensures synced { OnOk result (synced_of flush.new.writer ≡ last_handed B.site.opened flush.new) }
+    ensures gathered { IfOk result (λ v. (count : ℕ) (all : AreAllCommits (sessions_of seats.items) count) → v.items ≡ map (λ c. c.1) all.commits) }
+    ensures book { (locked_of locked.new).book ≡ (locked_of locked.old).book }
+    ensures err { IfErr result (λ e. (e ≡ NoMemory) ⊎ ((e ≡ DeviceFailed) × (has_failed flush.new.writer ≡ true))) }
+{
+    write_out(rt, alloc, queue, board, locked, flush)?;
+    gather_commits(rt, alloc, seats)
+}
+
+/// Takes every seat back, and writes every record out that was made: those that wait in the core and in the queue too, in groups
+/// or, once the log is full, in an image. Then the device holds what the core does, and each acknowledgement is of a record on it.
+///
+/// A crash at any moment of the call, and of the device that is given back, whatever the answer is, leaves what some of the records
+/// that were made make of what was opened, the first ones, with all that were synced before; and each acknowledgement is of one of
+/// those.
+///
+/// `NoMemory`, or `DeviceFailed` where the device failed, now or earlier.
+pub fn finish<B: Group, D: Device, R: Wait>(
+    rt: &R,
+    alloc: Global,
+    shared: Shared<B>,
+    mut seats: Vec<Seat<B>>,
+    mut flush: FlushPart<B, D>,
+    acks: Vec<Ack<B>>,
+) -> Result<Closed<D>, (Error, D)>
+    requires seats { AreAllSeats B.site.seats seats.items }
+    requires flush { flush.published.board ≡ B.board }
+    ensures commits { IfOk result (λ c. ∥ AreCommitsOf seats.items c.commits.items ∥₁) }
+    ensures core { IfOk result (λ c. ∥ IsCoreOf B.site.opened seats.items (value_of c.core) c.commits.items ∥₁) }
+    ensures device { IfOk result (λ c. (image : Image) → IsCrashImage (D.history c.device).disk image → ∥ GivesAll B.site.opened (halves_of flush.writer).geometry (value_of c.core) c.commits.items image ∥₁) }
+    ensures horizon { IfOk result (λ c. c.horizon ≡ (value_of c.core).last) }
+    ensures acks { IfOk result (λ c. All (λ a. a.ticket.«record» ≤ c.horizon) acks.items) }
+    ensures acked { All (λ a. a.ticket.«record» ≤ synced_of flush.writer) acks.items }
+    ensures images { IfOk result (λ c. LeavesOnly (D.history (device_of flush.writer)) (D.history c.device) (λ image. ∥ GivesSome B.site.opened (halves_of flush.writer).geometry seats.items (synced_of flush.writer) image ∥₁)) }
+    ensures left { IfErr result (λ r. LeavesOnly (D.history (device_of flush.writer)) (D.history r.1) (λ image. ∥ GivesSome B.site.opened (halves_of flush.writer).geometry seats.items (synced_of flush.writer) image ∥₁)) }
+    ensures err { IfErr result (λ r. (r.0 ≡ NoMemory) ⊎ ((r.0 ≡ DeviceFailed) × (has_failed flush.writer ≡ false → Rises (D.failures (device_of flush.writer)) (D.failures r.1)))) }
+{
+    let (mut locked, queue, registry, board) = shared.into_parts();
+    settle_all(&board, &mut flush, acks);
+    compare_all(&registry, &mut locked, &mut seats);
+    match close(rt, alloc, &queue, &board, &mut locked, seats, &mut flush) {
+        Ok(commits) => {
+            locked.each_hold();
+            let horizon = flush.synced();
+            let (core, _, _) = locked.into_parts();
+            let (device, _) = flush.into_parts();
+            Ok(Closed {
+                device,
+                core,
+                horizon,
+                commits,
+            })
+        }
+        Err(error) => {
+            let (rest, _) = flush.into_parts();
+            Err((error, rest))
+        }
+    }
+}

@@ -1,0 +1,120 @@
+//! The commits of all seats, by number.
+ghost use Rattle.std.specs.Prelude.{◌≡◌, ◌<◌, ℕ, List, false, true, length, map, IfErr, IfNone, IfOk, IfSome, Some, slice_get};
+ghost use Rattle.records.specs.declared.error.Error.TheVariants.{NoMemory};
+ghost use Rattle.locked_core.specs.Locked.{locked_of};
+ghost use Rattle.register.specs.Register.{AreAllCommits};
+ghost use Rattle.sessions.specs.Values.{CommitValue, SessionValue};
+ghost use Rattle.closing.specs.Gathered.{AreSeen, TakesFrom, commits_of, heads_with, is_numbered, lists_of, sessions_of};
+
+use locked_core::Locked;
+use records::Error;
+use registry::Registry;
+use sessions::Commit;
+use shared::{Group, Seat};
+use std::alloc::Global;
+use std::sync::Wait;
+
+// Whether the commit has this number.
+fn is_numbered(commit: &Commit, number: u64) -> bool
+    ensures { result ≡ is_numbered number commit.now.ticket.commit }
+{
+    match commit.ticket().commit {
+        Some(its) => its == number,
+        None => false,
+    }
+}
+
+// Whether the first commit has this number.
+fn heads(list: &[Commit], number: u64) -> bool
+    ensures { result ≡ heads_with number list.now }
+{
+    match list.first() {
+        Some(commit) => is_numbered(commit, number),
+        None => false,
+    }
+}
+
+// The first list whose first commit has this number.
+fn find_next(lists: &[Vec<Commit>], number: u64) -> Option<usize>
+    ensures some { IfSome result (λ k. (list : List CommitValue) × (slice_get (lists_of lists.now) k ≡ Some list) × (heads_with number list ≡ true)) }
+    ensures within { IfSome result (λ k. k < length lists.now) }
+    ensures none { IfNone result ((k : ℕ) (list : List CommitValue) → slice_get (lists_of lists.now) k ≡ Some list → heads_with number list ≡ false) }
+{
+    for k in 0..lists.len() {
+        if heads(&lists[k], number) {
+            return Some(k);
+        }
+    }
+    None
+}
+
+// Takes the commit of this number, if it is the first of a list.
+fn take_next(lists: &mut Vec<Vec<Commit>>, number: u64) -> Option<Commit>
+    ensures some { IfSome result (λ commit. TakesFrom number commit (lists_of lists.old.items) (lists_of lists.new.items)) }
+    ensures none { IfNone result ((k : ℕ) (list : List CommitValue) → slice_get (lists_of lists.old.items) k ≡ Some list → heads_with number list ≡ false) }
+{
+    let k = find_next(lists, number)?;
+    let list = &mut lists[k];
+    if list.is_empty() {
+        return None;
+    }
+    Some(list.remove(0))
+}
+
+// All commits, by number, of the lists of all sessions.
+fn gather<R: Wait>(rt: &R, alloc: Global, mut lists: Vec<Vec<Commit>>) -> Result<Vec<Commit>, Error>
+    ensures ok { IfOk result (λ v. (book : List SessionValue) (count : ℕ) → lists_of lists.items ≡ commits_of book → (all : AreAllCommits book count) → v.items ≡ map (λ c. c.1) all.commits) }
+    ensures no_memory { IfErr result (λ e. e ≡ NoMemory) }
+{
+    let mut gathered = Vec::new(alloc);
+    for _ in rt.forever() {
+        let number = gathered.len() as u64 + 1;
+        match take_next(&mut lists, number) {
+            Some(commit) => gathered.push(commit)?,
+            None => return Ok(gathered),
+        }
+    }
+    unreachable!()
+}
+
+// The commits of each seat.
+fn lists_of_seats<B: Group>(alloc: Global, seats: Vec<Seat<B>>) -> Result<Vec<Vec<Commit>>, Error>
+    ensures lists { IfOk result (λ lists. lists_of lists.items ≡ commits_of (sessions_of seats.items)) }
+    ensures no_memory { IfErr result (λ e. e ≡ NoMemory) }
+{
+    let mut lists = Vec::with_capacity(alloc, seats.len())?;
+    for seat in seats {
+        lists.push(seat.into_session().into_commits())?;
+    }
+    Ok(lists)
+}
+
+// The commits of all seats, by number.
+pub(crate) fn gather_commits<B: Group, R: Wait>(
+    rt: &R,
+    alloc: Global,
+    seats: Vec<Seat<B>>,
+) -> Result<Vec<Commit>, Error>
+    ensures ok { IfOk result (λ v. (count : ℕ) (all : AreAllCommits (sessions_of seats.items) count) → v.items ≡ map (λ c. c.1) all.commits) }
+    ensures no_memory { IfErr result (λ e. e ≡ NoMemory) }
+{
+    let lists = lists_of_seats(alloc, seats)?;
+    gather(rt, alloc, lists)
+}
+
+// The session that each seat shows is the one under the lock.
+pub(crate) fn compare_all<B: Group>(
+    registry: &Registry,
+    locked: &mut Locked<B>,
+    seats: &mut Vec<Seat<B>>,
+)
+    requires { registry.now ≡ B.site.table }
+    ensures seen { AreSeen (locked_of locked.old).book seats.old.items }
+    ensures seats { seats.new.items ≡ seats.old.items }
+    ensures same { locked_of locked.new ≡ locked_of locked.old }
+{
+    for k in 0..seats.len() {
+        let seat = &mut seats[k];
+        seat.compare(registry, locked);
+    }
+}

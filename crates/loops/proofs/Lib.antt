@@ -1,0 +1,4 @@
+mod Rounds
+mod Moments
+mod Steps
+mod Through

@@ -1,0 +1,4 @@
+use Rattle.loops.proofs.build.outcome_of.Goals as goal
+
+pub returns-in-Ok-Idle : goal.returns-in-Ok-Idle
+returns-in-Ok-Idle c = tt

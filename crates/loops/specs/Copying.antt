@@ -1,0 +1,18 @@
+-- Where the copying of an image is.
+use Rattle.std.specs.Prelude.{◌≡◌, ℕ, Option, false}
+use Rattle.flusher.specs.Images.{IsAt}
+use Rattle.flusher.specs.Part.{FlushValue}
+use Rattle.store_writer.specs.Parts.{halves_of, has_failed, image_of}
+use Rattle.store_writer.specs.declared.image.NewImage.{NewImage}
+use Rattle.loops.specs.declared.flush.Copying.{Copying}
+use Rattle.loops.specs.declared.flush.Copying.TheVariants.{Idle, Steps, GivenUp}
+
+-- an image that is copied in steps is at its place, unless a flush gave it up
+abbrev pub IsCopying : (pages : ℕ) → Copying → Option NewImage → Type 0
+IsCopying pages Idle image = Unit {0}
+IsCopying pages (Steps place) image = IsAt pages place image
+IsCopying pages GivenUp image = Unit {0}
+
+-- so it is of the flusher's image, unless its device failed
+abbrev pub StandsBy : {D : Type 0} → Copying → FlushValue D → Type 0
+StandsBy copying f = has_failed f.writer ≡ false → IsCopying (halves_of f.writer).geometry.pages copying (image_of f.writer)

@@ -1,0 +1,102 @@
+//! The loop that builds the index.
+ghost use Rattle.std.specs.Prelude.{◌≡◌, ◌≢◌, ◌⊎◌, ◌<◌, ◌≤◌, IsTrue, IfOk, IfErr};
+ghost use Rattle.records.specs.declared.error.Error.TheVariants.{NoMemory, Stopped};
+ghost use Rattle.core_contracts.specs.Events.{Event, Refused};
+ghost use Rattle.nsf_core.specs.Builds.{built};
+ghost use Rattle.nsf_core.specs.Replies.{reply_by};
+ghost use Rattle.nsf_core.specs.declared.reply.BuildReply.TheVariants as reply;
+ghost use Rattle.shared.specs.Served.{WasServed};
+ghost use Rattle.loops.specs.Building.{HasAttempted, IsOutcome};
+
+use crate::gate::{Gate, Point};
+use board::{BuildView, View};
+use nsf_core::{BuildReply, Ticket};
+use records::Error;
+use shared::{Group, Shared};
+use std::sync::Wait;
+use std::thread;
+
+/// What a step of the builder means to the loop.
+#[derive(Clone, Copy)]
+pub(crate) enum Outcome {
+    /// The index is complete, and the loop ends.
+    Done(Ticket),
+    /// The loop ends with this refusal.
+    Refused(Error),
+    /// A page was scanned.
+    Scanned,
+    /// A pair was placed, or was found to have an entry.
+    Attempted,
+    /// A checkpoint was made.
+    Marked,
+    /// Nothing was done: the index was complete before, or memory is wanting.
+    Nothing,
+}
+
+/// Makes steps of the builder, each under the lock anew, until one completes the index, and publishes how many attempts it made.
+/// Where the index was complete before, it waits for the next one. After want of memory it tries again.
+///
+/// `Stopped` where the stop flag was read. Else the refusal is one of the core's `build_step`, but not `NoMemory`.
+pub fn build_loop<B: Group, R: Wait, G: Gate>(
+    rt: &R,
+    shared: &Shared<B>,
+    build: &mut BuildView,
+    view: &mut View,
+    gate: &G,
+) -> Result<Ticket, Error>
+    requires build { build.old.board ≡ B.board }
+    requires view { view.old.board ≡ B.board }
+    ensures done { IfOk result (λ ticket. ∥ WasServed B.site.opened Event.Build (built (reply.Done ticket)) ∥₁) }
+    ensures why { IfErr result (λ e. ((e ≡ Stopped) × IsTrue view.new.stopped) ⊎ ((e ≢ NoMemory) × ∥ WasServed B.site.opened Event.Build (Refused e) ∥₁)) }
+    ensures rises { build.old.progress ≤ build.new.progress }
+    ensures attempted { build.old.progress < build.new.progress → ∥ HasAttempted B.site.opened ∥₁ }
+    ensures board { build.new.board ≡ build.old.board }
+    ensures view { view.new ≡ record view.old { stopped = view.new.stopped } }
+{
+    let mut attempts: u64 = 0;
+    for _ in rt.forever() {
+        if shared.board().stopped(view) {
+            return Err(Error::Stopped);
+        }
+        match outcome_of(build_step(rt, shared)) {
+            Outcome::Done(ticket) => return Ok(ticket),
+            Outcome::Refused(error) => return Err(error),
+            Outcome::Scanned => gate.at(Point::BuildScanned),
+            Outcome::Attempted => {
+                attempts = attempts.saturating_add(1);
+                shared.board().raise_progress(build, attempts);
+                gate.at(Point::BuildAttempt);
+            }
+            Outcome::Marked => {}
+            Outcome::Nothing => thread::yield_now(),
+        }
+    }
+    unreachable!()
+}
+
+// What this answer of a step means.
+fn outcome_of(step: Result<BuildReply, Error>) -> Outcome
+    ensures { IsOutcome result step }
+{
+    match step {
+        Ok(BuildReply::Done(ticket)) => Outcome::Done(ticket),
+        Ok(BuildReply::Scanned(_)) => Outcome::Scanned,
+        Ok(BuildReply::Placed(_)) => Outcome::Attempted,
+        Ok(BuildReply::Rejected(_)) => Outcome::Attempted,
+        Ok(BuildReply::Marked(..)) => Outcome::Marked,
+        Ok(BuildReply::Idle) => Outcome::Nothing,
+        Err(Error::NoMemory) => Outcome::Nothing,
+        Err(error) => Outcome::Refused(error),
+    }
+}
+
+// One step of the builder.
+fn build_step<B: Group, R: Wait>(rt: &R, shared: &Shared<B>) -> Result<BuildReply, Error>
+    ensures { ∥ WasServed B.site.opened Event.Build (reply_by built result) ∥₁ }
+{
+    let mut locked = shared.locked().lock(rt);
+    locked.push_outbox(rt, shared.queue());
+    let built = locked.build_step();
+    locked.push_outbox(rt, shared.queue());
+    built
+}

@@ -1,0 +1,314 @@
+//! The loop that writes the records and takes images.
+ghost use Rattle.std.specs.Prelude.{◌≡◌, true, false, IsTrue, OnOk, IfOk, IfErr};
+ghost use Rattle.records.specs.declared.error.Error.TheVariants.{DeviceFailed};
+ghost use Rattle.store_writer.specs.Parts.{halves_of, has_failed, image_of};
+ghost use Rattle.store_writer.specs.Places.{IsAtPiece};
+ghost use Rattle.store_writer.specs.Writer.{IsChunk, MustStartAgain};
+ghost use Rattle.flusher.specs.Images.{IsDue};
+ghost use Rattle.flusher.specs.Going.{GoesOn, TakesIn};
+ghost use Rattle.flusher.specs.Part.{run_of};
+ghost use Rattle.loops.specs.Copying.{StandsBy};
+ghost use Rattle.loops.specs.Through.{RunsThrough};
+ghost use Rattle.loops.specs.declared.flush.Copying.{Copying as CopyingValue};
+
+use crate::gate::{Gate, Point};
+use board::View;
+use flusher::FlushPart;
+use image_model::{Chunk, CopyPlace};
+use records::Error;
+use sector_device::Device;
+use shared::{Group, Shared};
+use std::alloc::Global;
+use std::sync::Wait;
+use std::thread;
+use store_writer::{FlipReply, FlushReply, StepReply, kept_place};
+
+/// How far the copying of an image has come.
+#[derive(Clone, Copy)]
+pub(crate) enum Copying {
+    /// No image is under way.
+    Idle,
+    /// An image is copied in steps, and goes on here; or it is whole, and is to be made current.
+    Steps(Option<CopyPlace>),
+    /// An image was given up, and a whole one is to be taken at once.
+    GivenUp,
+}
+
+/// Pops the records that wait, hands them in under the lock, writes them in groups, and publishes how far they are synced. Once half
+/// the slots of the log are open it takes an image, each chunk of it copied under the lock anew, and makes it current. After want
+/// of memory it tries again.
+///
+/// It ends where the stop flag is read, or with `DeviceFailed` where the device failed, now or earlier, stop flag or not. What is
+/// held or waits then is not written. A crash at any moment leaves all records that had been synced before the call of the flusher
+/// that it falls in (`through`).
+pub fn flush_loop<B: Group, D: Device, R: Wait, G: Gate>(
+    rt: &R,
+    shared: &Shared<B>,
+    part: &mut FlushPart<B, D>,
+    view: &mut View,
+    gate: &G,
+) -> Result<(), Error>
+    requires part { part.old.published.board ≡ B.board }
+    requires view { view.old.board ≡ B.board }
+    ensures goes_on { GoesOn D.history B.site.opened part.old part.new }
+    ensures through { RunsThrough D.history B.site.opened part.old part.new }
+    ensures stopped { OnOk result (IsTrue view.new.stopped × (has_failed part.new.writer ≡ false)) }
+    ensures failed { IfErr result (λ e. (e ≡ DeviceFailed) × (has_failed part.new.writer ≡ true)) }
+    ensures view { view.new ≡ record view.old { stopped = view.new.stopped } }
+{
+    part.stands();
+    let mut copying = Copying::Idle;
+    for _ in rt.forever() {
+        if part.has_failed() {
+            return Err(Error::DeviceFailed);
+        }
+        if shared.board().stopped(view) {
+            return Ok(());
+        }
+        let _ = round(rt, shared, part, &mut copying, gate);
+        thread::yield_now();
+    }
+    unreachable!()
+}
+
+// One round: the records that wait are handed in, a group of them is written, and a step of an image is made where one is due.
+fn round<B: Group, D: Device, R: Wait, G: Gate>(
+    rt: &R,
+    shared: &Shared<B>,
+    part: &mut FlushPart<B, D>,
+    copying: &mut Copying,
+    gate: &G,
+) -> Result<(), Error>
+    requires part { part.old.published.board ≡ B.board }
+    requires copying { StandsBy copying.old part.old }
+    ensures goes_on { GoesOn D.history B.site.opened part.old part.new }
+    ensures through { RunsThrough D.history B.site.opened part.old part.new }
+    ensures copying { StandsBy copying.new part.new }
+{
+    hand_in(rt, shared, part);
+    let is_full = write(shared, part, gate)?;
+    copy(rt, shared, part, copying, is_full, gate)
+}
+
+// Pops the records that wait, and hands them in. What memory is wanting for waits for a later round.
+fn hand_in<B: Group, D: Device, R: Wait>(rt: &R, shared: &Shared<B>, part: &mut FlushPart<B, D>)
+    ensures goes_on { GoesOn D.history B.site.opened part.old part.new }
+    ensures through { RunsThrough D.history B.site.opened part.old part.new }
+    ensures copying { (copying : CopyingValue) → StandsBy copying part.old → StandsBy copying part.new }
+{
+    let _ = take_in(rt, shared, part);
+    part.stands();
+}
+
+// Takes the lock only where some were popped.
+fn take_in<B: Group, D: Device, R: Wait>(
+    rt: &R,
+    shared: &Shared<B>,
+    part: &mut FlushPart<B, D>,
+) -> Result<(), Error>
+    ensures { TakesIn part.old part.new }
+{
+    part.take(rt, shared.queue())?;
+    if !part.holds_some() {
+        return Ok(());
+    }
+    let mut locked = shared.locked().lock(rt);
+    part.take_in(rt, shared.queue(), &mut *locked)
+}
+
+// Writes a group, where records wait, and tells whether one waits that the log has no room for.
+fn write<B: Group, D: Device, G: Gate>(
+    shared: &Shared<B>,
+    part: &mut FlushPart<B, D>,
+    gate: &G,
+) -> Result<bool, Error>
+    requires { part.old.published.board ≡ B.board }
+    ensures goes_on { GoesOn D.history B.site.opened part.old part.new }
+    ensures through { RunsThrough D.history B.site.opened part.old part.new }
+    ensures copying { (copying : CopyingValue) → StandsBy copying part.old → StandsBy copying part.new }
+{
+    part.stands();
+    if part.synced() == part.last_handed() {
+        return Ok(false);
+    }
+    kept_place();
+    gate.at(Point::FlushSync);
+    let flushed = part.flush(shared.board());
+    gate.at(Point::FlushGate);
+    let reply = flushed?;
+    Ok(reply == FlushReply::LogFull)
+}
+
+// Takes the next chunk of an image, or makes it current; or begins one, where it is wanted.
+fn copy<B: Group, D: Device, R: Wait, G: Gate>(
+    rt: &R,
+    shared: &Shared<B>,
+    part: &mut FlushPart<B, D>,
+    copying: &mut Copying,
+    is_full: bool,
+    gate: &G,
+) -> Result<(), Error>
+    requires part { part.old.published.board ≡ B.board }
+    requires copying { StandsBy copying.old part.old }
+    ensures goes_on { GoesOn D.history B.site.opened part.old part.new }
+    ensures through { RunsThrough D.history B.site.opened part.old part.new }
+    ensures copying { StandsBy copying.new part.new }
+{
+    part.stands();
+    let now = *copying;
+    match now {
+        Copying::Idle => {
+            if !part.wants_image() {
+                return Ok(());
+            }
+            copy_piece(rt, shared, part, copying, CopyPlace::Start, gate)
+        }
+        Copying::Steps(Some(place)) => copy_piece(rt, shared, part, copying, place, gate),
+        Copying::Steps(None) => flip(shared, part, copying, is_full),
+        Copying::GivenUp => {
+            copy_all(rt, shared, part, copying, gate)?;
+            flip(shared, part, copying, is_full)
+        }
+    }
+}
+
+// Copies the piece of this place, and takes it.
+fn copy_piece<B: Group, D: Device, R: Wait, G: Gate>(
+    rt: &R,
+    shared: &Shared<B>,
+    part: &mut FlushPart<B, D>,
+    copying: &mut Copying,
+    place: CopyPlace,
+    gate: &G,
+) -> Result<(), Error>
+    requires part { part.old.published.board ≡ B.board }
+    requires copying { StandsBy copying.old part.old }
+    requires due { has_failed part.old.writer ≡ false → IsDue (halves_of part.old.writer).geometry.pages place (image_of part.old.writer) }
+    ensures goes_on { GoesOn D.history B.site.opened part.old part.new }
+    ensures through { RunsThrough D.history B.site.opened part.old part.new }
+    ensures copying { StandsBy copying.new part.new }
+{
+    gate.at(Point::CopyStep);
+    let chunk = copied_piece(rt, shared, part, place)?;
+    take_chunk(shared, part, copying, chunk)
+}
+
+// Copies all cells, and takes them.
+fn copy_all<B: Group, D: Device, R: Wait, G: Gate>(
+    rt: &R,
+    shared: &Shared<B>,
+    part: &mut FlushPart<B, D>,
+    copying: &mut Copying,
+    gate: &G,
+) -> Result<(), Error>
+    requires part { part.old.published.board ≡ B.board }
+    requires copying { StandsBy copying.old part.old }
+    ensures goes_on { GoesOn D.history B.site.opened part.old part.new }
+    ensures through { RunsThrough D.history B.site.opened part.old part.new }
+    ensures copying { StandsBy copying.new part.new }
+{
+    gate.at(Point::CopyStep);
+    let chunk = copied_whole(rt, shared, part)?;
+    take_chunk(shared, part, copying, chunk)
+}
+
+// Copies the piece of this place, under the lock.
+fn copied_piece<B: Group, D: Device, R: Wait>(
+    rt: &R,
+    shared: &Shared<B>,
+    part: &mut FlushPart<B, D>,
+    place: CopyPlace,
+) -> Result<Chunk<Global>, Error>
+    requires due { has_failed part.old.writer ≡ false → IsDue (halves_of part.old.writer).geometry.pages place (image_of part.old.writer) }
+    ensures goes_on { GoesOn D.history B.site.opened part.old part.new }
+    ensures through { RunsThrough D.history B.site.opened part.old part.new }
+    ensures copying { (copying : CopyingValue) → StandsBy copying part.old → StandsBy copying part.new }
+    ensures chunk { IfOk result (λ chunk. IsChunk (run_of B.site.opened part.new) part.new.writer chunk.number chunk.piece) }
+    ensures at { IfOk result (λ chunk. ¬ MustStartAgain chunk.piece part.new.writer → IsAtPiece (halves_of part.new.writer).geometry.pages chunk.piece (image_of part.new.writer)) }
+{
+    part.stands();
+    if part.has_failed() {
+        return Err(Error::DeviceFailed);
+    }
+    let mut locked = shared.locked().lock(rt);
+    let copied = part.copy_step(rt, shared.queue(), &mut *locked, place);
+    part.stands();
+    copied
+}
+
+// Copies all cells, under the lock.
+fn copied_whole<B: Group, D: Device, R: Wait>(
+    rt: &R,
+    shared: &Shared<B>,
+    part: &mut FlushPart<B, D>,
+) -> Result<Chunk<Global>, Error>
+    ensures goes_on { GoesOn D.history B.site.opened part.old part.new }
+    ensures through { RunsThrough D.history B.site.opened part.old part.new }
+    ensures copying { (copying : CopyingValue) → StandsBy copying part.old → StandsBy copying part.new }
+    ensures chunk { IfOk result (λ chunk. IsChunk (run_of B.site.opened part.new) part.new.writer chunk.number chunk.piece) }
+    ensures at { IfOk result (λ chunk. IsAtPiece (halves_of part.new.writer).geometry.pages chunk.piece (image_of part.new.writer)) }
+{
+    let mut locked = shared.locked().lock(rt);
+    let copied = part.copy_whole(rt, shared.queue(), &mut *locked);
+    part.stands();
+    copied
+}
+
+// Takes a chunk that was copied. Where it can't be taken, a whole image is to be.
+fn take_chunk<B: Group, D: Device>(
+    shared: &Shared<B>,
+    part: &mut FlushPart<B, D>,
+    copying: &mut Copying,
+    chunk: Chunk<Global>,
+) -> Result<(), Error>
+    requires part { part.old.published.board ≡ B.board }
+    requires copying { StandsBy copying.old part.old }
+    requires chunk { IsChunk (run_of B.site.opened part.old) part.old.writer chunk.number chunk.piece }
+    requires at { ¬ MustStartAgain chunk.piece part.old.writer → IsAtPiece (halves_of part.old.writer).geometry.pages chunk.piece (image_of part.old.writer) }
+    ensures goes_on { GoesOn D.history B.site.opened part.old part.new }
+    ensures through { RunsThrough D.history B.site.opened part.old part.new }
+    ensures copying { StandsBy copying.new part.new }
+{
+    part.stands();
+    let behind = chunk.place_behind(part.geometry());
+    match part.take_piece(shared.board(), chunk)? {
+        StepReply::Taken => {
+            *copying = Copying::Steps(behind);
+            Ok(())
+        }
+        StepReply::StartAgain => {
+            *copying = Copying::GivenUp;
+            Ok(())
+        }
+    }
+}
+
+// Makes the image current. Where it can't be, and no group more can be written, a whole one is to be taken.
+fn flip<B: Group, D: Device>(
+    shared: &Shared<B>,
+    part: &mut FlushPart<B, D>,
+    copying: &mut Copying,
+    is_full: bool,
+) -> Result<(), Error>
+    requires part { part.old.published.board ≡ B.board }
+    requires copying { StandsBy copying.old part.old }
+    ensures goes_on { GoesOn D.history B.site.opened part.old part.new }
+    ensures through { RunsThrough D.history B.site.opened part.old part.new }
+    ensures copying { StandsBy copying.new part.new }
+{
+    part.stands();
+    let may_wait = !is_full && part.synced() < part.last_handed();
+    match part.flip(shared.board())? {
+        FlipReply::Flipped(_) => {
+            *copying = Copying::Idle;
+            Ok(())
+        }
+        FlipReply::Behind => {
+            if may_wait {
+                return Ok(());
+            }
+            *copying = Copying::GivenUp;
+            Ok(())
+        }
+    }
+}

@@ -1,0 +1,16 @@
+//! The loops that threads run beside the seats: one writes the records and takes images, one builds the index, and one cleans it.
+//!
+//! Each goes round under `Wait` until something that it names ends it: the stop flag of the board, a device that failed, the end
+//! of the build. What a round does is a step of the layers below; a loop adds the order, and at each of its points calls a gate,
+//! with no lock held, so that a test can hold it there.
+#![tactic(auto)]
+
+mod build;
+mod clean;
+mod flush;
+mod gate;
+
+pub use build::build_loop;
+pub use clean::clean_loop;
+pub use flush::flush_loop;
+pub use gate::{Gate, NoGate, Point};

@@ -1,0 +1,44 @@
+-- What a store is opened with, and what its threads begin with.
+use Rattle.std.specs.FinMap.{len}
+use Rattle.std.specs.Prelude.{[], false, ◌≡◌, ◌≤◌}
+use Rattle.std.specs.declared.alloc.Global.{Global}
+use Rattle.atomic_table.specs.Seated.{TableId}
+use Rattle.records.specs.GeometryValue.{GeometryValue}
+use Rattle.model.specs.Given.{Given, opening_cells}
+use Rattle.core_model.specs.Histories.{CanOpen, Opened}
+use Rattle.sector_device.specs.Disk.{Image}
+use Rattle.sector_device.specs.History.{History}
+use Rattle.store_reader.specs.Contents.{Gives}
+use Rattle.store_writer.specs.declared.writer.Writer.{Writer}
+use Rattle.store_writer.specs.Parts.{halves_of, has_failed, synced_of}
+use Rattle.store_writer.specs.Writer.{IsWriter, opened_run}
+use Rattle.flusher.specs.Part.{FlushValue}
+use Rattle.restart.specs.Store.{over}
+
+-- A store on a device with this content opens with this: with what the content gives, in a store of its geometry.
+pub record Opens (image : Image) (o : Opened) : Type 0 where
+  pub geometry : GeometryValue
+  pub given : Given
+  pub gives : Gives image geometry given
+  pub opened : o ≡ over geometry given
+
+-- whatever it opens with is something that a core may begin with
+abbrev pub IsOpenable : Image → Type 0
+IsOpenable image = (o : Opened) → Opens image o → CanOpen o
+
+-- A flusher's part that has popped nothing: all that was opened is synced, and the device has not failed.
+pub record IsNewFlusher {D : Type 0} (board : TableId) (o : Opened) (f : FlushValue D) : Type 0 where
+  pub handed : f.handed ≡ []
+  pub held : f.held ≡ []
+  pub published : f.published ≡ record { board = board; horizon = 0; failed = false }
+  pub synced : synced_of f.writer ≡ o.given.last
+  pub sound : has_failed f.writer ≡ false
+
+-- A writer that has got no record yet, over what was opened. (No public clause cites this.)
+pub record IsNewWriter {D : Type 0} (history : D → History) (o : Opened) (w : Writer D Global) : Type 0 where
+  pub writer : IsWriter history (opened_run (halves_of w) o.given.last (opening_cells o.given)) o.given.last w
+  pub pages : (halves_of w).geometry.pages ≡ o.pages
+  pub places : (halves_of w).geometry.entries ≡ o.places
+  pub fits : len o.given.entries ≤ o.places
+  pub synced : synced_of w ≡ o.given.last
+  pub sound : has_failed w ≡ false

@@ -1,0 +1,44 @@
+//! Devices whose store may be opened.
+ghost use Rattle.std.specs.Prelude.{◌≡◌, ◌↔◌, ◌⊎◌, ◌<◌, ℕ, length, Err, IfErr, OnOk};
+ghost use Rattle.sector_device.specs.Disk.{Image, IsSynced};
+ghost use Rattle.records.specs.GeometryValue.{sectors_of};
+ghost use Rattle.flip_image.specs.Store.{AreGatesClosed, IsDeviceFailure, IsFormatted};
+ghost use Rattle.flip_image.specs.declared.half.Half.{Half};
+ghost use Rattle.restart.specs.Store.{Past, Survives};
+ghost use Rattle.threads.specs.Openings.{IsOpenable};
+
+use flip_image::Halves;
+use records::{Error, Geometry};
+use restart::nothing_opens;
+use sector_device::Device;
+use std::alloc::Allocator;
+use store_reader::{format_gives_nothing, one_answer};
+
+/// Makes the device a store of this geometry, with no row, no index and no record, which may be opened; all of it is synced.
+///
+/// `DeviceTooSmall` means that nothing was written. After `DeviceFailed`, and after a crash within the call, the device must be
+/// formatted again.
+pub fn format_store<D: Device>(device: &mut D, geometry: Geometry) -> Result<(), Error>
+    ensures openable { OnOk result (IsOpenable (D.history device.new).disk.content) }
+    ensures formatted { OnOk result (IsFormatted geometry (D.history device.new).disk.content) }
+    ensures closed { OnOk result (AreGatesClosed geometry Half.A (D.history device.new).disk.content) }
+    ensures synced { OnOk result (IsSynced (D.history device.new).disk) }
+    ensures too_small { (result ≡ Err Error.DeviceTooSmall) ↔ (length (D.history device.old).disk.content < sectors_of geometry) }
+    ensures unchanged { result ≡ Err Error.DeviceTooSmall → device.new ≡ device.old }
+    ensures refused { IfErr result (λ e. (e ≡ Error.DeviceTooSmall) ⊎ IsDeviceFailure (D.failures device.old) (D.failures device.new) e) }
+{
+    format_gives_nothing();
+    one_answer();
+    nothing_opens();
+    match Halves::format(device, geometry) {
+        Ok(()) => Ok(()),
+        Err(error) => Err(error),
+    }
+}
+
+/// A law: what a crash left of a run may be opened.
+pub fn left_by_a_run<A: Allocator>()
+    ensures { (past : Past A) (floor : ℕ) (image : Image) → Survives past floor image → IsOpenable image }
+{
+    one_answer();
+}
