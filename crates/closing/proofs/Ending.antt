@@ -11,9 +11,8 @@ use Rattle.core_copies.specs.Shown.{IsCellsOf}
 use Rattle.core_laws.proofs.Laws.{holds}
 use Rattle.core_model.specs.Histories.{Opened}
 use Rattle.image_model.specs.Run.{cells_at, end_of}
-use Rattle.model.specs.Cells.{Cells, cells_after}
-use Rattle.model.specs.Given.{Given, given_after, opening_cells, recovered}
-use Rattle.model.specs.Table.{Table}
+use Rattle.model.specs.Cells.{cells_after}
+use Rattle.model.specs.Given.{given_after, opening_cells, recovered}
 use Rattle.nsf_core.specs.View.{CoreValue}
 use Rattle.sector_device.proofs.Moments.{weaker}
 use Rattle.sector_device.specs.Disk.{Image, IsCrashImage}
@@ -32,7 +31,7 @@ use Rattle.shared.specs.Seats.{SeatValue}
 use Rattle.closing.proofs.Gathering.{commits_in}
 use Rattle.closing.proofs.Lists.{map_count, map_get, same_list}
 use Rattle.closing.proofs.Tables.{all_up_to, cells_alone, first_commits, rows_alone, with_all}
-use Rattle.closing.specs.Closing.{GivesAll, GivesSome, IsCoreOf, table_with, up_to}
+use Rattle.closing.specs.Closing.{GivesAll, GivesSome, IsCoreOf, table_with}
 use Rattle.closing.specs.Gathered.{AreAllSeats, AreCommitsOf, AreSeen, sessions_of}
 use Rattle.closing.specs.Written.{WritesOn}
 
@@ -61,13 +60,13 @@ all_commits seats count all commits is = record {
   by_number = is;
 }
 
-module _ (o : Opened) (seats : List SeatValue) (core : CoreValue) (pushed : List RecordValue) where
+module _ (o : Opened) (seats : List SeatValue) (core : CoreValue) (pushed popped : List RecordValue) (first_popped : popped ≡ take (length popped) pushed) where
   abbrev made : List RecordValue
   made = pushed ++ core.outbox
 
   -- ---- what a crash leaves meanwhile
 
-  some_given : (g : GeometryValue) (handed : List RecordValue) (floor : ℕ) → handed ≡ take (length handed) pushed → IsShared o core pushed (sessions_of seats) → (image : Image) → GivesBeginning o g handed floor image → GivesSome o g seats floor image
+  some_given : (g : GeometryValue) (handed : List RecordValue) (floor : ℕ) → handed ≡ take (length handed) pushed → IsShared o core pushed (sessions_of seats) → (image : Image) → GivesBeginning o g handed floor image → GivesSome o g seats popped floor image
   some_given g handed floor begins shared image left =
       let within : length handed ≤ length pushed = omega (arith, ap length begins, length-take (length handed) pushed) in
       let below : left.count ≤ length pushed = omega (arith, within, left.most) in
@@ -79,6 +78,7 @@ module _ (o : Opened) (seats : List SeatValue) (core : CoreValue) (pushed : List
         core = core;
         pushed = pushed;
         shared = shared;
+        begins = first_popped;
         count = left.count;
         most = omega (arith, below, length-append pushed core.outbox);
         least = left.least;
@@ -98,7 +98,7 @@ module _ (o : Opened) (seats : List SeatValue) (core : CoreValue) (pushed : List
     table_is shared =
         sym (with_all o.given.table shared.register.commits.commits) ∙ ap (table_with o.given.table) (sym (from core.commits shared.register.commits))
 
-    core_of : IsShared o core pushed (sessions_of seats) → IsCoreOf o seats core commits
+    core_of : IsShared o core pushed (sessions_of seats) → IsCoreOf o seats popped core commits
     core_of shared =
         let is = shared.tables.committed ∙ table_is shared in
         record {
@@ -106,6 +106,7 @@ module _ (o : Opened) (seats : List SeatValue) (core : CoreValue) (pushed : List
           shared = shared;
           holds = holds o shared.opens shared.register.kept.calls pushed core shared.register.kept.replied;
           none_waits = none;
+          begins = first_popped;
           committed = is;
           rows = λ alone. sym (rows_alone core alone) ∙ is;
         }
@@ -135,22 +136,22 @@ module _ (o : Opened) (seats : List SeatValue) (core : CoreValue) (pushed : List
 
 -- ---- answers
 
-module _ {D : Type 0} (history : D → History) (o : Opened) (seats : List SeatValue) (l : LockedValue) (book : l.book ≡ sessions_of seats) (under : ∥ IsShared o l.core l.pushed l.book ∥₁) where
+module _ {D : Type 0} (history : D → History) (o : Opened) (seats : List SeatValue) (l : LockedValue) (book : l.book ≡ sessions_of seats) (under : ∥ IsShared o l.core l.pushed l.book ∥₁) (popped : List RecordValue) (first_popped : popped ≡ take (length popped) l.pushed) where
   shared : ∥ IsShared o l.core l.pushed (sessions_of seats) ∥₁
   shared = subst (λ (b : List SessionValue). ∥ IsShared o l.core l.pushed b ∥₁) book under
 
   pub images_left : (old new : D) (g now : GeometryValue) (handed : List RecordValue) (floor : ℕ) → now ≡ g → handed ≡ take (length handed) l.pushed → LeavesOnly (history old) (history new) (GivesBeginning o now handed floor)
-      → LeavesOnly (history old) (history new) (λ image. ∥ GivesSome o g seats floor image ∥₁)
+      → LeavesOnly (history old) (history new) (λ image. ∥ GivesSome o g seats popped floor image ∥₁)
   images_left old new g now handed floor same begins =
-      weaker (history old) (history new) (GivesBeginning o now handed floor) (λ image. ∥ GivesSome o g seats floor image ∥₁)
-      (λ image left. ∥∥₁_map shared (λ (h : IsShared o l.core l.pushed (sessions_of seats)). some_given o seats l.core l.pushed g handed floor begins h image (subst (λ (x : GeometryValue). GivesBeginning o x handed floor image) same left)))
+      weaker (history old) (history new) (GivesBeginning o now handed floor) (λ image. ∥ GivesSome o g seats popped floor image ∥₁)
+      (λ image left. ∥∥₁_map shared (λ (h : IsShared o l.core l.pushed (sessions_of seats)). some_given o seats l.core l.pushed popped first_popped g handed floor begins h image (subst (λ (x : GeometryValue). GivesBeginning o x handed floor image) same left)))
 
   module _ (core : CoreValue) (is : core ≡ l.core) (none : l.core.outbox ≡ []) (commits : List CommitValue) (from : (count : ℕ) (all : AreAllCommits (sessions_of seats) count) → commits ≡ commits_in all.commits) where
     pub commits_closed : ∥ AreCommitsOf seats commits ∥₁
     commits_closed = ∥∥₁_map shared (λ (h : IsShared o l.core l.pushed (sessions_of seats)). all_commits seats l.core.commits h.register.commits commits (from l.core.commits h.register.commits))
 
-    pub core_closed : ∥ IsCoreOf o seats core commits ∥₁
-    core_closed = subst (λ (v : CoreValue). ∥ IsCoreOf o seats v commits ∥₁) (sym is) (∥∥₁_map shared (core_of o seats l.core l.pushed none commits from))
+    pub core_closed : ∥ IsCoreOf o seats popped core commits ∥₁
+    core_closed = subst (λ (v : CoreValue). ∥ IsCoreOf o seats popped v commits ∥₁) (sym is) (∥∥₁_map shared (core_of o seats l.core l.pushed popped first_popped none commits from))
 
     pub device_closed : (last : (g : GeometryValue) → l.core.last ≡ end_of (lock.run_of g o l)) (cells : (g : GeometryValue) → IsCellsOf l.core (cells_at (lock.run_of g o l) l.core.last)) (g now : GeometryValue) (handed : List RecordValue) (floor : ℕ) → now ≡ g → handed ≡ l.pushed
         → floor ≡ o.given.last + length handed → (image : Image) → GivesBeginning o now handed floor image → ∥ GivesAll o g core commits image ∥₁
@@ -160,17 +161,17 @@ module _ {D : Type 0} (history : D → History) (o : Opened) (seats : List SeatV
         let of_core : IsCellsOf l.core (cells_after (opening_cells o.given) made) = subst (λ (rs : List RecordValue). IsCellsOf l.core (cells_after (opening_cells o.given) rs)) so_many (cells g) in
         subst (λ (v : CoreValue). ∥ GivesAll o g v commits image ∥₁) (sym is)
         (∥∥₁_map shared (λ (h : IsShared o l.core l.pushed (sessions_of seats)).
-        all_given o seats l.core l.pushed none commits from g handed floor all synced (last g) of_core h image (subst (λ (x : GeometryValue). GivesBeginning o x handed floor image) same left)))
+        all_given o seats l.core l.pushed popped first_popped none commits from g handed floor all synced (last g) of_core h image (subst (λ (x : GeometryValue). GivesBeginning o x handed floor image) same left)))
 
     pub horizon_closed : (last : (g : GeometryValue) → l.core.last ≡ end_of (lock.run_of g o l)) (g : GeometryValue) (handed : List RecordValue) (horizon : ℕ) → handed ≡ l.pushed → horizon ≡ o.given.last + length handed → horizon ≡ core.last
     horizon_closed last g handed horizon all synced =
         omega (arith, synced, ap length all, last g, ap (λ (v : CoreValue). v.last) is, length-append l.pushed l.core.outbox, ap length none)
 
-module _ {D : Type 0} (history : D → History) (failures : D → ℕ) (o : Opened) (seats : List SeatValue) (l : LockedValue) (book : l.book ≡ sessions_of seats) (under : ∥ IsShared o l.core l.pushed l.book ∥₁) (old f : FlushValue D) (writes : WritesOn history failures o old f) (device : D) (is : device ≡ device_of f.writer) where
-  pub left_at_end : f.handed ≡ take (length f.handed) l.pushed → LeavesOnly (history (device_of old.writer)) (history device) (λ image. ∥ GivesSome o (halves_of old.writer).geometry seats (synced_of old.writer) image ∥₁)
+module _ {D : Type 0} (history : D → History) (failures : D → ℕ) (o : Opened) (seats : List SeatValue) (l : LockedValue) (book : l.book ≡ sessions_of seats) (under : ∥ IsShared o l.core l.pushed l.book ∥₁) (popped : List RecordValue) (first_popped : popped ≡ take (length popped) l.pushed) (old f : FlushValue D) (writes : WritesOn history failures o old f) (device : D) (is : device ≡ device_of f.writer) where
+  pub left_at_end : f.handed ≡ take (length f.handed) l.pushed → LeavesOnly (history (device_of old.writer)) (history device) (λ image. ∥ GivesSome o (halves_of old.writer).geometry seats popped (synced_of old.writer) image ∥₁)
   left_at_end begins =
-      subst (λ (d : D). LeavesOnly (history (device_of old.writer)) (history d) (λ image. ∥ GivesSome o (halves_of old.writer).geometry seats (synced_of old.writer) image ∥₁)) (sym is)
-      (images_left history o seats l book under (device_of old.writer) (device_of f.writer) (halves_of old.writer).geometry (halves_of f.writer).geometry f.handed (synced_of old.writer) writes.geometry begins writes.images)
+      subst (λ (d : D). LeavesOnly (history (device_of old.writer)) (history d) (λ image. ∥ GivesSome o (halves_of old.writer).geometry seats popped (synced_of old.writer) image ∥₁)) (sym is)
+      (images_left history o seats l book under popped first_popped (device_of old.writer) (device_of f.writer) (halves_of old.writer).geometry (halves_of f.writer).geometry f.handed (synced_of old.writer) writes.geometry begins writes.images)
 
   pub failed_at_end : (e : Error) → (e ≡ NoMemory) ⊎ ((e ≡ DeviceFailed) × (has_failed f.writer ≡ true)) → (e ≡ NoMemory) ⊎ ((e ≡ DeviceFailed) × (has_failed old.writer ≡ false → Rises (failures (device_of old.writer)) (failures device)))
   failed_at_end e (inl memory) = inl memory
@@ -180,4 +181,4 @@ module _ {D : Type 0} (history : D → History) (failures : D → ℕ) (o : Open
     pub all_at_end : (last : (g : GeometryValue) → l.core.last ≡ end_of (lock.run_of g o l)) (cells : (g : GeometryValue) → IsCellsOf l.core (cells_at (lock.run_of g o l) l.core.last)) → f.handed ≡ l.pushed → synced_of f.writer ≡ last_handed o f
         → ((image : Image) → IsCrashImage (history device).disk image → IsLeft o f image) → (image : Image) → IsCrashImage (history device).disk image → ∥ GivesAll o (halves_of old.writer).geometry core commits image ∥₁
     all_at_end last cells all synced left image crash =
-        device_closed history o seats l book under core core_is none commits from last cells (halves_of old.writer).geometry (halves_of f.writer).geometry f.handed (synced_of f.writer) writes.geometry all synced image (left image crash)
+        device_closed history o seats l book under popped first_popped core core_is none commits from last cells (halves_of old.writer).geometry (halves_of f.writer).geometry f.handed (synced_of f.writer) writes.geometry all synced image (left image crash)

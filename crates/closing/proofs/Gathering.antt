@@ -1,5 +1,5 @@
 -- The next commit is at the front of its seat's list.
-use Rattle.std.proofs.Common.{◌≡◌, ◌≢◌, ◌+◌, ◌-◌, ◌<◌, ◌≤◌, ℕ, zero, suc, Bool, true, false, cond, eqb, eq-eqb, ne_eqb, List, [], ◌∷◌, ◌++◌, length, map, Option, None, Some, Result, Ok, Err, IfOk, Vec, Global, take, drop, inl, inr, refl, sym, ap, ◌∙◌, subst, arith, append-nil}
+use Rattle.std.proofs.Common.{◌≡◌, ◌+◌, ◌<◌, ◌≤◌, ℕ, zero, suc, Bool, true, false, cond, eqb, eq-eqb, ne_eqb, List, [], ◌∷◌, ◌++◌, length, map, Option, None, Some, Result, Ok, Err, IfOk, Vec, Global, take, drop, inl, inr, refl, sym, ap, ◌∙◌, subst, arith, append-nil}
 use Rattle.std.proofs.lemmas.Bool.{cases_eq, eqb-true}
 use Rattle.std.specs.Prelude.{slice_get, slice_index_or, slice_set}
 use Rattle.records.specs.declared.error.Error.{Error}
@@ -7,7 +7,7 @@ use Rattle.register.specs.Register.{AreAllCommits, AreBySeats, AreNumbered, Comm
 use Rattle.sessions.specs.Values.{CommitValue, SessionValue}
 use Rattle.shared.specs.Seats.{SeatValue}
 use Rattle.closing.specs.Gathered.{TakesFrom, commits_of, heads_with, is_numbered, lists_of}
-use Rattle.closing.proofs.Lists.{cons_first, cons_rest, get_set, get_set_other, map_count, map_get, map_more, map_set, set_count, set_itself, some_is, within_list}
+use Rattle.closing.proofs.Lists.{cons_first, cons_rest, get_set, get_set_other, map_count, map_get, map_more, map_set, set_itself, some_is, within_list}
 
 -- the commits alone
 abbrev pub commits_in : Commits → List CommitValue

@@ -1,5 +1,5 @@
 -- A whole image of all that was made, and its flip.
-use Rattle.std.proofs.Common.{◌≡◌, ◌+◌, ◌≤◌, ◌++◌, ℕ, [], List, length, Option, Some, Result, Ok, Err, IfOk, OnErr, refl, sym, ap, ◌∙◌, subst, arith, append-nil}
+use Rattle.std.proofs.Common.{◌≡◌, ◌≤◌, ◌++◌, ℕ, [], List, Some, Result, Ok, Err, IfOk, OnErr, sym, ap, ◌∙◌, subst, arith, append-nil}
 use Rattle.std.specs.declared.alloc.Global.{Global}
 use Rattle.records.specs.GeometryValue.{GeometryValue}
 use Rattle.records.specs.RecordValue.{RecordValue}

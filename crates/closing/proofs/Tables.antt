@@ -1,5 +1,5 @@
 -- Tables with commits set over them.
-use Rattle.std.proofs.Common.{◌≡◌, ◌+◌, ◌<◌, ◌≤◌, ◌⊎◌, ℕ, Bool, true, false, cond, List, [], ◌∷◌, length, map, refl, sym, ap, ◌∙◌, arith}
+use Rattle.std.proofs.Common.{◌≡◌, ◌+◌, ◌≤◌, ℕ, Bool, true, false, cond, List, [], ◌∷◌, refl, sym, ap, ◌∙◌, arith}
 use Rattle.std.proofs.lemmas.Bool.{le-leb}
 use Rattle.std.specs.FinMap as finite
 use Rattle.std.specs.Ordering.{nat_cmp}
@@ -9,7 +9,7 @@ use Rattle.records.specs.ChangeValue.{ChangeValue}
 use Rattle.core_copies.specs.Shown.{IsCellsOf, list_shown}
 use Rattle.core_laws.specs.Holds.{committed_rows, lists_of}
 use Rattle.model.proofs.GivenLaws.{given_again}
-use Rattle.model.specs.Cells.{Cells, Pending}
+use Rattle.model.specs.Cells.{Cells}
 use Rattle.model.specs.Given.{Given, opening_cells, recovered}
 use Rattle.model.specs.Recovery.{all_reverted}
 use Rattle.model.specs.Table.{Table, applied}

@@ -26,12 +26,13 @@ table_with table (c ∷ cs) = table_with (applied table c.writes) cs
 abbrev pub up_to : ℕ → List CommitValue → List CommitValue
 up_to number commits = filter (λ c. nat_le c.ticket.«record» number) commits
 
--- The core is as these seats left it: the sessions of the seats have what it has of the active transactions, and its commits and creations; it holds the history that its calls tell; and no record of it waits. Its committed table, and its rows once no transaction is active, are what was opened with the commits set over it.
-pub record IsCoreOf (o : Opened) (seats : List SeatValue) (core : CoreValue) (commits : List CommitValue) : Type 0 where
+-- The core is as these seats left it: the sessions of the seats have what it has of the active transactions, and its commits and creations; it holds the history that its calls tell; and no record of it waits. Those that the flusher had popped are the first that it made. Its committed table, and its rows once no transaction is active, are what was opened with the commits set over it.
+pub record IsCoreOf (o : Opened) (seats : List SeatValue) (popped : List RecordValue) (core : CoreValue) (commits : List CommitValue) : Type 0 where
   pub pushed : List RecordValue
   pub shared : IsShared o core pushed (sessions_of seats)
   pub holds : HoldsHistory o (items_of no_writes shared.register.kept.calls) core
   pub none_waits : core.outbox ≡ []
+  pub begins : popped ≡ take (length popped) pushed
   pub committed : committed_rows core ≡ table_with o.given.table commits
   pub rows : core.txns.active ≡ [] → core.heap.rows ≡ table_with o.given.table commits
 
@@ -47,11 +48,12 @@ pub record GivesAll (o : Opened) (g : GeometryValue) (core : CoreValue) (commits
   pub recovers : given ≡ recovered cells core.last
   pub alone : core.txns.active ≡ [] → given ≡ record { table = core.heap.rows; entries = core.index.entries; life = core.life; last = core.last }
 
--- The image gives what some of the records that these seats, the builder and the cleaner made, the first ones, make of what was opened, with every record up to the floor. Its table is that of what was opened with the seats' commits up to its last record set over it.
-pub record GivesSome (o : Opened) (g : GeometryValue) (seats : List SeatValue) (floor : ℕ) (image : Image) : Type 0 where
+-- The image gives what some of the records that these seats, the builder and the cleaner made, the first ones, make of what was opened, with every record up to the floor; those that the flusher had popped are the first that were made. Its table is that of what was opened with the seats' commits up to its last record set over it.
+pub record GivesSome (o : Opened) (g : GeometryValue) (seats : List SeatValue) (popped : List RecordValue) (floor : ℕ) (image : Image) : Type 0 where
   pub core : CoreValue
   pub pushed : List RecordValue
   pub shared : IsShared o core pushed (sessions_of seats)
+  pub begins : popped ≡ take (length popped) pushed
   pub count : ℕ
   pub most : count ≤ length (pushed ++ core.outbox)
   pub least : floor ≤ o.given.last + count

@@ -8,7 +8,7 @@ ghost use Rattle.store_writer.specs.Parts.{device_of, halves_of, has_failed, syn
 ghost use Rattle.closing.specs.Closing.{GivesAll, GivesSome, IsCoreOf};
 ghost use Rattle.locked_core.specs.Locked.{locked_of};
 ghost use Rattle.register.specs.Register.{AreAllCommits};
-ghost use Rattle.flusher.specs.Part.{last_handed};
+ghost use Rattle.flusher.specs.Part.{last_handed, popped_by};
 ghost use Rattle.closing.specs.Gathered.{AreAllSeats, AreCommitsOf, sessions_of};
 ghost use Rattle.closing.specs.Written.{WritesOn};
 
@@ -66,6 +66,7 @@ fn close<B: Group, D: Device, R: Wait>(
     requires board { board.now ≡ flush.old.published.board }
     ensures writes { WritesOn D.history D.failures B.site.opened flush.old flush.new }
     ensures beginning { flush.new.handed ≡ take (length flush.new.handed) (locked_of locked.new).pushed }
+    ensures popped { popped_by flush.old ≡ take (length (popped_by flush.old)) (locked_of locked.new).pushed }
     ensures all { OnOk result (flush.new.handed ≡ (locked_of locked.new).pushed) }
     ensures none_waits { OnOk result ((locked_of locked.new).core.outbox ≡ []) }
     ensures synced { OnOk result (synced_of flush.new.writer ≡ last_handed B.site.opened flush.new) }
@@ -96,13 +97,13 @@ pub fn finish<B: Group, D: Device, R: Wait>(
     requires seats { AreAllSeats B.site.seats seats.items }
     requires flush { flush.published.board ≡ B.board }
     ensures commits { IfOk result (λ c. ∥ AreCommitsOf seats.items c.commits.items ∥₁) }
-    ensures core { IfOk result (λ c. ∥ IsCoreOf B.site.opened seats.items (value_of c.core) c.commits.items ∥₁) }
+    ensures core { IfOk result (λ c. ∥ IsCoreOf B.site.opened seats.items (popped_by flush) (value_of c.core) c.commits.items ∥₁) }
     ensures device { IfOk result (λ c. (image : Image) → IsCrashImage (D.history c.device).disk image → ∥ GivesAll B.site.opened (halves_of flush.writer).geometry (value_of c.core) c.commits.items image ∥₁) }
     ensures horizon { IfOk result (λ c. c.horizon ≡ (value_of c.core).last) }
     ensures acks { IfOk result (λ c. All (λ a. a.ticket.«record» ≤ c.horizon) acks.items) }
     ensures acked { All (λ a. a.ticket.«record» ≤ synced_of flush.writer) acks.items }
-    ensures images { IfOk result (λ c. LeavesOnly (D.history (device_of flush.writer)) (D.history c.device) (λ image. ∥ GivesSome B.site.opened (halves_of flush.writer).geometry seats.items (synced_of flush.writer) image ∥₁)) }
-    ensures left { IfErr result (λ r. LeavesOnly (D.history (device_of flush.writer)) (D.history r.1) (λ image. ∥ GivesSome B.site.opened (halves_of flush.writer).geometry seats.items (synced_of flush.writer) image ∥₁)) }
+    ensures images { IfOk result (λ c. LeavesOnly (D.history (device_of flush.writer)) (D.history c.device) (λ image. ∥ GivesSome B.site.opened (halves_of flush.writer).geometry seats.items (popped_by flush) (synced_of flush.writer) image ∥₁)) }
+    ensures left { IfErr result (λ r. LeavesOnly (D.history (device_of flush.writer)) (D.history r.1) (λ image. ∥ GivesSome B.site.opened (halves_of flush.writer).geometry seats.items (popped_by flush) (synced_of flush.writer) image ∥₁)) }
     ensures err { IfErr result (λ r. (r.0 ≡ NoMemory) ⊎ ((r.0 ≡ DeviceFailed) × (has_failed flush.writer ≡ false → Rises (D.failures (device_of flush.writer)) (D.failures r.1)))) }
 {
     let (mut locked, queue, registry, board) = shared.into_parts();

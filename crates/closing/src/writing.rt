@@ -3,7 +3,7 @@ ghost use Rattle.std.specs.Prelude.{◌≡◌, ◌⊎◌, [], length, take, true
 ghost use Rattle.records.specs.declared.error.Error.TheVariants.{DeviceFailed, NoMemory};
 ghost use Rattle.locked_core.specs.Locked.{locked_of};
 ghost use Rattle.store_writer.specs.Parts.{has_failed, synced_of};
-ghost use Rattle.flusher.specs.Part.{last_handed};
+ghost use Rattle.flusher.specs.Part.{last_handed, popped_by};
 ghost use Rattle.closing.specs.Written.{HasTaken, WritesOn};
 
 use board::Board;
@@ -29,6 +29,7 @@ fn hand_in_all<B: Site, D: Device, R: Wait>(
     requires { queue.now ≡ B.site.queue }
     ensures taken { HasTaken flush.old flush.new }
     ensures beginning { flush.new.handed ≡ take (length flush.new.handed) (locked_of locked.new).pushed }
+    ensures popped { popped_by flush.old ≡ take (length (popped_by flush.old)) (locked_of locked.new).pushed }
     ensures all { OnOk result (flush.new.handed ≡ (locked_of locked.new).pushed) }
     ensures none_waits { OnOk result ((locked_of locked.new).core.outbox ≡ []) }
     ensures book { (locked_of locked.new).book ≡ (locked_of locked.old).book }
@@ -112,6 +113,7 @@ pub(crate) fn write_out<B: Site, D: Device, R: Wait>(
     requires board { board.now ≡ flush.old.published.board }
     ensures writes { WritesOn D.history D.failures B.site.opened flush.old flush.new }
     ensures beginning { flush.new.handed ≡ take (length flush.new.handed) (locked_of locked.new).pushed }
+    ensures popped { popped_by flush.old ≡ take (length (popped_by flush.old)) (locked_of locked.new).pushed }
     ensures all { OnOk result (flush.new.handed ≡ (locked_of locked.new).pushed) }
     ensures none_waits { OnOk result ((locked_of locked.new).core.outbox ≡ []) }
     ensures synced { OnOk result (synced_of flush.new.writer ≡ last_handed B.site.opened flush.new) }

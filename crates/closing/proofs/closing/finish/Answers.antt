@@ -1,11 +1,11 @@
-use Rattle.std.proofs.Common.{◌≡◌, ◌∙◌, ℕ, List, map, ap, refl, subst}
+use Rattle.std.proofs.Common.{◌≡◌, ◌∙◌, ℕ, List, length, map, ap, refl, subst, take}
 use Rattle.nsf_core.specs.Value.{value_of}
 use Rattle.locked_core.specs.Locked.{LockedValue, locked_of}
 use Rattle.sessions.specs.Values.{CommitValue}
 use Rattle.shared.specs.Seats.{SeatValue}
 use Rattle.register.specs.Register.{AreAllCommits}
 use Rattle.store_writer.specs.Parts.{halves_of, synced_of}
-use Rattle.flusher.specs.Part.{FlushValue}
+use Rattle.flusher.specs.Part.{FlushValue, popped_by}
 use Rattle.closing.specs.Gathered.{sessions_of}
 use Rattle.closing.specs.Written.{WritesOn}
 use Rattle.closing.proofs.Ending.{all_at_end, book_is, commits_closed, core_closed, failed_at_end, horizon_closed, left_at_end}
@@ -24,11 +24,12 @@ returns-in-Ok-clause-commits g c =
     let first = (locked_of c.into_parts-locked.result.0).book in
     let same = c.close.ensures.book ∙ ap (λ (x : LockedValue). x.book) c.compare_all.ensures.same in
     let book = book_is z.seats first l.book under.book.items seats under.seats refl same c.requires.seats c.compare_all.ensures.seen in
+    let popped : popped_by old ≡ take (length (popped_by old)) l.pushed = subst (λ (x : FlushValue _). popped_by x ≡ take (length (popped_by x)) l.pushed) c.settle_all.ensures.same c.close.ensures.popped in
     let writes : WritesOn history failures z.opened old f = subst (λ (x : FlushValue _). WritesOn history failures z.opened x f) c.settle_all.ensures.same c.close.ensures.writes in
     let core = c.into_parts-core.ensures.core in
     let commits = c.in-Ok.commits.items in
     let from = subst (λ (ss : List SeatValue). (count : ℕ) (all : AreAllCommits (sessions_of ss) count) → commits ≡ map (λ (e : ℕ × CommitValue). e.1) all.commits) c.compare_all.ensures.seats c.in-Ok.ensures.gathered in
-    commits_closed history z.opened seats l book under.shared (value_of c.into_parts-core.result.0) core c.in-Ok.ensures.none_waits commits from
+    commits_closed history z.opened seats l book under.shared (popped_by old) popped (value_of c.into_parts-core.result.0) core c.in-Ok.ensures.none_waits commits from
 
 pub returns-in-Ok-clause-core : goal.returns-in-Ok-clause-core
 returns-in-Ok-clause-core g c =
@@ -43,11 +44,12 @@ returns-in-Ok-clause-core g c =
     let first = (locked_of c.into_parts-locked.result.0).book in
     let same = c.close.ensures.book ∙ ap (λ (x : LockedValue). x.book) c.compare_all.ensures.same in
     let book = book_is z.seats first l.book under.book.items seats under.seats refl same c.requires.seats c.compare_all.ensures.seen in
+    let popped : popped_by old ≡ take (length (popped_by old)) l.pushed = subst (λ (x : FlushValue _). popped_by x ≡ take (length (popped_by x)) l.pushed) c.settle_all.ensures.same c.close.ensures.popped in
     let writes : WritesOn history failures z.opened old f = subst (λ (x : FlushValue _). WritesOn history failures z.opened x f) c.settle_all.ensures.same c.close.ensures.writes in
     let core = c.into_parts-core.ensures.core in
     let commits = c.in-Ok.commits.items in
     let from = subst (λ (ss : List SeatValue). (count : ℕ) (all : AreAllCommits (sessions_of ss) count) → commits ≡ map (λ (e : ℕ × CommitValue). e.1) all.commits) c.compare_all.ensures.seats c.in-Ok.ensures.gathered in
-    core_closed history z.opened seats l book under.shared (value_of c.into_parts-core.result.0) core c.in-Ok.ensures.none_waits commits from
+    core_closed history z.opened seats l book under.shared (popped_by old) popped (value_of c.into_parts-core.result.0) core c.in-Ok.ensures.none_waits commits from
 
 pub returns-in-Ok-clause-device : goal.returns-in-Ok-clause-device
 returns-in-Ok-clause-device g c =
@@ -62,11 +64,12 @@ returns-in-Ok-clause-device g c =
     let first = (locked_of c.into_parts-locked.result.0).book in
     let same = c.close.ensures.book ∙ ap (λ (x : LockedValue). x.book) c.compare_all.ensures.same in
     let book = book_is z.seats first l.book under.book.items seats under.seats refl same c.requires.seats c.compare_all.ensures.seen in
+    let popped : popped_by old ≡ take (length (popped_by old)) l.pushed = subst (λ (x : FlushValue _). popped_by x ≡ take (length (popped_by x)) l.pushed) c.settle_all.ensures.same c.close.ensures.popped in
     let writes : WritesOn history failures z.opened old f = subst (λ (x : FlushValue _). WritesOn history failures z.opened x f) c.settle_all.ensures.same c.close.ensures.writes in
     let core = c.into_parts-core.ensures.core in
     let commits = c.in-Ok.commits.items in
     let from = subst (λ (ss : List SeatValue). (count : ℕ) (all : AreAllCommits (sessions_of ss) count) → commits ≡ map (λ (e : ℕ × CommitValue). e.1) all.commits) c.compare_all.ensures.seats c.in-Ok.ensures.gathered in
-    all_at_end history failures z.opened seats l book under.shared old f writes c.into_parts-device.result.0 c.into_parts-device.ensures.device (value_of c.into_parts-core.result.0) core c.in-Ok.ensures.none_waits commits from
+    all_at_end history failures z.opened seats l book under.shared (popped_by old) popped old f writes c.into_parts-device.result.0 c.into_parts-device.ensures.device (value_of c.into_parts-core.result.0) core c.in-Ok.ensures.none_waits commits from
     c.each_hold.ensures.last c.each_hold.ensures.cells c.in-Ok.ensures.all c.in-Ok.ensures.synced c.into_parts-device.ensures.images
 
 pub returns-in-Ok-clause-horizon : goal.returns-in-Ok-clause-horizon
@@ -82,11 +85,12 @@ returns-in-Ok-clause-horizon g c =
     let first = (locked_of c.into_parts-locked.result.0).book in
     let same = c.close.ensures.book ∙ ap (λ (x : LockedValue). x.book) c.compare_all.ensures.same in
     let book = book_is z.seats first l.book under.book.items seats under.seats refl same c.requires.seats c.compare_all.ensures.seen in
+    let popped : popped_by old ≡ take (length (popped_by old)) l.pushed = subst (λ (x : FlushValue _). popped_by x ≡ take (length (popped_by x)) l.pushed) c.settle_all.ensures.same c.close.ensures.popped in
     let writes : WritesOn history failures z.opened old f = subst (λ (x : FlushValue _). WritesOn history failures z.opened x f) c.settle_all.ensures.same c.close.ensures.writes in
     let core = c.into_parts-core.ensures.core in
     let commits = c.in-Ok.commits.items in
     let from = subst (λ (ss : List SeatValue). (count : ℕ) (all : AreAllCommits (sessions_of ss) count) → commits ≡ map (λ (e : ℕ × CommitValue). e.1) all.commits) c.compare_all.ensures.seats c.in-Ok.ensures.gathered in
-    c.synced-horizon.ensures ∙ horizon_closed history z.opened seats l book under.shared (value_of c.into_parts-core.result.0) core c.in-Ok.ensures.none_waits commits from c.each_hold.ensures.last (halves_of f.writer).geometry f.handed (synced_of f.writer) c.in-Ok.ensures.all c.in-Ok.ensures.synced
+    c.synced-horizon.ensures ∙ horizon_closed history z.opened seats l book under.shared (popped_by old) popped (value_of c.into_parts-core.result.0) core c.in-Ok.ensures.none_waits commits from c.each_hold.ensures.last (halves_of f.writer).geometry f.handed (synced_of f.writer) c.in-Ok.ensures.all c.in-Ok.ensures.synced
 
 pub returns-in-Ok-clause-images : goal.returns-in-Ok-clause-images
 returns-in-Ok-clause-images g c =
@@ -101,8 +105,9 @@ returns-in-Ok-clause-images g c =
     let first = (locked_of c.into_parts-locked.result.0).book in
     let same = c.close.ensures.book ∙ ap (λ (x : LockedValue). x.book) c.compare_all.ensures.same in
     let book = book_is z.seats first l.book under.book.items seats under.seats refl same c.requires.seats c.compare_all.ensures.seen in
+    let popped : popped_by old ≡ take (length (popped_by old)) l.pushed = subst (λ (x : FlushValue _). popped_by x ≡ take (length (popped_by x)) l.pushed) c.settle_all.ensures.same c.close.ensures.popped in
     let writes : WritesOn history failures z.opened old f = subst (λ (x : FlushValue _). WritesOn history failures z.opened x f) c.settle_all.ensures.same c.close.ensures.writes in
-    left_at_end history failures z.opened seats l book under.shared old f writes c.into_parts-device.result.0 c.into_parts-device.ensures.device c.close.ensures.beginning
+    left_at_end history failures z.opened seats l book under.shared (popped_by old) popped old f writes c.into_parts-device.result.0 c.into_parts-device.ensures.device c.close.ensures.beginning
 
 pub returns-in-Err-clause-left : goal.returns-in-Err-clause-left
 returns-in-Err-clause-left g c =
@@ -117,8 +122,9 @@ returns-in-Err-clause-left g c =
     let first = (locked_of c.into_parts-locked.result.0).book in
     let same = c.close.ensures.book ∙ ap (λ (x : LockedValue). x.book) c.compare_all.ensures.same in
     let book = book_is z.seats first l.book under.book.items seats under.seats refl same c.requires.seats c.compare_all.ensures.seen in
+    let popped : popped_by old ≡ take (length (popped_by old)) l.pushed = subst (λ (x : FlushValue _). popped_by x ≡ take (length (popped_by x)) l.pushed) c.settle_all.ensures.same c.close.ensures.popped in
     let writes : WritesOn history failures z.opened old f = subst (λ (x : FlushValue _). WritesOn history failures z.opened x f) c.settle_all.ensures.same c.close.ensures.writes in
-    left_at_end history failures z.opened seats l book under.shared old f writes c.into_parts-rest.result.0 c.into_parts-rest.ensures.device c.close.ensures.beginning
+    left_at_end history failures z.opened seats l book under.shared (popped_by old) popped old f writes c.into_parts-rest.result.0 c.into_parts-rest.ensures.device c.close.ensures.beginning
 
 pub returns-in-Err-clause-err : goal.returns-in-Err-clause-err
 returns-in-Err-clause-err g c =
@@ -133,5 +139,6 @@ returns-in-Err-clause-err g c =
     let first = (locked_of c.into_parts-locked.result.0).book in
     let same = c.close.ensures.book ∙ ap (λ (x : LockedValue). x.book) c.compare_all.ensures.same in
     let book = book_is z.seats first l.book under.book.items seats under.seats refl same c.requires.seats c.compare_all.ensures.seen in
+    let popped : popped_by old ≡ take (length (popped_by old)) l.pushed = subst (λ (x : FlushValue _). popped_by x ≡ take (length (popped_by x)) l.pushed) c.settle_all.ensures.same c.close.ensures.popped in
     let writes : WritesOn history failures z.opened old f = subst (λ (x : FlushValue _). WritesOn history failures z.opened x f) c.settle_all.ensures.same c.close.ensures.writes in
-    failed_at_end history failures z.opened seats l book under.shared old f writes c.into_parts-rest.result.0 c.into_parts-rest.ensures.device c.in-Err.error c.in-Err.ensures.err
+    failed_at_end history failures z.opened seats l book under.shared (popped_by old) popped old f writes c.into_parts-rest.result.0 c.into_parts-rest.ensures.device c.in-Err.error c.in-Err.ensures.err

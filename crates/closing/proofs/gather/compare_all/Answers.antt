@@ -1,8 +1,6 @@
-use Rattle.std.proofs.Common.{◌≡◌, ◌<◌, ◌+◌, ◌∙◌, ℕ, Some, ap, arith, inl, inr, refl, sym, length}
-use Rattle.std.proofs.lemmas.Bool.{cases_eq}
-use Rattle.std.specs.Prelude.{slice_get, slice_set}
+use Rattle.std.proofs.Common.{◌≡◌, ◌∙◌, Some, ap, arith, sym, length}
+use Rattle.std.specs.Prelude.{slice_get}
 use Rattle.locked_core.specs.Locked.{LockedValue, locked_of}
-use Rattle.shared.specs.Seats.{SeatValue}
 use Rattle.closing.proofs.Gathering.{seats_kept, seen_more}
 use Rattle.closing.proofs.Lists.{get_read}
 use Rattle.closing.proofs.gather.compare_all.Goals as goal

@@ -1,4 +1,4 @@
-use Rattle.std.proofs.Common.{refl, ap, ◌∙◌, sym, arith, length, ◌+◌, ◌≡◌, vec_len}
+use Rattle.std.proofs.Common.{refl, ap, ◌∙◌, sym, arith, length, ◌+◌, ◌≡◌}
 use Rattle.closing.specs.Gathered.{lists_of}
 use Rattle.closing.proofs.Lists.{set_count}
 use Rattle.closing.proofs.Gathering.{moved, none_left, one_more, starts}

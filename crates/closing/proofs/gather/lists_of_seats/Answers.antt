@@ -1,4 +1,4 @@
-use Rattle.std.proofs.Common.{ap, ◌∙◌, sym, ◌++◌, ◌∷◌, [], ◌≡◌}
+use Rattle.std.proofs.Common.{ap, ◌∙◌, sym, ◌++◌, ◌∷◌, []}
 use Rattle.sessions.specs.Values.{CommitValue, SessionValue}
 use Rattle.shared.specs.Seats.{SeatValue}
 use Rattle.std.specs.declared.vec.Vec.{Vec}

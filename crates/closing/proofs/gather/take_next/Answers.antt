@@ -1,6 +1,6 @@
-use Rattle.std.proofs.Common.{ap, ◌∙◌, sym, subst}
+use Rattle.std.proofs.Common.{ap, ◌∙◌, sym}
 use Rattle.std.specs.Prelude.{slice_get}
-use Rattle.closing.specs.Gathered.{lists_of, heads_with}
+use Rattle.closing.specs.Gathered.{lists_of}
 use Rattle.closing.proofs.Gathering.{takes}
 use Rattle.closing.proofs.gather.take_next.Goals as goal
 

@@ -1,11 +1,9 @@
-use Rattle.std.proofs.Common.{◌≡◌, ◌+◌, ◌∙◌, ap, arith, length, sym}
-use Rattle.records.specs.RecordValue.{RecordValue}
+use Rattle.std.proofs.Common.{◌+◌, ◌∙◌, ap, arith, length, sym}
 use Rattle.locked_core.specs.Locked.{locked_of}
 use Rattle.locked_core.specs.Made as lock
-use Rattle.store_writer.specs.Parts.{halves_of, synced_of}
+use Rattle.store_writer.specs.Parts.{halves_of}
 use Rattle.flusher.specs.Part.{last_handed}
 use Rattle.flusher.proofs.Keeping.{flip_rises}
-use Rattle.closing.specs.Written.{WritesOn}
 use Rattle.closing.proofs.Going.{counted_by_call, writes_by_call, writes_nothing, writes_then}
 use Rattle.closing.proofs.Pieces.{all_synced, flip_geometry, image_taken, number_is, step_geometry, whole_chunk}
 use Rattle.closing.proofs.writing.write_image.Goals as goal

@@ -1,4 +1,4 @@
-use Rattle.closing.proofs.Going.{writes_by_taking, writes_then}
+use Rattle.closing.proofs.Going.{writes_by_taking}
 use Rattle.closing.proofs.writing.write_out.Goals as goal
 
 pub returns-in_err-taken-clause-writes : goal.returns-in_err-taken-clause-writes
