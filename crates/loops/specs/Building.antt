@@ -12,7 +12,7 @@ use Rattle.shared.specs.Served.{WasServed}
 use Rattle.loops.specs.declared.build.Outcome.{Outcome}
 use Rattle.loops.specs.declared.build.Outcome.TheVariants.{Done, Refused, Scanned, Attempted, Marked, Nothing}
 
--- a step of the builder, under the lock, placed a pair or found that it has an entry
+-- some core that may lie under the lock answers a step of the builder by a pair that it placed, or that has an entry
 abbrev pub HasAttempted : Opened → Type 0
 HasAttempted o = (pair : Pair) × (WasServed o Event.Build (Built (events.Placed pair)) ⊎ WasServed o Event.Build (Built (events.Rejected pair)))
 

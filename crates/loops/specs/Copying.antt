@@ -1,4 +1,4 @@
--- Where the copying of an image is.
+-- Where the copying of an image is (no public clause cites these).
 use Rattle.std.specs.Prelude.{◌≡◌, ℕ, Option, false}
 use Rattle.flusher.specs.Images.{IsAt}
 use Rattle.flusher.specs.Part.{FlushValue}

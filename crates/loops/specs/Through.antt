@@ -6,15 +6,15 @@ use Rattle.store_writer.specs.Parts.{device_of, halves_of, synced_of}
 use Rattle.flusher.specs.Going.{TakesIn}
 use Rattle.flusher.specs.Part.{FlushValue, IsLeft, Publishes}
 
--- One call that writes: no record was popped or handed in, and what is published is what is synced now. A crash at any moment of it
--- leaves what one before it could, with all that were synced before it.
+-- Calls that write: no record was popped or handed in, and what is published is what is synced now. A crash at any moment of them
+-- leaves what one before the first of them could, with all that were synced then.
 pub record Calls {D : Type 0} (history : D → History) (o : Opened) (old new : FlushValue D) : Type 0 where
   pub publishes : Publishes old new
   pub geometry : (halves_of new.writer).geometry ≡ (halves_of old.writer).geometry
   pub rises : synced_of old.writer ≤ synced_of new.writer
   pub images : LeavesOnly (history (device_of old.writer)) (history (device_of new.writer)) (IsLeft o old)
 
--- from each state to the next by records that were popped and handed in, or by one call; and it is the last one now
+-- from each state to the next by records that were popped and handed in, or by calls that write; and it is the last one now
 abbrev pub GoesThrough : {D : Type 0} → (D → History) → Opened → FlushValue D → List (FlushValue D) → FlushValue D → Type 0
 GoesThrough history o old [] new = new ≡ old
 GoesThrough history o old (next ∷ states) new = (TakesIn old next ⊎ Calls history o old next) × GoesThrough history o next states new

@@ -33,8 +33,9 @@ pub(crate) enum Outcome {
     Nothing,
 }
 
-/// Makes steps of the builder, each under the lock anew, until one completes the index, and publishes how many attempts it made.
-/// Where the index was complete before, it waits for the next one. After want of memory it tries again.
+/// Makes steps of the builder, each under the lock anew, until one completes the index, and publishes how many attempts this call
+/// has made; no clause says that it is just as many. Where the index was complete before, it waits for the next one. After want of
+/// memory it tries again.
 ///
 /// `Stopped` where the stop flag was read. Else the refusal is one of the core's `build_step`, but not `NoMemory`.
 pub fn build_loop<B: Group, R: Wait, G: Gate>(

@@ -39,8 +39,7 @@ pub(crate) enum Copying {
 /// of memory it tries again.
 ///
 /// It ends where the stop flag is read, or with `DeviceFailed` where the device failed, now or earlier, stop flag or not. What is
-/// held or waits then is not written. A crash at any moment leaves all records that had been synced before the call of the flusher
-/// that it falls in (`through`).
+/// held or waits then is not written. A crash at any moment leaves all records that were synced as the loop began (`goes_on`).
 pub fn flush_loop<B: Group, D: Device, R: Wait, G: Gate>(
     rt: &R,
     shared: &Shared<B>,

@@ -1,5 +1,5 @@
 //! Devices whose store may be opened.
-ghost use Rattle.std.specs.Prelude.{◌≡◌, ◌↔◌, ◌⊎◌, ◌<◌, ℕ, length, Err, IfErr, OnOk};
+ghost use Rattle.std.specs.Prelude.{◌≡◌, ◌↔◌, ◌⊎◌, ◌<◌, ◌≤◌, ℕ, length, Err, IfErr, OnOk};
 ghost use Rattle.sector_device.specs.Disk.{Image, IsSynced};
 ghost use Rattle.records.specs.GeometryValue.{sectors_of};
 ghost use Rattle.flip_image.specs.Store.{AreGatesClosed, IsDeviceFailure, IsFormatted};
@@ -26,6 +26,8 @@ pub fn format_store<D: Device>(device: &mut D, geometry: Geometry) -> Result<(),
     ensures too_small { (result ≡ Err Error.DeviceTooSmall) ↔ (length (D.history device.old).disk.content < sectors_of geometry) }
     ensures unchanged { result ≡ Err Error.DeviceTooSmall → device.new ≡ device.old }
     ensures refused { IfErr result (λ e. (e ≡ Error.DeviceTooSmall) ⊎ IsDeviceFailure (D.failures device.old) (D.failures device.new) e) }
+    ensures quiet { OnOk result (D.failures device.new ≡ D.failures device.old) }
+    ensures later { D.failures device.old ≤ D.failures device.new }
 {
     format_gives_nothing();
     one_answer();

@@ -35,7 +35,7 @@ pub trait Work<D: Device> {
 /// Opens the store on the device, as `restart` does, for so many threads with a seat each, and does the work with it.
 ///
 /// What the device gives must be something that a core may begin with, as of a device that was formatted, and then written by
-/// this engine alone (`format_store`, `left_by_a_run`).
+/// runs of `restart`'s engine (`format_store`, `left_by_a_run`).
 ///
 /// The errors are those of `restart`, and `NoMemory`. The work was not begun then, and it is given back with the device, which
 /// gives what it gave; a crash at any moment of the call leaves what one before could, or what gives the same (`refused`).
