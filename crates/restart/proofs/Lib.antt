@@ -25,4 +25,5 @@ mod Fewer
 mod CopyAnswers
 mod Apart
 mod Flips
+mod Between
 mod Reopened

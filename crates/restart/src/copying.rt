@@ -1,9 +1,12 @@
 //! An image of the store is taken from the core, and made current.
-ghost use Rattle.std.specs.Prelude.{◌≡◌, ◌≤◌, List, [], length, false, None, Some, IfSome, IfNone};
+ghost use Rattle.std.specs.Prelude.{◌≡◌, ◌≤◌, ◌<◌, List, [], length, false, None, Some, IfSome, IfNone};
+ghost use Rattle.restart.specs.declared.event.Event.{Event as EventValue};
 ghost use Rattle.restart.specs.declared.event.Reply.{Reply as ReplyValue};
 ghost use Rattle.restart.specs.declared.parts.Parts.{Parts as PartsValue};
+ghost use Rattle.restart.specs.Between.{HaveNoRefusedCopy, copies_among};
 ghost use Rattle.restart.specs.Copies.{HaveFlip, HaveNoRefusal, copies, most_copies};
 ghost use Rattle.restart.specs.Lawful.{AreLawful};
+ghost use Rattle.restart.specs.Store.{AreServed, IsAt, Past};
 
 use crate::Reply;
 use crate::parts::Parts;
@@ -29,6 +32,13 @@ pub(crate) enum Copying {
 /// pages, its entries by chunks, and the flip.
 pub fn copies_flip<D: Device, A: Allocator>()
     ensures { (replies : List (ReplyValue A)) (old new : PartsValue D A) → AreLawful D.failures (copies replies) replies old new → HaveNoRefusal replies → most_copies old.geometry ≤ length replies → HaveFlip replies }
+{}
+
+/// A law: with any other requests between them, of one copy more than an image takes at most one makes an image current, where none
+/// of the copies was refused.
+pub fn copies_flip_between<D: Device, A: Allocator>()
+    ensures { (past : Past A) (events : List EventValue) (replies : List (ReplyValue A)) (old new : PartsValue D A) → IsAt D.history past old → AreServed D.history D.failures past events replies old new
+        → HaveNoRefusedCopy events replies → most_copies past.geometry < copies_among events → HaveFlip replies }
 {}
 
 impl<D: Device, A: Allocator + Copy> Parts<D, A> {

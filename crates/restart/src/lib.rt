@@ -10,7 +10,7 @@ mod lives;
 mod parts;
 mod reopen;
 
-pub use copying::copies_flip;
+pub use copying::{copies_flip, copies_flip_between};
 pub use engine::Engine;
 pub use event::{Event, Reply};
 pub use lives::{any_lives, nothing_opens};

@@ -1,5 +1,5 @@
 -- A store under a script.
-use Rattle.std.specs.Prelude.{◌≡◌, ◌≢◌, ◌⊎◌, ◌<◌, ◌≤◌, ◌-◌, ◌&&◌, ℕ, nat_lt, Bool, true, false, List, [], ◌∷◌, map, All, Result, Ok, Err, if◌then◌else◌}
+use Rattle.std.specs.Prelude.{◌≡◌, ◌≢◌, ◌⊎◌, ◌<◌, ◌≤◌, ◌-◌, ◌&&◌, ℕ, nat_lt, Bool, true, false, List, [], ◌∷◌, map, All, Option, Some, None, Result, Ok, Err, if◌then◌else◌}
 use Rattle.std.specs.List.Sorted.{IsStrictlyIncreasing}
 use Rattle.std.specs.declared.alloc.Global.{Global}
 use Rattle.records.specs.GeometryValue.{GeometryValue}
@@ -11,7 +11,7 @@ use Rattle.sector_device.specs.declared.memory.MemDisk.{MemDisk}
 use Rattle.model.specs.Table.{Table, Index}
 use Rattle.model.specs.declared.life.Life.{Life}
 use Rattle.restart.specs.Lawful.{IsLawful}
-use Rattle.restart.specs.Parts.{core_of, device_of}
+use Rattle.restart.specs.Parts.{core_of, device_of, log_of, unwritten}
 use Rattle.restart.specs.Parts as engine
 use Rattle.restart.specs.Reopening.{IsOpened, IsNotOpened, RecoversAnyRun, RefusesNoRun}
 use Rattle.restart.specs.Store.{KeepsRun}
@@ -116,10 +116,15 @@ horizon_after horizon (Horizon number) = number
 horizon_after horizon (Flipped number) = number
 horizon_after horizon _ = horizon
 
--- whether the reply tells of more synced records than there were, and not yet of all up to the last
-abbrev pub asks_again : ℕ → ℕ → Reply Global → Bool
-asks_again last horizon (Horizon number) = nat_lt horizon number && nat_lt number last
-asks_again last horizon _ = false
+-- whether a number is above the one that was told before, if there was one
+abbrev pub is_further : Option ℕ → ℕ → Bool
+is_further None number = true
+is_further (Some before) number = nat_lt before number
+
+-- whether the reply tells of more synced records than were told before, and not yet of all up to the last
+abbrev pub asks_again : ℕ → Option ℕ → Reply Global → Bool
+asks_again last told (Horizon number) = nat_lt number last && is_further told number
+asks_again last told _ = false
 
 -- The event had this reply, and the session knows how far the records are synced after it.
 pub record Writes (event : Event) (reply : Reply Global) (old new : Session) : Type 0 where
@@ -146,32 +151,39 @@ pub record TakesImage (final : Reply Global) (old new : Session) : Type 0 where
   pub final_copy : Writes Copy final mid new
   pub ends : is_on_the_way final ≡ false
 
--- what is told of a flush that took an image: as many records are synced as if it had written groups
-abbrev pub as_flush : Reply Global → Reply Global
-as_flush (Flipped number) = Horizon number
-as_flush reply = reply
+-- An image was taken and made current, and the flush behind it had this reply; or the final copy had it, and made none current.
+abbrev pub FlushesBehindImage : Reply Global → Session → Session → Type 0
+FlushesBehindImage reply old new = ((n : ℕ) × (mid : Session) × TakesImage (Flipped n) old mid × Writes Flush reply mid new)
+    ⊎ (((n : ℕ) → reply ≢ Flipped n) × TakesImage reply old new)
 
--- One flush had this reply; or the log was full, and an image was taken in its place.
+-- One flush had this reply; or the log was full, and the one behind an image had it.
 abbrev pub FlushesOnce : Reply Global → Session → Session → Type 0
 FlushesOnce reply old new = ((reply ≢ LogFull) × Writes Flush reply old new)
-    ⊎ ((mid : Session) × (final : Reply Global) × Writes Flush LogFull old mid × TakesImage final mid new × (reply ≡ as_flush final))
+    ⊎ ((mid : Session) × Writes Flush LogFull old mid × FlushesBehindImage reply mid new)
 
 -- One flush after another had these replies.
 abbrev pub AreFlushed : List (Reply Global) → Session → Session → Type 0
 AreFlushed [] old new = new ≡ old
 AreFlushed (reply ∷ replies) old new = (mid : Session) × FlushesOnce reply old mid × AreFlushed replies mid new
 
+-- the numbers behind the one that was told before, if there was one
+abbrev pub behind : Option ℕ → List ℕ → List ℕ
+behind None numbers = numbers
+behind (Some before) numbers = before ∷ numbers
+
 -- One flush after another told of more synced records than the one before, and not yet of all up to the last.
-pub record FlushesOn (last : ℕ) (old new : Session) : Type 0 where
+pub record FlushesOn (last : ℕ) (told : Option ℕ) (old new : Session) : Type 0 where
   pub horizons : List ℕ
   pub flushed : AreFlushed (map Horizon horizons) old new
-  pub rising : IsStrictlyIncreasing (horizon_of old ∷ horizons)
+  pub rising : IsStrictlyIncreasing (behind told horizons)
   pub below : All (λ n. n < last) horizons
 
--- The session flushed until all records up to the last were synced, or it went no further: a final flush, with this reply,
--- told of all of them, or of no more than were synced before it, or of no horizon.
+-- The session flushed until all records up to the last were synced, or a flush was refused. A final flush that told how far the
+-- records are synced told of all up to the last, or no record waits behind it. None ends with a full log, but where the log has
+-- no slot at all.
 pub record Flushes (last : ℕ) (final : Reply Global) (old new : Session) : Type 0 where
   pub mid : Session
-  pub before : FlushesOn last old mid
+  pub before : FlushesOn last None old mid
   pub final_flush : FlushesOnce final mid new
-  pub ends : (n : ℕ) → final ≡ Horizon n → (last ≤ n) ⊎ (n ≤ horizon_of mid)
+  pub ends : (n : ℕ) → final ≡ Horizon n → (last ≤ n) ⊎ (unwritten new.engine ≡ [])
+  pub room : final ≡ LogFull → (log_of new.engine).open_slots ≡ 0

@@ -6,7 +6,7 @@ ghost use Rattle.sector_device.specs.declared.fault.FaultDisk.{FaultDisk};
 ghost use Rattle.btree_node.specs.Above.{IsLeastAbove};
 ghost use Rattle.sector_device.specs.declared.memory.MemDisk.{MemDisk};
 ghost use Rattle.session.specs.Disk.{LosesPower};
-ghost use Rattle.session.specs.Session.{as_flush, asks_again, horizon_after, is_on_the_way, tells_stop};
+ghost use Rattle.session.specs.Session.{asks_again, horizon_after, is_further, is_on_the_way, tells_stop};
 ghost use Rattle.replay_values.specs.Texts.{line_of};
 ghost use Rattle.session.specs.Dump.{row_line, slot_lines, entry_lines, dump_text};
 
@@ -69,13 +69,23 @@ fn tells_stop(fails_at: u64, error: Error) -> bool
     }
 }
 
-// Whether a flush with this reply is followed by another: more records were synced than the horizon
-// had told, and not yet all up to the last.
-fn asks_again(last: u64, horizon: u64, reply: &Reply<Global>) -> bool
-    ensures { result ≡ asks_again last horizon reply.now }
+// Whether more records are synced up to this number than a flush before it has told, if there was one.
+fn is_further(told: Option<u64>, number: u64) -> bool
+    ensures { result ≡ is_further told number }
+{
+    match told {
+        Some(before) => before < number,
+        None => true,
+    }
+}
+
+// Whether a flush with this reply is followed by another: not all up to the last are synced yet, and more than the flush before it
+// has told.
+fn asks_again(last: u64, told: Option<u64>, reply: &Reply<Global>) -> bool
+    ensures { result ≡ asks_again last told reply.now }
 {
     match reply {
-        Reply::Horizon(number) => horizon < *number && *number < last,
+        Reply::Horizon(number) => *number < last && is_further(told, *number),
         _ => false,
     }
 }
@@ -100,16 +110,6 @@ fn is_on_the_way(reply: &Reply<Global>) -> bool
     }
 }
 
-// What is told of a flush that took an image: as many records are synced as if it had written groups.
-fn as_flush(reply: Reply<Global>) -> Reply<Global>
-    ensures { result ≡ as_flush reply }
-{
-    match reply {
-        Reply::Flipped(number) => Reply::Horizon(number),
-        other => other,
-    }
-}
-
 // Prints an entry.
 fn dump_entry<W: Write>(pair: Pair, mark: Mark, output: &mut W) -> io::Result<()>
     ensures { OnOk result (Appends (W.contents output.old) (W.contents output.new) (line_of (Answer.Entry pair mark))) }
@@ -120,7 +120,7 @@ fn dump_entry<W: Write>(pair: Pair, mark: Mark, output: &mut W) -> io::Result<()
 
 impl Session {
     ghost use Rattle.restart.specs.declared.event.Reply.{Reply};
-    ghost use Rattle.session.specs.Session.{OpensOn, IsRefusedOn, LeavesItsRun, disk_of, last_made, is_stop, outcome_of, ServesEvent, Writes, TakesImage, FlushesOnce, Flushes, calls_to_stop, Reopens, rows_of, entries_of, life_of};
+    ghost use Rattle.session.specs.Session.{OpensOn, IsRefusedOn, LeavesItsRun, disk_of, last_made, is_stop, outcome_of, ServesEvent, Writes, TakesImage, FlushesBehindImage, FlushesOnce, Flushes, calls_to_stop, Reopens, rows_of, entries_of, life_of};
 
     /// Opens the store on the disk, whose write or sync of this number is cut short, or none at 0.
     /// Where the restart is refused, the disk comes back.
@@ -232,12 +232,22 @@ impl Session {
         }
     }
 
-    // Flushes once, or takes an image where the log is full.
+    // Takes an image, and flushes once behind it.
+    fn flush_behind_image(&mut self) -> Reply<Global>
+        ensures { FlushesBehindImage result self.old self.new }
+    {
+        match self.take_image() {
+            Reply::Flipped(_) => self.write(Event::Flush),
+            refused => refused,
+        }
+    }
+
+    // Flushes once, behind an image where the log is full.
     fn flush_once(&mut self) -> Reply<Global>
         ensures { FlushesOnce result self.old self.new }
     {
         match self.write(Event::Flush) {
-            Reply::LogFull => as_flush(self.take_image()),
+            Reply::LogFull => self.flush_behind_image(),
             reply => reply,
         }
     }
@@ -250,18 +260,19 @@ impl Session {
         self.outcome_of(reply)
     }
 
-    /// Flushes until every record made is synced, or a flush is refused. Where the log is full, an image is taken and made
-    /// current, and it goes on.
+    /// Flushes until every record made is synced, or a flush or a copy is refused. Where the log is full, an image is taken and
+    /// made current, and it goes on.
     pub fn flush(&mut self) -> Result<Answer, Stopped>
         ensures { (reply : Reply Global) × Flushes (last_made self.old) reply self.old self.new × (result ≡ outcome_of self.new reply) }
     {
         let last = self.engine.core().last();
-        loop {
-            let horizon = self.horizon;
+        let mut told = None;
+        'flushes: loop {
             let reply = self.flush_once();
-            if !asks_again(last, horizon, &reply) {
+            if !asks_again(last, told, &reply) {
                 return self.outcome_of(reply);
             }
+            told = Some(self.horizon);
         }
     }
 

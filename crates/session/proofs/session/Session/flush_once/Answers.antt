@@ -5,9 +5,9 @@ use Rattle.restart.specs.declared.event.Reply.{Reply}
 use Rattle.session.specs.Session.{Writes}
 use Rattle.session.proofs.session.Session.flush_once.Goals as goal
 
--- an image is taken in place of the flush
+-- the flush is made behind an image
 pub returns-in-LogFull : goal.returns-in-LogFull
 returns-in-LogFull c =
     let mid = c.write.new.self in
     let full = subst (λ (r : Reply Global). Writes Flush r c.args.self.now mid) c.in-LogFull.is c.write.ensures in
-    inr (mid, c.take_image.result, full, c.take_image.ensures, c.as_flush.ensures)
+    inr (mid, full, c.flush_behind_image.ensures)
