@@ -1,1 +1,1 @@
-mod Crosses
+pub mod Crosses

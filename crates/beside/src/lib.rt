@@ -61,8 +61,8 @@ pub fn run_beside<
     ensures clients { F.post clients result.clients }
     ensures number { result.seat.number ≡ seat.number }
     ensures session { result.seat.session ≡ seat.session }
-    ensures goes_on { GoesOn D.history B.site.opened flush result.flush }
-    ensures through { RunsThrough D.history B.site.opened flush result.flush }
+    ensures goes_on { GoesOn D.history D.failures B.site.opened flush result.flush }
+    ensures through { RunsThrough D.history D.failures B.site.opened flush result.flush }
     ensures sound { OnOk result.flushed (has_failed result.flush.writer ≡ false) }
     ensures failed { IfErr result.flushed (λ e. (e ≡ DeviceFailed) × (has_failed result.flush.writer ≡ true)) }
     ensures done { IfOk result.built (λ ticket. ∥ WasServed B.site.opened Event.Build (built (reply.Done ticket)) ∥₁) }
@@ -118,8 +118,8 @@ fn flush_until_stopped<B: Group, D: Device, R: Wait, G: Gate>(
 ) -> Flushed<B, D>
     requires flush { flush.published.board ≡ B.board }
     requires view { view.board ≡ B.board }
-    ensures goes_on { GoesOn D.history B.site.opened flush result.flush }
-    ensures through { RunsThrough D.history B.site.opened flush result.flush }
+    ensures goes_on { GoesOn D.history D.failures B.site.opened flush result.flush }
+    ensures through { RunsThrough D.history D.failures B.site.opened flush result.flush }
     ensures sound { OnOk result.ended (has_failed result.flush.writer ≡ false) }
     ensures failed { IfErr result.ended (λ e. (e ≡ DeviceFailed) × (has_failed result.flush.writer ≡ true)) }
 {

@@ -1,14 +1,12 @@
 -- A whole image of all that was made, and its flip.
-use Rattle.std.proofs.Common.{◌≡◌, ◌≤◌, ◌++◌, ℕ, [], List, Some, Result, Ok, Err, IfOk, OnErr, sym, ap, ◌∙◌, subst, arith, append-nil}
+use Rattle.std.proofs.Common.{◌≡◌, ◌≤◌, ◌++◌, ℕ, [], List, Some, sym, ap, ◌∙◌, subst, arith, append-nil}
 use Rattle.std.specs.declared.alloc.Global.{Global}
 use Rattle.records.specs.GeometryValue.{GeometryValue}
 use Rattle.records.specs.RecordValue.{RecordValue}
-use Rattle.records.specs.declared.error.Error.{Error}
 use Rattle.model.specs.Redo.{cells_of}
 use Rattle.core_model.specs.Histories.{Opened}
 use Rattle.core_copies.specs.Shown.{IsOfGeometry}
 use Rattle.sector_device.specs.History.{History}
-use Rattle.flip_image.specs.Layout.{HalvesValue}
 use Rattle.image_half.specs.Source.{FitsImage}
 use Rattle.image_model.specs.Run.{Run, cells_at, end_of}
 use Rattle.image_model.specs.declared.chunk.Piece.{Piece}
@@ -18,7 +16,7 @@ use Rattle.locked_core.specs.Made.{IsAllOf}
 use Rattle.locked_core.specs.Made as lock
 use Rattle.store_writer.specs.Image.{reach}
 use Rattle.store_writer.specs.Parts.{halves_of, image_of, synced_of}
-use Rattle.store_writer.specs.Writer.{CanFlip, HasBegun, IsAsBefore, IsChunk, IsFlipReply, IsStepReply}
+use Rattle.store_writer.specs.Writer.{CanFlip, HasBegun, IsChunk, IsFlipReply, IsStepReply}
 use Rattle.store_writer.specs.declared.image.NewImage.{NewImage}
 use Rattle.store_writer.specs.declared.image.Stage.TheVariants as stage
 use Rattle.store_writer.specs.declared.writer.FlipReply.{FlipReply}
@@ -27,25 +25,6 @@ use Rattle.store_writer.specs.declared.writer.StepReply.{StepReply}
 use Rattle.store_writer.specs.declared.writer.StepReply.TheVariants.{StartAgain, Taken}
 use Rattle.store_writer.specs.declared.writer.Writer.{Writer}
 use Rattle.flusher.specs.Part.{FlushValue, IsFlusher, last_handed, run_of}
-
--- ---- the store is the same
-
-module _ {D : Type 0} (old new : Writer D Global) where
-  same_geometry : new ≡ old → (halves_of new).geometry ≡ (halves_of old).geometry
-  same_geometry is = ap (λ (w : Writer D Global). (halves_of w).geometry) is
-
-  left_geometry : IsAsBefore old new → (halves_of new).geometry ≡ (halves_of old).geometry
-  left_geometry is = ap (λ (w : Writer D Global). (halves_of w).geometry) is
-
-  pub step_geometry : {A : Type 0} (number : ℕ) (piece : Piece A) (result : Result StepReply Error) → IfOk result (λ reply. IsStepReply number piece reply old new) → OnErr result (IsAsBefore old new) → (halves_of new).geometry ≡ (halves_of old).geometry
-  step_geometry number piece (Ok Taken) is left = ap (λ (h : HalvesValue). h.geometry) is.1.1.1
-  step_geometry number piece (Ok StartAgain) is left = same_geometry is.0
-  step_geometry number piece (Err e) is left = left_geometry left
-
-  pub flip_geometry : (n : ℕ) (result : Result FlipReply Error) → IfOk result (λ reply. IsFlipReply n reply old new) → OnErr result (IsAsBefore old new) → (halves_of new).geometry ≡ (halves_of old).geometry
-  flip_geometry n (Ok (Flipped m)) is left = ap (λ (h : HalvesValue). h.geometry) is.5.halves-are
-  flip_geometry n (Ok Behind) is left = same_geometry is.0
-  flip_geometry n (Err e) is left = left_geometry left
 
 -- ---- the image
 

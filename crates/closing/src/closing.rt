@@ -72,6 +72,7 @@ fn close<B: Group, D: Device, R: Wait>(
     ensures synced { OnOk result (synced_of flush.new.writer ≡ last_handed B.site.opened flush.new) }
     ensures gathered { IfOk result (λ v. (count : ℕ) (all : AreAllCommits (sessions_of seats.items) count) → v.items ≡ map (λ c. c.1) all.commits) }
     ensures book { (locked_of locked.new).book ≡ (locked_of locked.old).book }
+    ensures sound { OnOk result (has_failed flush.new.writer ≡ false) }
     ensures err { IfErr result (λ e. (e ≡ NoMemory) ⊎ ((e ≡ DeviceFailed) × (has_failed flush.new.writer ≡ true))) }
 {
     write_out(rt, alloc, queue, board, locked, flush)?;
@@ -104,6 +105,7 @@ pub fn finish<B: Group, D: Device, R: Wait>(
     ensures acked { All (λ a. a.ticket.«record» ≤ synced_of flush.writer) acks.items }
     ensures images { IfOk result (λ c. LeavesOnly (D.history (device_of flush.writer)) (D.history c.device) (λ image. ∥ GivesSome B.site.opened (halves_of flush.writer).geometry seats.items (popped_by flush) (synced_of flush.writer) image ∥₁)) }
     ensures left { IfErr result (λ r. LeavesOnly (D.history (device_of flush.writer)) (D.history r.1) (λ image. ∥ GivesSome B.site.opened (halves_of flush.writer).geometry seats.items (popped_by flush) (synced_of flush.writer) image ∥₁)) }
+    ensures sound { OnOk result (has_failed flush.writer ≡ false) }
     ensures err { IfErr result (λ r. (r.0 ≡ NoMemory) ⊎ ((r.0 ≡ DeviceFailed) × (has_failed flush.writer ≡ false → Rises (D.failures (device_of flush.writer)) (D.failures r.1)))) }
 {
     let (mut locked, queue, registry, board) = shared.into_parts();

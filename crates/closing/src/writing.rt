@@ -1,5 +1,5 @@
 //! Writing every record out.
-ghost use Rattle.std.specs.Prelude.{◌≡◌, ◌⊎◌, [], length, take, true, OnOk, IfErr};
+ghost use Rattle.std.specs.Prelude.{◌≡◌, ◌⊎◌, [], length, take, false, true, OnOk, IfErr};
 ghost use Rattle.records.specs.declared.error.Error.TheVariants.{DeviceFailed, NoMemory};
 ghost use Rattle.locked_core.specs.Locked.{locked_of};
 ghost use Rattle.store_writer.specs.Parts.{has_failed, synced_of};
@@ -65,6 +65,7 @@ fn write_image<B: Site, D: Device>(
     ensures writes { WritesOn D.history D.failures B.site.opened flush.old flush.new }
     ensures handed { flush.new.handed ≡ flush.old.handed }
     ensures synced { OnOk result (synced_of flush.new.writer ≡ last_handed B.site.opened flush.new) }
+    ensures sound { OnOk result (has_failed flush.new.writer ≡ false) }
     ensures err { IfErr result (λ e. (e ≡ NoMemory) ⊎ ((e ≡ DeviceFailed) × (has_failed flush.new.writer ≡ true))) }
 {
     flush.stands();
@@ -88,6 +89,7 @@ fn write_groups<B: Site, D: Device>(
     ensures writes { WritesOn D.history D.failures B.site.opened flush.old flush.new }
     ensures handed { flush.new.handed ≡ flush.old.handed }
     ensures synced { OnOk result (synced_of flush.new.writer ≡ last_handed B.site.opened flush.new) }
+    ensures sound { OnOk result (has_failed flush.new.writer ≡ false) }
     ensures err { IfErr result (λ e. (e ≡ NoMemory) ⊎ ((e ≡ DeviceFailed) × (has_failed flush.new.writer ≡ true))) }
 {
     flush.stands();
@@ -118,6 +120,7 @@ pub(crate) fn write_out<B: Site, D: Device, R: Wait>(
     ensures none_waits { OnOk result ((locked_of locked.new).core.outbox ≡ []) }
     ensures synced { OnOk result (synced_of flush.new.writer ≡ last_handed B.site.opened flush.new) }
     ensures book { (locked_of locked.new).book ≡ (locked_of locked.old).book }
+    ensures sound { OnOk result (has_failed flush.new.writer ≡ false) }
     ensures err { IfErr result (λ e. (e ≡ NoMemory) ⊎ ((e ≡ DeviceFailed) × (has_failed flush.new.writer ≡ true))) }
 {
     let taken = hand_in_all(rt, alloc, queue, locked, flush);

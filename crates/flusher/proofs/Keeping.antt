@@ -13,7 +13,7 @@ use Rattle.model.specs.Cells.{cells_after}
 use Rattle.model.specs.Following.{AreFollowing}
 use Rattle.model.specs.Given.{Given, given_after, opening_cells, recovered}
 use Rattle.model.proofs.GivenLaws.{given_again}
-use Rattle.core_model.specs.Histories.{Opened}
+use Rattle.core_model.specs.Histories.{CanOpen, Opened}
 use Rattle.sector_device.specs.Disk.{Image}
 use Rattle.sector_device.specs.History.{History, LeavesOnly}
 use Rattle.sector_device.proofs.Moments.{weaker}
@@ -30,7 +30,7 @@ use Rattle.store_reader.specs.Contents.{Gives}
 use Rattle.store_writer.specs.Contents.{LeftBy, StoreHas}
 use Rattle.store_writer.specs.Writer.{AreNext, CanFlip, HasFailed, IsChunk, IsFlipReply, IsFlushReply, IsNotFlushed, IsWriter, longer, opened_run}
 use Rattle.locked_core.specs.Following.{FitPlaces, FollowOpening}
-use Rattle.flusher.specs.Part.{FlushValue, GivesBeginning, IsFlusher, IsLeft, count_of, flush_value, last_handed, popped_by, run_of}
+use Rattle.flusher.specs.Part.{FlushValue, GivesBeginning, IsFlusher, IsLeft, MayOpenAgain, count_of, flush_value, last_handed, popped_by, run_of}
 
 -- ---- lists
 
@@ -59,20 +59,26 @@ module _ {D : Type 0} (history : D → History) (o : Opened) where
       subst (λ (l : List RecordValue). len (given_after o.given l).entries ≤ o.places) (sym (take-nil n))
       (subst (λ (x : Given). len x.entries ≤ o.places) (sym (given_again o.given)) room)
 
+  opens_none : MayOpenAgain o []
+  opens_none can n le =
+      subst (λ (l : List RecordValue). CanOpen (record o { given = given_after o.given l })) (sym (take-nil n))
+      (subst (λ (x : Given). CanOpen (record o { given = x })) (sym (given_again o.given)) can)
+
   pub begun : (w : Writer D Global) (v : FlusherCount) → IsWriter history (opened_run (halves_of w) o.given.last (opening_cells o.given)) o.given.last w → (halves_of w).geometry.pages ≡ o.pages → (halves_of w).geometry.entries ≡ o.places
       → len o.given.entries ≤ o.places → v.horizon ≤ synced_of w → v.failed ≡ has_failed w → IsFlusher history o (flush_value [] [] w v)
   begun w v is pages places room low flag = record {
     pages = pages;
     places = places;
     fits = fits_none room;
+    opens = opens_none;
     writer = subst (λ n. IsWriter history (over (halves_of w).geometry []) n w) (omega arith) is;
     horizon = low;
     failed = flag;
   }
 
   -- what a crash leaves
-  pub left_gives : (g : GeometryValue) (handed : List RecordValue) (floor : ℕ) → g.entries ≡ o.places → FitPlaces o handed → o.given.last ≤ floor → (image : Image) → LeftBy (over g handed) floor (o.given.last + length handed) image → GivesBeginning o g handed floor image
-  left_gives g handed floor places fits low image left =
+  pub left_gives : (g : GeometryValue) (handed : List RecordValue) (floor : ℕ) → g.entries ≡ o.places → FitPlaces o handed → MayOpenAgain o handed → o.given.last ≤ floor → (image : Image) → LeftBy (over g handed) floor (o.given.last + length handed) image → GivesBeginning o g handed floor image
+  left_gives g handed floor places fits opens low image left =
       let count : ℕ = left.number - o.given.last in
       let most : count ≤ length handed = omega (arith, left.most) in
       let size : length (take count handed) ≡ count = length-take-le count handed most in
@@ -85,10 +91,11 @@ module _ {D : Type 0} (history : D → History) (o : Opened) where
         least = omega (arith, low, left.least);
         has = subst (λ n. StoreHas g image n (cells_after (opening_cells o.given) (take count handed))) (omega (arith, low, left.least)) left.has;
         gives = subst (Gives image g) same (left.gives (subst (λ (x : Given). len x.entries ≤ g.entries) (sym same) room));
+        opens = λ can. opens can count most;
       }
 
   pub is_left : (f : FlushValue D) → IsFlusher history o f → (image : Image) → LeftBy (run_of o f) (synced_of f.writer) (last_handed o f) image → IsLeft o f image
-  is_left f is = left_gives (halves_of f.writer).geometry f.handed (synced_of f.writer) is.places is.fits is.writer.opened
+  is_left f is = left_gives (halves_of f.writer).geometry f.handed (synced_of f.writer) is.places is.fits is.opens is.writer.opened
 
   -- the writer has gone on, and stands for the same records
   pub goes_on : (f : FlushValue D) (w : Writer D Global) (v : FlusherCount) → IsFlusher history o f → IsWriter history (run_of o f) (last_handed o f) w → v.horizon ≤ synced_of w → v.failed ≡ has_failed w → IsFlusher history o (record f { writer = w; published = v })
@@ -96,6 +103,7 @@ module _ {D : Type 0} (history : D → History) (o : Opened) where
     pages = ap (λ (g : GeometryValue). g.pages) stands.geometry-is ∙ is.pages;
     places = ap (λ (g : GeometryValue). g.entries) stands.geometry-is ∙ is.places;
     fits = is.fits;
+    opens = is.opens;
     writer = with_run (halves_of f.writer).geometry (halves_of w).geometry f.handed f.handed (last_handed o f) (last_handed o f) w (sym stands.geometry-is) refl refl stands;
     horizon = low;
     failed = flag;
@@ -124,15 +132,16 @@ module _ {D : Type 0} (history : D → History) (o : Opened) where
       can_take = (longer run held, end_of run, stands, next run held small)
 
       -- the writer took it
-      pub takes : (new : Writer D Global) → ((run : Run) (n : ℕ) → IsWriter history run n w → AreNext run n held → IsWriter history run (n + length held) new) → synced_of new ≡ synced_of w → has_failed new ≡ has_failed w
+      pub takes : MayOpenAgain o popped → (new : Writer D Global) → ((run : Run) (n : ℕ) → IsWriter history run n w → AreNext run n held → IsWriter history run (n + length held) new) → synced_of new ≡ synced_of w → has_failed new ≡ has_failed w
           → IsFlusher history o (flush_value popped [] new v)
-      takes new took synced failed =
+      takes opens new took synced failed =
           let now : IsWriter history (longer run held) (end_of run + length held) new = took (longer run held) (end_of run) stands (next run held small) in
           let list : handed ++ held ≡ take (length popped - 0) popped = sym all ∙ sym (all_handed popped) in
           record {
             pages = ap (λ (g : GeometryValue). g.pages) now.geometry-is ∙ is.pages;
             places = ap (λ (g : GeometryValue). g.entries) now.geometry-is ∙ is.places;
             fits = subst (FitPlaces o) (sym (all_handed popped)) fits;
+            opens = subst (MayOpenAgain o) (sym (all_handed popped)) opens;
             writer = with_run (halves_of w).geometry (halves_of new).geometry (handed ++ held) (take (length popped - 0) popped) (end_of run + length held) (o.given.last + length (take (length popped - 0) popped)) new
                 (sym now.geometry-is) list (omega (arith, ap length list, length-append handed held)) now;
             horizon = subst (λ n. v.horizon ≤ n) (sym synced) is.horizon;
@@ -156,7 +165,7 @@ module _ {D : Type 0} (history : D → History) (o : Opened) where
   pub still_flusher : (old : FlushValue D) (more popped held : List RecordValue) (w : Writer D Global) (v : FlusherCount) → popped ≡ old.handed ++ (old.held ++ more) → held ≡ old.held ++ more → w ≡ old.writer → v ≡ old.published
       → IsFlusher history o old → IsFlusher history o (flush_value popped held w v)
   still_flusher old more popped held w v all is same told stands =
-      subst (IsFlusher history o) (sym (value_is old more popped held w v all is same told)) (record { pages = stands.pages; places = stands.places; fits = stands.fits; writer = stands.writer; horizon = stands.horizon; failed = stands.failed })
+      subst (IsFlusher history o) (sym (value_is old more popped held w v all is same told)) (record { pages = stands.pages; places = stands.places; fits = stands.fits; opens = stands.opens; writer = stands.writer; horizon = stands.horizon; failed = stands.failed })
 
 -- ---- answers
 
@@ -196,11 +205,11 @@ module _ {D : Type 0} (history : D → History) (o : Opened) where
     pub can_hand_in : (run : Run) × (n : ℕ) × IsWriter history run n w × AreNext run n records
     can_hand_in = subst (λ (l : List RecordValue). (run : Run) × (n : ℕ) × IsWriter history run n w × AreNext run n l) (sym same) (can_take history o popped held w v kept.0 kept.1 follow fits longer_stands next)
 
-    pub kept_by_taking : (p h : List RecordValue) (new : Writer D Global) → p ≡ popped → h ≡ [] → ((run : Run) (n : ℕ) → IsWriter history run n w → AreNext run n records → IsWriter history run (n + length records) new) → synced_of new ≡ synced_of w → has_failed new ≡ has_failed w → AreKept p h new v
-    kept_by_taking p h new all none took synced failed =
+    pub kept_by_taking : MayOpenAgain o popped → (p h : List RecordValue) (new : Writer D Global) → p ≡ popped → h ≡ [] → ((run : Run) (n : ℕ) → IsWriter history run n w → AreNext run n records → IsWriter history run (n + length records) new) → synced_of new ≡ synced_of w → has_failed new ≡ has_failed w → AreKept p h new v
+    kept_by_taking opens p h new all none took synced failed =
         let takes_held : (run : Run) (n : ℕ) → IsWriter history run n w → AreNext run n held → IsWriter history run (n + length held) new =
         subst (λ (l : List RecordValue). (run : Run) (n : ℕ) → IsWriter history run n w → AreNext run n l → IsWriter history run (n + length l) new) same took in
-        let now : AreKept popped [] new v = (sym (append-nil _ ∙ all_handed popped), takes history o popped held w v kept.0 kept.1 follow fits longer_stands next new takes_held synced failed) in
+        let now : AreKept popped [] new v = (sym (append-nil _ ∙ all_handed popped), takes history o popped held w v kept.0 kept.1 follow fits longer_stands next opens new takes_held synced failed) in
         subst (λ x. AreKept x h new v) (sym all) (subst (λ x. AreKept popped x new v) (sym none) now)
 
     pub kept_by_refusal : (p h : List RecordValue) (new : Writer D Global) → p ≡ popped → h ≡ records → ((run : Run) (n : ℕ) → IsWriter history run n w → IsWriter history run n new) → synced_of new ≡ synced_of w → has_failed new ≡ has_failed w → AreKept p h new v

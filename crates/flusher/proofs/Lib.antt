@@ -1,5 +1,5 @@
 pub mod Keeping
-mod Flushing
+pub mod Openings
 pub mod Taking
 mod Pieces
 pub mod Going

@@ -6,9 +6,9 @@ use Rattle.records.specs.GeometryValue.{GeometryValue}
 use Rattle.records.specs.RecordValue.{RecordValue}
 use Rattle.model.specs.Cells.{cells_after}
 use Rattle.model.specs.Given.{given_after, opening_cells}
-use Rattle.core_model.specs.Histories.{Opened}
+use Rattle.core_model.specs.Histories.{CanOpen, Opened}
 use Rattle.sector_device.specs.Disk.{Image}
-use Rattle.sector_device.specs.History.{History, LeavesOnly}
+use Rattle.sector_device.specs.History.{History}
 use Rattle.board.specs.Views.{FlusherCount}
 use Rattle.image_model.specs.Run.{Run}
 use Rattle.locked_core.specs.Following.{FitPlaces}
@@ -41,24 +41,32 @@ run_of o f = record { geometry = (halves_of f.writer).geometry; last = o.given.l
 abbrev pub last_handed : {D : Type 0} → Opened → FlushValue D → ℕ
 last_handed o f = o.given.last + length f.handed
 
+-- A core may begin with what is given after each beginning of the records, where it may with what was opened.
+abbrev pub MayOpenAgain : Opened → List RecordValue → Type 0
+MayOpenAgain o records = CanOpen o → (n : ℕ) → n ≤ length records → CanOpen (record o { given = given_after o.given (take n records) })
+
 -- The writer stands for the records that it got over what was opened, and its store has the pages of that, and places for the
--- entries after each of the records. What was published is not above what the writer has synced, and tells whether its device failed.
+-- entries after each of the records, with which a core may begin. What was published is not above what the writer has synced, and
+-- tells whether its device failed.
 pub record IsFlusher {D : Type 0} (history : D → History) (o : Opened) (f : FlushValue D) : Type 0 where
   pub pages : (halves_of f.writer).geometry.pages ≡ o.pages
   pub places : (halves_of f.writer).geometry.entries ≡ o.places
   pub fits : FitPlaces o f.handed
+  pub opens : MayOpenAgain o f.handed
   pub writer : IsWriter history (run_of o f) (last_handed o f) f.writer
   pub horizon : f.published.horizon ≤ synced_of f.writer
   pub failed : f.published.failed ≡ has_failed f.writer
 
 -- The image has the cells as some of these records, the first ones, left those that were opened, with every record up to the
--- floor; and a reader finds what these records make of what was opened.
+-- floor; a reader finds what these records make of what was opened; and a core may begin with that, where it may with what was
+-- opened.
 pub record GivesBeginning (o : Opened) (g : GeometryValue) (handed : List RecordValue) (floor : ℕ) (image : Image) : Type 0 where
   pub count : ℕ
   pub most : count ≤ length handed
   pub least : floor ≤ o.given.last + count
   pub has : StoreHas g image (o.given.last + count) (cells_after (opening_cells o.given) (take count handed))
   pub gives : Gives image g (given_after o.given (take count handed))
+  pub opens : CanOpen o → CanOpen (record o { given = given_after o.given (take count handed) })
 
 -- So does each image that a crash leaves of the flusher's device: with all that its writer has synced.
 abbrev pub IsLeft : {D : Type 0} → Opened → FlushValue D → Image → Type 0
@@ -83,13 +91,3 @@ pub record Publishes {D : Type 0} (old new : FlushValue D) : Type 0 where
   pub handed : new.handed ≡ old.handed
   pub held : new.held ≡ old.held
   pub published : new.published ≡ count_of old.published.board new.writer
-
--- The writer has flushed some groups more, and no record was popped or handed in. A crash at any moment since leaves what one at
--- first could.
-pub record FlushesOn {D : Type 0} (history : D → History) (o : Opened) (old new : FlushValue D) : Type 0 where
-  pub handed : new.handed ≡ old.handed
-  pub held : new.held ≡ old.held
-  pub board : new.published.board ≡ old.published.board
-  pub halves : halves_of new.writer ≡ halves_of old.writer
-  pub rises : synced_of old.writer ≤ synced_of new.writer
-  pub images : LeavesOnly (history (device_of old.writer)) (history (device_of new.writer)) (IsLeft o old)

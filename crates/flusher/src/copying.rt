@@ -1,5 +1,5 @@
 //! When an image is wanted, and its copying under the lock.
-ghost use Rattle.std.specs.Prelude.{◌≡◌, ◌≢◌, ◌↔◌, [], length, take, false, IsTrue, OnOk, IfOk, IfErr};
+ghost use Rattle.std.specs.Prelude.{◌≡◌, ◌≢◌, ◌↔◌, [], length, take, false, IsTrue, OnErr, OnOk, IfOk, IfErr};
 ghost use Rattle.records.specs.GeometryValue.{GeometryValue};
 ghost use Rattle.image_model.specs.Run.{cells_at};
 ghost use Rattle.core_copies.specs.Pieces.{IsPieceOf};
@@ -66,10 +66,10 @@ impl<B: Site, D: Device> FlushPart<B, D> {
         open > 0 && open >= u64::from(self.writer.geometry().slots / 2)
     }
 
-    /// Pushes the records that wait in the core to the queue, pops those that wait there, until it finds none, and hands in all
-    /// that is held. A record that the queue refuses waits on in the core.
+    /// Pushes records that wait in the core to the queue, pops records that wait there, and hands in all that is held. No clause
+    /// says how many are pushed or popped: one that the queue refuses waits on in the core.
     ///
-    /// The one error is `NoMemory`, and then what was popped is held, and no record is lost.
+    /// The one error is `NoMemory`. Then what was popped is held, and none was handed in.
     pub fn take_in<R: Wait>(
         &mut self,
         rt: &R,
@@ -79,6 +79,7 @@ impl<B: Site, D: Device> FlushPart<B, D> {
         requires { queue.now ≡ B.site.queue }
         ensures takes { TakesIn self.old self.new }
         ensures none_held { OnOk result (self.new.held ≡ []) }
+        ensures kept { OnErr result (self.new.handed ≡ self.old.handed) }
         ensures beginning { OnOk result (self.new.handed ≡ take (length self.new.handed) (locked_of locked.new).pushed) }
         ensures no_memory { IfErr result (λ e. e ≡ Error.NoMemory) }
         ensures pushed { HandsOn (locked_of locked.old).core (locked_of locked.new).core (locked_of locked.old).pushed (locked_of locked.new).pushed }
@@ -89,9 +90,10 @@ impl<B: Site, D: Device> FlushPart<B, D> {
         self.hand_in(rt, queue, locked)
     }
 
-    /// Copies all cells, as the last record made left them, as a chunk that may be taken: every record made was handed in first.
+    /// Copies all cells, as the last record made left them, as a chunk that may be taken: that record was handed in first, and so
+    /// were all before it.
     ///
-    /// The one error is `NoMemory`, also where the queue refused a record.
+    /// The one error is `NoMemory`, also where a record made was not handed in, as one that the queue refused.
     pub fn copy_whole<R: Wait>(
         &mut self,
         rt: &R,
@@ -101,6 +103,7 @@ impl<B: Site, D: Device> FlushPart<B, D> {
         requires { queue.now ≡ B.site.queue }
         ensures takes { TakesIn self.old self.new }
         ensures number { IfOk result (λ chunk. chunk.number ≡ last_handed B.site.opened self.new) }
+        ensures last { IfOk result (λ chunk. chunk.number ≡ (locked_of locked.new).core.last) }
         ensures chunk { IfOk result (λ chunk. IsChunk (run_of B.site.opened self.new) self.new.writer chunk.number chunk.piece) }
         ensures whole { IfOk result (λ chunk. (g : GeometryValue) → IsAllOf (locked_of locked.new).core (cells_at (made.run_of g B.site.opened (locked_of locked.new)) chunk.number) chunk.piece) }
         ensures at { IfOk result (λ chunk. IsAtPiece (halves_of self.new.writer).geometry.pages chunk.piece (image_of self.new.writer)) }
@@ -131,6 +134,7 @@ impl<B: Site, D: Device> FlushPart<B, D> {
         requires due { IsDue (halves_of self.old.writer).geometry.pages place (image_of self.old.writer) }
         ensures takes { TakesIn self.old self.new }
         ensures number { IfOk result (λ chunk. chunk.number ≡ last_handed B.site.opened self.new) }
+        ensures last { IfOk result (λ chunk. chunk.number ≡ (locked_of locked.new).core.last) }
         ensures chunk { IfOk result (λ chunk. IsChunk (run_of B.site.opened self.new) self.new.writer chunk.number chunk.piece) }
         ensures piece { IfOk result (λ chunk. (g : GeometryValue) → IsPieceOf (locked_of locked.new).core (cells_at (made.run_of g B.site.opened (locked_of locked.new)) chunk.number) place chunk.piece) }
         ensures at { IfOk result (λ chunk. ¬ MustStartAgain chunk.piece self.new.writer → IsAtPiece (halves_of self.new.writer).geometry.pages chunk.piece (image_of self.new.writer)) }

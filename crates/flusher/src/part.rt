@@ -1,6 +1,6 @@
 //! What the flusher owns.
 ghost use Rattle.std.specs.FinMap.{len};
-ghost use Rattle.std.specs.Prelude.{◌≡◌, ◌≢◌, ◌⊎◌, ◌-◌, ◌≤◌, ◌++◌, ℕ, List, [], length, take, false, true, Ok, OnOk, OnErr, IfOk, IfErr};
+ghost use Rattle.std.specs.Prelude.{◌≡◌, ◌≢◌, ◌-◌, ◌≤◌, ◌++◌, ℕ, List, [], length, take, false, Ok, OnOk, OnErr, IfOk, IfErr};
 ghost use Rattle.sector_device.specs.Disk.{Image, IsCrashImage};
 ghost use Rattle.sector_device.specs.History.{LeavesOnly};
 ghost use Rattle.records.specs.RecordValue.{RecordValue};
@@ -76,7 +76,7 @@ fn publish<D: Device>(board: &Board<Global>, view: &mut FlushView, writer: &Stor
 
 impl<B: Site, D: Device> FlushPart<B, D> {
     ghost use Rattle.locked_core.specs.Locked.{locked_of};
-    ghost use Rattle.flusher.specs.Part.{FlushesOn, HasGot, IsFlusher, IsLeft, Publishes, last_handed, popped_by, run_of};
+    ghost use Rattle.flusher.specs.Part.{HasGot, IsFlusher, IsLeft, Publishes, last_handed, popped_by, run_of};
 
     /// The part of a flusher that has popped nothing, with a writer over what was opened.
     pub fn new(
@@ -192,28 +192,6 @@ impl<B: Site, D: Device> FlushPart<B, D> {
         let flushed = self.writer.flush_group(self.alloc);
         publish(board, &mut self.view, &self.writer);
         flushed
-    }
-
-    /// Writes groups until all records that the writer has got are synced, and answers whether they are: if not, every slot of
-    /// the log is open, and a flip is wanted first.
-    ///
-    /// The refusals are those of `flush`. `DeviceFailed` means that the device failed, now or earlier.
-    pub fn flush_all(&mut self, board: &Board<Global>) -> Result<bool, Error>
-        requires { board.now ≡ self.old.published.board }
-        ensures flushes { FlushesOn D.history B.site.opened self.old self.new }
-        ensures published { self.new.published ≡ count_of self.old.published.board self.new.writer }
-        ensures all { result ≡ Ok true → synced_of self.new.writer ≡ last_handed B.site.opened self.new }
-        ensures full { result ≡ Ok false → IsLogFull self.new.writer × (waiting_of self.new.writer ≢ []) }
-        ensures err { IfErr result (λ e. (e ≡ Error.NoMemory) ⊎ ((e ≡ Error.DeviceFailed) × (has_failed self.new.writer ≡ true))) }
-    {
-        self.stands();
-        loop {
-            match self.flush(board)? {
-                FlushReply::Flushed(_) => self.stands(),
-                FlushReply::Nothing => return Ok(true),
-                FlushReply::LogFull => return Ok(false),
-            }
-        }
     }
 
     /// Takes what was copied into an image, under the lock, when all records made had been handed in. A crash at any moment of

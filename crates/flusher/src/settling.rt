@@ -1,6 +1,6 @@
 //! What other threads have seen of the flusher's count, at the end.
-ghost use Rattle.std.specs.Prelude.{◌≡◌, ◌≤◌};
-ghost use Rattle.store_writer.specs.Parts.{synced_of};
+ghost use Rattle.std.specs.Prelude.{◌≡◌, ◌≤◌, IsTrue, true};
+ghost use Rattle.store_writer.specs.Parts.{has_failed, synced_of};
 
 use crate::part::FlushPart;
 use board::{Board, View};
@@ -10,13 +10,16 @@ use std::alloc::Global;
 
 impl<B: Site, D: Device> FlushPart<B, D> {
     /// Compares what another thread has seen of the board with what was published: no horizon that it has seen is above the last
-    /// synced record. Nothing changes but the view, which has now seen all that was published.
+    /// synced record, and a failed flag that it has seen is true. Nothing changes but the view, which has now seen the horizon and
+    /// the failed flag that were published.
     pub fn settle(&mut self, board: &Board<Global>, view: &mut View)
         requires board { board.now ≡ self.old.published.board }
         requires view { view.old.board ≡ board.now }
         ensures same { self.new ≡ self.old }
         ensures horizon { view.old.horizon ≤ self.old.published.horizon }
         ensures synced { view.old.horizon ≤ synced_of self.old.writer }
+        ensures failed { IsTrue view.old.failed → has_failed self.old.writer ≡ true }
+        ensures view { view.new ≡ record view.old { horizon = self.old.published.horizon; failed = self.old.published.failed } }
     {
         self.stands();
         board.settle(&mut self.view, view);

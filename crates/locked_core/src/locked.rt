@@ -431,6 +431,14 @@ impl<B: Site> Locked<B> {
         self.core.life()
     }
 
+    /// How many attempts the builder has made since the core was made: each that was placed or
+    /// rejected, and no refused one.
+    pub fn attempts(&self) -> u64
+        ensures { result ≡ (locked_of self.now).core.attempts }
+    {
+        self.core.attempts()
+    }
+
     /// Whether no change of the transaction is left to take back.
     pub fn may_end(&self, txn: Txn) -> bool
         ensures { IsTrue result ↔ HasNoChange (txn_shown (locked_of self.now).core txn) }

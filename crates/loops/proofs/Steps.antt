@@ -1,5 +1,5 @@
 -- What a step of the builder means to the loop.
-use Rattle.std.proofs.Common.{◌≡◌, ◌⊎◌, Result, Ok, Err, inl, inr, subst}
+use Rattle.std.proofs.Common.{◌≡◌, ◌⊎◌, ◌<◌, ℕ, Bool, true, false, nat_lt, refl, Result, Ok, Err, inl, inr, sym, subst, max, arith, ltb-true, ltb-false}
 use Rattle.std.proofs.Math.Logic.{∥∥₁_map}
 use Rattle.records.specs.declared.error.Error.{Error}
 use Rattle.records.specs.declared.pair.Pair.{Pair}
@@ -11,12 +11,15 @@ use Rattle.nsf_core.specs.declared.parts.Ticket.{Ticket}
 use Rattle.nsf_core.specs.declared.reply.BuildReply.{BuildReply}
 use Rattle.nsf_core.specs.declared.reply.BuildReply.TheVariants as reply
 use Rattle.shared.specs.Served.{WasServed}
-use Rattle.loops.specs.Building.{HasAttempted}
+use Rattle.loops.specs.Building.{HasAttempted, HasStepped}
 
-module _ (o : Opened) (step : Result BuildReply Error) (was : ∥ WasServed o Event.Build (reply_by built step) ∥₁) where
+module _ (o : Opened) (step : Result BuildReply Error) (attempts : ℕ) (was : ∥ HasStepped o (reply_by built step) attempts ∥₁) where
   -- as it was served, the step being so
+  so_stepped : (now : Result BuildReply Error) → step ≡ now → ∥ HasStepped o (reply_by built now) attempts ∥₁
+  so_stepped now is = subst (λ (r : Result BuildReply Error). ∥ HasStepped o (reply_by built r) attempts ∥₁) is was
+
   so_served : (now : Result BuildReply Error) → step ≡ now → ∥ WasServed o Event.Build (reply_by built now) ∥₁
-  so_served now is = subst (λ (r : Result BuildReply Error). ∥ WasServed o Event.Build (reply_by built r) ∥₁) is was
+  so_served now is = ∥∥₁_map (so_stepped now is) (λ stepped. stepped.served)
 
   pub was_done : (ticket : Ticket) → step ≡ Ok (reply.Done ticket) → ∥ WasServed o Event.Build (built (reply.Done ticket)) ∥₁
   was_done ticket is = so_served (Ok (reply.Done ticket)) is
@@ -24,6 +27,19 @@ module _ (o : Opened) (step : Result BuildReply Error) (was : ∥ WasServed o Ev
   pub was_refused : (e : Error) → step ≡ Err e → ∥ WasServed o Event.Build (Refused e) ∥₁
   was_refused e is = so_served (Err e) is
 
-  pub was_attempted : (pair : Pair) → (step ≡ Ok (reply.Placed pair)) ⊎ (step ≡ Ok (reply.Rejected pair)) → ∥ HasAttempted o ∥₁
-  was_attempted pair (inl is) = ∥∥₁_map (so_served (Ok (reply.Placed pair)) is) (λ served. (pair, inl served))
-  was_attempted pair (inr is) = ∥∥₁_map (so_served (Ok (reply.Rejected pair)) is) (λ served. (pair, inr served))
+  pub was_attempted : (pair : Pair) → (step ≡ Ok (reply.Placed pair)) ⊎ (step ≡ Ok (reply.Rejected pair)) → ∥ HasAttempted o attempts ∥₁
+  was_attempted pair (inl is) = ∥∥₁_map (so_stepped (Ok (reply.Placed pair)) is) (λ stepped. (pair, inl stepped))
+  was_attempted pair (inr is) = ∥∥₁_map (so_stepped (Ok (reply.Rejected pair)) is) (λ stepped. (pair, inr stepped))
+
+-- a count that was raised is one of the two
+pub raised : (o : Opened) (first was attempts new : ℕ) → new ≡ max was attempts → (first < was → ∥ HasAttempted o was ∥₁) → ∥ HasAttempted o attempts ∥₁ → first < new → ∥ HasAttempted o new ∥₁
+raised o first was attempts new is before now more = by (nat_lt was attempts) refl
+  where
+    at : (n : ℕ) → new ≡ n → ∥ HasAttempted o n ∥₁ → ∥ HasAttempted o new ∥₁
+    at n same has = subst (λ (k : ℕ). ∥ HasAttempted o k ∥₁) (sym same) has
+
+    by : (b : Bool) → nat_lt was attempts ≡ b → ∥ HasAttempted o new ∥₁
+    by true less = at attempts (omega (arith, is, ltb-true was attempts less)) now
+    by false not =
+        let same : new ≡ was = omega (arith, is, ltb-false was attempts not) in
+        at was same (before (omega (arith, same, more)))

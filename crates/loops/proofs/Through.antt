@@ -1,26 +1,83 @@
 -- The states that the flush loop goes through.
-use Rattle.std.proofs.Common.{◌≡◌, ◌≤◌, List, [], ◌∷◌, ◌++◌, inl, inr, refl, subst}
+use Rattle.std.proofs.Common.{◌≡◌, ◌⊎◌, ◌≤◌, ℕ, List, [], ◌∷◌, ◌++◌, Result, IfErr, IfOk, OnErr, OnOk, false, true, inl, inr, refl, ap, subst, arith}
+use Rattle.std.specs.declared.alloc.Global.{Global}
+use Rattle.records.specs.declared.error.Error.{Error}
 use Rattle.core_model.specs.Histories.{Opened}
-use Rattle.sector_device.specs.History.{History, LeavesOnly}
-use Rattle.store_writer.specs.Parts.{device_of, halves_of, synced_of}
-use Rattle.flusher.specs.Going.{TakesIn}
-use Rattle.flusher.specs.Part.{FlushValue, IsLeft, Publishes}
-use Rattle.loops.specs.Through.{GoesThrough, RunsThrough}
+use Rattle.sector_device.specs.History.{History, LeavesOnly, Rises}
+use Rattle.flip_image.specs.Layout.{HalvesValue}
+use Rattle.image_model.specs.declared.chunk.Piece.{Piece}
+use Rattle.store_writer.specs.Parts.{device_of, halves_of, has_failed, synced_of}
+use Rattle.store_writer.specs.Writer.{HasFailed, IsAsBefore, IsBeforeFlush, IsChunk, IsFlipReply, IsFlushReply, IsNotFlushed, IsStepReply}
+use Rattle.store_writer.specs.declared.writer.FlipReply.{FlipReply}
+use Rattle.store_writer.specs.declared.writer.FlushReply.{FlushReply}
+use Rattle.store_writer.specs.declared.writer.StepReply.{StepReply}
+use Rattle.flusher.proofs.Going.{counted_by_call, counted_by_flush, flip_geometry, goes_by_call, step_geometry}
+use Rattle.flusher.proofs.Keeping.{flip_rises, flush_rises}
+use Rattle.flusher.specs.Going.{GoesOn, TakesIn}
+use Rattle.flusher.specs.Part.{FlushValue, IsLeft, Publishes, last_handed, run_of}
+use Rattle.loops.specs.Through.{Calls, GoesThrough, IsFlip, IsFlush, IsStep, RunsThrough}
 
-module _ {D : Type 0} (history : D → History) (o : Opened) where
-  pub through_none : (f : FlushValue D) → RunsThrough history o f f
+module _ {D : Type 0} (history : D → History) (failures : D → ℕ) (o : Opened) where
+  pub through_none : (f : FlushValue D) → RunsThrough history failures o f f
   through_none f = record { states = []; steps = refl }
 
-  pub through_taking : (old new : FlushValue D) → TakesIn old new → RunsThrough history o old new
+  pub through_taking : (old new : FlushValue D) → TakesIn old new → RunsThrough history failures o old new
   through_taking old new takes = record { states = new ∷ []; steps = (inl takes, refl) }
 
-  pub through_call : (old new : FlushValue D) → Publishes old new → (halves_of new.writer).geometry ≡ (halves_of old.writer).geometry → synced_of old.writer ≤ synced_of new.writer
-      → LeavesOnly (history (device_of old.writer)) (history (device_of new.writer)) (IsLeft o old) → RunsThrough history o old new
-  through_call old new publishes geometry rises images = record { states = new ∷ []; steps = (inr (record { publishes = publishes; geometry = geometry; rises = rises; images = images }), refl) }
-
-  steps_then : (old mid new : FlushValue D) (states more : List (FlushValue D)) → GoesThrough history o old states mid → GoesThrough history o mid more new → GoesThrough history o old (states ++ more) new
-  steps_then old mid new [] more is then = subst (λ (f : FlushValue D). GoesThrough history o f more new) is then
+  steps_then : (old mid new : FlushValue D) (states more : List (FlushValue D)) → GoesThrough history failures o old states mid → GoesThrough history failures o mid more new → GoesThrough history failures o old (states ++ more) new
+  steps_then old mid new [] more is then = subst (λ (f : FlushValue D). GoesThrough history failures o f more new) is then
   steps_then old mid new (next ∷ states) more is then = (is.0, steps_then next mid new states more is.1 then)
 
-  pub through_then : (old mid new : FlushValue D) → RunsThrough history o old mid → RunsThrough history o mid new → RunsThrough history o old new
+  pub through_then : (old mid new : FlushValue D) → RunsThrough history failures o old mid → RunsThrough history failures o mid new → RunsThrough history failures o old new
   through_then old mid new first second = record { states = first.states ++ second.states; steps = steps_then old mid new first.states second.states first.steps second.steps }
+
+  -- ---- calls of the writer
+
+  module _ (old new : FlushValue D) where
+    pub through_call : Calls history failures o old new → RunsThrough history failures o old new
+    through_call call = record { states = new ∷ []; steps = (inr call, refl) }
+
+    counted : Calls history failures o old new → has_failed new.writer ≡ true → has_failed old.writer ≡ false → Rises (failures (device_of old.writer)) (failures (device_of new.writer))
+    counted call = by call.made
+      where
+        by : IsFlush failures old new ⊎ (IsStep failures o old new ⊎ IsFlip failures o old new) → has_failed new.writer ≡ true → has_failed old.writer ≡ false → Rises (failures (device_of old.writer)) (failures (device_of new.writer))
+        by (inl flush) = counted_by_flush failures old.writer new.writer flush.result flush.sound flush.err
+        by (inr (inl step)) = counted_by_call failures old.writer new.writer step.result step.sound step.err
+        by (inr (inr flip)) = counted_by_call failures old.writer new.writer flip.result flip.sound flip.err
+
+    pub goes_by : old.published.horizon ≤ synced_of old.writer → Calls history failures o old new → GoesOn history failures o old new
+    goes_by low call = goes_by_call history failures o old new low call.publishes call.geometry call.rises call.images call.later (counted call)
+
+    module _ (publishes : Publishes old new) (images : LeavesOnly (history (device_of old.writer)) (history (device_of new.writer)) (IsLeft o old)) (later : failures (device_of old.writer) ≤ failures (device_of new.writer)) where
+      pub by_flush : (result : Result FlushReply Error) → halves_of new.writer ≡ halves_of old.writer → IfOk result (λ reply. IsFlushReply reply old.writer new.writer) → OnOk result ((has_failed old.writer ≡ false) × (has_failed new.writer ≡ false))
+          → IfErr result (λ e. IsNotFlushed failures e old.writer new.writer) → OnErr result (synced_of new.writer ≡ synced_of old.writer) → OnErr result (IsBeforeFlush old.writer new.writer) → Calls history failures o old new
+      by_flush result halves flushed sound err kept left = record {
+        made = inl (record { result = result; flushed = flushed; sound = sound; err = err; left = left });
+        publishes = publishes;
+        geometry = ap (λ (h : HalvesValue). h.geometry) halves;
+        rises = flush_rises failures old.writer new.writer result flushed kept;
+        images = images;
+        later = later;
+      }
+
+      pub by_step : (number : ℕ) (piece : Piece Global) (result : Result StepReply Error) → IsChunk (run_of o old) old.writer number piece → IfOk result (λ reply. IsStepReply number piece reply old.writer new.writer)
+          → OnOk result ((has_failed old.writer ≡ false) × (has_failed new.writer ≡ false)) → IfErr result (λ e. HasFailed failures e old.writer new.writer) → synced_of new.writer ≡ synced_of old.writer → OnErr result (IsAsBefore old.writer new.writer) → Calls history failures o old new
+      by_step number piece result chunk stepped sound err kept left = record {
+        made = inr (inl (record { number = number; piece = piece; chunk = chunk; result = result; stepped = stepped; sound = sound; err = err; left = left }));
+        publishes = publishes;
+        geometry = step_geometry old.writer new.writer number piece result stepped left;
+        rises = omega (arith, kept);
+        images = images;
+        later = later;
+      }
+
+      pub by_flip : (result : Result FlipReply Error) → IfOk result (λ reply. IsFlipReply (last_handed o old) reply old.writer new.writer) → OnOk result ((has_failed old.writer ≡ false) × (has_failed new.writer ≡ false))
+          → IfErr result (λ e. HasFailed failures e old.writer new.writer) → OnErr result (synced_of new.writer ≡ synced_of old.writer) → OnErr result (IsAsBefore old.writer new.writer) → Calls history failures o old new
+      by_flip result flipped sound err kept left = record {
+        made = inr (inr (record { result = result; flipped = flipped; sound = sound; err = err; left = left }));
+        publishes = publishes;
+        geometry = flip_geometry old.writer new.writer (last_handed o old) result flipped left;
+        rises = flip_rises failures old.writer new.writer (last_handed o old) result flipped kept;
+        images = images;
+        later = later;
+      }

@@ -1,9 +1,9 @@
 -- What a step of the builder means to the loop.
-use Rattle.std.specs.Prelude.{◌≡◌, ◌≢◌, ◌⊎◌, Result, Ok, Err}
+use Rattle.std.specs.Prelude.{◌≡◌, ◌≢◌, ◌⊎◌, ℕ, Result, Ok, Err}
 use Rattle.records.specs.declared.error.Error.{Error}
 use Rattle.records.specs.declared.error.Error.TheVariants.{NoMemory}
 use Rattle.records.specs.declared.pair.Pair.{Pair}
-use Rattle.core_contracts.specs.Events.{Built, Event}
+use Rattle.core_contracts.specs.Events.{Built, Event, Reply}
 use Rattle.core_contracts.specs.Events as events
 use Rattle.core_model.specs.Histories.{Opened}
 use Rattle.nsf_core.specs.declared.reply.BuildReply.{BuildReply}
@@ -12,9 +12,14 @@ use Rattle.shared.specs.Served.{WasServed}
 use Rattle.loops.specs.declared.build.Outcome.{Outcome}
 use Rattle.loops.specs.declared.build.Outcome.TheVariants.{Done, Refused, Scanned, Attempted, Marked, Nothing}
 
--- some core that may lie under the lock answers a step of the builder by a pair that it placed, or that has an entry
-abbrev pub HasAttempted : Opened → Type 0
-HasAttempted o = (pair : Pair) × (WasServed o Event.Build (Built (events.Placed pair)) ⊎ WasServed o Event.Build (Built (events.Rejected pair)))
+-- Some core that may lie under the lock replies so to a step of the builder, and has made so many attempts then.
+pub record HasStepped (o : Opened) (reply : Reply) (attempts : ℕ) : Type 0 where
+  pub served : WasServed o Event.Build reply
+  pub counted : served.new.attempts ≡ attempts
+
+-- so it replies by a pair that it placed, or that has an entry
+abbrev pub HasAttempted : Opened → ℕ → Type 0
+HasAttempted o attempts = (pair : Pair) × (HasStepped o (Built (events.Placed pair)) attempts ⊎ HasStepped o (Built (events.Rejected pair)) attempts)
 
 -- The loop ends where the step completed the index, or where it was refused but for want of memory; and an attempt is one. (No
 -- public clause cites this.)

@@ -1,25 +1,61 @@
 -- The states that the flush loop goes through.
-use Rattle.std.specs.Prelude.{◌≡◌, ◌⊎◌, ◌≤◌, List, [], ◌∷◌}
+use Rattle.std.specs.Prelude.{◌≡◌, ◌⊎◌, ◌≤◌, ℕ, List, [], ◌∷◌, Result, IfErr, IfOk, OnErr, OnOk, false}
+use Rattle.std.specs.declared.alloc.Global.{Global}
+use Rattle.records.specs.declared.error.Error.{Error}
 use Rattle.core_model.specs.Histories.{Opened}
 use Rattle.sector_device.specs.History.{History, LeavesOnly}
-use Rattle.store_writer.specs.Parts.{device_of, halves_of, synced_of}
+use Rattle.image_model.specs.declared.chunk.Piece.{Piece}
+use Rattle.store_writer.specs.Parts.{device_of, halves_of, has_failed, synced_of}
+use Rattle.store_writer.specs.Writer.{HasFailed, IsAsBefore, IsBeforeFlush, IsChunk, IsFlipReply, IsFlushReply, IsNotFlushed, IsStepReply}
+use Rattle.store_writer.specs.declared.writer.FlipReply.{FlipReply}
+use Rattle.store_writer.specs.declared.writer.FlushReply.{FlushReply}
+use Rattle.store_writer.specs.declared.writer.StepReply.{StepReply}
 use Rattle.flusher.specs.Going.{TakesIn}
-use Rattle.flusher.specs.Part.{FlushValue, IsLeft, Publishes}
+use Rattle.flusher.specs.Part.{FlushValue, IsLeft, Publishes, last_handed, run_of}
 
--- Calls that write: no record was popped or handed in, and what is published is what is synced now. A crash at any moment of them
--- leaves what one before the first of them could, with all that were synced then.
-pub record Calls {D : Type 0} (history : D → History) (o : Opened) (old new : FlushValue D) : Type 0 where
+-- One group was flushed, with this answer of the writer.
+pub record IsFlush {D : Type 0} (failures : D → ℕ) (old new : FlushValue D) : Type 0 where
+  pub result : Result FlushReply Error
+  pub flushed : IfOk result (λ reply. IsFlushReply reply old.writer new.writer)
+  pub sound : OnOk result ((has_failed old.writer ≡ false) × (has_failed new.writer ≡ false))
+  pub err : IfErr result (λ e. IsNotFlushed failures e old.writer new.writer)
+  pub left : OnErr result (IsBeforeFlush old.writer new.writer)
+
+-- One chunk of an image was offered that may be taken, with this answer.
+pub record IsStep {D : Type 0} (failures : D → ℕ) (o : Opened) (old new : FlushValue D) : Type 0 where
+  pub number : ℕ
+  pub piece : Piece Global
+  pub chunk : IsChunk (run_of o old) old.writer number piece
+  pub result : Result StepReply Error
+  pub stepped : IfOk result (λ reply. IsStepReply number piece reply old.writer new.writer)
+  pub sound : OnOk result ((has_failed old.writer ≡ false) × (has_failed new.writer ≡ false))
+  pub err : IfErr result (λ e. HasFailed failures e old.writer new.writer)
+  pub left : OnErr result (IsAsBefore old.writer new.writer)
+
+-- An image was to be made current, with this answer.
+pub record IsFlip {D : Type 0} (failures : D → ℕ) (o : Opened) (old new : FlushValue D) : Type 0 where
+  pub result : Result FlipReply Error
+  pub flipped : IfOk result (λ reply. IsFlipReply (last_handed o old) reply old.writer new.writer)
+  pub sound : OnOk result ((has_failed old.writer ≡ false) × (has_failed new.writer ≡ false))
+  pub err : IfErr result (λ e. HasFailed failures e old.writer new.writer)
+  pub left : OnErr result (IsAsBefore old.writer new.writer)
+
+-- One call of the writer: no record was popped or handed in, and what is published is what is synced now. A crash at any moment of it
+-- leaves what one before it could, with all that were synced then.
+pub record Calls {D : Type 0} (history : D → History) (failures : D → ℕ) (o : Opened) (old new : FlushValue D) : Type 0 where
+  pub made : IsFlush failures old new ⊎ (IsStep failures o old new ⊎ IsFlip failures o old new)
   pub publishes : Publishes old new
   pub geometry : (halves_of new.writer).geometry ≡ (halves_of old.writer).geometry
   pub rises : synced_of old.writer ≤ synced_of new.writer
   pub images : LeavesOnly (history (device_of old.writer)) (history (device_of new.writer)) (IsLeft o old)
+  pub later : failures (device_of old.writer) ≤ failures (device_of new.writer)
 
--- from each state to the next by records that were popped and handed in, or by calls that write; and it is the last one now
-abbrev pub GoesThrough : {D : Type 0} → (D → History) → Opened → FlushValue D → List (FlushValue D) → FlushValue D → Type 0
-GoesThrough history o old [] new = new ≡ old
-GoesThrough history o old (next ∷ states) new = (TakesIn old next ⊎ Calls history o old next) × GoesThrough history o next states new
+-- from each state to the next by records that were popped and handed in, or by one call of the writer; and it is the last one now
+abbrev pub GoesThrough : {D : Type 0} → (D → History) → (D → ℕ) → Opened → FlushValue D → List (FlushValue D) → FlushValue D → Type 0
+GoesThrough history failures o old [] new = new ≡ old
+GoesThrough history failures o old (next ∷ states) new = (TakesIn old next ⊎ Calls history failures o old next) × GoesThrough history failures o next states new
 
 -- there are such states
-pub record RunsThrough {D : Type 0} (history : D → History) (o : Opened) (old new : FlushValue D) : Type 0 where
+pub record RunsThrough {D : Type 0} (history : D → History) (failures : D → ℕ) (o : Opened) (old new : FlushValue D) : Type 0 where
   pub states : List (FlushValue D)
-  pub steps : GoesThrough history o old states new
+  pub steps : GoesThrough history failures o old states new

@@ -6,7 +6,7 @@ ghost use Rattle.nsf_core.specs.Builds.{built};
 ghost use Rattle.nsf_core.specs.Replies.{reply_by};
 ghost use Rattle.nsf_core.specs.declared.reply.BuildReply.TheVariants as reply;
 ghost use Rattle.shared.specs.Served.{WasServed};
-ghost use Rattle.loops.specs.Building.{HasAttempted, IsOutcome};
+ghost use Rattle.loops.specs.Building.{HasAttempted, HasStepped, IsOutcome};
 
 use crate::gate::{Gate, Point};
 use board::{BuildView, View};
@@ -33,9 +33,9 @@ pub(crate) enum Outcome {
     Nothing,
 }
 
-/// Makes steps of the builder, each under the lock anew, until one completes the index, and publishes how many attempts this call
-/// has made; no clause says that it is just as many. Where the index was complete before, it waits for the next one. After want of
-/// memory it tries again.
+/// Makes steps of the builder, each under the lock anew, until one completes the index, and publishes behind each attempt how many
+/// were made since the store was opened. Where the index was complete before, it waits for the next one. After want of memory it
+/// tries again.
 ///
 /// `Stopped` where the stop flag was read. Else the refusal is one of the core's `build_step`, but not `NoMemory`.
 pub fn build_loop<B: Group, R: Wait, G: Gate>(
@@ -50,21 +50,20 @@ pub fn build_loop<B: Group, R: Wait, G: Gate>(
     ensures done { IfOk result (λ ticket. ∥ WasServed B.site.opened Event.Build (built (reply.Done ticket)) ∥₁) }
     ensures why { IfErr result (λ e. ((e ≡ Stopped) × IsTrue view.new.stopped) ⊎ ((e ≢ NoMemory) × ∥ WasServed B.site.opened Event.Build (Refused e) ∥₁)) }
     ensures rises { build.old.progress ≤ build.new.progress }
-    ensures attempted { build.old.progress < build.new.progress → ∥ HasAttempted B.site.opened ∥₁ }
+    ensures attempted { build.old.progress < build.new.progress → ∥ HasAttempted B.site.opened build.new.progress ∥₁ }
     ensures board { build.new.board ≡ build.old.board }
     ensures view { view.new ≡ record view.old { stopped = view.new.stopped } }
 {
-    let mut attempts: u64 = 0;
     for _ in rt.forever() {
         if shared.board().stopped(view) {
             return Err(Error::Stopped);
         }
-        match outcome_of(build_step(rt, shared)) {
+        let (step, attempts) = build_step(rt, shared);
+        match outcome_of(step) {
             Outcome::Done(ticket) => return Ok(ticket),
             Outcome::Refused(error) => return Err(error),
             Outcome::Scanned => gate.at(Point::BuildScanned),
             Outcome::Attempted => {
-                attempts = attempts.saturating_add(1);
                 shared.board().raise_progress(build, attempts);
                 gate.at(Point::BuildAttempt);
             }
@@ -91,13 +90,14 @@ fn outcome_of(step: Result<BuildReply, Error>) -> Outcome
     }
 }
 
-// One step of the builder.
-fn build_step<B: Group, R: Wait>(rt: &R, shared: &Shared<B>) -> Result<BuildReply, Error>
-    ensures { ∥ WasServed B.site.opened Event.Build (reply_by built result) ∥₁ }
+// One step of the builder, and how many attempts were made since the store was opened, with it.
+fn build_step<B: Group, R: Wait>(rt: &R, shared: &Shared<B>) -> (Result<BuildReply, Error>, u64)
+    ensures { ∥ HasStepped B.site.opened (reply_by built result.0) result.1 ∥₁ }
 {
     let mut locked = shared.locked().lock(rt);
     locked.push_outbox(rt, shared.queue());
     let built = locked.build_step();
+    let attempts = locked.attempts();
     locked.push_outbox(rt, shared.queue());
-    built
+    (built, attempts)
 }

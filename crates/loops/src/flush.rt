@@ -23,6 +23,10 @@ use std::sync::Wait;
 use std::thread;
 use store_writer::{FlipReply, FlushReply, StepReply, kept_place};
 
+// After so many rounds the lock is taken though no record was popped: one that the queue refused may wait in the core, and nobody
+// else may call again.
+const LOOK_EVERY: u32 = 256;
+
 /// How far the copying of an image has come.
 #[derive(Clone, Copy)]
 pub(crate) enum Copying {
@@ -34,9 +38,9 @@ pub(crate) enum Copying {
     GivenUp,
 }
 
-/// Pops the records that wait, hands them in under the lock, writes them in groups, and publishes how far they are synced. Once half
-/// the slots of the log are open it takes an image, each chunk of it copied under the lock anew, and makes it current. After want
-/// of memory it tries again.
+/// Pops the records that wait, hands them in under the lock, writes them in groups, and publishes how far they are synced. Now and
+/// then it looks under the lock for records that the queue refused. Once half the slots of the log are open it takes an image, each
+/// chunk of it copied under the lock anew, and makes it current. After want of memory it tries again.
 ///
 /// It ends where the stop flag is read, or with `DeviceFailed` where the device failed, now or earlier, stop flag or not. What is
 /// held or waits then is not written. A crash at any moment leaves all records that were synced as the loop began (`goes_on`).
@@ -49,14 +53,15 @@ pub fn flush_loop<B: Group, D: Device, R: Wait, G: Gate>(
 ) -> Result<(), Error>
     requires part { part.old.published.board ≡ B.board }
     requires view { view.old.board ≡ B.board }
-    ensures goes_on { GoesOn D.history B.site.opened part.old part.new }
-    ensures through { RunsThrough D.history B.site.opened part.old part.new }
+    ensures goes_on { GoesOn D.history D.failures B.site.opened part.old part.new }
+    ensures through { RunsThrough D.history D.failures B.site.opened part.old part.new }
     ensures stopped { OnOk result (IsTrue view.new.stopped × (has_failed part.new.writer ≡ false)) }
     ensures failed { IfErr result (λ e. (e ≡ DeviceFailed) × (has_failed part.new.writer ≡ true)) }
     ensures view { view.new ≡ record view.old { stopped = view.new.stopped } }
 {
     part.stands();
     let mut copying = Copying::Idle;
+    let mut rounds: u32 = 0;
     for _ in rt.forever() {
         if part.has_failed() {
             return Err(Error::DeviceFailed);
@@ -64,7 +69,9 @@ pub fn flush_loop<B: Group, D: Device, R: Wait, G: Gate>(
         if shared.board().stopped(view) {
             return Ok(());
         }
-        let _ = round(rt, shared, part, &mut copying, gate);
+        rounds = rounds.wrapping_add(1);
+        let looks = rounds % LOOK_EVERY == 0;
+        let _ = round(rt, shared, part, &mut copying, looks, gate);
         thread::yield_now();
     }
     unreachable!()
@@ -76,39 +83,47 @@ fn round<B: Group, D: Device, R: Wait, G: Gate>(
     shared: &Shared<B>,
     part: &mut FlushPart<B, D>,
     copying: &mut Copying,
+    looks: bool,
     gate: &G,
 ) -> Result<(), Error>
     requires part { part.old.published.board ≡ B.board }
     requires copying { StandsBy copying.old part.old }
-    ensures goes_on { GoesOn D.history B.site.opened part.old part.new }
-    ensures through { RunsThrough D.history B.site.opened part.old part.new }
+    ensures goes_on { GoesOn D.history D.failures B.site.opened part.old part.new }
+    ensures through { RunsThrough D.history D.failures B.site.opened part.old part.new }
     ensures copying { StandsBy copying.new part.new }
 {
-    hand_in(rt, shared, part);
+    hand_in(rt, shared, part, looks);
     let is_full = write(shared, part, gate)?;
     copy(rt, shared, part, copying, is_full, gate)
 }
 
 // Pops the records that wait, and hands them in. What memory is wanting for waits for a later round.
-fn hand_in<B: Group, D: Device, R: Wait>(rt: &R, shared: &Shared<B>, part: &mut FlushPart<B, D>)
-    ensures goes_on { GoesOn D.history B.site.opened part.old part.new }
-    ensures through { RunsThrough D.history B.site.opened part.old part.new }
+fn hand_in<B: Group, D: Device, R: Wait>(
+    rt: &R,
+    shared: &Shared<B>,
+    part: &mut FlushPart<B, D>,
+    looks: bool,
+)
+    ensures goes_on { GoesOn D.history D.failures B.site.opened part.old part.new }
+    ensures through { RunsThrough D.history D.failures B.site.opened part.old part.new }
     ensures copying { (copying : CopyingValue) → StandsBy copying part.old → StandsBy copying part.new }
 {
-    let _ = take_in(rt, shared, part);
+    let _ = take_in(rt, shared, part, looks);
     part.stands();
 }
 
-// Takes the lock only where some were popped.
+// Takes the lock only where some were popped, or where it is to look.
 fn take_in<B: Group, D: Device, R: Wait>(
     rt: &R,
     shared: &Shared<B>,
     part: &mut FlushPart<B, D>,
+    looks: bool,
 ) -> Result<(), Error>
     ensures { TakesIn part.old part.new }
 {
     part.take(rt, shared.queue())?;
-    if !part.holds_some() {
+    let wanted = looks || part.holds_some();
+    if !wanted {
         return Ok(());
     }
     let mut locked = shared.locked().lock(rt);
@@ -122,8 +137,8 @@ fn write<B: Group, D: Device, G: Gate>(
     gate: &G,
 ) -> Result<bool, Error>
     requires { part.old.published.board ≡ B.board }
-    ensures goes_on { GoesOn D.history B.site.opened part.old part.new }
-    ensures through { RunsThrough D.history B.site.opened part.old part.new }
+    ensures goes_on { GoesOn D.history D.failures B.site.opened part.old part.new }
+    ensures through { RunsThrough D.history D.failures B.site.opened part.old part.new }
     ensures copying { (copying : CopyingValue) → StandsBy copying part.old → StandsBy copying part.new }
 {
     part.stands();
@@ -149,8 +164,8 @@ fn copy<B: Group, D: Device, R: Wait, G: Gate>(
 ) -> Result<(), Error>
     requires part { part.old.published.board ≡ B.board }
     requires copying { StandsBy copying.old part.old }
-    ensures goes_on { GoesOn D.history B.site.opened part.old part.new }
-    ensures through { RunsThrough D.history B.site.opened part.old part.new }
+    ensures goes_on { GoesOn D.history D.failures B.site.opened part.old part.new }
+    ensures through { RunsThrough D.history D.failures B.site.opened part.old part.new }
     ensures copying { StandsBy copying.new part.new }
 {
     part.stands();
@@ -183,8 +198,8 @@ fn copy_piece<B: Group, D: Device, R: Wait, G: Gate>(
     requires part { part.old.published.board ≡ B.board }
     requires copying { StandsBy copying.old part.old }
     requires due { has_failed part.old.writer ≡ false → IsDue (halves_of part.old.writer).geometry.pages place (image_of part.old.writer) }
-    ensures goes_on { GoesOn D.history B.site.opened part.old part.new }
-    ensures through { RunsThrough D.history B.site.opened part.old part.new }
+    ensures goes_on { GoesOn D.history D.failures B.site.opened part.old part.new }
+    ensures through { RunsThrough D.history D.failures B.site.opened part.old part.new }
     ensures copying { StandsBy copying.new part.new }
 {
     gate.at(Point::CopyStep);
@@ -202,8 +217,8 @@ fn copy_all<B: Group, D: Device, R: Wait, G: Gate>(
 ) -> Result<(), Error>
     requires part { part.old.published.board ≡ B.board }
     requires copying { StandsBy copying.old part.old }
-    ensures goes_on { GoesOn D.history B.site.opened part.old part.new }
-    ensures through { RunsThrough D.history B.site.opened part.old part.new }
+    ensures goes_on { GoesOn D.history D.failures B.site.opened part.old part.new }
+    ensures through { RunsThrough D.history D.failures B.site.opened part.old part.new }
     ensures copying { StandsBy copying.new part.new }
 {
     gate.at(Point::CopyStep);
@@ -219,8 +234,8 @@ fn copied_piece<B: Group, D: Device, R: Wait>(
     place: CopyPlace,
 ) -> Result<Chunk<Global>, Error>
     requires due { has_failed part.old.writer ≡ false → IsDue (halves_of part.old.writer).geometry.pages place (image_of part.old.writer) }
-    ensures goes_on { GoesOn D.history B.site.opened part.old part.new }
-    ensures through { RunsThrough D.history B.site.opened part.old part.new }
+    ensures goes_on { GoesOn D.history D.failures B.site.opened part.old part.new }
+    ensures through { RunsThrough D.history D.failures B.site.opened part.old part.new }
     ensures copying { (copying : CopyingValue) → StandsBy copying part.old → StandsBy copying part.new }
     ensures chunk { IfOk result (λ chunk. IsChunk (run_of B.site.opened part.new) part.new.writer chunk.number chunk.piece) }
     ensures at { IfOk result (λ chunk. ¬ MustStartAgain chunk.piece part.new.writer → IsAtPiece (halves_of part.new.writer).geometry.pages chunk.piece (image_of part.new.writer)) }
@@ -241,8 +256,8 @@ fn copied_whole<B: Group, D: Device, R: Wait>(
     shared: &Shared<B>,
     part: &mut FlushPart<B, D>,
 ) -> Result<Chunk<Global>, Error>
-    ensures goes_on { GoesOn D.history B.site.opened part.old part.new }
-    ensures through { RunsThrough D.history B.site.opened part.old part.new }
+    ensures goes_on { GoesOn D.history D.failures B.site.opened part.old part.new }
+    ensures through { RunsThrough D.history D.failures B.site.opened part.old part.new }
     ensures copying { (copying : CopyingValue) → StandsBy copying part.old → StandsBy copying part.new }
     ensures chunk { IfOk result (λ chunk. IsChunk (run_of B.site.opened part.new) part.new.writer chunk.number chunk.piece) }
     ensures at { IfOk result (λ chunk. IsAtPiece (halves_of part.new.writer).geometry.pages chunk.piece (image_of part.new.writer)) }
@@ -264,8 +279,8 @@ fn take_chunk<B: Group, D: Device>(
     requires copying { StandsBy copying.old part.old }
     requires chunk { IsChunk (run_of B.site.opened part.old) part.old.writer chunk.number chunk.piece }
     requires at { ¬ MustStartAgain chunk.piece part.old.writer → IsAtPiece (halves_of part.old.writer).geometry.pages chunk.piece (image_of part.old.writer) }
-    ensures goes_on { GoesOn D.history B.site.opened part.old part.new }
-    ensures through { RunsThrough D.history B.site.opened part.old part.new }
+    ensures goes_on { GoesOn D.history D.failures B.site.opened part.old part.new }
+    ensures through { RunsThrough D.history D.failures B.site.opened part.old part.new }
     ensures copying { StandsBy copying.new part.new }
 {
     part.stands();
@@ -291,8 +306,8 @@ fn flip<B: Group, D: Device>(
 ) -> Result<(), Error>
     requires part { part.old.published.board ≡ B.board }
     requires copying { StandsBy copying.old part.old }
-    ensures goes_on { GoesOn D.history B.site.opened part.old part.new }
-    ensures through { RunsThrough D.history B.site.opened part.old part.new }
+    ensures goes_on { GoesOn D.history D.failures B.site.opened part.old part.new }
+    ensures through { RunsThrough D.history D.failures B.site.opened part.old part.new }
     ensures copying { StandsBy copying.new part.new }
 {
     part.stands();

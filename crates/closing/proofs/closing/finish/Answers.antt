@@ -92,6 +92,13 @@ returns-in-Ok-clause-horizon g c =
     let from = subst (λ (ss : List SeatValue). (count : ℕ) (all : AreAllCommits (sessions_of ss) count) → commits ≡ map (λ (e : ℕ × CommitValue). e.1) all.commits) c.compare_all.ensures.seats c.in-Ok.ensures.gathered in
     c.synced-horizon.ensures ∙ horizon_closed history z.opened seats l book under.shared (popped_by old) popped (value_of c.into_parts-core.result.0) core c.in-Ok.ensures.none_waits commits from c.each_hold.ensures.last (halves_of f.writer).geometry f.handed (synced_of f.writer) c.in-Ok.ensures.all c.in-Ok.ensures.synced
 
+pub returns-in-Ok-clause-sound : goal.returns-in-Ok-clause-sound
+returns-in-Ok-clause-sound g c =
+    let z = g.B.Site.site in
+    let writes : WritesOn g.D.Device.history g.D.Device.failures z.opened c.args.flush c.close.new.flush =
+    subst (λ (x : FlushValue _). WritesOn g.D.Device.history g.D.Device.failures z.opened x c.close.new.flush) c.settle_all.ensures.same c.close.ensures.writes in
+    writes.stays c.in-Ok.ensures.sound
+
 pub returns-in-Ok-clause-images : goal.returns-in-Ok-clause-images
 returns-in-Ok-clause-images g c =
     let history = g.D.Device.history in

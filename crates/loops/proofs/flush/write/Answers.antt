@@ -1,48 +1,53 @@
-use Rattle.std.proofs.Common.{ap}
-use Rattle.flip_image.specs.Layout.{HalvesValue}
-use Rattle.flusher.proofs.Going.{goes_by_call, goes_nowhere}
-use Rattle.flusher.proofs.Keeping.{flush_rises}
+use Rattle.flusher.proofs.Going.{goes_nowhere}
 use Rattle.loops.proofs.Rounds.{flush_before, stands_by_flush}
-use Rattle.loops.proofs.Through.{through_call, through_none}
+use Rattle.loops.proofs.Through.{by_flush, goes_by, through_call, through_none}
 use Rattle.loops.proofs.flush.write.Goals as goal
 
 pub returns-then-synced-last_handed-clause-goes_on : goal.returns-then-synced-last_handed-clause-goes_on
-returns-then-synced-last_handed-clause-goes_on g c = goes_nowhere g.D.Device.history g.B.Site.site.opened c.args.part.now c.stands.ensures
+returns-then-synced-last_handed-clause-goes_on g c = goes_nowhere g.D.Device.history g.D.Device.failures g.B.Site.site.opened c.args.part.now c.stands.ensures
 
 pub returns-then-synced-last_handed-clause-through : goal.returns-then-synced-last_handed-clause-through
-returns-then-synced-last_handed-clause-through g c = through_none g.D.Device.history g.B.Site.site.opened c.args.part.now
+returns-then-synced-last_handed-clause-through g c = through_none g.D.Device.history g.D.Device.failures g.B.Site.site.opened c.args.part.now
 
 pub returns-in_err-reply-clause-goes_on : goal.returns-in_err-reply-clause-goes_on
 returns-in_err-reply-clause-goes_on g c =
+    let history = g.D.Device.history in
+    let failures = g.D.Device.failures in
+    let o = g.B.Site.site.opened in
     let old = c.args.part.now in
     let new = c.flush-flushed.new.self in
     let is = c.flush-flushed.ensures in
-    goes_by_call g.D.Device.history g.B.Site.site.opened old new c.stands.ensures.horizon is.publishes (ap (λ (h : HalvesValue). h.geometry) is.around.halves-are)
-    (flush_rises g.D.Device.failures old.writer new.writer c.flush-flushed.result is.flushed is.kept) is.images
+    goes_by history failures o old new c.stands.ensures.horizon (by_flush history failures o old new is.publishes is.images is.later c.flush-flushed.result is.around.halves-are is.flushed is.sound is.err is.kept is.left)
 
 pub returns-in_err-reply-clause-through : goal.returns-in_err-reply-clause-through
 returns-in_err-reply-clause-through g c =
+    let history = g.D.Device.history in
+    let failures = g.D.Device.failures in
+    let o = g.B.Site.site.opened in
     let old = c.args.part.now in
     let new = c.flush-flushed.new.self in
     let is = c.flush-flushed.ensures in
-    through_call g.D.Device.history g.B.Site.site.opened old new is.publishes (ap (λ (h : HalvesValue). h.geometry) is.around.halves-are)
-    (flush_rises g.D.Device.failures old.writer new.writer c.flush-flushed.result is.flushed is.kept) is.images
+    through_call history failures o old new (by_flush history failures o old new is.publishes is.images is.later c.flush-flushed.result is.around.halves-are is.flushed is.sound is.err is.kept is.left)
 
 pub returns-clause-goes_on : goal.returns-clause-goes_on
 returns-clause-goes_on g c =
+    let history = g.D.Device.history in
+    let failures = g.D.Device.failures in
+    let o = g.B.Site.site.opened in
     let old = c.args.part.now in
     let new = c.flush-flushed.new.self in
     let is = c.flush-flushed.ensures in
-    goes_by_call g.D.Device.history g.B.Site.site.opened old new c.stands.ensures.horizon is.publishes (ap (λ (h : HalvesValue). h.geometry) is.around.halves-are)
-    (flush_rises g.D.Device.failures old.writer new.writer c.flush-flushed.result is.flushed is.kept) is.images
+    goes_by history failures o old new c.stands.ensures.horizon (by_flush history failures o old new is.publishes is.images is.later c.flush-flushed.result is.around.halves-are is.flushed is.sound is.err is.kept is.left)
 
 pub returns-clause-through : goal.returns-clause-through
 returns-clause-through g c =
+    let history = g.D.Device.history in
+    let failures = g.D.Device.failures in
+    let o = g.B.Site.site.opened in
     let old = c.args.part.now in
     let new = c.flush-flushed.new.self in
     let is = c.flush-flushed.ensures in
-    through_call g.D.Device.history g.B.Site.site.opened old new is.publishes (ap (λ (h : HalvesValue). h.geometry) is.around.halves-are)
-    (flush_rises g.D.Device.failures old.writer new.writer c.flush-flushed.result is.flushed is.kept) is.images
+    through_call history failures o old new (by_flush history failures o old new is.publishes is.images is.later c.flush-flushed.result is.around.halves-are is.flushed is.sound is.err is.kept is.left)
 
 pub returns-in_err-reply-clause-copying : goal.returns-in_err-reply-clause-copying
 returns-in_err-reply-clause-copying g c = λ copying was.

@@ -1,6 +1,10 @@
-use Rattle.std.proofs.Common.{[], length, ap, ◌≡◌, ◌∙◌}
+use Rattle.std.proofs.Common.{[], length, ap, map, ◌≡◌, ◌∙◌}
+use Rattle.nsf_core.specs.Value.{value_of}
+use Rattle.registry.specs.Halves.{shown}
 use Rattle.tail.specs.Ends.{Handed}
+use Rattle.flusher.specs.Part.{MayOpenAgain}
 use Rattle.flusher.proofs.Keeping.{can_hand_in, kept_by_taking, last_then}
+use Rattle.flusher.proofs.Openings.{popped_open}
 use Rattle.flusher.proofs.part.FlushPart.hand_in.Goals as goal
 
 pub hand_in-requires : goal.hand_in-requires
@@ -14,7 +18,9 @@ invariant_of-self g c =
     let all : c.compare.new.popper.records ≡ c.self.inside.popper.records = ap (λ (p : Handed). p.records) c.compare.ensures.popper in
     let none : c.replace-held.new.dest.items ≡ [] = ap (λ v. v.items) c.replace-held.ensures.after ∙ c.new.ensures.items in
     let size : c.len-more.result ≡ length c.replace-held.result.items = c.len-more.ensures ∙ c.replace-held.result.ok.0 in
-    let kept = kept_by_taking g.D.Device.history g.B.Site.site.opened _ _ _ _ (c.self.invariant.1, c.self.invariant.2) c.compare.ensures.following c.compare.ensures.fits c.goes_on.ensures c.longer_run.ensures.next _ same c.compare.new.popper.records c.replace-held.new.dest.items
+    let l = c.args.locked.now in
+    let opens : MayOpenAgain g.B.Site.site.opened c.self.inside.popper.records = popped_open g.B.Site.site.opened (value_of l.core) l.pusher.records (map shown l.book.items) c.self.inside.popper.records c.compare.ensures.beginning l.shared in
+    let kept = kept_by_taking g.D.Device.history g.B.Site.site.opened _ _ _ _ (c.self.invariant.1, c.self.invariant.2) c.compare.ensures.following c.compare.ensures.fits c.goes_on.ensures c.longer_run.ensures.next _ same opens c.compare.new.popper.records c.replace-held.new.dest.items
     c.hand_in.new.self all none c.in-Ok.ensures.writer c.hand_in.ensures.synced c.hand_in.ensures.failed in (
       ap (λ (p : Handed). p.queue) c.compare.ensures.popper ∙ c.self.invariant.0,
       kept.0,
