@@ -1,1 +1,2 @@
+mod Again
 mod Opened

@@ -1,18 +1,20 @@
 -- What a store is opened with, and what its threads begin with.
 use Rattle.std.specs.FinMap.{len}
-use Rattle.std.specs.Prelude.{[], false, ◌≡◌, ◌≤◌}
+use Rattle.std.specs.Prelude.{[], false, ℕ, ◌≡◌, ◌≤◌}
 use Rattle.std.specs.declared.alloc.Global.{Global}
 use Rattle.atomic_table.specs.Seated.{TableId}
 use Rattle.records.specs.GeometryValue.{GeometryValue}
 use Rattle.model.specs.Given.{Given, opening_cells}
 use Rattle.core_model.specs.Histories.{CanOpen, Opened}
-use Rattle.sector_device.specs.Disk.{Image}
+use Rattle.sector_device.specs.Disk.{Image, IsSynced}
 use Rattle.sector_device.specs.History.{History}
 use Rattle.store_reader.specs.Contents.{Gives}
 use Rattle.store_writer.specs.declared.writer.Writer.{Writer}
 use Rattle.store_writer.specs.Parts.{halves_of, has_failed, synced_of}
 use Rattle.store_writer.specs.Writer.{IsWriter, opened_run}
 use Rattle.flusher.specs.Part.{FlushValue}
+use Rattle.locked_core.specs.Names.{Names}
+use Rattle.restart.specs.Reopening.{IsTurned}
 use Rattle.restart.specs.Store.{over}
 
 -- A store on a device with this content opens with this: with what the content gives, in a store of its geometry.
@@ -34,7 +36,7 @@ pub record IsNewFlusher {D : Type 0} (board : TableId) (o : Opened) (f : FlushVa
   pub synced : synced_of f.writer ≡ o.given.last
   pub sound : has_failed f.writer ≡ false
 
--- A writer that has got no record yet, over what was opened. (No public clause cites this.)
+-- A writer that has got no record yet, over what was opened.
 pub record IsNewWriter {D : Type 0} (history : D → History) (o : Opened) (w : Writer D Global) : Type 0 where
   pub writer : IsWriter history (opened_run (halves_of w) o.given.last (opening_cells o.given)) o.given.last w
   pub pages : (halves_of w).geometry.pages ≡ o.pages
@@ -42,3 +44,18 @@ pub record IsNewWriter {D : Type 0} (history : D → History) (o : Opened) (w : 
   pub fits : len o.given.entries ≤ o.places
   pub synced : synced_of w ≡ o.given.last
   pub sound : has_failed w ≡ false
+
+-- A store that is open, before its threads have it: what its seats, its queue and their table are called, with what it was opened
+-- with; what its board is called; and its device.
+pub record StoreValue (D : Type 0) : Type 0 where
+  pub site : Names
+  pub board : TableId
+  pub device : D
+
+-- So many seats are open over what the device gave, which was written back as a restart does it; no call of the device failed.
+pub record IsOpenedOver {D : Type 0} (history : D → History) (failures : D → ℕ) (before : D) (count : ℕ) (s : StoreValue D) : Type 0 where
+  pub seats : s.site.seats ≡ count
+  pub opened : Opens (history before).disk.content s.site.opened
+  pub device : IsTurned history before s.device
+  pub synced : IsSynced (history s.device).disk
+  pub quiet : failures s.device ≡ failures before

@@ -1,10 +1,15 @@
 //! Devices whose store may be opened.
-ghost use Rattle.std.specs.Prelude.{◌≡◌, ◌↔◌, ◌⊎◌, ◌<◌, ◌≤◌, ℕ, length, Err, IfErr, OnOk};
+ghost use Rattle.std.specs.Prelude.{◌≡◌, ◌↔◌, ◌⊎◌, ◌<◌, ◌≤◌, ℕ, List, length, Err, IfErr, OnOk};
 ghost use Rattle.sector_device.specs.Disk.{Image, IsSynced};
-ghost use Rattle.records.specs.GeometryValue.{sectors_of};
+ghost use Rattle.records.specs.GeometryValue.{GeometryValue, sectors_of};
+ghost use Rattle.records.specs.RecordValue.{RecordValue};
+ghost use Rattle.core_model.specs.Histories.{CanOpen, Opened};
 ghost use Rattle.flip_image.specs.Store.{AreGatesClosed, IsDeviceFailure, IsFormatted};
 ghost use Rattle.flip_image.specs.declared.half.Half.{Half};
 ghost use Rattle.restart.specs.Store.{Past, Survives};
+ghost use Rattle.flusher.specs.Part.{GivesBeginning};
+ghost use Rattle.shared.specs.Seats.{SeatValue};
+ghost use Rattle.closing.specs.Closing.{GivesSome};
 ghost use Rattle.threads.specs.Openings.{IsOpenable};
 
 use flip_image::Halves;
@@ -41,6 +46,15 @@ pub fn format_store<D: Device>(device: &mut D, geometry: Geometry) -> Result<(),
 /// A law: what a crash left of a run may be opened.
 pub fn left_by_a_run<A: Allocator>()
     ensures { (past : Past A) (floor : ℕ) (image : Image) → Survives past floor image → IsOpenable image }
+{
+    one_answer();
+}
+
+/// A law: what a crash left of a store that threads write may be opened again, while the flusher writes (`flushed`, of what `flusher`
+/// and `loops` leave) and at the end (`ended`, of what `finish` leaves, whatever it answers).
+pub fn left_by_threads()
+    ensures flushed { (o : Opened) (g : GeometryValue) (handed : List RecordValue) (floor : ℕ) (image : Image) → CanOpen o → g.pages ≡ o.pages → g.entries ≡ o.places → GivesBeginning o g handed floor image → IsOpenable image }
+    ensures ended { (o : Opened) (g : GeometryValue) (seats : List SeatValue) (popped : List RecordValue) (floor : ℕ) (image : Image) → g.pages ≡ o.pages → g.entries ≡ o.places → ∥ GivesSome o g seats popped floor image ∥₁ → IsOpenable image }
 {
     one_answer();
 }

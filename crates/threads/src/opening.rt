@@ -1,0 +1,92 @@
+//! A store opened for many threads.
+ghost use Rattle.std.specs.Prelude.{◌≡◌, IfErr, IfOk};
+ghost use Rattle.records.specs.declared.error.Error.TheVariants.{NoMemory};
+ghost use Rattle.restart.specs.Reopening.{IsNotOpened};
+ghost use Rattle.shared.specs.Seats.{AreNewSeats};
+ghost use Rattle.store_writer.specs.Parts.{device_of};
+ghost use Rattle.threads.specs.Openings.{IsNewFlusher, IsOpenable, IsOpenedOver};
+
+use crate::parts::Parts;
+use crate::store::OpenStore;
+use flusher::FlushPart;
+use records::Error;
+use restart::restart;
+use sector_device::Device;
+use shared::{Group, Shared, open};
+use std::alloc::Global;
+
+/// Opens the store on the device, as `restart` does, for so many threads with a seat each.
+///
+/// What the device gives must be something that a core may begin with, as of a device that was formatted, and then written by
+/// this engine, or by threads over it (`format_store`, `left_by_a_run`, `left_by_threads`).
+///
+/// The errors are those of `restart`, and `NoMemory`. The device is given back then, and gives what it gave; a crash at any moment
+/// of the call leaves what one before could, or what gives the same (`refused`).
+pub fn open_store<D: Device>(
+    alloc: Global,
+    device: D,
+    seats: usize,
+) -> Result<OpenStore<D>, (Error, D)>
+    requires opens { IsOpenable (D.history device).disk.content }
+    ensures opened { IfOk result (IsOpenedOver D.history D.failures device seats) }
+    ensures refused { IfErr result (λ r. IsNotOpened D.history D.failures device r.1 r.0) }
+{
+    let (core, writer) = match restart(alloc, device) {
+        Ok(engine) => match engine.into_parts() {
+            Ok(parts) => parts,
+            Err(engine) => return Err((Error::NoMemory, engine.into_device())),
+        },
+        Err(refused) => return Err(refused),
+    };
+    match open(alloc, core, seats) {
+        Ok(opening) => Ok(OpenStore {
+            alloc,
+            opening,
+            writer,
+        }),
+        Err(error) => Err((error, writer.into_device())),
+    }
+}
+
+impl<D: Device> OpenStore<D> {
+    /// What the threads share, and what each of them has: new seats, each at its number; the part of the flusher, which has popped
+    /// nothing, over the device with all of it synced; and the builder's view.
+    ///
+    /// The one error is `NoMemory`, and the device is given back then, as it is.
+    pub fn start<B: Group>(self) -> Result<(Shared<B>, Parts<B, D>), (Error, D)>
+        requires names { self.site ≡ B.site }
+        requires board { self.board ≡ B.board }
+        ensures seats { IfOk result (λ r. AreNewSeats B.board B.site.seats r.1.seats.items) }
+        ensures flush { IfOk result (λ r. IsNewFlusher B.board B.site.opened r.1.flush) }
+        ensures device { IfOk result (λ r. device_of r.1.flush.writer ≡ self.device) }
+        ensures build { IfOk result (λ r. r.1.build ≡ record { board = B.board; progress = 0 }) }
+        ensures no_memory { IfErr result (λ r. r.0 ≡ NoMemory) }
+        ensures back { IfErr result (λ r. r.1 ≡ self.device) }
+    {
+        let OpenStore {
+            alloc,
+            opening,
+            writer,
+        } = self;
+        match opening.start::<B>() {
+            Ok((shared, parts)) => {
+                let shared::Parts {
+                    seats,
+                    popper,
+                    flush,
+                    build,
+                } = parts;
+                let flush = FlushPart::new(alloc, popper, writer, flush);
+                Ok((
+                    shared,
+                    Parts {
+                        seats,
+                        flush,
+                        build,
+                    },
+                ))
+            }
+            Err(refused) => Err((refused, writer.into_device())),
+        }
+    }
+}
