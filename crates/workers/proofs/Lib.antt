@@ -1,0 +1,2 @@
+mod Orders
+mod Refused

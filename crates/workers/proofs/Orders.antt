@@ -1,0 +1,91 @@
+-- Seats in their order.
+use Rattle.std.proofs.Common.{◌≡◌, ◌⊎◌, ◌∙◌, ◌+◌, ◌<◌, ◌++◌, ◌∷◌, ℕ, zero, suc, List, [], Some, Result, Ok, Err, IfOk, subst, length, map, inl, inr, ⊎_elim, refl, sym, ap, arith, length-append}
+use Rattle.std.proofs.lemmas.List.{length-map}
+use Rattle.std.proofs.lemmas.Option.{get_or_from_slice_get, slice_get_within}
+use Rattle.std.specs.Prelude.{slice_get, slice_index_or}
+use Rattle.std.specs.declared.vec.Vec.{Vec}
+use Rattle.atomic_table.specs.Seated.{TableId}
+use Rattle.closing.specs.Gathered.{AreAllSeats}
+use Rattle.shared.specs.Seats.{AreNewSeats, SeatValue}
+
+-- the last of a list with one more
+get_last : {X : Type 0} (xs : List X) (x : X) → slice_get (xs ++ x ∷ []) (length xs) ≡ Some x
+get_last [] x = refl
+get_last (y ∷ ys) x = get_last ys x
+
+-- and the others
+get_first : {X : Type 0} (xs : List X) (x y : X) (k : ℕ) → slice_get xs k ≡ Some y → slice_get (xs ++ x ∷ []) k ≡ Some y
+get_first [] x y k at = absurd cc
+get_first (z ∷ zs) x y zero at = at
+get_first (z ∷ zs) x y (suc k) at = get_first zs x y k at
+
+-- which there are no more of
+get_either : {X : Type 0} (xs : List X) (x y : X) (k : ℕ) → slice_get (xs ++ x ∷ []) k ≡ Some y → (slice_get xs k ≡ Some y) ⊎ ((k ≡ length xs) × (y ≡ x))
+get_either [] x y zero at = inr (refl, cc)
+get_either [] x y (suc k) at = absurd cc
+get_either (z ∷ zs) x y zero at = inl at
+get_either (z ∷ zs) x y (suc k) at = ⊎_elim (λ early. inl early) (λ last. inr (ap suc last.0, last.1)) (get_either zs x y k at)
+
+-- what is at a place of a list
+some_at : {X : Type 0} (xs : List X) (k : ℕ) → k < length xs → (x : X) × (slice_get xs k ≡ Some x)
+some_at [] k within = absurd (omega (arith, within))
+some_at (x ∷ xs) zero within = (x, refl)
+some_at (x ∷ xs) (suc k) within = some_at xs k (omega (arith, within))
+
+-- and of what comes of it
+of_mapped : {X Y : Type 0} (f : X → Y) (xs : List X) (k : ℕ) (y : Y) → slice_get (map f xs) k ≡ Some y → (x : X) × (slice_get xs k ≡ Some x) × (f x ≡ y)
+of_mapped f [] k y at = absurd cc
+of_mapped f (x ∷ xs) zero y at = (x, refl, cc)
+of_mapped f (x ∷ xs) (suc k) y at = of_mapped f xs k y at
+
+in_mapped : {X Y : Type 0} (f : X → Y) (xs : List X) (k : ℕ) (x : X) → slice_get xs k ≡ Some x → slice_get (map f xs) k ≡ Some (f x)
+in_mapped f [] k x at = absurd cc
+in_mapped f (y ∷ ys) zero x at = cc
+in_mapped f (y ∷ ys) (suc k) x at = in_mapped f ys k x at
+
+-- one seat more, of the next number
+pub one_more : (count : ℕ) (seats : List SeatValue) (s : SeatValue) → AreAllSeats count seats → s.number ≡ count → AreAllSeats (count + 1) (seats ++ s ∷ [])
+one_more count seats s all next = record {
+  counted = length-append seats (s ∷ []) ∙ ap (λ (n : ℕ). n + 1) all.counted;
+  each = λ k x at. ⊎_elim (λ early. all.each k x early) (λ last. ap (λ (z : SeatValue). z.number) last.1 ∙ (next ∙ (sym all.counted ∙ sym last.0))) (get_either seats s x k at);
+}
+
+-- new seats but for the last of them
+pub all_but_last : (board : TableId) (count : ℕ) (seats : List SeatValue) (s : SeatValue) → AreNewSeats board count (seats ++ s ∷ []) → AreAllSeats (length seats) seats × (s.number ≡ length seats) × (length seats + 1 ≡ count)
+all_but_last board count seats s new = (
+  record { counted = refl; each = λ k x at. (new.each k x (get_first seats s x k at)).0 },
+  (new.each (length seats) s (get_last seats s)).0,
+  sym (length-append seats (s ∷ [])) ∙ new.counted,
+)
+
+-- what has the same numbers at the same places
+pub kept_in_order : {X Y : Type 0} (of_x : X → SeatValue) (of_y : Y → SeatValue) (count : ℕ) (xs : List X) (ys : List Y) → length ys ≡ length xs
+    → ((k : ℕ) (x : X) (y : Y) → k < length xs → (of_y (slice_index_or ys k y)).number ≡ (of_x (slice_index_or xs k x)).number)
+    → AreAllSeats count (map of_x xs) → AreAllSeats count (map of_y ys)
+kept_in_order of_x of_y count xs ys same numbers all = record {
+  counted = length-map ys of_y ∙ (same ∙ (sym (length-map xs of_x) ∙ all.counted));
+  each = λ k s at.
+      let y = of_mapped of_y ys k s at in
+      let within : k < length xs = omega (arith, slice_get_within ys k y.0 y.1, same) in
+      let x = some_at xs k within in
+      let y_is = get_or_from_slice_get ys k y.0 y.0 y.1 in
+      let x_is = get_or_from_slice_get xs k x.0 x.0 x.1 in
+      sym (ap (λ (z : SeatValue). z.number) y.2)
+      ∙ (sym (ap (λ z. (of_y z).number) y_is)
+      ∙ (numbers k x.0 y.0 within
+      ∙ (ap (λ z. (of_x z).number) x_is ∙ all.each k (of_x x.0) (in_mapped of_x xs k x.0 x.1))));
+}
+
+-- what the writers leave, where they have the seats of their jobs, and the last seat
+pub all_left : {J W X Y E : Type 0} (of_j : J → SeatValue) (of_w : W → SeatValue) (count n : ℕ) (jobs : Vec J X) (last : SeatValue) (left : Result (Vec W Y) E)
+    → AreAllSeats n (map of_j jobs.items) → last.number ≡ n → n + 1 ≡ count
+    → IfOk left (λ v. v.len ≡ jobs.len)
+    → IfOk left (λ v. (k : ℕ) (x : J) (y : W) → k < jobs.len → (of_w (slice_index_or v.items k y)).number ≡ (of_j (slice_index_or jobs.items k x)).number)
+    → IfOk left (λ v. AreAllSeats count (map of_w v.items ++ last ∷ []))
+all_left of_j of_w count n jobs last (Ok v) all next more same numbers =
+    subst (λ (m : ℕ). AreAllSeats m (map of_w v.items ++ last ∷ [])) more
+    (one_more n (map of_w v.items) last
+    (kept_in_order of_j of_w n jobs.items v.items (sym v.ok.0 ∙ (same ∙ jobs.ok.0))
+    (λ k x y within. numbers k x y (subst (λ (m : ℕ). k < m) (sym jobs.ok.0) within)) all)
+    next)
+all_left of_j of_w count n jobs last (Err e) all next more same numbers = tt

@@ -1,0 +1,387 @@
+//! The threads of the program.
+ghost use Rattle.std.specs.Prelude.{◌≡◌, ◌<◌, ◌++◌, ◌∷◌, [], ℕ, IfErr, IfOk, None, map, slice_index_or, true, vec_len};
+ghost use Rattle.records.specs.declared.error.Error.TheVariants.{DeviceFailed};
+ghost use Rattle.store_writer.specs.Parts.{has_failed};
+ghost use Rattle.closing.specs.Gathered.{AreAllSeats};
+ghost use Rattle.shared.specs.Seats.{AreNewSeats};
+ghost use Rattle.core_model.specs.Histories.{Opened};
+ghost use Rattle.threads.specs.Openings.{IsNewFlusher, IsOpenable, Opens};
+ghost use Rattle.workers.specs.Left.{IsLeft, IsWhole, first_of};
+
+use beside::{Ended, run_beside};
+use board::{BuildView, View};
+use closing::finish;
+use flusher::FlushPart;
+use loops::Gate;
+use records::Error;
+use sector_device::Device;
+use shared::{Ack, Group, Seat, Shared};
+use std::alloc::{AllocError, Global};
+use std::io::Write;
+use std::marker::Brand;
+use std::sync::Wait;
+use std::thread::{Threads, join, map_vec};
+use threads::{OpenStore, Parts, open_store};
+use writers::{Acknowledged, Written, set_up, watch, write};
+
+/// The threads: a writer for each seat but the last, and the three loops. Each writer makes so many transactions. The builder's
+/// progress is shown where there are `errors` for it.
+#[derive(Drop)]
+pub struct Team<'a, R, G, E> {
+    pub rt: &'a R,
+    pub alloc: Global,
+    pub gate: &'a G,
+    pub changes: u16,
+    pub errors: Option<E>,
+}
+
+/// What was refused: to a writer, which is the first of those that were refused something; to the flusher, to the builder; and at the
+/// end.
+#[derive(Clone, Copy, Debug, PartialEq, Eq)]
+pub struct Refusals {
+    pub writer: Option<Error>,
+    pub flusher: Option<Error>,
+    pub builder: Option<Error>,
+    pub end: Option<Error>,
+}
+
+impl Refusals {
+    /// The first of them that there is.
+    pub fn any(&self) -> Option<Error>
+        ensures { result ≡ first_of (self.now.writer ∷ self.now.flusher ∷ self.now.builder ∷ self.now.end ∷ []) }
+    {
+        self.writer.or(self.flusher).or(self.builder).or(self.end)
+    }
+}
+
+/// What the threads leave.
+#[derive(Drop)]
+pub struct Worked<D> {
+    pub device: D,
+    /// Each row whose commit was acknowledged.
+    pub acknowledged: Vec<Acknowledged>,
+    pub refusals: Refusals,
+}
+
+// What the writers leave, in one hand.
+#[derive(Drop)]
+struct Gathered<B: Group> {
+    seats: Vec<Seat<B>>,
+    acks: Vec<Ack<B>>,
+    acknowledged: Vec<Acknowledged>,
+    refusal: Option<Error>,
+}
+
+// A seat, and the number of its writer.
+#[derive(Drop)]
+struct Job<B: Group> {
+    seat: Seat<B>,
+    writer: u16,
+}
+
+fn jobs_of<B: Group>(alloc: Global, seats: Vec<Seat<B>>) -> Result<Vec<Job<B>>, AllocError>
+    ensures { IfOk result (λ jobs. map (λ j. j.seat) jobs.items ≡ seats.items) }
+{
+    let mut jobs = Vec::with_capacity(alloc, seats.len())?;
+    let mut writer: u16 = 0;
+    for seat in seats {
+        jobs.push(Job { seat, writer })?;
+        writer = writer.wrapping_add(1);
+    }
+    Ok(jobs)
+}
+
+// Runs all writers, each in a thread.
+fn write_all<B: Group + Send + Sync, R: Threads + Wait + Sync>(
+    rt: &R,
+    alloc: Global,
+    shared: &Shared<B>,
+    jobs: Vec<Job<B>>,
+    changes: u16,
+) -> Result<Vec<Written<B>>, AllocError>
+    ensures len { IfOk result (λ v. vec_len v ≡ vec_len jobs) }
+    ensures numbers { IfOk result (λ v. (k : ℕ) (job : _) (writer : _) → k < vec_len jobs → (slice_index_or v.items k writer).seat.number ≡ (slice_index_or jobs.items k job).seat.number) }
+{
+    map_vec(
+        rt,
+        jobs,
+        &|job: Job<B>| write(rt, alloc, shared, job.seat, job.writer, changes),
+    )
+}
+
+// Shows the builder's progress.
+fn show_progress<B: Group, R: Wait, E: Write + Drop>(
+    rt: &R,
+    shared: &Shared<B>,
+    mut view: View,
+    mut errors: E,
+)
+    requires { view.board ≡ B.board }
+{
+    watch(rt, shared, &mut view, &mut errors);
+}
+
+// Runs all writers, and shows the builder's progress beside them, if it is to be shown.
+fn write_and_watch<B: Group + Send + Sync, R: Threads + Wait + Sync, E: Write + Send + Drop>(
+    rt: &R,
+    alloc: Global,
+    shared: &Shared<B>,
+    jobs: Vec<Job<B>>,
+    changes: u16,
+    view: View,
+    errors: Option<E>,
+) -> Result<Vec<Written<B>>, AllocError>
+    requires { view.board ≡ B.board }
+    ensures len { IfOk result (λ v. vec_len v ≡ vec_len jobs) }
+    ensures numbers { IfOk result (λ v. (k : ℕ) (job : _) (writer : _) → k < vec_len jobs → (slice_index_or v.items k writer).seat.number ≡ (slice_index_or jobs.items k job).seat.number) }
+{
+    match errors {
+        None => write_all(rt, alloc, shared, jobs, changes),
+        Some(errors) => {
+            let ((), written) = join(
+                rt,
+                move ||
+                    requires { view.board ≡ B.board }
+                { show_progress(rt, shared, view, errors) },
+                move || write_all(rt, alloc, shared, jobs, changes),
+            );
+            written
+        }
+    }
+}
+
+// Puts acknowledgements behind others.
+fn add_acks<B: Group>(acks: &mut Vec<Ack<B>>, more: Vec<Ack<B>>) -> Result<(), AllocError> {
+    for ack in more {
+        acks.push(ack)?;
+    }
+    Ok(())
+}
+
+// The seats of all writers in order, with the last one behind them, and what the writers were told.
+fn gather<B: Group>(
+    alloc: Global,
+    written: Vec<Written<B>>,
+    last: Seat<B>,
+) -> Result<Gathered<B>, AllocError>
+    ensures { IfOk result (λ g. g.seats.items ≡ map (λ w. w.seat) written.items ++ last ∷ []) }
+{
+    let mut seats = Vec::with_capacity(alloc, written.len())?;
+    let mut acks = Vec::new(alloc);
+    let mut acknowledged = Vec::new(alloc);
+    let mut refusal = None;
+    for writer in written {
+        let Written {
+            seat,
+            acks: more,
+            acknowledged: made,
+            refused,
+        } = writer;
+        seats.push(seat)?;
+        add_acks(&mut acks, more)?;
+        acknowledged.extend_from_slice(&made)?;
+        refusal = refusal.or(refused);
+    }
+    seats.push(last)?;
+    Ok(Gathered {
+        seats,
+        acks,
+        acknowledged,
+        refusal,
+    })
+}
+
+// What is left where the threads could not begin, or where there was no memory for what they left.
+fn refused<B: Group, D: Device>(alloc: Global, flush: FlushPart<B, D>, error: Error) -> Worked<D>
+    ensures { IsLeft D.history B.site.opened result }
+{
+    let (device, _) = flush.into_parts();
+    Worked {
+        device,
+        acknowledged: Vec::new(alloc),
+        refusals: Refusals {
+            writer: None,
+            flusher: None,
+            builder: None,
+            end: Some(error),
+        },
+    }
+}
+
+// The device, once all that was made is written out, or why it isn't.
+fn close<B: Group, D: Device, R: Wait>(
+    rt: &R,
+    alloc: Global,
+    shared: Shared<B>,
+    seats: Vec<Seat<B>>,
+    flush: FlushPart<B, D>,
+    acks: Vec<Ack<B>>,
+) -> (D, Option<Error>)
+    requires seats { AreAllSeats B.site.seats seats.items }
+    requires flush { flush.published.board ≡ B.board }
+    ensures whole { result.1 ≡ None → IsWhole D.history B.site.opened result.0 }
+{
+    match finish(rt, alloc, shared, seats, flush, acks) {
+        Ok(closed) => (closed.device, None),
+        Err((error, device)) => (device, Some(error)),
+    }
+}
+
+// What is done once writers and loops have ended.
+fn end<B: Group, D: Device + Drop, R: Wait>(
+    rt: &R,
+    alloc: Global,
+    shared: Shared<B>,
+    ended: Ended<B, D, Result<Vec<Written<B>>, AllocError>>,
+) -> Worked<D>
+    requires seats { IfOk ended.clients (λ v. AreAllSeats B.site.seats (map (λ w. w.seat) v.items ++ ended.seat ∷ [])) }
+    requires flush { ended.flush.published.board ≡ B.board }
+    requires failed { IfErr ended.flushed (λ e. (e ≡ DeviceFailed) × (has_failed ended.flush.writer ≡ true)) }
+    ensures { IsLeft D.history B.site.opened result }
+{
+    let Ended {
+        clients,
+        seat,
+        flush,
+        flushed,
+        built,
+    } = ended;
+    let Ok(written) = clients else {
+        return refused(alloc, flush, Error::NoMemory);
+    };
+    let gathered = match gather(alloc, written, seat) {
+        Ok(gathered) => gathered,
+        Err(_) => return refused(alloc, flush, Error::NoMemory),
+    };
+    let Gathered {
+        seats,
+        acks,
+        acknowledged,
+        refusal,
+    } = gathered;
+    let (device, end) = close(rt, alloc, shared, seats, flush, acks);
+    Worked {
+        device,
+        acknowledged,
+        refusals: Refusals {
+            writer: refusal,
+            flusher: flushed.err(),
+            builder: built.err(),
+            end,
+        },
+    }
+}
+
+// Runs the writers and the three loops, each in a thread.
+fn run_all<
+    B: Group + Send + Sync,
+    D: Device + Send + Drop,
+    R: Threads + Wait + Sync,
+    G: Gate + Sync,
+    E: Write + Send + Drop,
+>(
+    team: Team<'_, R, G, E>,
+    shared: &Shared<B>,
+    jobs: Vec<Job<B>>,
+    mut last: Seat<B>,
+    flush: FlushPart<B, D>,
+    build: BuildView,
+) -> Ended<B, D, Result<Vec<Written<B>>, AllocError>>
+    requires flush { flush.published.board ≡ B.board }
+    requires build { build.board ≡ B.board }
+    ensures len { IfOk result.clients (λ v. vec_len v ≡ vec_len jobs) }
+    ensures numbers { IfOk result.clients (λ v. (k : ℕ) (job : _) (writer : _) → k < vec_len jobs → (slice_index_or v.items k writer).seat.number ≡ (slice_index_or jobs.items k job).seat.number) }
+    ensures last { result.seat.number ≡ last.number }
+    ensures board { result.flush.published.board ≡ B.board }
+    ensures failed { IfErr result.flushed (λ e. (e ≡ DeviceFailed) × (has_failed result.flush.writer ≡ true)) }
+{
+    let Team {
+        rt,
+        alloc,
+        gate,
+        changes,
+        errors,
+    } = team;
+    let view = shared.another_view(&mut last);
+    run_beside(
+        rt,
+        shared,
+        last,
+        flush,
+        build,
+        gate,
+        move ||
+            requires { view.board ≡ B.board }
+        { write_and_watch(rt, alloc, shared, jobs, changes, view, errors) },
+    )
+}
+
+// Sets the rows up, lets the threads work, and takes all back that they leave.
+fn work_together<
+    B: Group + Send + Sync,
+    D: Device + Send + Drop,
+    R: Threads + Wait + Sync,
+    G: Gate + Sync,
+    E: Write + Send + Drop,
+>(team: Team<'_, R, G, E>, shared: Shared<B>, parts: Parts<B, D>) -> Worked<D>
+    requires seats { AreNewSeats B.board B.site.seats parts.seats.items }
+    requires flush { IsNewFlusher B.board B.site.opened parts.flush }
+    requires build { parts.build ≡ record { board = B.board; progress = 0 } }
+    ensures { IsLeft D.history B.site.opened result }
+{
+    let rt = team.rt;
+    let alloc = team.alloc;
+    let Parts {
+        mut seats,
+        flush,
+        build,
+    } = parts;
+    let Some(mut last) = seats.pop() else {
+        return refused(alloc, flush, Error::NoMemory);
+    };
+    if let Err(error) = set_up(rt, &shared, &mut last) {
+        return refused(alloc, flush, error);
+    }
+    let Ok(jobs) = jobs_of(alloc, seats) else {
+        return refused(alloc, flush, Error::NoMemory);
+    };
+    let ended = run_all(team, &shared, jobs, last, flush, build);
+    end(rt, alloc, shared, ended)
+}
+
+// Gives the store its names, and lets the threads work.
+fn begin<
+    B: Group + Send + Sync,
+    D: Device + Send + Drop,
+    R: Threads + Wait + Sync,
+    G: Gate + Sync,
+    E: Write + Send + Drop,
+>(store: OpenStore<D>, team: Team<'_, R, G, E>) -> Result<Worked<D>, (Error, D)>
+    requires names { store.site ≡ B.site }
+    requires board { store.board ≡ B.board }
+    ensures { IfOk result (IsLeft D.history B.site.opened) }
+{
+    match store.start::<B>() {
+        Ok((shared, parts)) => Ok(work_together(team, shared, parts)),
+        Err(refused) => Err(refused),
+    }
+}
+
+/// Opens the store on the device, with a seat for each writer and one more, lets the threads work, and takes back what they leave.
+///
+/// The errors are those of `restart`, and `NoMemory`. Then no thread was started, and the device is given back.
+pub fn work_on<
+    D: Device + Send + Drop,
+    R: Threads + Wait + Sync,
+    G: Gate + Sync,
+    E: Write + Send + Drop,
+>(device: D, writers: u8, team: Team<'_, R, G, E>) -> Result<Worked<D>, (Error, D)>
+    requires { IsOpenable (D.history device).disk.content }
+    ensures { IfOk result (λ worked. (o : Opened) × Opens (D.history device).disk.content o × IsLeft D.history o worked) }
+{
+    let seats = usize::from(writers) + 1;
+    match open_store(team.alloc, device, seats) {
+        Ok(store) => begin::<Brand, D, R, G, E>(store, team),
+        Err(refused) => Err(refused),
+    }
+}
