@@ -10,9 +10,6 @@ use std::test::Fail;
 /// page in 516 to 523 and its gates in 528, 536, 544 and 552. Half B's gates are in 1086, 1094, 1102 and 1110.
 pub(crate) const SECTORS: u64 = 1118;
 
-/// How many sectors a store takes that has twelve slots, and is else the least.
-const LONG_SECTORS: u64 = 1246;
-
 /// The first place for a row.
 pub(crate) const FIRST: Rid = Rid { page: 0, slot: 0 };
 
@@ -39,11 +36,17 @@ pub(crate) fn formatted(alloc: Global) -> Result<MemDisk<Global>, Fail> {
     Ok(disk)
 }
 
-/// A disk that was just formatted, and synced, with a log of twelve slots.
-pub(crate) fn formatted_for_long(alloc: Global) -> Result<MemDisk<Global>, Fail> {
-    let mut disk = MemDisk::new(alloc, LONG_SECTORS, CALLS)?;
-    Halves::format(&mut disk, Geometry::new(1, 64, 12)?)?;
+/// A disk with a store of this geometry that was just formatted, and synced.
+pub(crate) fn formatted_for(alloc: Global, geometry: Geometry) -> Result<MemDisk<Global>, Fail> {
+    let mut disk = MemDisk::new(alloc, geometry.sectors(), CALLS)?;
+    Halves::format(&mut disk, geometry)?;
     Ok(disk)
+}
+
+/// A disk that was just formatted, and synced, with so many pages and a log of twelve slots.
+pub(crate) fn formatted_for_long(alloc: Global, pages: u32) -> Result<MemDisk<Global>, Fail> {
+    let entries = pages.saturating_mul(64);
+    formatted_for(alloc, Geometry::new(pages, entries, 12)?)
 }
 
 /// Sets a byte of a sector.

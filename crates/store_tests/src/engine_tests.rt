@@ -1,95 +1,154 @@
 // What a store answers.
-use crate::disks::{FIRST, blank, formatted, geometry};
+use crate::disks::{FIRST, blank, formatted, formatted_for, geometry};
 use crate::rehearsal::rehearse;
-use crate::requests::{Answer, Asked, answer_of, commit_ticket, insertion};
-use crate::store::{Memory, memory_of, open, serve};
+use crate::requests::{Answer, answer_of, commit_ticket, insertion};
+use crate::store::{Memory, memory_of, open, serve, serve_one};
+use crate::tables::Ask::{
+    By, Checkpointed, Copied, Create, Done, FindOne, Flipped, Flushed, Get, LogFull, Placed,
+    Scanned,
+};
+use crate::tables::Asks;
+use crate::tables::Change::{Begin, Commit, Insert};
 use crate::values::{row, txn};
 use flip_image::Halves;
-use records::{Error, Geometry, Rid};
-use restart::Event;
+use records::{Error, Geometry};
+use restart::{Engine, Event};
 use sector_device::{Fate, MemDisk};
 use std::alloc::Global;
 use std::process::Abort;
 use std::test::Fail;
 
-// Serves the requests over the disk. Whether memory was refused.
-fn play(
+// Serves the requests over the disk.
+fn play<'a>(
     rt: &impl Abort,
-    memory: &Memory,
+    memory: &'a Memory,
     disk: MemDisk<Global>,
-    asked: &[Asked],
-) -> Result<bool, Fail> {
-    let mut refused = None;
-    let Ok(mut engine) = open(memory, disk, &mut refused) else {
+    table: &[Asks],
+) -> Result<Engine<MemDisk<Global>, &'a Memory>, Fail> {
+    let Ok(mut engine) = open(memory, disk, &mut None) else {
         return Err("a store")?;
     };
-    serve(rt, memory, &mut engine, asked, &mut refused);
-    Ok(refused.is_some())
+    serve(rt, memory, &mut engine, table, &mut None)?;
+    Ok(engine)
 }
 
 // Each flush writes one group in one slot, until every slot is open.
+const FULL: [Asks; 11] = [
+    (1, By(1, Begin)),
+    (1, By(1, Insert((0, 0)))),
+    (1, Flushed(1)),
+    (1, By(1, Insert((1, 1)))),
+    (1, Flushed(2)),
+    (1, By(1, Insert((2, 2)))),
+    (1, Flushed(3)),
+    (1, By(1, Insert((3, 3)))),
+    (1, Flushed(4)),
+    (1, By(1, Insert((4, 4)))),
+    (1, LogFull),
+];
+
 #[test]
 fn a_full_log(rt: HostRuntime) -> Result<(), Fail> {
     let memory = memory_of(rt.alloc())?;
-    let (txn, row) = (txn(1)?, row(b"", b"x")?);
-    let mut asked = vec![in rt.alloc(); (Event::Begin, Answer::Txn(txn))]?;
-    for slot in 0..5 {
-        let rid = Rid { page: 0, slot };
-        asked.push((insertion(txn, row), Answer::Rid(rid)))?;
-        let flushed = match slot {
-            4 => Answer::LogFull,
-            _ => Answer::Horizon(u64::from(slot) + 1),
-        };
-        asked.push((Event::Flush, flushed))?;
-    }
-    play(&rt, &memory, formatted(rt.alloc())?, &asked)?;
+    play(&rt, &memory, formatted(rt.alloc())?, &FULL)?;
+    Ok(())
+}
+
+// Serves the requests over a store of this geometry just formatted, and the others over what a crash leaves of it.
+fn play_over(
+    rt: &impl Abort,
+    alloc: Global,
+    geometry: Geometry,
+    table: &[Asks],
+    after: &[Asks],
+) -> Result<(), Fail> {
+    let memory = memory_of(alloc)?;
+    let engine = play(rt, &memory, formatted_for(alloc, geometry)?, table)?;
+    let mut disk = engine.into_device();
+    disk.crash(&[Fate::Junk]);
+    play(rt, &memory, disk, after)?;
     Ok(())
 }
 
 // An image is copied piece by piece while a transaction works, and then current: what was made meanwhile is there too.
+const BETWEEN: [Asks; 9] = [
+    (1, By(1, Begin)),
+    (1, By(1, Insert((b'a', 0)))),
+    (1, By(1, Commit(2, 1))),
+    (2, Copied),
+    (1, By(2, Begin)),
+    (1, By(2, Insert((b'b', 1)))),
+    (1, By(2, Commit(4, 2))),
+    (2, Copied),
+    (1, Flipped(4)),
+];
+
+const BETWEEN_AFTER: [Asks; 4] = [
+    (1, Get((b'a', 0))),
+    (1, Get((b'b', 1))),
+    (1, By(1, Begin)),
+    (1, By(1, Commit(5, 1))),
+];
+
 #[test]
 fn an_image_between_requests(rt: HostRuntime) -> Result<(), Fail> {
-    let memory = memory_of(rt.alloc())?;
-    let (one, two) = (txn(1)?, txn(2)?);
-    let (ant, bee) = (row(b"a", b"")?, row(b"b", b"")?);
-    let next = Rid { page: 0, slot: 1 };
-    let asked = [
-        (Event::Begin, Answer::Txn(one)),
-        (insertion(one, ant), Answer::Rid(FIRST)),
-        (
-            Event::Commit { txn: one },
-            Answer::Ticket(commit_ticket(2, 1)?),
-        ),
-        (Event::Copy, Answer::Copied),
-        (Event::Copy, Answer::Copied),
-        (Event::Begin, Answer::Txn(two)),
-        (insertion(two, bee), Answer::Rid(next)),
-        (
-            Event::Commit { txn: two },
-            Answer::Ticket(commit_ticket(4, 2)?),
-        ),
-        (Event::Copy, Answer::Copied),
-        (Event::Copy, Answer::Copied),
-        (Event::Copy, Answer::Flipped(4)),
-    ];
-    let mut disk = MemDisk::new(rt.alloc(), 2_000, 1_000)?;
-    Halves::format(&mut disk, Geometry::new(2, 128, 4)?)?;
-    let Ok(mut engine) = open(&memory, disk, &mut None) else {
-        return Err("a store")?;
-    };
-    serve(&rt, &memory, &mut engine, &asked, &mut None);
-    let mut disk = engine.into_device();
-    disk.crash(&[Fate::Junk]);
-    let after = [
-        (Event::Get { rid: FIRST }, Answer::Row(Some(ant))),
-        (Event::Get { rid: next }, Answer::Row(Some(bee))),
-        (Event::Begin, Answer::Txn(one)),
-        (
-            Event::Commit { txn: one },
-            Answer::Ticket(commit_ticket(5, 1)?),
-        ),
-    ];
-    play(&rt, &memory, disk, &after)?;
+    let geometry = Geometry::new(2, 128, 4)?;
+    play_over(&rt, rt.alloc(), geometry, &BETWEEN, &BETWEEN_AFTER)
+}
+
+// Of 200 rows on four pages, and their entries, an image takes its start, the pages, and two chunks of entries.
+const BUILT: [Asks; 27] = [
+    (1, By(1, Begin)),
+    (50, By(1, Insert((0, 0)))),
+    (1, By(1, Commit(51, 1))),
+    (1, By(2, Begin)),
+    (50, By(2, Insert((50, 50)))),
+    (1, By(2, Commit(102, 2))),
+    (1, By(3, Begin)),
+    (50, By(3, Insert((100, 100)))),
+    (1, By(3, Commit(153, 3))),
+    (1, By(4, Begin)),
+    (50, By(4, Insert((150, 150)))),
+    (1, By(4, Commit(204, 4))),
+    (1, Create(205)),
+    (1, Scanned(0)),
+    (1, Scanned(1)),
+    (1, Scanned(2)),
+    (1, Scanned(3)),
+    (64, Placed((0, 0))),
+    (1, Checkpointed((63, 63), 270)),
+    (64, Placed((64, 64))),
+    (1, Checkpointed((127, 127), 335)),
+    (64, Placed((128, 128))),
+    (1, Checkpointed((191, 191), 400)),
+    (8, Placed((192, 192))),
+    (1, Done(409)),
+    (7, Copied),
+    (1, Flipped(409)),
+];
+
+const BUILT_AFTER: [Asks; 2] = [(1, FindOne((199, 199))), (1, Get((0, 0)))];
+
+#[test]
+fn an_image_of_a_build(rt: HostRuntime) -> Result<(), Fail> {
+    let geometry = Geometry::new(4, 1_024, 16)?;
+    play_over(&rt, rt.alloc(), geometry, &BUILT, &BUILT_AFTER)
+}
+
+// A transaction with nothing but its end.
+fn commit_nothing(
+    rt: &impl Abort,
+    memory: &Memory,
+    engine: &mut Engine<MemDisk<Global>, &Memory>,
+    number: u64,
+    refused: &mut Option<usize>,
+) -> Result<(), Fail> {
+    let txn = txn(number)?;
+    let ticket = commit_ticket(number, number)?;
+    let begun = (Event::Begin, Answer::Txn(txn));
+    serve_one(rt, memory, engine, &begun, refused);
+    let ended = (Event::Commit { txn }, Answer::Ticket(ticket));
+    serve_one(rt, memory, engine, &ended, refused);
     Ok(())
 }
 
@@ -97,15 +156,12 @@ fn an_image_between_requests(rt: HostRuntime) -> Result<(), Fail> {
 #[test]
 fn a_long_outbox(rt: HostRuntime) -> Result<(), Fail> {
     let memory = memory_of(rt.alloc())?;
-    let mut asked = Vec::new(rt.alloc());
+    let mut engine = play(&rt, &memory, formatted(rt.alloc())?, &[])?;
+    let mut refused = None;
     for number in 1..=300 {
-        let txn = txn(number)?;
-        let ticket = commit_ticket(number, number)?;
-        asked.push((Event::Begin, Answer::Txn(txn)))?;
-        asked.push((Event::Commit { txn }, Answer::Ticket(ticket)))?;
+        commit_nothing(&rt, &memory, &mut engine, number, &mut refused)?;
     }
-    let refused = play(&rt, &memory, formatted(rt.alloc())?, &asked)?;
-    assert!(rt; !refused);
+    assert!(rt; refused.is_none());
     Ok(())
 }
 

@@ -1,4 +1,4 @@
-//! Tests of the crates that open a store and serve it: `store_reader` and `first`.
+//! Tests of the crates that open a store and serve it: `store_reader` and `restart`.
 #![tactic(auto)]
 
 #[cfg(test)]
@@ -19,5 +19,7 @@ mod rehearsal;
 mod requests;
 #[cfg(test)]
 mod store;
+#[cfg(test)]
+mod tables;
 #[cfg(test)]
 mod values;

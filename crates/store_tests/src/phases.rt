@@ -1,14 +1,20 @@
-// A worked run of a store with an index, by phases. In each the records made are flushed at its end, so that a crash
-// leaves what one of them says.
+// Worked runs of a store with an index, by phases. In each the records made are flushed at its end, so that a crash leaves
+// what one of them says.
 use crate::disks::{FIRST, NEXT};
-use crate::requests::{Answer, Asked, commit_ticket, insertion, ticket, update};
-use crate::values::{pair, row, txn};
+use crate::tables::Ask::{
+    By, Checkpointed, Cleaned, Copied, Create, Done, FindNone, FindOne, FindUnbuilt, Flipped, Kept,
+    Placed, Rejected, Scanned, Wrapped,
+};
+use crate::tables::Change::{
+    Begin, Commit, CommitOfRolling, Delete, DeleteHeld, End, Insert, Step, StepOfNone, Undo,
+    UndoOfNone, Update,
+};
+use crate::tables::{Asks, Cell, pair_of, row_of};
 use model::Life;
-use nsf_core::{BuildReply, CleanReply, Core};
-use records::{Error, Key, Mark, Pair, Row};
-use restart::Event;
-use std::alloc::{Allocator, Global};
-use std::test::Fail;
+use nsf_core::Core;
+use records::Mark::{Live, Marked};
+use records::{Error, Mark, Pair, Row};
+use std::alloc::Allocator;
 
 /// What a store holds: the number of its last record, the rows of the first two places, how far the index is, and its
 /// first three entries.
@@ -58,240 +64,402 @@ pub(crate) const NOTHING: Contents = Contents {
 
 /// Some requests with their answers, and what is given once their records are the last that are in the log: every
 /// transaction that has not committed by then is taken back.
-#[derive(Drop)]
-pub(crate) struct Phase {
-    pub(crate) asked: Vec<Asked, Global>,
-    pub(crate) given: Contents,
+pub(crate) type Phase<'a> = (&'a [Asks], Held);
+
+/// A run of a store with so many pages.
+#[derive(Clone, Copy)]
+pub(crate) struct Run<'a> {
+    pub(crate) pages: u8,
+    pub(crate) phases: &'a [Phase<'a>],
 }
 
-type Phases = Vec<Phase, Global>;
-
-/// The whole run: two rows are inserted and committed; the index is created and built, while one of them is deleted; the
-/// other is updated, and the update taken back; a marked entry is taken out; and the other row is deleted as well.
-pub(crate) fn worked_run(alloc: Global) -> Result<Phases, Fail> {
-    let mut phases = Vec::new(alloc);
-    create(alloc, &mut phases)?;
-    build(alloc, &mut phases)?;
-    find(alloc, &mut phases)?;
-    roll_back(alloc, &mut phases)?;
-    clean(alloc, &mut phases)?;
-    Ok(phases)
+/// How far an index is.
+#[derive(Clone, Copy)]
+pub(crate) enum Stage {
+    Absent,
+    Begun,
+    /// Up to this pair.
+    UpTo(Cell),
+    Complete,
 }
 
-// What is given once the rows are committed.
-fn inserted() -> Result<Contents, Error> {
-    Ok(Contents {
-        last: 3,
-        rows: (Some(row(b"ant", b"1")?), Some(row(b"bee", b"2")?)),
-        ..NOTHING
+/// What a store holds, as a table has it: the number of its last record, the keys of the first two rows, how far the index is,
+/// and its first three entries.
+#[derive(Clone, Copy)]
+pub(crate) struct Held(
+    pub(crate) u64,
+    [Option<u8>; 2],
+    Stage,
+    [Option<(Cell, Mark)>; 3],
+);
+
+// The row of a key, if there is one.
+fn row_in(key: Option<u8>) -> Result<Option<Row>, Error> {
+    match key {
+        Some(key) => Ok(Some(row_of(key)?)),
+        None => Ok(None),
+    }
+}
+
+fn entry_in(found: Option<(Cell, Mark)>) -> Result<Entry, Error> {
+    match found {
+        Some(entry) => Ok(Some((pair_of(entry.0)?, entry.1))),
+        None => Ok(None),
+    }
+}
+
+fn life_in(stage: Stage) -> Result<Life, Error> {
+    Ok(match stage {
+        Stage::Absent => Life::Absent,
+        Stage::Begun => Life::Building { highest: None },
+        Stage::UpTo(cell) => Life::Building {
+            highest: Some(pair_of(cell)?),
+        },
+        Stage::Complete => Life::Complete,
     })
 }
 
-// What is given once the index is created.
-fn created() -> Result<Contents, Error> {
-    Ok(Contents {
-        last: 4,
-        life: Life::Building { highest: None },
-        ..inserted()?
-    })
-}
-
-fn create(alloc: Global, phases: &mut Phases) -> Result<(), Fail> {
-    let one = txn(1)?;
-    let (ant, bee) = (row(b"ant", b"1")?, row(b"bee", b"2")?);
-    phases.push(Phase {
-        asked: vec![in alloc;
-            (Event::Begin, Answer::Txn(one)),
-            (insertion(one, ant), Answer::Rid(FIRST)),
-            (insertion(one, bee), Answer::Rid(NEXT)),
-            (
-                Event::Commit { txn: one },
-                Answer::Ticket(commit_ticket(3, 1)?)
-            ),
-        ]?,
-        given: inserted()?,
-    })?;
-    phases.push(Phase {
-        asked: vec![in alloc; (Event::Create, Answer::Ticket(ticket(4)?))]?,
-        given: created()?,
-    })?;
-    Ok(())
-}
-
-// What is given once one row is deleted, and its entry marked.
-fn deleted() -> Result<Contents, Error> {
-    let (ant, bee) = (pair(b"ant", FIRST)?, pair(b"bee", NEXT)?);
-    Ok(Contents {
-        last: 8,
-        rows: (Some(row(b"ant", b"1")?), None),
-        entries: (Some((ant, Mark::Live)), Some((bee, Mark::Marked)), None),
-        ..created()?
-    })
-}
-
-// The builder places one pair, and meets the marked entry of a row that was deleted.
-fn build(alloc: Global, phases: &mut Phases) -> Result<(), Fail> {
-    let (two, created, deleted) = (txn(2)?, created()?, deleted()?);
-    let (ant, bee) = (pair(b"ant", FIRST)?, pair(b"bee", NEXT)?);
-    let live = Some((ant, Mark::Live));
-    phases.push(Phase {
-        asked: vec![in alloc;
-            (Event::Build, Answer::Built(BuildReply::Scanned(0))),
-            (Event::Build, Answer::Built(BuildReply::Placed(ant))),
-        ]?,
-        given: Contents {
-            last: 5,
-            entries: (live, None, None),
-            ..created
-        },
-    })?;
-    let taken_back = Some((bee, Mark::Live));
-    phases.push(Phase {
-        asked: vec![in alloc;
-            (Event::Begin, Answer::Txn(two)),
-            (
-                Event::Delete {
-                    txn: two,
-                    rid: NEXT
-                },
-                Answer::Stepped
-            ),
-        ]?,
-        given: Contents {
-            last: 6,
-            entries: (live, taken_back, None),
-            ..created
-        },
-    })?;
-    phases.push(Phase {
-        asked: vec![in alloc;
-            (Event::Step { txn: two }, Answer::Stepped),
-            (
-                Event::Commit { txn: two },
-                Answer::Ticket(commit_ticket(8, 2)?)
-            ),
-        ]?,
-        given: deleted,
-    })?;
-    Ok(())
-}
-
-// The build is completed, and rows are found by it.
-fn find(alloc: Global, phases: &mut Phases) -> Result<(), Fail> {
-    let (bee, deleted) = (pair(b"bee", NEXT)?, deleted()?);
-    let ant = Key::new(b"ant")?;
-    phases.push(Phase {
-        asked: vec![in alloc;
-            (Event::Find { key: ant }, Answer::Refused(Error::NotBuilt)),
-            (Event::Build, Answer::Built(BuildReply::Rejected(bee))),
-            (Event::Build, Answer::Built(BuildReply::Done(ticket(9)?))),
-            (Event::Find { key: ant }, Answer::Found(1, Some(FIRST))),
-            (Event::Find { key: bee.key }, Answer::Found(0, None)),
-        ]?,
-        given: Contents {
-            last: 9,
-            life: Life::Complete,
-            ..deleted
-        },
-    })?;
-    Ok(())
-}
-
-// What is given once the update is taken back, up to this record.
-fn rolled_back(last: u64) -> Result<Contents, Error> {
-    let (ant, bee) = (pair(b"ant", FIRST)?, pair(b"bee", NEXT)?);
-    let cow = pair(b"cow", FIRST)?;
+fn contents_in(held: Held) -> Result<Contents, Error> {
+    let Held(last, [first, next], stage, [one, two, three]) = held;
     Ok(Contents {
         last,
-        life: Life::Complete,
-        entries: (
-            Some((ant, Mark::Live)),
-            Some((bee, Mark::Marked)),
-            Some((cow, Mark::Marked)),
-        ),
-        ..deleted()?
+        rows: (row_in(first)?, row_in(next)?),
+        life: life_in(stage)?,
+        entries: (entry_in(one)?, entry_in(two)?, entry_in(three)?),
     })
 }
 
-// The last row's key is changed, and the change taken back, while another transaction wants the row.
-fn roll_back(alloc: Global, phases: &mut Phases) -> Result<(), Fail> {
-    let (three, four) = (txn(3)?, txn(4)?);
-    phases.push(Phase {
-        asked: vec![in alloc;
-            (Event::Begin, Answer::Txn(three)),
-            (update(three, FIRST, row(b"cow", b"3")?), Answer::Stepped),
-            (Event::Step { txn: three }, Answer::Stepped),
-            (Event::Step { txn: three }, Answer::Stepped),
-            (Event::Step { txn: three }, Answer::Skipped),
-        ]?,
-        given: rolled_back(12)?,
-    })?;
-    phases.push(Phase {
-        asked: vec![in alloc;
-            (Event::Undo { txn: three }, Answer::Undone),
-            (Event::Commit { txn: three }, Answer::Skipped),
-        ]?,
-        given: rolled_back(13)?,
-    })?;
-    let busy = Answer::Refused(Error::RowBusy);
-    phases.push(Phase {
-        asked: vec![in alloc;
-            (Event::Undo { txn: three }, Answer::Undone),
-            (Event::Undo { txn: three }, Answer::Undone),
-            (Event::Undo { txn: three }, Answer::Empty),
-            (Event::Begin, Answer::Txn(four)),
-            (
-                Event::Delete {
-                    txn: four,
-                    rid: FIRST
-                },
-                busy
-            ),
-            (Event::End { txn: three }, Answer::Ended),
-        ]?,
-        given: rolled_back(16)?,
-    })?;
-    Ok(())
+/// What is given at the end of these phases.
+pub(crate) fn given_by(phases: &[Phase<'_>]) -> Result<Contents, Error> {
+    match phases.last() {
+        Some((_, held)) => contents_in(*held),
+        None => Ok(NOTHING),
+    }
 }
 
-// A marked entry is taken out, and the last row is deleted.
-fn clean(alloc: Global, phases: &mut Phases) -> Result<(), Fail> {
-    let (four, rolled_back) = (txn(4)?, rolled_back(16)?);
-    let (ant, bee) = (pair(b"ant", FIRST)?, pair(b"bee", NEXT)?);
-    let cow = Some((pair(b"cow", FIRST)?, Mark::Marked));
-    let (live, marked) = (Some((ant, Mark::Live)), Some((ant, Mark::Marked)));
-    phases.push(Phase {
-        asked: vec![in alloc;
-            (Event::Clean, Answer::Cleaned(CleanReply::Kept(ant))),
-            (Event::Clean, Answer::Cleaned(CleanReply::Cleaned(bee))),
-        ]?,
-        given: Contents {
-            last: 17,
-            entries: (live, cow, None),
-            ..rolled_back
-        },
-    })?;
-    phases.push(Phase {
-        asked: vec![in alloc;
-            (
-                Event::Delete {
-                    txn: four,
-                    rid: FIRST
-                },
-                Answer::Stepped
-            ),
-            (Event::Step { txn: four }, Answer::Stepped),
-            (
-                Event::Commit { txn: four },
-                Answer::Ticket(commit_ticket(20, 3)?)
-            ),
-        ]?,
-        given: Contents {
-            last: 20,
-            rows: (None, None),
-            entries: (marked, cow, None),
-            ..rolled_back
-        },
-    })?;
-    Ok(())
+/// Whether this is given before the phases, or at the end of one of them.
+pub(crate) fn is_given(phases: &[Phase<'_>], left: Contents) -> Result<bool, Error> {
+    for (_, held) in phases {
+        if contents_in(*held)? == left {
+            return Ok(true);
+        }
+    }
+    Ok(left == NOTHING)
 }
+
+const ANT: Cell = (b'a', 0);
+
+const BEE: Cell = (b'b', 1);
+
+const COW: Cell = (b'c', 0);
+
+const LIVE_ANT: Option<(Cell, Mark)> = Some((ANT, Live));
+
+const MARKED_ANT: Option<(Cell, Mark)> = Some((ANT, Marked));
+
+const LIVE_BEE: Option<(Cell, Mark)> = Some((BEE, Live));
+
+const MARKED_BEE: Option<(Cell, Mark)> = Some((BEE, Marked));
+
+const MARKED_COW: Option<(Cell, Mark)> = Some((COW, Marked));
+
+const FIRST_OF_ALL: Cell = (0, 0);
+
+const LAST_OF_64: Cell = (63, 63);
+
+/// Two rows are inserted and committed; the index is created and built, while one of them is deleted; the other is updated, and
+/// the update taken back; a marked entry is taken out; and the other row is deleted as well.
+pub(crate) const WORKED: [Phase<'static>; 11] = [
+    (
+        &[
+            (1, By(1, Begin)),
+            (1, By(1, Insert(ANT))),
+            (1, By(1, Insert(BEE))),
+            (1, By(1, Commit(3, 1))),
+        ],
+        Held(
+            3,
+            [Some(b'a'), Some(b'b')],
+            Stage::Absent,
+            [None, None, None],
+        ),
+    ),
+    (
+        &[(1, Create(4))],
+        Held(
+            4,
+            [Some(b'a'), Some(b'b')],
+            Stage::Begun,
+            [None, None, None],
+        ),
+    ),
+    (
+        &[(1, Scanned(0)), (1, Placed(ANT))],
+        Held(
+            5,
+            [Some(b'a'), Some(b'b')],
+            Stage::Begun,
+            [LIVE_ANT, None, None],
+        ),
+    ),
+    (
+        &[(1, By(2, Begin)), (1, By(2, Delete(1)))],
+        Held(
+            6,
+            [Some(b'a'), Some(b'b')],
+            Stage::Begun,
+            [LIVE_ANT, LIVE_BEE, None],
+        ),
+    ),
+    (
+        &[(1, By(2, Step)), (1, By(2, Commit(8, 2)))],
+        Held(
+            8,
+            [Some(b'a'), None],
+            Stage::Begun,
+            [LIVE_ANT, MARKED_BEE, None],
+        ),
+    ),
+    (
+        &[
+            (1, FindUnbuilt(b'a')),
+            (1, Rejected(BEE)),
+            (1, Done(9)),
+            (1, FindOne(ANT)),
+            (1, FindNone(b'b')),
+        ],
+        Held(
+            9,
+            [Some(b'a'), None],
+            Stage::Complete,
+            [LIVE_ANT, MARKED_BEE, None],
+        ),
+    ),
+    (
+        &[
+            (1, By(3, Begin)),
+            (1, By(3, Update(COW))),
+            (1, By(3, Step)),
+            (1, By(3, Step)),
+            (1, By(3, StepOfNone)),
+        ],
+        Held(
+            12,
+            [Some(b'a'), None],
+            Stage::Complete,
+            [LIVE_ANT, MARKED_BEE, MARKED_COW],
+        ),
+    ),
+    (
+        &[(1, By(3, Undo)), (1, By(3, CommitOfRolling))],
+        Held(
+            13,
+            [Some(b'a'), None],
+            Stage::Complete,
+            [LIVE_ANT, MARKED_BEE, MARKED_COW],
+        ),
+    ),
+    (
+        &[
+            (2, By(3, Undo)),
+            (1, By(3, UndoOfNone)),
+            (1, By(4, Begin)),
+            (1, By(4, DeleteHeld(0))),
+            (1, By(3, End)),
+        ],
+        Held(
+            16,
+            [Some(b'a'), None],
+            Stage::Complete,
+            [LIVE_ANT, MARKED_BEE, MARKED_COW],
+        ),
+    ),
+    (
+        &[(1, Kept(ANT)), (1, Cleaned(BEE))],
+        Held(
+            17,
+            [Some(b'a'), None],
+            Stage::Complete,
+            [LIVE_ANT, MARKED_COW, None],
+        ),
+    ),
+    (
+        &[
+            (1, By(4, Delete(0))),
+            (1, By(4, Step)),
+            (1, By(4, Commit(20, 3))),
+        ],
+        Held(
+            20,
+            [None, None],
+            Stage::Complete,
+            [MARKED_ANT, MARKED_COW, None],
+        ),
+    ),
+];
+
+/// A row is deleted behind the scan of a build, and an image is taken before the build ends.
+pub(crate) const FIXED: [Phase<'static>; 4] = [
+    (
+        &[
+            (1, By(1, Begin)),
+            (1, By(1, Insert(ANT))),
+            (1, By(1, Insert(BEE))),
+            (1, By(1, Commit(3, 1))),
+            (1, Create(4)),
+        ],
+        Held(
+            4,
+            [Some(b'a'), Some(b'b')],
+            Stage::Begun,
+            [None, None, None],
+        ),
+    ),
+    (
+        &[
+            (1, Scanned(0)),
+            (1, By(2, Begin)),
+            (1, By(2, Delete(1))),
+            (1, By(2, Step)),
+            (1, By(2, Commit(7, 2))),
+        ],
+        Held(
+            7,
+            [Some(b'a'), None],
+            Stage::Begun,
+            [MARKED_BEE, None, None],
+        ),
+    ),
+    (
+        &[
+            (1, Placed(ANT)),
+            (1, Rejected(BEE)),
+            (3, Copied),
+            (1, Flipped(8)),
+        ],
+        Held(
+            8,
+            [Some(b'a'), None],
+            Stage::Begun,
+            [LIVE_ANT, MARKED_BEE, None],
+        ),
+    ),
+    (
+        &[(1, Done(9))],
+        Held(
+            9,
+            [Some(b'a'), None],
+            Stage::Complete,
+            [LIVE_ANT, MARKED_BEE, None],
+        ),
+    ),
+];
+
+/// A row is deleted behind the scan of a build.
+pub(crate) const DELETED: [Phase<'static>; 1] = [(
+    &[
+        (1, By(1, Begin)),
+        (1, By(1, Insert(ANT))),
+        (1, By(1, Insert(BEE))),
+        (1, By(1, Commit(3, 1))),
+        (1, Create(4)),
+        (1, Scanned(0)),
+        (1, By(2, Begin)),
+        (1, By(2, Delete(1))),
+        (1, By(2, Step)),
+        (1, By(2, Commit(7, 2))),
+        (1, Placed(ANT)),
+        (1, Rejected(BEE)),
+        (1, Done(9)),
+    ],
+    Held(
+        9,
+        [Some(b'a'), None],
+        Stage::Complete,
+        [LIVE_ANT, MARKED_BEE, None],
+    ),
+)];
+
+/// An insertion is taken back whose pair the builder has scanned.
+pub(crate) const TAKEN_BACK: [Phase<'static>; 1] = [(
+    &[
+        (1, Create(1)),
+        (1, By(1, Begin)),
+        (1, By(1, Insert(ANT))),
+        (1, Scanned(0)),
+        (2, By(1, Undo)),
+        (1, By(1, UndoOfNone)),
+        (1, By(1, End)),
+        (1, Rejected(ANT)),
+        (1, Done(6)),
+    ],
+    Held(6, [None, None], Stage::Complete, [MARKED_ANT, None, None]),
+)];
+
+/// An update is taken back while the index is built.
+pub(crate) const UPDATED: [Phase<'static>; 1] = [(
+    &[
+        (1, By(1, Begin)),
+        (1, By(1, Insert(ANT))),
+        (1, By(1, Commit(2, 1))),
+        (1, Create(3)),
+        (1, By(2, Begin)),
+        (1, By(2, Update(COW))),
+        (1, By(3, Begin)),
+        (1, By(3, DeleteHeld(0))),
+        (1, By(2, Step)),
+        (3, By(2, Undo)),
+        (1, By(2, UndoOfNone)),
+        (1, By(2, End)),
+    ],
+    Held(
+        9,
+        [Some(b'a'), None],
+        Stage::Begun,
+        [LIVE_ANT, MARKED_COW, None],
+    ),
+)];
+
+/// Over two pages: a row is deleted behind the scan, its entry is taken out at the checkpoint, and another deletion comes to no end.
+pub(crate) const CLEANED: [Phase<'static>; 2] = [
+    (
+        &[
+            (1, By(1, Begin)),
+            (64, By(1, Insert(FIRST_OF_ALL))),
+            (1, By(1, Commit(65, 1))),
+            (1, Create(66)),
+            (1, Scanned(0)),
+        ],
+        Held(66, [Some(0), Some(1)], Stage::Begun, [None, None, None]),
+    ),
+    (
+        &[
+            (1, Scanned(1)),
+            (1, By(2, Begin)),
+            (1, By(2, Delete(63))),
+            (1, By(2, Step)),
+            (1, By(2, Commit(69, 2))),
+            (1, Kept(LAST_OF_64)),
+            (1, Wrapped),
+            (63, Placed(FIRST_OF_ALL)),
+            (1, Rejected(LAST_OF_64)),
+            (1, Checkpointed(LAST_OF_64, 133)),
+            (63, Kept(FIRST_OF_ALL)),
+            (1, Cleaned(LAST_OF_64)),
+            (1, By(3, Begin)),
+            (1, By(3, Delete(0))),
+            (1, Wrapped),
+            (1, Kept(FIRST_OF_ALL)),
+        ],
+        Held(
+            135,
+            [Some(0), Some(1)],
+            Stage::UpTo(LAST_OF_64),
+            [
+                Some(((0, 0), Live)),
+                Some(((1, 1), Live)),
+                Some(((2, 2), Live)),
+            ],
+        ),
+    ),
+];

@@ -200,12 +200,21 @@ fn check_damaged(
 
 #[test]
 fn damaged_stores(rt: HostRuntime) -> Result<(), Fail> {
-    let cases: [(&str, &[Edit], u64); 8] = [
+    let cases: [(&str, &[Edit], u64); 17] = [
         ("version 2", &[(0, 11, 2)], 0),
+        ("a byte behind the superblock", &[(0, 24, 1)], 0),
+        ("no pages", &[(0, 15, 0)], 0),
         ("a header of no life", &[(2, 0, 3)], 2),
+        ("a highest pair of no index", &[(2, 1, 1)], 2),
+        ("a byte behind the header", &[(2, 45, 1)], 2),
+        ("a head behind none", &[(3, 39, 1)], 3),
+        ("a change that is none", &[(3, 7, 1), (3, 9, 1)], 4),
         ("used heads", &[(3, 511, 1)], 3),
-        ("a used page", &[(516, 64, 2)], 516),
-        ("the last byte of a page", &[(523, 511, 2)], 516),
+        ("a head with a change of none", &[(3, 9, 1)], 3),
+        ("a used page", &[(516, 0, 1)], 516),
+        ("the last sector of a page", &[(523, 0, 2)], 516),
+        ("an entry that is none", &[(2, 44, 1)], 524),
+        ("an open gate before no group", &[(528, 0, 0xA5)], 528),
         ("an open gate after a closed one", &[(536, 0, 0xA5)], 536),
         (
             "a used page and an open gate",
@@ -222,7 +231,9 @@ fn damaged_stores(rt: HostRuntime) -> Result<(), Fail> {
         check_damaged(&rt, rt.alloc(), name, edits, Error::Damaged { sector })?;
     }
     let title: &[Edit] = &[(0, 0, 0)];
-    check_damaged(&rt, rt.alloc(), "another title", title, Error::NotFormatted)
+    check_damaged(&rt, rt.alloc(), "another title", title, Error::NotFormatted)?;
+    let pages: &[Edit] = &[(0, 15, 2)];
+    check_damaged(&rt, rt.alloc(), "two pages", pages, Error::DeviceTooSmall)
 }
 
 // Behind a first group, whose last record is number 2, a group with a record that can't be there.
@@ -255,16 +266,17 @@ fn misplaced_records(rt: HostRuntime) -> Result<(), Fail> {
     Ok(())
 }
 
-// Behind an image whose last record is number 4, a group with a record that can't be there.
+// Behind an image whose last record has this number, a group with a record that can't be there.
 fn check_not_the_images(
     rt: &impl Abort,
     alloc: Global,
     name: &str,
-    first: Record,
+    base: u8,
+    group: &[Record],
 ) -> Result<(), Fail> {
     let mut disk = formatted(alloc)?;
-    set(rt, &mut disk, 2, 40, 4)?;
-    append(rt, alloc, &mut disk, &[first])?;
+    set(rt, &mut disk, 2, 40, base)?;
+    append(rt, alloc, &mut disk, group)?;
     let wanted = Error::Damaged { sector: 528 };
     assert_eq!(rt; find(alloc, &mut disk).err(), Some(wanted), "{name}");
     Ok(())
@@ -273,17 +285,16 @@ fn check_not_the_images(
 #[test]
 fn a_log_that_is_not_the_images(rt: HostRuntime) -> Result<(), Fail> {
     let cases = [
-        (
-            "a record from before the image",
-            insertion(1, 1, FIRST, b"ant")?,
-        ),
-        ("the image's last record", insertion(4, 1, FIRST, b"ant")?),
-        ("a number left out", insertion(6, 1, FIRST, b"ant")?),
+        ("a record from before the image", 4, 1),
+        ("the image's last record", 4, 4),
+        ("a number left out", 4, 6),
     ];
-    for (name, first) in cases {
-        check_not_the_images(&rt, rt.alloc(), name, first)?;
+    for (name, base, number) in cases {
+        let group = [insertion(number, 1, FIRST, b"ant")?];
+        check_not_the_images(&rt, rt.alloc(), name, base, &group)?;
     }
-    Ok(())
+    let group = [insertion(1, 1, FIRST, b"ant")?, commit(2, 1)?];
+    check_not_the_images(&rt, rt.alloc(), "a group again", 1, &group)
 }
 
 // Reads a log whose one record is misplaced, where the k-th call fails. So many calls are made.

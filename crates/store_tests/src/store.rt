@@ -1,18 +1,20 @@
 // A store in memory that may be refused. What was refused for want of memory is asked again once there is memory, and then
 // every answer is that of a store to which nothing was refused.
 use crate::requests::{Answer, Asked, answer_of};
+use crate::tables::{Asks, asked_of};
 use bumpalo::Bump;
 use records::Error;
 use restart::{Engine, Event, restart};
 use sector_device::Device;
 use std::alloc::{AllocError, Allocator, Global};
 use std::process::Abort;
+use std::test::Fail;
 
 /// An arena, whose memory ends at its limit, if it has one.
 pub(crate) type Memory = Bump<Global>;
 
 /// The least size of an arena's first chunk. The second is larger.
-pub(crate) const CHUNK: usize = 262_144;
+pub(crate) const CHUNK: usize = 2_097_152;
 
 /// An arena with no limit.
 pub(crate) fn memory_of(alloc: Global) -> Result<Memory, AllocError> {
@@ -64,16 +66,43 @@ fn answer<D: Device>(
     }
 }
 
-/// Serves the requests, and compares the answers.
+/// Serves a request, and compares the answer.
+pub(crate) fn serve_one<D: Device>(
+    rt: &impl Abort,
+    memory: &Memory,
+    engine: &mut Engine<D, &Memory>,
+    (event, wanted): &Asked,
+    refused: &mut Option<usize>,
+) {
+    let found = answer(memory, engine, event, refused);
+    assert_eq!(rt; found, *wanted, "{event:?}");
+}
+
+// Serves so many requests of a kind.
+fn serve_kind<D: Device>(
+    rt: &impl Abort,
+    memory: &Memory,
+    engine: &mut Engine<D, &Memory>,
+    (count, ask): Asks,
+    refused: &mut Option<usize>,
+) -> Result<(), Fail> {
+    for by in 0..count {
+        let asked = asked_of(ask, by)?;
+        serve_one(rt, memory, engine, &asked, refused);
+    }
+    Ok(())
+}
+
+/// Serves the requests of a table, and compares the answers.
 pub(crate) fn serve<D: Device>(
     rt: &impl Abort,
     memory: &Memory,
     engine: &mut Engine<D, &Memory>,
-    asked: &[Asked],
+    table: &[Asks],
     refused: &mut Option<usize>,
-) {
-    for (event, wanted) in asked {
-        let found = answer(memory, engine, event, refused);
-        assert_eq!(rt; found, *wanted, "{event:?}");
+) -> Result<(), Fail> {
+    for asks in table {
+        serve_kind(rt, memory, engine, *asks, refused)?;
     }
+    Ok(())
 }
