@@ -64,7 +64,7 @@ fn walk(rt: &impl Clock, maps: &CellMaps<Global>, sectors: u64) -> Result<u64> {
 }
 
 /// Prints a line for a store of so many pages. To fill the maps with the same cells is a part of what it costs to read, and to
-/// go through the entries of what it costs to write.
+/// go through the entries of what it costs to write. That the maps that were read are dropped is not in it.
 pub(crate) fn print<R: Print + Alloc<A = Global> + Clock>(rt: &R, pages: u32) -> Result<()> {
     let mut disk = new_disk(rt.alloc(), geometry_of(pages)?)?;
     let mut halves = Halves::open(&mut disk)?;
@@ -77,8 +77,9 @@ pub(crate) fn print<R: Print + Alloc<A = Global> + Clock>(rt: &R, pages: u32) ->
     let written = each(start.elapsed(rt)?, sectors);
     flip(&mut halves, &mut disk)?;
     let start = Instant::now(rt)?;
-    read(&halves, rt.alloc(), &mut disk)?;
+    let found = read(&halves, rt.alloc(), &mut disk)?;
     let read = each(start.elapsed(rt)?, sectors);
+    drop(found);
     let copied = copy(rt, sectors)?;
     let copied_in_memory = copy_in_memory(rt, sectors)?;
     let walked = walk(rt, &maps, sectors)?;

@@ -2,12 +2,13 @@
 ghost use Rattle.std.specs.Prelude.{◌≡◌, ◌+◌, ◌<◌, ℕ, Some, length, slice_get};
 ghost use Rattle.std.specs.Option.{option_map};
 ghost use Rattle.std.specs.FinMap as finite;
+ghost use Rattle.records.specs.declared.rid.TheConstants.{SLOTS_PER_PAGE};
 ghost use Rattle.model.specs.Cells.{Cells};
 ghost use Rattle.model.specs.Redo.{cells_of};
 ghost use Rattle.image_half.specs.Source.{IsNextBehind, IsPassed};
 
-use model::{CellMaps, Life};
-use records::{Change, ENTRIES_PER_SECTOR, Mark, Pair, Rid, Row, Txn};
+use model::{CellMaps, Life, ROWS_PER_PAGE};
+use records::{Change, ENTRIES_PER_SECTOR, Mark, Pair, Row, Txn};
 use std::alloc::Allocator;
 
 /// How many entries lie in a sector.
@@ -32,9 +33,9 @@ pub trait CellSource {
     fn life(&self) -> Life
         ensures { result ≡ (cells self.now).life };
 
-    /// The row at a place, or none.
-    fn row(&self, rid: Rid) -> Option<Row>
-        ensures { result ≡ finite.get (cells self.now).rows rid };
+    /// The rows of a page, by their slots.
+    fn page(&self, page: u32) -> [Option<Row>; ROWS_PER_PAGE]
+        ensures { (slot : ℕ) → slot < SLOTS_PER_PAGE → slice_get result slot ≡ Some (finite.get (cells self.now).rows (record { page = page; slot = slot })) };
 
     /// How many entries there are.
     fn entry_count(&self) -> usize
@@ -59,8 +60,8 @@ impl<A: Allocator + Copy> CellSource for CellMaps<A> {
         self.life
     }
 
-    fn row(&self, rid: Rid) -> Option<Row> {
-        self.rows.get(rid)
+    fn page(&self, page: u32) -> [Option<Row>; ROWS_PER_PAGE] {
+        self.rows.page(page)
     }
 
     fn entry_count(&self) -> usize {

@@ -1,5 +1,5 @@
 //! A whole image is written, without a sync.
-ghost use Rattle.std.specs.Prelude.{◌≡◌, ◌⊎◌, ℕ, ◌+◌, ◌-◌, ◌*◌, ◌^◌, ◌<◌, ◌≤◌, List, Option, true, length, map, slice_get, slice_index_or, Some, None, OnOk};
+ghost use Rattle.std.specs.Prelude.{◌≡◌, ◌⊎◌, ℕ, ◌+◌, ◌-◌, ◌*◌, ◌^◌, ◌<◌, ◌≤◌, List, Option, true, length, map, slice_get, Some, None, OnOk};
 ghost use Rattle.std.specs.Option.{option_map};
 ghost use Rattle.std.specs.FinMap as finite;
 ghost use Rattle.sector_device.specs.Disk.{sector, SameOutside};
@@ -20,14 +20,8 @@ use crate::read::page_at;
 use crate::source::{CellSource, SECTOR_ENTRIES};
 use crate::write::{write_header, write_list, write_page};
 use image_parts::{ENTRY_SIZE, Head, Header, spell_entry, spell_head};
-use records::{
-    ENTRIES_PER_SECTOR, Geometry, HEADER_SECTORS, Mark, Pair, Rid, Row, SLOTS_PER_PAGE, TXNS_MAX,
-    Txn,
-};
+use records::{ENTRIES_PER_SECTOR, Geometry, HEADER_SECTORS, Mark, Pair, TXNS_MAX, Txn};
 use sector_device::{Device, Failed, SECTOR_SIZE, zero_sector};
-
-// How many rows a page has.
-const ROWS_PER_PAGE: usize = 63;
 
 // Writes the list of each transaction as the undo items of its head.
 fn write_lists<D: Device, S: CellSource>(
@@ -111,18 +105,6 @@ fn write_all_heads<D: Device, S: CellSource>(
 {
     let bytes = heads_sector(geometry, source);
     device.write(first + HEADER_SECTORS, &bytes)
-}
-
-// The rows of a page's slots, in order.
-fn rows_of_page<S: CellSource>(source: &S, page: u32) -> [Option<Row>; ROWS_PER_PAGE]
-    ensures count { length result ≡ SLOTS_PER_PAGE }
-    ensures rows { (slot : ℕ) → slot < SLOTS_PER_PAGE → slice_index_or result slot None ≡ finite.get (S.cells source.now).rows (record { page = page; slot = slot }) }
-{
-    let mut rows = [None; ROWS_PER_PAGE];
-    for slot in 0..SLOTS_PER_PAGE {
-        rows[usize::from(slot)] = source.row(Rid { page, slot });
-    }
-    rows
 }
 
 // Writes every page.
@@ -253,7 +235,7 @@ pub fn write_rows<D: Device, S: CellSource>(
     ensures within { RunsWithin (λ n. InPage first page n ⊎ ((D.history device.old).disk.unsynced n ≡ true)) (D.history device.old).disk.content (D.history device.old) (D.history device.new) }
     ensures counts { CountsFailure (D.failures device.old) (D.failures device.new) result }
 {
-    let rows = rows_of_page(source, page);
+    let rows = source.page(page);
     write_page(device, geometry, first, page, &rows)
 }
 

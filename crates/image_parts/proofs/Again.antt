@@ -1,5 +1,5 @@
 -- What was spelled is read again.
-use Rattle.std.proofs.Common.{◌≡◌, ℕ, ◌-◌, ◌≤◌, false, ltb, eqb, List, [], ◌∷◌, ◌++◌, length, take, Option, Some, None, refl, sym, ap, subst, ◌∙◌, append_assoc, arith, length-append, append-nil, Bor}
+use Rattle.std.proofs.Common.{◌≡◌, ℕ, ◌-◌, ◌≤◌, true, false, ltb, eqb, List, [], ◌∷◌, ◌++◌, length, take, drop, Option, Some, None, refl, sym, ap, subst, ◌∙◌, append_assoc, arith, length-append, append-nil, Bor}
 use Rattle.std.proofs.lemmas.Bool.{le-ltb, ne_eqb}
 use Rattle.std.proofs.lemmas.List.{take_at, drop_at}
 use Rattle.std.specs.Option.{option_map}
@@ -20,8 +20,9 @@ use Rattle.image_parts.specs.declared.head.Head.{Head}
 use Rattle.image_parts.specs.declared.header.Header.{Header}
 use Rattle.image_parts.specs.declared.item.UndoItem.{UndoItem}
 use Rattle.image_parts.specs.Spelling.{zeros, padded, row, pair, mark, entry, head, item, highest, life, header, RowFitsIfSome, HeadFits, HeadFitsIfSome, ItemFits, PairFitsIfSome, LifeFits, HeaderFits}
-use Rattle.image_parts.specs.Reading.{skipped, padded_at, row_at, pair_at, highest_at, life_at, header_at, head_at, item_at, entry_at}
+use Rattle.image_parts.specs.Reading.{are_zeros, skipped, padded_at, row_at, pair_at, highest_at, life_at, header_at, head_at, item_at, entry_at}
 use Rattle.image_parts.proofs.Bytes.{length-zeros}
+use Rattle.image_parts.proofs.Zeros.{zeros_tested}
 
 pub padded_again : (max : ℕ) (x rest : List ℕ) → length x ≤ max → padded_at max (padded max x ++ rest) ≡ Some (x, rest)
 unfolding padded_at byte_at
@@ -31,13 +32,17 @@ padded_again max x rest le =
     let low : ltb max (length x) ≡ false = le-ltb _ _ le in
     let long : ltb (length ((x ++ z) ++ rest)) max ≡ false = le-ltb _ _ (omega (arith, size, length-append {A = ℕ} (x ++ z) rest)) in
     let front : take (length x) ((x ++ z) ++ rest) ≡ x = ap (take (length x)) (append_assoc x z rest) ∙ take_at x (z ++ rest) (length x) refl in
-    rw (low, long, front, drop_at (x ++ z) rest max size) refl
+    let behind : drop (length x) ((x ++ z) ++ rest) ≡ z ++ rest = ap (drop (length x)) (append_assoc x z rest) ∙ drop_at x (z ++ rest) (length x) refl in
+    let padding : are_zeros (take (max - length x) (drop (length x) ((x ++ z) ++ rest))) ≡ true =
+    ap (λ (t : List ℕ). are_zeros (take (max - length x) t)) behind ∙ ap are_zeros (take_at z rest (max - length x) (length-zeros (max - length x))) ∙ zeros_tested (max - length x) in
+    rw (low, long, padding, front, drop_at (x ++ z) rest max size) refl
 
 pub skipped_again : (count : ℕ) (rest : List ℕ) → skipped count (zeros count ++ rest) ≡ Some rest
 unfolding skipped
 skipped_again count rest =
     let long : ltb (length (zeros count ++ rest)) count ≡ false = le-ltb _ _ (omega (arith, length-zeros count, length-append {A = ℕ} (zeros count) rest)) in
-    rw (long, drop_at (zeros count) rest count (length-zeros count)) refl
+    let tested : are_zeros (take count (zeros count ++ rest)) ≡ true = ap are_zeros (take_at (zeros count) rest count (length-zeros count)) ∙ zeros_tested count in
+    rw (long, tested, drop_at (zeros count) rest count (length-zeros count)) refl
 
 zeros_64 : zeros 64 ≡ 0 ∷ zeros 63
 unfolding zeros
@@ -168,6 +173,9 @@ no_value r x none some = subst IsNone (sym none ∙ some) tt
 -- a value, and the bytes behind it
 abbrev front : {X : Type 0} → X × Bor (List ℕ) → X × List ℕ
 front y = (y.0, y.1.now)
+
+pub read_as : {X : Type 0} (at : List ℕ → Option (X × List ℕ)) (bytes : List ℕ) (found : Option (X × Bor (List ℕ))) (y : X × Bor (List ℕ)) → option_map front found ≡ at bytes → found ≡ Some y → at bytes ≡ Some (y.0, y.1.now)
+read_as at bytes found y read is = sym read ∙ ap (option_map front) is
 
 module _ {X : Type 0} (at : List ℕ → Option (X × List ℕ)) (bytes text : List ℕ) (x : X) (found : Option (X × Bor (List ℕ))) (read : option_map front found ≡ at bytes) (same : bytes ≡ text) (again : IsReadAgain at text x) where
   both : option_map front found ≡ Some (x, again.0)

@@ -1,3 +1,5 @@
 mod Bytes
+mod Zeros
 mod Again
+mod Takes
 pub mod OneReading

@@ -1,6 +1,6 @@
--- Words for the private steps of reading: what stands at the front of some bytes, whatever the padding is. No public clause
--- cites them.
-use Rattle.std.specs.Prelude.{ℕ, ◌-◌, List, length, take, drop, Option, Some, None, if◌then◌else◌, nat_lt, ◌==◌}
+-- Words for the private steps of reading: what stands at the front of some bytes. Padding within a field is zeros; behind the
+-- last field there may be anything. No public clause cites them.
+use Rattle.std.specs.Prelude.{ℕ, ◌-◌, List, [], ◌∷◌, length, take, drop, slice_range, Option, Some, None, Bool, true, ◌&&◌, if◌then◌else◌, nat_lt, ◌==◌}
 use Rattle.records.specs.declared.key.TheConstants.{KEY_MAX, BODY_MAX}
 use Rattle.records.specs.declared.change.TheConstants.{CHANGES_MAX}
 use Rattle.records.specs.declared.row.Row.{Row}
@@ -16,18 +16,23 @@ use Rattle.image_parts.specs.declared.head.Head.{Head}
 use Rattle.image_parts.specs.declared.header.Header.{Header}
 use Rattle.image_parts.specs.declared.item.UndoItem.{UndoItem}
 
+-- whether each byte is zero
+unfoldable pub are_zeros : List ℕ → Bool
+are_zeros [] = true
+are_zeros (b ∷ rest) = (b == 0) && are_zeros rest
+
 unfoldable pub skipped : ℕ → List ℕ → Option (List ℕ)
-skipped count bytes = if nat_lt (length bytes) count then None else Some (drop count bytes)
+skipped count bytes = if nat_lt (length bytes) count then None else if are_zeros (take count bytes) then Some (drop count bytes) else None
 
 unfoldable pub padded_at : ℕ → List ℕ → Option (List ℕ × List ℕ)
 padded_at max bytes = do
   n ← byte_at bytes
-  if nat_lt max n.0 then None else if nat_lt (length n.1) max then None else Some (take n.0 n.1, drop max n.1)
+  if nat_lt max n.0 then None else if nat_lt (length n.1) max then None else if are_zeros (slice_range n.1 n.0 max) then Some (take n.0 n.1, drop max n.1) else None
 
 unfoldable pub row_at : List ℕ → Option (Option Row × List ℕ)
 row_at bytes = do
   tag ← byte_at bytes
-  if tag.0 == 0 then (skipped (ROW_SIZE - 1) tag.1 >>= λ rest. Some (None, rest)) else (padded_at KEY_MAX tag.1 >>= λ key. padded_at BODY_MAX key.1 >>= λ body. Some (Some (record { key = key.0; body = body.0 }), body.1))
+  if tag.0 == 0 then (skipped (ROW_SIZE - 1) tag.1 >>= λ rest. Some (None, rest)) else if tag.0 == 1 then (padded_at KEY_MAX tag.1 >>= λ key. padded_at BODY_MAX key.1 >>= λ body. Some (Some (record { key = key.0; body = body.0 }), body.1)) else None
 
 unfoldable pub pair_at : List ℕ → Option (Pair × List ℕ)
 pair_at bytes = do
@@ -72,4 +77,4 @@ unfoldable pub entry_at : List ℕ → Option ((Pair × Mark) × List ℕ)
 entry_at bytes = do
   p ← pair_at bytes
   tag ← byte_at p.1
-  Some ((p.0, if tag.0 == 1 then Live else Marked), tag.1)
+  if tag.0 == 1 then Some ((p.0, Live), tag.1) else if tag.0 == 2 then Some ((p.0, Marked), tag.1) else None

@@ -36,7 +36,7 @@ pub fn spell_head(found: &Option<Head>) -> [u8; HEAD_SIZE]
     bytes.into_bytes()
 }
 
-// The head at the front, whatever the padding is.
+// The head at the front, whatever is behind it.
 #[tactic(auto, unfolding(crate::specs::Reading::head_at))]
 fn head_of(bytes: &[u8]) -> Option<(Option<Head>, &[u8])>
     ensures read { option_map (λ x. (x.0, x.1.now)) result ≡ head_at bytes.now }

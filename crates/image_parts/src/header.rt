@@ -113,7 +113,7 @@ fn life_of(bytes: &[u8]) -> Option<(Life, &[u8])>
     Some((life, rest))
 }
 
-// The header at the front, whatever the padding is.
+// The header at the front, whatever is behind it.
 #[tactic(auto, unfolding(crate::specs::Reading::header_at))]
 fn header_of(bytes: &[u8]) -> Option<(Header, &[u8])>
     ensures { option_map (λ x. (x.0, x.1.now)) result ≡ header_at bytes.now }

@@ -35,7 +35,7 @@ pub fn spell_item(found: &UndoItem) -> [u8; ITEM_SIZE]
     bytes.into_bytes()
 }
 
-// The undo item at the front, whatever the padding is.
+// The undo item at the front, whatever is behind it.
 #[tactic(auto, unfolding(crate::specs::Reading::item_at))]
 fn item_of(bytes: &[u8]) -> Option<(UndoItem, &[u8])>
     ensures { option_map (λ x. (x.0, x.1.now)) result ≡ item_at bytes.now }

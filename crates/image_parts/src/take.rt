@@ -1,8 +1,8 @@
-// What stands at the front of some bytes, whatever the padding is.
+// What stands at the front of some bytes. Padding within a field is zeros; behind the last field there may be anything.
 ghost use Rattle.std.specs.Prelude.{◌≡◌};
 ghost use Rattle.std.specs.Option.{option_map};
 ghost use Rattle.records.specs.Reading.{u16_at, u32_at, u64_at, byte_at, rid_at, rows_of};
-ghost use Rattle.image_parts.specs.Reading.{skipped, padded_at, row_at, pair_at};
+ghost use Rattle.image_parts.specs.Reading.{are_zeros, skipped, padded_at, row_at, pair_at};
 
 use crate::row::ROW_SIZE;
 use byteorder::{BigEndian, ByteOrder};
@@ -48,11 +48,26 @@ pub(crate) fn byte_of(bytes: &[u8]) -> Option<(u8, &[u8])>
     }
 }
 
+// Whether each byte is zero.
+fn are_zeros(bytes: &[u8]) -> bool
+    ensures { result ≡ are_zeros bytes.now }
+{
+    let mut any = 0;
+    for byte in bytes {
+        any |= *byte;
+    }
+    any == 0
+}
+
+// What is behind so many zeros.
 #[tactic(auto, unfolding(crate::specs::Reading::skipped))]
 pub(crate) fn skip(count: usize, bytes: &[u8]) -> Option<&[u8]>
     ensures { option_map (λ x. x.now) result ≡ skipped count bytes.now }
 {
     if bytes.len() < count {
+        return None;
+    }
+    if !are_zeros(&bytes[..count]) {
         return None;
     }
     Some(&bytes[count..])
@@ -83,6 +98,9 @@ fn key_of(bytes: &[u8]) -> Option<(Key, &[u8])>
     if rest.len() < KEY_MAX {
         return None;
     }
+    if !are_zeros(&rest[len..KEY_MAX]) {
+        return None;
+    }
     let (key, _) = rest.split_at(len);
     let (_, behind) = rest.split_at(KEY_MAX);
     Some((Key::new(key).ok()?, behind))
@@ -100,6 +118,9 @@ fn body_of(bytes: &[u8]) -> Option<(Body, &[u8])>
     if rest.len() < BODY_MAX {
         return None;
     }
+    if !are_zeros(&rest[len..BODY_MAX]) {
+        return None;
+    }
     let (body, _) = rest.split_at(len);
     let (_, behind) = rest.split_at(BODY_MAX);
     Some((Body::new(body).ok()?, behind))
@@ -113,6 +134,9 @@ pub(crate) fn row_of(bytes: &[u8]) -> Option<(Option<Row>, &[u8])>
     if tag == 0 {
         let rest = skip(ROW_SIZE - 1, rest)?;
         return Some((None, rest));
+    }
+    if tag != 1 {
+        return None;
     }
     let Some((key, rest)) = key_of(rest) else {
         return None;

@@ -13,3 +13,4 @@ pub mod GivenLaws
 pub mod InsideLaws
 pub mod AboveLaws
 pub mod ExtendedLaws
+pub mod PageLaws

@@ -21,5 +21,5 @@ pub use laws::{
 };
 pub use life::Life;
 pub use list_map::ListMap;
-pub use row_map::RowMap;
+pub use row_map::{ROWS_PER_PAGE, RowMap};
 pub use write::Write;

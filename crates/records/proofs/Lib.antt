@@ -1,6 +1,7 @@
 pub mod Spellings
 pub mod Numbers
 pub mod Steps
+mod Words
 pub mod Fields
 mod Records
 mod Sizes

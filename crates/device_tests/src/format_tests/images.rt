@@ -5,8 +5,8 @@ use super::{SECTORS, check_half, format, formatted, used_disk};
 use crate::sectors::{check_filled, check_sector, padded};
 use flip_image::{Half, Halves};
 use image_half::{CellSource, SECTOR_ENTRIES};
-use model::Life;
-use records::{Change, Error, FRONT_SECTORS, Mark, Pair, Rid, Row, Txn};
+use model::{Life, ROWS_PER_PAGE};
+use records::{Change, Error, FRONT_SECTORS, Mark, Pair, Row, Txn};
 use sector_device::{Device, Fate, FaultDisk, Which};
 use std::process::Abort;
 use std::test::Fail;
@@ -21,8 +21,8 @@ impl CellSource for Nothing {
         Life::Absent
     }
 
-    fn row(&self, _rid: Rid) -> Option<Row> {
-        None
+    fn page(&self, _page: u32) -> [Option<Row>; ROWS_PER_PAGE] {
+        [None; ROWS_PER_PAGE]
     }
 
     fn entry_count(&self) -> usize {
