@@ -50,41 +50,53 @@ fn copy_in_memory<R: Alloc<A = Global> + Clock>(rt: &R, sectors: u64) -> Result<
     Ok(each(spent, sectors))
 }
 
-/// What it costs to go through the entries, each found behind the one before.
-fn walk(rt: &impl Clock, maps: &CellMaps<Global>, sectors: u64) -> Result<u64> {
-    let start = Instant::now(rt)?;
-    let mut last = None;
-    for _ in 0..maps.entries.len() {
-        let Some(entry) = maps.entries.above(last) else {
-            bail!("too few entries");
-        };
-        last = Some(entry.0);
-    }
-    Ok(each(start.elapsed(rt)?, sectors))
+/// What it costs to write a full image, to read it, and to fill maps with the same cells, in nanoseconds a sector.
+#[derive(Clone, Copy)]
+struct Costs {
+    written: u64,
+    read: u64,
+    filled: u64,
 }
 
-/// Prints a line for a store of so many pages. To fill the maps with the same cells is a part of what it costs to read, and to
-/// go through the entries of what it costs to write. That the maps that were read are dropped is not in it.
-pub(crate) fn print<R: Print + Alloc<A = Global> + Clock>(rt: &R, pages: u32) -> Result<()> {
-    let mut disk = new_disk(rt.alloc(), geometry_of(pages)?)?;
-    let mut halves = Halves::open(&mut disk)?;
+// Over a disk with a store, whose idle half takes the image and becomes the current one.
+fn costs_over<R: Alloc<A = Global> + Clock>(rt: &R, disk: &mut MemDisk<Global>) -> Result<Costs> {
+    let mut halves = Halves::open(disk)?;
     let sectors = sectors_of(halves.geometry());
     let start = Instant::now(rt)?;
     let maps = full_maps(rt.alloc(), halves.geometry())?;
     let filled = each(start.elapsed(rt)?, sectors);
     let start = Instant::now(rt)?;
-    write(&halves, &mut disk, &maps)?;
+    write(&halves, disk, &maps)?;
     let written = each(start.elapsed(rt)?, sectors);
-    flip(&mut halves, &mut disk)?;
+    flip(&mut halves, disk)?;
     let start = Instant::now(rt)?;
-    let found = read(&halves, rt.alloc(), &mut disk)?;
+    let found = read(&halves, rt.alloc(), disk)?;
     let read = each(start.elapsed(rt)?, sectors);
     drop(found);
-    let copied = copy(rt, sectors)?;
-    let copied_in_memory = copy_in_memory(rt, sectors)?;
-    let walked = walk(rt, &maps, sectors)?;
-    println!(rt;
-        "{sectors} sectors, nanoseconds a sector: image written {written}, image read {read}, copy {copied}, copy in memory {copied_in_memory}, entries gone through {walked}, maps filled {filled}"
-    )?;
+    Ok(Costs {
+        written,
+        read,
+        filled,
+    })
+}
+
+/// How often each is done: the first time, memory comes from the system; after that it is there.
+const ROUNDS: u32 = 3;
+
+/// Prints a line for each round over a store of so many pages. To fill the maps with the same cells is a part of what it costs to
+/// read. That the maps that were read are dropped is not in it.
+pub(crate) fn print<R: Print + Alloc<A = Global> + Clock>(rt: &R, pages: u32) -> Result<()> {
+    let geometry = geometry_of(pages)?;
+    let mut disk = new_disk(rt.alloc(), geometry)?;
+    let sectors = sectors_of(geometry);
+    for round in 1..=ROUNDS {
+        let costs = costs_over(rt, &mut disk)?;
+        let copied = copy(rt, sectors)?;
+        let copied_in_memory = copy_in_memory(rt, sectors)?;
+        println!(rt;
+            "{sectors} sectors, round {round}, nanoseconds a sector: image written {}, image read {}, copy {copied}, copy in memory {copied_in_memory}, maps filled {}",
+            costs.written, costs.read, costs.filled
+        )?;
+    }
     Ok(())
 }

@@ -38,7 +38,8 @@ pub struct Ended<B: Group, D: Device, X> {
 /// Runs flusher, cleaner and builder beside the clients, each in a thread of its own, until clients and builder have ended; then
 /// it asks the others to stop, and waits for their end.
 ///
-/// Flusher and builder end as `flush_loop` and `build_loop` do.
+/// It is this seat that sets the stop flag, and sees it set (`stopped`). Of the board it has seen no more than that, and its view may
+/// have another name (`seen`). Flusher and builder end as `flush_loop` and `build_loop` do.
 pub fn run_beside<
     B: Group + Send + Sync,
     D: Device + Send + Drop,
@@ -61,6 +62,8 @@ pub fn run_beside<
     ensures clients { F.post clients result.clients }
     ensures number { result.seat.number ≡ seat.number }
     ensures session { result.seat.session ≡ seat.session }
+    ensures stopped { result.seat.sight.stopped ≡ true }
+    ensures seen { result.seat.sight ≡ record seat.sight { name = result.seat.sight.name; stopped = true; stops = true } }
     ensures goes_on { GoesOn D.history D.failures B.site.opened flush result.flush }
     ensures through { RunsThrough D.history D.failures B.site.opened flush result.flush }
     ensures sound { OnOk result.flushed (has_failed result.flush.writer ≡ false) }
@@ -156,8 +159,7 @@ fn clean_beside<
     requires build_view { build_view.board ≡ B.board }
     requires clients { F.pre clients }
     ensures clients { F.post clients result.clients }
-    ensures number { result.seat.number ≡ seat.number }
-    ensures session { result.seat.session ≡ seat.session }
+    ensures seat { result.seat ≡ record seat { sight = record seat.sight { stopped = true; stops = true } } }
     ensures done { IfOk result.ended (λ ticket. ∥ WasServed B.site.opened Event.Build (built (reply.Done ticket)) ∥₁) }
     ensures why { IfErr result.ended (λ e. (e ≡ Stopped) ⊎ ((e ≢ NoMemory) × ∥ WasServed B.site.opened Event.Build (Refused e) ∥₁)) }
 {
@@ -204,8 +206,7 @@ fn build_beside<
     requires view { view.board ≡ B.board }
     requires clients { F.pre clients }
     ensures clients { F.post clients result.clients }
-    ensures number { result.seat.number ≡ seat.number }
-    ensures session { result.seat.session ≡ seat.session }
+    ensures seat { result.seat ≡ record seat { sight = record seat.sight { stopped = true; stops = true } } }
     ensures done { IfOk result.ended (λ ticket. ∥ WasServed B.site.opened Event.Build (built (reply.Done ticket)) ∥₁) }
     ensures why { IfErr result.ended (λ e. (e ≡ Stopped) ⊎ ((e ≢ NoMemory) × ∥ WasServed B.site.opened Event.Build (Refused e) ∥₁)) }
 {

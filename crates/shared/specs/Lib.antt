@@ -2,3 +2,4 @@ pub mod Seats
 pub mod Changed
 pub mod Served
 pub mod Openings
+pub mod Waits

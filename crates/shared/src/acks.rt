@@ -1,7 +1,7 @@
 //! What a seat learns from the board. No call here takes the lock.
-ghost use Rattle.std.specs.Prelude.{◌≡◌, ◌≤◌, ◌↔◌, ◌⊎◌, true, IfErr, IfOk, IfSome, IsTrue};
-ghost use Rattle.records.specs.declared.error.Error.TheVariants.{DeviceFailed, Stopped};
-ghost use Rattle.board.specs.Views.{stays_as};
+ghost use Rattle.std.specs.Prelude.{◌≡◌, ◌≤◌, ◌↔◌, ◌<◌, false, true, IfErr, IfNone, IfOk, IfSome, IsTrue, OnErr};
+ghost use Rattle.board.specs.Views.{leaves_as, stays_as};
+ghost use Rattle.shared.specs.Waits.{HasReadWhy};
 
 use crate::seat::{Ack, Seat};
 use crate::shared::Shared;
@@ -27,10 +27,11 @@ impl<B: Group> Shared<B> {
     fn try_ack(&self, seat: &mut Seat<B>, ticket: &Ticket) -> Option<Ack<B>>
         ensures ticket { IfSome result (λ ack. ack.ticket ≡ ticket.now) }
         ensures reached { IfSome result (λ ack. ticket.now.«record» ≤ ack.sight.horizon) }
-        ensures horizon { IfSome result (λ ack. ack.sight.horizon ≡ seat.new.sight.horizon) }
+        ensures stays { IfSome result (λ ack. seat.new ≡ record seat.old { sight = record seat.old.sight { horizon = ack.sight.horizon; name = stays_as seat.old.sight.name } }) }
+        ensures leaves { IfSome result (λ ack. ack.sight ≡ record seat.new.sight { name = leaves_as seat.old.sight.name; stops = false }) }
+        ensures none { IfNone result (seat.new.sight.horizon < ticket.now.«record») }
+        ensures seen { IfNone result (seat.new ≡ record seat.old { sight = record seat.old.sight { horizon = seat.new.sight.horizon } }) }
         ensures rises { seat.old.sight.horizon ≤ seat.new.sight.horizon }
-        ensures number { seat.new.number ≡ seat.old.number }
-        ensures session { seat.new.session ≡ seat.old.session }
     {
         if self.board.horizon(&mut seat.view) < ticket.record.get() {
             return None;
@@ -45,10 +46,8 @@ impl<B: Group> Shared<B> {
 
     // Why the seat waits no longer, if so.
     fn ended(&self, seat: &mut Seat<B>) -> Option<Error>
-        ensures why { IfSome result (λ e. ((e ≡ DeviceFailed) × IsTrue seat.new.sight.failed) ⊎ ((e ≡ Stopped) × IsTrue seat.new.sight.stopped)) }
-        ensures horizon { seat.new.sight.horizon ≡ seat.old.sight.horizon }
-        ensures number { seat.new.number ≡ seat.old.number }
-        ensures session { seat.new.session ≡ seat.old.session }
+        ensures why { IfSome result (λ e. HasReadWhy e seat.old seat.new) }
+        ensures none { IfNone result (seat.new ≡ seat.old) }
     {
         if self.board.failed(&mut seat.view) {
             return Some(Error::DeviceFailed);
@@ -61,7 +60,9 @@ impl<B: Group> Shared<B> {
 
     /// Waits until the record of the ticket is safe on the device.
     ///
-    /// `DeviceFailed` where the flusher says that its device failed, and `Stopped` where the threads are asked to stop.
+    /// `DeviceFailed` where the flusher says that its device failed, and `Stopped` where the threads are asked to stop; neither
+    /// where the horizon that was read last reaches the record. The seat has then read a horizon and the flag that says why, and
+    /// else a horizon alone.
     pub fn await_ack<R: Wait>(
         &self,
         rt: &R,
@@ -70,11 +71,11 @@ impl<B: Group> Shared<B> {
     ) -> Result<Ack<B>, Error>
         ensures ticket { IfOk result (λ ack. ack.ticket ≡ ticket) }
         ensures reached { IfOk result (λ ack. ticket.«record» ≤ ack.sight.horizon) }
-        ensures horizon { IfOk result (λ ack. ack.sight.horizon ≡ seat.new.sight.horizon) }
-        ensures why { IfErr result (λ e. ((e ≡ DeviceFailed) × IsTrue seat.new.sight.failed) ⊎ ((e ≡ Stopped) × IsTrue seat.new.sight.stopped)) }
+        ensures stays { IfOk result (λ ack. seat.new ≡ record seat.old { sight = record seat.old.sight { horizon = ack.sight.horizon; name = stays_as seat.old.sight.name } }) }
+        ensures leaves { IfOk result (λ ack. ack.sight ≡ record seat.new.sight { name = leaves_as seat.old.sight.name; stops = false }) }
+        ensures why { IfErr result (λ e. HasReadWhy e (record seat.old { sight = record seat.old.sight { horizon = seat.new.sight.horizon } }) seat.new) }
+        ensures late { OnErr result (seat.new.sight.horizon < ticket.«record») }
         ensures rises { seat.old.sight.horizon ≤ seat.new.sight.horizon }
-        ensures number { seat.new.number ≡ seat.old.number }
-        ensures session { seat.new.session ≡ seat.old.session }
     {
         for _ in rt.forever() {
             if let Some(ack) = self.try_ack(seat, &ticket) {

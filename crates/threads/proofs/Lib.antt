@@ -1,2 +1,3 @@
 mod Again
 mod Opened
+mod Turned

@@ -1,5 +1,5 @@
 -- What is left of an engine that was opened and taken apart.
-use Rattle.std.proofs.Common.{◌≡◌, ℕ, List, [], length, false, refl, sym, ap, subst, ◌∙◌, inl, arith}
+use Rattle.std.proofs.Common.{◌≡◌, ℕ, List, [], refl, sym, ap, subst, ◌∙◌, inl, arith}
 use Rattle.std.proofs.lemmas.List.{nil_from_length}
 use Rattle.std.specs.declared.alloc.Global.{Global}
 use Rattle.records.specs.GeometryValue.{GeometryValue}
@@ -14,16 +14,16 @@ use Rattle.core_contracts.specs.Served.{ServesAll, nothing}
 use Rattle.core_laws.specs.Calls.{BeginsWith}
 use Rattle.core_loader.specs.Loaded.{holding}
 use Rattle.nsf_core.specs.View.{CoreValue, IsState}
-use Rattle.image_model.specs.Run.{Run, end_of}
+use Rattle.image_model.specs.Run.{end_of}
 use Rattle.sector_device.specs.Disk.{IsSynced}
 use Rattle.sector_device.specs.History.{History}
 use Rattle.store_writer.specs.declared.writer.Writer.{Writer}
-use Rattle.store_writer.specs.Parts.{halves_of}
-use Rattle.store_writer.specs.Writer.{IsWriter, opened_run}
+use Rattle.store_writer.specs.Writer.{IsWriter}
+use Rattle.gate_log.specs.Area.{Log}
 use Rattle.restart.specs.declared.parts.Parts.{Parts}
 use Rattle.restart.specs.Parted.{ArePartsOf, LeavesParts, LeavesPartsOf}
-use Rattle.restart.specs.Parts.{core_of, device_of}
-use Rattle.restart.specs.Reopening.{IsNotOpened, IsOpened, IsTurned, opening}
+use Rattle.restart.specs.Parts.{device_of}
+use Rattle.restart.specs.Reopening.{IsEmptied, IsNotOpened, IsOpened, IsTurned, opening}
 use Rattle.restart.specs.Store.{Past, over, run_of}
 use Rattle.shared.specs.Openings.{IsJustOpened, opened_of}
 use Rattle.threads.specs.Openings.{IsNewWriter, Opens}
@@ -46,7 +46,7 @@ module _ {D : Type 0} (history : D → History) (before : D) (engine : Parts D G
     synced = λ other. subst (λ (d : D). IsSynced (history d).disk) (sym same) is.synced;
   }
 
-module _ {D : Type 0} (history : D → History) (before : D) (engine : Parts D Global) (is : IsOpened history before engine)
+module _ {D : Type 0} (history : D → History) (before : D) (engine : Parts D Global) (is : IsOpened history before engine) (emptied : IsEmptied history before engine)
     (may : (o : Opened) → Opens (history before).disk.content o → CanOpen o)
     (core : CoreValue) (w : Writer D Global) (parts : ArePartsOf engine core w) (left : LeavesPartsOf history engine core w) where
   abbrev o : Opened
@@ -94,6 +94,8 @@ module _ {D : Type 0} (history : D → History) (before : D) (engine : Parts D G
     fits = can.fits.room;
     synced = parts.synced ∙ is.horizon;
     sound = parts.failed ∙ is.sound;
+    empty = ap (λ (l : Log). l.open_slots) parts.log ∙ emptied.1;
+    idle = parts.image ∙ emptied.2;
   }
 
   pub new_over_core : IsNewWriter history (opened_of core) w

@@ -1,16 +1,16 @@
 -- What a store is opened with, and what its threads begin with.
 use Rattle.std.specs.FinMap.{len}
-use Rattle.std.specs.Prelude.{[], false, ℕ, ◌≡◌, ◌≤◌}
+use Rattle.std.specs.Prelude.{[], false, None, ℕ, ◌≡◌, ◌≤◌}
 use Rattle.std.specs.declared.alloc.Global.{Global}
 use Rattle.atomic_table.specs.Seated.{TableId}
 use Rattle.records.specs.GeometryValue.{GeometryValue}
 use Rattle.model.specs.Given.{Given, opening_cells}
 use Rattle.core_model.specs.Histories.{CanOpen, Opened}
-use Rattle.sector_device.specs.Disk.{Image, IsSynced}
+use Rattle.sector_device.specs.Disk.{Disk, Image, IsCrashImage, IsSynced}
 use Rattle.sector_device.specs.History.{History}
 use Rattle.store_reader.specs.Contents.{Gives}
 use Rattle.store_writer.specs.declared.writer.Writer.{Writer}
-use Rattle.store_writer.specs.Parts.{halves_of, has_failed, synced_of}
+use Rattle.store_writer.specs.Parts.{halves_of, has_failed, image_of, log_of, synced_of}
 use Rattle.store_writer.specs.Writer.{IsWriter, opened_run}
 use Rattle.flusher.specs.Part.{FlushValue}
 use Rattle.locked_core.specs.Names.{Names}
@@ -28,15 +28,22 @@ pub record Opens (image : Image) (o : Opened) : Type 0 where
 abbrev pub IsOpenable : Image → Type 0
 IsOpenable image = (o : Opened) → Opens image o → CanOpen o
 
--- A flusher's part that has popped nothing: all that was opened is synced, and the device has not failed.
+-- whatever a crash leaves of the disk may be opened
+abbrev pub StaysOpenable : Disk → Type 0
+StaysOpenable disk = (image : Image) → IsCrashImage disk image → IsOpenable image
+
+-- A flusher's part that has popped nothing: all that was opened is synced, and the device has not failed. No slot of the log is open,
+-- and no image is under way.
 pub record IsNewFlusher {D : Type 0} (board : TableId) (o : Opened) (f : FlushValue D) : Type 0 where
   pub handed : f.handed ≡ []
   pub held : f.held ≡ []
   pub published : f.published ≡ record { board = board; horizon = 0; failed = false }
   pub synced : synced_of f.writer ≡ o.given.last
   pub sound : has_failed f.writer ≡ false
+  pub empty : (log_of f.writer).open_slots ≡ 0
+  pub idle : image_of f.writer ≡ None
 
--- A writer that has got no record yet, over what was opened.
+-- A writer that has got no record yet, over what was opened. No slot of the log is open, and no image is under way.
 pub record IsNewWriter {D : Type 0} (history : D → History) (o : Opened) (w : Writer D Global) : Type 0 where
   pub writer : IsWriter history (opened_run (halves_of w) o.given.last (opening_cells o.given)) o.given.last w
   pub pages : (halves_of w).geometry.pages ≡ o.pages
@@ -44,6 +51,8 @@ pub record IsNewWriter {D : Type 0} (history : D → History) (o : Opened) (w : 
   pub fits : len o.given.entries ≤ o.places
   pub synced : synced_of w ≡ o.given.last
   pub sound : has_failed w ≡ false
+  pub empty : (log_of w).open_slots ≡ 0
+  pub idle : image_of w ≡ None
 
 -- A store that is open, before its threads have it: what its seats, its queue and their table are called, with what it was opened
 -- with; what its board is called; and its device.

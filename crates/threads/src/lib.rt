@@ -9,7 +9,7 @@ mod opening;
 mod parts;
 mod store;
 
-pub use openable::{format_store, left_by_a_run, left_by_threads};
+pub use openable::{format_store, left_by_a_run, left_by_an_opening, left_by_threads};
 pub use opening::open_store;
 pub use parts::Parts;
 pub use store::OpenStore;

@@ -1,16 +1,18 @@
 //! Devices whose store may be opened.
 ghost use Rattle.std.specs.Prelude.{◌≡◌, ◌↔◌, ◌⊎◌, ◌<◌, ◌≤◌, ℕ, List, length, Err, IfErr, OnOk};
-ghost use Rattle.sector_device.specs.Disk.{Image, IsSynced};
+ghost use Rattle.sector_device.specs.Disk.{Disk, Image, IsSynced};
+ghost use Rattle.sector_device.specs.History.{LeavesOnly};
 ghost use Rattle.records.specs.GeometryValue.{GeometryValue, sectors_of};
 ghost use Rattle.records.specs.RecordValue.{RecordValue};
 ghost use Rattle.core_model.specs.Histories.{CanOpen, Opened};
 ghost use Rattle.flip_image.specs.Store.{AreGatesClosed, IsDeviceFailure, IsFormatted};
 ghost use Rattle.flip_image.specs.declared.half.Half.{Half};
+ghost use Rattle.restart.specs.Reopening.{IsTurned};
 ghost use Rattle.restart.specs.Store.{Past, Survives};
 ghost use Rattle.flusher.specs.Part.{GivesBeginning};
 ghost use Rattle.shared.specs.Seats.{SeatValue};
 ghost use Rattle.closing.specs.Closing.{GivesSome};
-ghost use Rattle.threads.specs.Openings.{IsOpenable};
+ghost use Rattle.threads.specs.Openings.{IsOpenable, StaysOpenable};
 
 use flip_image::Halves;
 use records::{Error, Geometry};
@@ -55,6 +57,19 @@ pub fn left_by_a_run<A: Allocator>()
 pub fn left_by_threads()
     ensures flushed { (o : Opened) (g : GeometryValue) (handed : List RecordValue) (floor : ℕ) (image : Image) → CanOpen o → g.pages ≡ o.pages → g.entries ≡ o.places → GivesBeginning o g handed floor image → IsOpenable image }
     ensures ended { (o : Opened) (g : GeometryValue) (seats : List SeatValue) (popped : List RecordValue) (floor : ℕ) (image : Image) → g.pages ≡ o.pages → g.entries ≡ o.places → ∥ GivesSome o g seats popped floor image ∥₁ → IsOpenable image }
+{
+    one_answer();
+}
+
+/// A law: where whatever a crash leaves of a device may be opened, so may whatever one leaves at any moment of an `open_store` of it
+/// (`crashes`), and of the device behind the call (`behind`), whatever that answers: the device is what `opened` and `refused` of
+/// `open_store` tell of. One that comes back may be opened at once, if it could be before (`back`). Where all of a device is synced, a
+/// crash leaves what it holds (`synced`).
+pub fn left_by_an_opening<D: Device>()
+    ensures crashes { (before after : _) → StaysOpenable (D.history before).disk → IsTurned D.history before after → LeavesOnly (D.history before) (D.history after) IsOpenable }
+    ensures behind { (before after : _) → StaysOpenable (D.history before).disk → IsTurned D.history before after → StaysOpenable (D.history after).disk }
+    ensures back { (before after : _) → IsOpenable (D.history before).disk.content → IsTurned D.history before after → IsOpenable (D.history after).disk.content }
+    ensures synced { (disk : Disk) → IsSynced disk → IsOpenable disk.content → StaysOpenable disk }
 {
     one_answer();
 }

@@ -18,10 +18,11 @@ use std::alloc::Global;
 /// Opens the store on the device, as `restart` does, for so many threads with a seat each.
 ///
 /// What the device gives must be something that a core may begin with, as of a device that was formatted, and then written by
-/// this engine, or by threads over it (`format_store`, `left_by_a_run`, `left_by_threads`).
+/// this engine, or by threads over it, or by an opening that was cut off (`format_store`, `left_by_a_run`, `left_by_threads`,
+/// `left_by_an_opening`).
 ///
 /// The errors are those of `restart`, and `NoMemory`. The device is given back then, and gives what it gave; a crash at any moment
-/// of the call leaves what one before could, or what gives the same (`refused`).
+/// of the call leaves what one before could, or what gives the same (`refused`). So it may be opened again.
 pub fn open_store<D: Device>(
     alloc: Global,
     device: D,
@@ -50,7 +51,7 @@ pub fn open_store<D: Device>(
 
 impl<D: Device> OpenStore<D> {
     /// What the threads share, and what each of them has: new seats, each at its number; the part of the flusher, which has popped
-    /// nothing, over the device with all of it synced; and the builder's view.
+    /// nothing, over the device with all of it synced, an empty log and no image under way; and the builder's view.
     ///
     /// The one error is `NoMemory`, and the device is given back then, as it is.
     pub fn start<B: Group>(self) -> Result<(Shared<B>, Parts<B, D>), (Error, D)>

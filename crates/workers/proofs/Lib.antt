@@ -1,2 +1,5 @@
+mod Behind
 mod Orders
 mod Refused
+mod Stores
+mod Acknowledgements

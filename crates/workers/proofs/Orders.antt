@@ -20,14 +20,14 @@ get_first (z ∷ zs) x y zero at = at
 get_first (z ∷ zs) x y (suc k) at = get_first zs x y k at
 
 -- which there are no more of
-get_either : {X : Type 0} (xs : List X) (x y : X) (k : ℕ) → slice_get (xs ++ x ∷ []) k ≡ Some y → (slice_get xs k ≡ Some y) ⊎ ((k ≡ length xs) × (y ≡ x))
+pub get_either : {X : Type 0} (xs : List X) (x y : X) (k : ℕ) → slice_get (xs ++ x ∷ []) k ≡ Some y → (slice_get xs k ≡ Some y) ⊎ ((k ≡ length xs) × (y ≡ x))
 get_either [] x y zero at = inr (refl, cc)
 get_either [] x y (suc k) at = absurd cc
 get_either (z ∷ zs) x y zero at = inl at
 get_either (z ∷ zs) x y (suc k) at = ⊎_elim (λ early. inl early) (λ last. inr (ap suc last.0, last.1)) (get_either zs x y k at)
 
 -- what is at a place of a list
-some_at : {X : Type 0} (xs : List X) (k : ℕ) → k < length xs → (x : X) × (slice_get xs k ≡ Some x)
+pub some_at : {X : Type 0} (xs : List X) (k : ℕ) → k < length xs → (x : X) × (slice_get xs k ≡ Some x)
 some_at [] k within = absurd (omega (arith, within))
 some_at (x ∷ xs) zero within = (x, refl)
 some_at (x ∷ xs) (suc k) within = some_at xs k (omega (arith, within))

@@ -1,8 +1,34 @@
 -- Refusals.
-use Rattle.std.proofs.Common.{Option, Result, Ok, Err, IfErr, IfSome}
+use Rattle.std.proofs.Common.{◌≡◌, ◌∙◌, ℕ, None, Result, Ok, Err, IfErr, IfSome, Bool, false, true, true≢false, ap, inl, refl, subst, sym}
 use Rattle.std.specs.Result.{result_err}
+use Rattle.records.specs.declared.error.Error.{Error}
+use Rattle.records.specs.declared.error.Error.TheVariants.{NoMemory}
+use Rattle.sector_device.specs.Disk.{IsSynced}
+use Rattle.sector_device.specs.History.{History}
+use Rattle.restart.specs.Reopening.{IsNotOpened, IsTurned}
+use Rattle.threads.specs.Openings.{IsOpenedOver, StoreValue}
 
 -- what holds of an error holds of what is kept of it
 pub err_kept : {X E : Type 0} (P Q : E → Type 0) (r : Result X E) → IfErr r (λ e. P e × Q e) → IfSome (result_err r) P
 err_kept P Q (Ok x) holds = tt
 err_kept P Q (Err e) holds = holds.0
+
+-- there is no error where it would tell what isn't so
+pub none_kept : {X E : Type 0} (P : E → Type 0) (b : Bool) (r : Result X E) → IfErr r (λ e. P e × (b ≡ true)) → b ≡ false → result_err r ≡ None
+none_kept P b (Ok x) holds sound = refl
+none_kept P b (Err e) holds sound = absurd (true≢false (sym holds.1 ∙ sound))
+
+-- two facts of an error, and what follows from both
+pub err_of_both : {X E : Type 0} (P Q R : E → Type 0) (r : Result X E) → IfErr r P → IfErr r Q → ((e : E) → P e → Q e → R e) → IfErr r R
+err_of_both P Q R (Ok x) one other both = tt
+err_of_both P Q R (Err e) one other both = both e one other
+
+-- where there was no memory behind the opening, and the device is given back
+pub not_begun : {D : Type 0} (history : D → History) (failures : D → ℕ) (before : D) (count : ℕ) (s : StoreValue D) (after : D) (e : Error)
+    → IsOpenedOver history failures before count s → e ≡ NoMemory → after ≡ s.device → IsNotOpened history failures before after e
+not_begun {D} history failures before count s after e over none same = record {
+  device = subst (λ (d : D). IsTurned history before d) (sym same) over.device;
+  why = inl (inl none);
+  told = λ other. ap failures same ∙ over.quiet;
+  synced = λ other. subst (λ (d : D). IsSynced (history d).disk) (sym same) over.synced;
+}

@@ -1,2 +1,3 @@
 pub mod Left
 pub mod Printed
+pub mod Private

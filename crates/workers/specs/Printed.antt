@@ -1,14 +1,74 @@
--- What the program prints, and its status.
-use Rattle.std.specs.Prelude.{◌≡◌, ◌≤◌, ◌⊎◌, ◌++◌, ◌∷◌, [], ℕ, Bool, List, Option, Result, Ok, Err, codes, true, false, IfOk}
+-- What the program finds, what it prints of it, and its status.
+use Rattle.std.specs.FinMap as map
+use Rattle.std.specs.Prelude.{◌≡◌, ◌≤◌, ◌⊎◌, ◌++◌, ◌∷◌, [], ℕ, Bool, List, Option, Result, None, Some, Ok, Err, IfErr, IfOk, codes, true, false}
 use Rattle.std.specs.Fmt.{decimal}
 use Rattle.std.specs.Io.KnownBytes.{Appends}
+use Rattle.std.specs.declared.alloc.Global.{Global}
+use Rattle.records.specs.GeometryValue.{GeometryValue}
 use Rattle.records.specs.declared.error.Error.{Error}
-use Rattle.records.specs.declared.error.Error.TheVariants.{NoMemory}
+use Rattle.records.specs.declared.error.Error.TheVariants.{DeviceFailed, NoMemory}
+use Rattle.model.specs.Given.{nothing}
+use Rattle.sector_device.specs.Disk.{IsCrashImage}
+use Rattle.sector_device.specs.MemDisk.{history_of}
+use Rattle.sector_device.specs.declared.memory.MemDisk.{MemDisk}
 use Rattle.replay_values.specs.Texts.{line_of}
 use Rattle.replay_values.specs.declared.answer.Answer.TheVariants.{Refused}
+use Rattle.restart.specs.Store.{over}
+use Rattle.closing.specs.Closing.{table_with}
 use Rattle.threads_arguments.specs.CommandLine.{Ask, AskForHelp, HaveFault}
 use Rattle.threads_arguments.specs.declared.Arguments.{Arguments}
+use Rattle.writers.specs.Found.{IsBuildRefused, IsFoundOn}
 use Rattle.writers.specs.declared.after_crash.Found.{Found}
+use Rattle.workers.specs.Left.{IsLeft, IsWhole, all_kept, first_of}
+use Rattle.workers.specs.declared.team.Worked.{Worked}
+
+-- ---- what is found
+
+-- Threads that such arguments ask for worked on a new store of this geometry, with no row, no index and no record, and left this. Where neither a
+-- writer nor the end was refused anything, just the transactions that the writers are to commit are acknowledged.
+pub record IsOfThreads (arguments : Arguments) (worked : Worked (MemDisk Global)) : Type 0 where
+  pub geometry : GeometryValue
+  pub left : IsLeft history_of (over geometry nothing) worked
+  pub acknowledged : worked.refusals.writer ≡ None → worked.refusals.end ≡ None → worked.acknowledged.items ≡ all_kept arguments.writers arguments.changes
+
+-- the first refusal that is told of the threads
+abbrev pub refusal_of : Worked (MemDisk Global) → Option Error
+refusal_of worked = first_of (worked.refusals.writer ∷ worked.refusals.flusher ∷ worked.refusals.builder ∷ worked.refusals.end ∷ [])
+
+-- Such threads were refused nothing, and a crash left this disk of what they left.
+pub record IsCrashed (arguments : Arguments) (disk : MemDisk Global) : Type 0 where
+  pub worked : Worked (MemDisk Global)
+  pub threads : IsOfThreads arguments worked
+  pub unrefused : refusal_of worked ≡ None
+  pub crash : IsCrashImage (history_of worked.device).disk (history_of disk).disk.content
+
+-- This was found on a disk that a crash left of what such threads left. Just the transactions that the writers are to commit were acknowledged.
+-- The disk gives the table of all commits, set over no row. So many rows are in that, and as many entries are visible, which are just the pairs
+-- of these rows.
+pub record IsFoundBehindCrash (arguments : Arguments) (found : Found) : Type 0 where
+  pub disk : MemDisk Global
+  pub crashed : IsCrashed arguments disk
+  pub acknowledged : crashed.worked.acknowledged.items ≡ all_kept arguments.writers arguments.changes
+  pub on : IsFoundOn history_of disk found
+  pub whole : IsWhole history_of (over crashed.threads.geometry nothing) crashed.worked.device
+  pub table : on.opens.given.table ≡ table_with map.empty whole.commits
+  pub rows : found.rows ≡ map.len (table_with map.empty whole.commits)
+  pub shown : found.shown ≡ found.rows
+  pub same : found.same ≡ true
+
+-- there was no memory, or a disk failed
+abbrev pub IsWantOrFailure : Error → Type 0
+IsWantOrFailure e = (e ≡ NoMemory) ⊎ (e ≡ DeviceFailed)
+
+-- Why nothing was found: there was no memory, or a disk failed; or this is the first refusal that is told of such threads; or a crash left a
+-- disk of what such threads left, and the builder of the store on it was refused a step.
+abbrev pub IsNothingFound : Arguments → Error → Type 0
+IsNothingFound arguments e =
+    IsWantOrFailure e
+    ⊎ ((worked : Worked (MemDisk Global)) × IsOfThreads arguments worked × (refusal_of worked ≡ Some e))
+    ⊎ ((disk : MemDisk Global) × IsCrashed arguments disk × IsBuildRefused history_of disk e)
+
+-- ---- what is printed
 
 abbrev pub yes_or_no : Bool → List ℕ
 yes_or_no true = codes "yes"
@@ -23,23 +83,19 @@ abbrev pub status_of : Bool → ℕ
 status_of true = 0
 status_of false = 1
 
--- the entries are the rows' own only where there are as many
-abbrev pub IsConsistent : Found → Type 0
-IsConsistent found = found.same ≡ true → found.shown ≡ found.rows
-
 module _ {W : Type 0} (contents : W → Option (List ℕ)) where
   -- What was found is printed, or why nothing was.
   abbrev pub IsTold : Result Found Error → ℕ → W → W → Type 0
   IsTold (Ok found) status before after = Appends (contents before) (contents after) (found_line found) × (status ≡ status_of found.same)
   IsTold (Err e) status before after = Appends (contents before) (contents after) (line_of (Refused e)) × (status ≡ 1)
 
-  -- The words ask for these arguments, and what the threads left was looked at, and what was found there is told. Or the words ask for help,
-  -- which has the status 0, or 1 where it can't be written; or they have a fault, which has the status 2 and prints nothing; or there was no
-  -- memory for the arguments, and that was told.
+  -- The words ask for these arguments, and what was found behind a crash of what the threads left is told, or why nothing was. Or they ask
+  -- for help, and the status is at most 1; or they have a fault, the status is 2 and the output is as before; or it is told that there was no
+  -- memory.
   abbrev pub RunsWords : List (List ℕ) → ℕ → W → W → Type 0
   RunsWords words status before after =
       ((arguments : Arguments) × Ask words arguments
-      × ((found : Result Found Error) × IfOk found IsConsistent × IsTold found status before after))
+      × ((found : Result Found Error) × IfOk found (IsFoundBehindCrash arguments) × IfErr found (IsNothingFound arguments) × IsTold found status before after))
       ⊎ (AskForHelp words × (status ≤ 1))
       ⊎ (HaveFault words × (status ≡ 2) × (after ≡ before))
       ⊎ IsTold (Err NoMemory) status before after

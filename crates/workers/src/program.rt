@@ -1,12 +1,14 @@
 //! The program over what it writes.
-ghost use Rattle.std.specs.Prelude.{◌≡◌, ◌⊎◌, IfOk, OnOk, map};
+ghost use Rattle.std.specs.Prelude.{◌≡◌, ◌⊎◌, IfErr, IfOk, None, OnOk, map};
 ghost use Rattle.std.specs.Io.KnownBytes.{Appends};
+ghost use Rattle.model.specs.Given.{nothing};
 ghost use Rattle.replay_values.specs.Texts.{line_of};
 ghost use Rattle.sector_device.specs.MemDisk.{history_of};
+ghost use Rattle.store_reader.specs.Contents.{Gives};
 ghost use Rattle.threads.specs.Openings.{IsOpenable};
-ghost use Rattle.workers.specs.Printed.{IsConsistent, IsTold, RunsWords, found_line, status_of, yes_or_no};
+ghost use Rattle.workers.specs.Printed.{IsFoundBehindCrash, IsNothingFound, IsOfThreads, IsTold, IsWantOrFailure, RunsWords, found_line, refusal_of, status_of, yes_or_no};
 
-use crate::team::{Team, work_on};
+use crate::team::{Team, Worked, work_on};
 use loops::NoGate;
 use records::{Error, Geometry};
 use replay_values::Answer;
@@ -17,6 +19,7 @@ use std::io;
 use std::io::Write;
 use std::sync::Wait;
 use std::thread::Threads;
+use store_reader::{format_gives_nothing, one_answer};
 use threads::format_store;
 use threads_arguments::{Arguments, NoArguments};
 use writers::{Found, look};
@@ -30,23 +33,29 @@ const SLOTS: u32 = 16;
 // How many writes and syncs the disk has room to record.
 const CALLS: usize = 16_384;
 
+// A disk in memory with a new store on it.
 fn formatted(alloc: Global, geometry: Geometry) -> Result<MemDisk<Global>, Error>
-    ensures { IfOk result (λ disk. IsOpenable (history_of disk).disk.content) }
+    ensures openable { IfOk result (λ disk. IsOpenable (history_of disk).disk.content) }
+    ensures gives { IfOk result (λ disk. Gives (history_of disk).disk.content geometry nothing) }
+    ensures refused { IfErr result IsWantOrFailure }
 {
+    format_gives_nothing();
     let mut disk = MemDisk::new(alloc, geometry.sectors(), CALLS)?;
     format_store(&mut disk, geometry)?;
     Ok(disk)
 }
 
-// Lets the threads work, crashes the device, and looks at what is left.
-fn work_and_look<R: Threads + Wait + Sync, E: Write + Send + Drop>(
+// Lets the threads work on a new store of a disk in memory.
+fn work<R: Threads + Wait + Sync, E: Write + Send + Drop>(
     rt: &R,
     alloc: Global,
     arguments: &Arguments,
     errors: E,
-) -> Result<Found, Error>
-    ensures { IfOk result IsConsistent }
+) -> Result<Worked<MemDisk<Global>>, Error>
+    ensures left { IfOk result (IsOfThreads arguments.now) }
+    ensures refused { IfErr result IsWantOrFailure }
 {
+    one_answer();
     let geometry = Geometry::new(PAGES, ENTRIES, SLOTS)?;
     let disk = formatted(alloc, geometry)?;
     let team = Team {
@@ -56,16 +65,42 @@ fn work_and_look<R: Threads + Wait + Sync, E: Write + Send + Drop>(
         changes: u16::from(arguments.changes),
         errors: if arguments.watch { Some(errors) } else { None },
     };
-    let worked = match work_on(disk, arguments.writers, team) {
+    match work_on(disk, arguments.writers, team) {
+        Ok(worked) => Ok(worked),
+        Err((error, _)) => Err(error),
+    }
+}
+
+// Crashes the disk that the threads left, and looks at what is left of it.
+fn look_behind_crash(alloc: Global, worked: Worked<MemDisk<Global>>) -> Result<Found, Error>
+    requires unrefused { refusal_of worked ≡ None }
+    ensures found { (arguments : _) → IsOfThreads arguments worked → IfOk result (IsFoundBehindCrash arguments) }
+    ensures refused { (arguments : _) → IsOfThreads arguments worked → IfErr result (IsNothingFound arguments) }
+{
+    one_answer();
+    let mut disk = worked.device;
+    disk.crash(&[Fate::Junk]);
+    look(alloc, disk)
+}
+
+// Lets the threads work, and looks at what a crash leaves of the disk, where they were refused nothing.
+fn work_and_look<R: Threads + Wait + Sync, E: Write + Send + Drop>(
+    rt: &R,
+    alloc: Global,
+    arguments: &Arguments,
+    errors: E,
+) -> Result<Found, Error>
+    ensures found { IfOk result (IsFoundBehindCrash arguments.now) }
+    ensures refused { IfErr result (IsNothingFound arguments.now) }
+{
+    let worked = match work(rt, alloc, arguments, errors) {
         Ok(worked) => worked,
-        Err((error, _)) => return Err(error),
+        Err(error) => return Err(error),
     };
     if let Some(error) = worked.refusals.any() {
         return Err(error);
     }
-    let mut disk = worked.device;
-    disk.crash(&[Fate::Junk]);
-    look(alloc, disk, geometry)
+    look_behind_crash(alloc, worked)
 }
 
 // Whether the entries are the rows' own, as a word of the output.
@@ -112,9 +147,9 @@ fn told<W: Write>(output: &mut W, found: Result<Found, Error>) -> io::Result<u8>
     }
 }
 
-/// Runs the program on these words, the first of them its own name, and answers its exit status: 0 where the rows have just
-/// their entries behind the crash, or help was asked for; 1 where they haven't, or a call was refused; 2 for bad arguments. The
-/// error is that of the output.
+/// Runs the program on these words, the first of them its own name, and answers its exit status: 0 where the rows of all commits
+/// were found behind the crash, with just their entries, or help was told; 1 where something was refused, or help can't be
+/// written; 2 for bad arguments. The error is that of the output.
 pub fn run_words<S: AsStr, R: Threads + Wait + Sync, W: Write, E: Write + Send + Drop>(
     rt: &R,
     alloc: Global,

@@ -1,12 +1,17 @@
 //! The threads of the program.
-ghost use Rattle.std.specs.Prelude.{◌≡◌, ◌<◌, ◌++◌, ◌∷◌, [], ℕ, IfErr, IfOk, None, map, slice_index_or, true, vec_len};
-ghost use Rattle.records.specs.declared.error.Error.TheVariants.{DeviceFailed};
+ghost use Rattle.std.specs.Prelude.{◌≡◌, ◌≤◌, ◌<◌, ◌+◌, ◌++◌, ◌∷◌, [], ℕ, IfErr, IfOk, IfSome, None, OnErr, OnOk, Some, false, flat_map, map, slice_get, slice_index_or, true, vec_len};
+ghost use Rattle.std.specs.Result.{result_err};
+ghost use Rattle.records.specs.declared.error.Error.TheVariants.{DeviceFailed, NoMemory};
 ghost use Rattle.store_writer.specs.Parts.{has_failed};
 ghost use Rattle.closing.specs.Gathered.{AreAllSeats};
+ghost use Rattle.sector_device.specs.Disk.{Image, IsCrashImage};
 ghost use Rattle.shared.specs.Seats.{AreNewSeats};
-ghost use Rattle.core_model.specs.Histories.{Opened};
-ghost use Rattle.threads.specs.Openings.{IsNewFlusher, IsOpenable, Opens};
-ghost use Rattle.workers.specs.Left.{IsLeft, IsWhole, first_of};
+ghost use Rattle.core_model.specs.Histories.{CanOpen, Opened};
+ghost use Rattle.restart.specs.Reopening.{IsNotOpened};
+ghost use Rattle.threads.specs.Openings.{IsNewFlusher, IsOpenable, Opens, StaysOpenable};
+ghost use Rattle.writers.specs.Transactions.{kept_of};
+ghost use Rattle.workers.specs.Left.{GivesMore, IsLeft, IsWhole, all_kept, first_of};
+ghost use Rattle.workers.specs.Private.{HaveMade};
 
 use beside::{Ended, run_beside};
 use board::{BuildView, View};
@@ -21,7 +26,7 @@ use std::io::Write;
 use std::marker::Brand;
 use std::sync::Wait;
 use std::thread::{Threads, join, map_vec};
-use threads::{OpenStore, Parts, open_store};
+use threads::{OpenStore, Parts, left_by_threads, open_store};
 use writers::{Acknowledged, Written, set_up, watch, write};
 
 /// The threads: a writer for each seat but the last, and the three loops. Each writer makes so many transactions. The builder's
@@ -35,8 +40,8 @@ pub struct Team<'a, R, G, E> {
     pub errors: Option<E>,
 }
 
-/// What was refused: to a writer, which is the first of those that were refused something; to the flusher, to the builder; and at the
-/// end.
+/// What was refused: to a writer, which is the first of those that were refused something; to the flusher, to the builder; and before
+/// the threads began, or at the end.
 #[derive(Clone, Copy, Debug, PartialEq, Eq)]
 pub struct Refusals {
     pub writer: Option<Error>,
@@ -58,7 +63,7 @@ impl Refusals {
 #[derive(Drop)]
 pub struct Worked<D> {
     pub device: D,
-    /// Each row whose commit was acknowledged.
+    /// The rows that writers were told to be safe; none where there was no memory for what they left.
     pub acknowledged: Vec<Acknowledged>,
     pub refusals: Refusals,
 }
@@ -69,7 +74,6 @@ struct Gathered<B: Group> {
     seats: Vec<Seat<B>>,
     acks: Vec<Ack<B>>,
     acknowledged: Vec<Acknowledged>,
-    refusal: Option<Error>,
 }
 
 // A seat, and the number of its writer.
@@ -80,13 +84,15 @@ struct Job<B: Group> {
 }
 
 fn jobs_of<B: Group>(alloc: Global, seats: Vec<Seat<B>>) -> Result<Vec<Job<B>>, AllocError>
-    ensures { IfOk result (λ jobs. map (λ j. j.seat) jobs.items ≡ seats.items) }
+    requires { vec_len seats ≤ 255 }
+    ensures seats { IfOk result (λ jobs. map (λ j. j.seat) jobs.items ≡ seats.items) }
+    ensures numbered { IfOk result (λ jobs. (k : ℕ) (job : _) → slice_get jobs.items k ≡ Some job → job.writer ≡ k) }
 {
     let mut jobs = Vec::with_capacity(alloc, seats.len())?;
     let mut writer: u16 = 0;
     for seat in seats {
         jobs.push(Job { seat, writer })?;
-        writer = writer.wrapping_add(1);
+        writer += 1;
     }
     Ok(jobs)
 }
@@ -101,6 +107,7 @@ fn write_all<B: Group + Send + Sync, R: Threads + Wait + Sync>(
 ) -> Result<Vec<Written<B>>, AllocError>
     ensures len { IfOk result (λ v. vec_len v ≡ vec_len jobs) }
     ensures numbers { IfOk result (λ v. (k : ℕ) (job : _) (writer : _) → k < vec_len jobs → (slice_index_or v.items k writer).seat.number ≡ (slice_index_or jobs.items k job).seat.number) }
+    ensures made { IfOk result (λ v. (k : ℕ) (job : _) (writer : _) → k < vec_len jobs → (slice_index_or v.items k writer).refused ≡ None → (slice_index_or v.items k writer).acknowledged.items ≡ kept_of (slice_index_or jobs.items k job).writer changes) }
 {
     map_vec(
         rt,
@@ -109,7 +116,7 @@ fn write_all<B: Group + Send + Sync, R: Threads + Wait + Sync>(
     )
 }
 
-// Shows the builder's progress.
+// Shows the builder's progress, as long as it can be written.
 fn show_progress<B: Group, R: Wait, E: Write + Drop>(
     rt: &R,
     shared: &Shared<B>,
@@ -118,7 +125,7 @@ fn show_progress<B: Group, R: Wait, E: Write + Drop>(
 )
     requires { view.board ≡ B.board }
 {
-    watch(rt, shared, &mut view, &mut errors);
+    let _ = watch(rt, shared, &mut view, &mut errors);
 }
 
 // Runs all writers, and shows the builder's progress beside them, if it is to be shown.
@@ -134,6 +141,7 @@ fn write_and_watch<B: Group + Send + Sync, R: Threads + Wait + Sync, E: Write + 
     requires { view.board ≡ B.board }
     ensures len { IfOk result (λ v. vec_len v ≡ vec_len jobs) }
     ensures numbers { IfOk result (λ v. (k : ℕ) (job : _) (writer : _) → k < vec_len jobs → (slice_index_or v.items k writer).seat.number ≡ (slice_index_or jobs.items k job).seat.number) }
+    ensures made { IfOk result (λ v. (k : ℕ) (job : _) (writer : _) → k < vec_len jobs → (slice_index_or v.items k writer).refused ≡ None → (slice_index_or v.items k writer).acknowledged.items ≡ kept_of (slice_index_or jobs.items k job).writer changes) }
 {
     match errors {
         None => write_all(rt, alloc, shared, jobs, changes),
@@ -151,11 +159,24 @@ fn write_and_watch<B: Group + Send + Sync, R: Threads + Wait + Sync, E: Write + 
 }
 
 // Puts acknowledgements behind others.
-fn add_acks<B: Group>(acks: &mut Vec<Ack<B>>, more: Vec<Ack<B>>) -> Result<(), AllocError> {
+fn add_acks<B: Group>(acks: &mut Vec<Ack<B>>, more: Vec<Ack<B>>) -> Result<(), AllocError>
+    ensures { OnOk result (acks.new.items ≡ acks.old.items ++ more.items) }
+{
     for ack in more {
         acks.push(ack)?;
     }
     Ok(())
+}
+
+// The first refusal that a writer had.
+fn first_refused<B: Group>(written: &[Written<B>]) -> Option<Error>
+    ensures { result ≡ first_of (map (λ w. w.refused) written.now) }
+{
+    let mut refusal = None;
+    for writer in written {
+        refusal = refusal.or(writer.refused);
+    }
+    refusal
 }
 
 // The seats of all writers in order, with the last one behind them, and what the writers were told.
@@ -164,47 +185,53 @@ fn gather<B: Group>(
     written: Vec<Written<B>>,
     last: Seat<B>,
 ) -> Result<Gathered<B>, AllocError>
-    ensures { IfOk result (λ g. g.seats.items ≡ map (λ w. w.seat) written.items ++ last ∷ []) }
+    ensures seats { IfOk result (λ g. g.seats.items ≡ map (λ w. w.seat) written.items ++ last ∷ []) }
+    ensures acks { IfOk result (λ g. g.acks.items ≡ flat_map (λ w. w.acks.items) written.items) }
+    ensures acknowledged { IfOk result (λ g. g.acknowledged.items ≡ flat_map (λ w. w.acknowledged.items) written.items) }
 {
     let mut seats = Vec::with_capacity(alloc, written.len())?;
     let mut acks = Vec::new(alloc);
     let mut acknowledged = Vec::new(alloc);
-    let mut refusal = None;
     for writer in written {
         let Written {
             seat,
             acks: more,
             acknowledged: made,
-            refused,
+            refused: _,
         } = writer;
         seats.push(seat)?;
         add_acks(&mut acks, more)?;
         acknowledged.extend_from_slice(&made)?;
-        refusal = refusal.or(refused);
     }
     seats.push(last)?;
     Ok(Gathered {
         seats,
         acks,
         acknowledged,
-        refusal,
     })
 }
 
-// What is left where the threads could not begin, or where there was no memory for what they left.
-fn refused<B: Group, D: Device>(alloc: Global, flush: FlushPart<B, D>, error: Error) -> Worked<D>
-    ensures { IsLeft D.history B.site.opened result }
+// What is left where the threads could not begin, or where there was no memory for what they left, with what was refused before.
+fn refused<B: Group, D: Device>(
+    alloc: Global,
+    flush: FlushPart<B, D>,
+    before: Refusals,
+    error: Error,
+) -> Worked<D>
+    requires opens { CanOpen B.site.opened }
+    requires flusher { IfSome before.flusher (λ e. e ≡ DeviceFailed) }
+    ensures left { IsLeft D.history B.site.opened result }
+    ensures told { result.refusals ≡ record before { end = Some error } }
 {
+    left_by_threads();
+    flush.stands();
     let (device, _) = flush.into_parts();
+    let mut refusals = before;
+    refusals.end = Some(error);
     Worked {
         device,
         acknowledged: Vec::new(alloc),
-        refusals: Refusals {
-            writer: None,
-            flusher: None,
-            builder: None,
-            end: Some(error),
-        },
+        refusals,
     }
 }
 
@@ -220,24 +247,35 @@ fn close<B: Group, D: Device, R: Wait>(
     requires seats { AreAllSeats B.site.seats seats.items }
     requires flush { flush.published.board ≡ B.board }
     ensures whole { result.1 ≡ None → IsWhole D.history B.site.opened result.0 }
+    ensures gives { (image : Image) → IsCrashImage (D.history result.0).disk image → ∥ GivesMore B.site.opened image ∥₁ }
+    ensures opens { StaysOpenable (D.history result.0).disk }
+    ensures sound { result.1 ≡ None → has_failed flush.writer ≡ false }
 {
+    left_by_threads();
+    flush.stands();
     match finish(rt, alloc, shared, seats, flush, acks) {
         Ok(closed) => (closed.device, None),
         Err((error, device)) => (device, Some(error)),
     }
 }
 
-// What is done once writers and loops have ended.
+// What is done once writers and loops have ended. What they were refused is told, also where there is no memory for what they left.
 fn end<B: Group, D: Device + Drop, R: Wait>(
     rt: &R,
     alloc: Global,
     shared: Shared<B>,
     ended: Ended<B, D, Result<Vec<Written<B>>, AllocError>>,
 ) -> Worked<D>
+    requires opens { CanOpen B.site.opened }
     requires seats { IfOk ended.clients (λ v. AreAllSeats B.site.seats (map (λ w. w.seat) v.items ++ ended.seat ∷ [])) }
     requires flush { ended.flush.published.board ≡ B.board }
     requires failed { IfErr ended.flushed (λ e. (e ≡ DeviceFailed) × (has_failed ended.flush.writer ≡ true)) }
-    ensures { IsLeft D.history B.site.opened result }
+    ensures left { IsLeft D.history B.site.opened result }
+    ensures flusher { result.refusals.flusher ≡ result_err ended.flushed }
+    ensures builder { result.refusals.builder ≡ result_err ended.built }
+    ensures writer { IfOk ended.clients (λ v. result.refusals.writer ≡ first_of (map (λ w. w.refused) v.items)) }
+    ensures lost { OnErr ended.clients (result.refusals.end ≡ Some NoMemory) }
+    ensures acknowledged { (changes : ℕ) → IfOk ended.clients (λ v. HaveMade (λ w. w.refused) (λ w. w.acknowledged.items) changes v.items → result.refusals.writer ≡ None → result.refusals.end ≡ None → result.acknowledged.items ≡ all_kept (vec_len v) changes) }
 {
     let Ended {
         clients,
@@ -246,29 +284,32 @@ fn end<B: Group, D: Device + Drop, R: Wait>(
         flushed,
         built,
     } = ended;
-    let Ok(written) = clients else {
-        return refused(alloc, flush, Error::NoMemory);
+    let flusher = flushed.err();
+    let builder = built.err();
+    let mut refusals = Refusals {
+        writer: None,
+        flusher,
+        builder,
+        end: None,
     };
-    let gathered = match gather(alloc, written, seat) {
-        Ok(gathered) => gathered,
-        Err(_) => return refused(alloc, flush, Error::NoMemory),
+    let Ok(written) = clients else {
+        return refused(alloc, flush, refusals, Error::NoMemory);
+    };
+    refusals.writer = first_refused(&written);
+    let Ok(gathered) = gather(alloc, written, seat) else {
+        return refused(alloc, flush, refusals, Error::NoMemory);
     };
     let Gathered {
         seats,
         acks,
         acknowledged,
-        refusal,
     } = gathered;
     let (device, end) = close(rt, alloc, shared, seats, flush, acks);
+    refusals.end = end;
     Worked {
         device,
         acknowledged,
-        refusals: Refusals {
-            writer: refusal,
-            flusher: flushed.err(),
-            builder: built.err(),
-            end,
-        },
+        refusals,
     }
 }
 
@@ -291,6 +332,7 @@ fn run_all<
     requires build { build.board ≡ B.board }
     ensures len { IfOk result.clients (λ v. vec_len v ≡ vec_len jobs) }
     ensures numbers { IfOk result.clients (λ v. (k : ℕ) (job : _) (writer : _) → k < vec_len jobs → (slice_index_or v.items k writer).seat.number ≡ (slice_index_or jobs.items k job).seat.number) }
+    ensures made { IfOk result.clients (λ v. (k : ℕ) (job : _) (writer : _) → k < vec_len jobs → (slice_index_or v.items k writer).refused ≡ None → (slice_index_or v.items k writer).acknowledged.items ≡ kept_of (slice_index_or jobs.items k job).writer team.entry.changes) }
     ensures last { result.seat.number ≡ last.number }
     ensures board { result.flush.published.board ≡ B.board }
     ensures failed { IfErr result.flushed (λ e. (e ≡ DeviceFailed) × (has_failed result.flush.writer ≡ true)) }
@@ -324,26 +366,35 @@ fn work_together<
     G: Gate + Sync,
     E: Write + Send + Drop,
 >(team: Team<'_, R, G, E>, shared: Shared<B>, parts: Parts<B, D>) -> Worked<D>
+    requires opens { CanOpen B.site.opened }
     requires seats { AreNewSeats B.board B.site.seats parts.seats.items }
     requires flush { IsNewFlusher B.board B.site.opened parts.flush }
     requires build { parts.build ≡ record { board = B.board; progress = 0 } }
-    ensures { IsLeft D.history B.site.opened result }
+    requires few { B.site.seats ≤ 256 }
+    ensures left { IsLeft D.history B.site.opened result }
+    ensures acknowledged { (writers : ℕ) → writers + 1 ≡ B.site.seats → result.refusals.writer ≡ None → result.refusals.end ≡ None → result.acknowledged.items ≡ all_kept writers team.entry.changes }
 {
     let rt = team.rt;
     let alloc = team.alloc;
+    let before = Refusals {
+        writer: None,
+        flusher: None,
+        builder: None,
+        end: None,
+    };
     let Parts {
         mut seats,
         flush,
         build,
     } = parts;
     let Some(mut last) = seats.pop() else {
-        return refused(alloc, flush, Error::NoMemory);
+        return refused(alloc, flush, before, Error::NoMemory);
     };
     if let Err(error) = set_up(rt, &shared, &mut last) {
-        return refused(alloc, flush, error);
+        return refused(alloc, flush, before, error);
     }
     let Ok(jobs) = jobs_of(alloc, seats) else {
-        return refused(alloc, flush, Error::NoMemory);
+        return refused(alloc, flush, before, Error::NoMemory);
     };
     let ended = run_all(team, &shared, jobs, last, flush, build);
     end(rt, alloc, shared, ended)
@@ -359,7 +410,12 @@ fn begin<
 >(store: OpenStore<D>, team: Team<'_, R, G, E>) -> Result<Worked<D>, (Error, D)>
     requires names { store.site ≡ B.site }
     requires board { store.board ≡ B.board }
-    ensures { IfOk result (IsLeft D.history B.site.opened) }
+    requires opens { CanOpen B.site.opened }
+    requires few { B.site.seats ≤ 256 }
+    ensures left { IfOk result (IsLeft D.history B.site.opened) }
+    ensures acknowledged { IfOk result (λ worked. (writers : ℕ) → writers + 1 ≡ B.site.seats → worked.refusals.writer ≡ None → worked.refusals.end ≡ None → worked.acknowledged.items ≡ all_kept writers team.entry.changes) }
+    ensures no_memory { IfErr result (λ r. r.0 ≡ NoMemory) }
+    ensures back { IfErr result (λ r. r.1 ≡ store.device) }
 {
     match store.start::<B>() {
         Ok((shared, parts)) => Ok(work_together(team, shared, parts)),
@@ -369,7 +425,9 @@ fn begin<
 
 /// Opens the store on the device, with a seat for each writer and one more, lets the threads work, and takes back what they leave.
 ///
-/// The errors are those of `restart`, and `NoMemory`. Then no thread was started, and the device is given back.
+/// The errors are those of `restart`, and `NoMemory`. The device is given back then, and gives what it gave (`refused`). A refusal
+/// later on is told in `Worked`, and the device may be opened again. Where no writer was refused anything, and nothing at the end, each
+/// transaction of each writer that was to be committed is acknowledged (`acknowledged`).
 pub fn work_on<
     D: Device + Send + Drop,
     R: Threads + Wait + Sync,
@@ -377,7 +435,9 @@ pub fn work_on<
     E: Write + Send + Drop,
 >(device: D, writers: u8, team: Team<'_, R, G, E>) -> Result<Worked<D>, (Error, D)>
     requires { IsOpenable (D.history device).disk.content }
-    ensures { IfOk result (λ worked. (o : Opened) × Opens (D.history device).disk.content o × IsLeft D.history o worked) }
+    ensures left { IfOk result (λ worked. (o : Opened) × Opens (D.history device).disk.content o × IsLeft D.history o worked) }
+    ensures acknowledged { IfOk result (λ worked. worked.refusals.writer ≡ None → worked.refusals.end ≡ None → worked.acknowledged.items ≡ all_kept writers team.entry.changes) }
+    ensures refused { IfErr result (λ r. IsNotOpened D.history D.failures device r.1 r.0) }
 {
     let seats = usize::from(writers) + 1;
     match open_store(team.alloc, device, seats) {

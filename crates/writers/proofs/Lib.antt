@@ -1,0 +1,6 @@
+mod Late
+mod Shown
+mod Tally
+mod Counted
+mod Fitting
+mod Kept

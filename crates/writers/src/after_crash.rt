@@ -1,8 +1,13 @@
 //! What is found behind the crash.
-ghost use Rattle.std.specs.Prelude.{◌≡◌, IfOk, true};
+ghost use Rattle.std.specs.Prelude.{◌≡◌, ◌≤◌, ◌↔◌, IfErr, IfOk, IsTrue, true};
+ghost use Rattle.std.specs.FinMap as map;
+ghost use Rattle.nsf_core.specs.Value.{value_of};
+ghost use Rattle.restart.specs.Building.{IsIndexWhole};
+ghost use Rattle.writers.specs.Found.{IsFoundOn, IsNotFound, IsSameOfAnyRun, visible_in};
 
+use crate::count::{count_rows, count_shown};
 use nsf_core::Core;
-use records::{Error, Geometry, Mark, Pair, Rid, SLOTS_PER_PAGE};
+use records::{ENTRIES_MAX, Error, PAGES_MAX};
 use restart::restart;
 use sector_device::Device;
 use std::alloc::Global;
@@ -15,65 +20,39 @@ pub struct Found {
     pub same: bool,
 }
 
-fn count_rows(core: &Core<Global>, pages: u32) -> u32 {
-    let mut rows: u32 = 0;
-    for page in 0..pages {
-        for slot in 0..SLOTS_PER_PAGE {
-            if core.get(Rid { page, slot }).is_some() {
-                rows = rows.saturating_add(1);
-            }
-        }
+// How many rows and visible entries there are, and whether these are just the pairs of the rows.
+fn found_in(core: &Core<Global>) -> Found
+    requires pages { (value_of core.now).heap.pages ≤ PAGES_MAX }
+    requires entries { map.len (value_of core.now).index.entries ≤ ENTRIES_MAX }
+    ensures rows { result.rows ≡ map.len (value_of core.now).heap.rows }
+    ensures shown { result.shown ≡ visible_in (value_of core.now).index.entries }
+    ensures same { IsTrue result.same ↔ IsIndexWhole (value_of core.now) }
+    ensures equal { result.same ≡ true → result.shown ≡ result.rows }
+{
+    let rows = count_rows(core);
+    let (shown, fitting) = count_shown(core);
+    Found {
+        rows,
+        shown,
+        same: shown == rows && fitting == rows,
     }
-    rows
-}
-
-// The entry of the least pair above this one, or the least of all.
-fn entry_above(core: &Core<Global>, last: Option<Pair>) -> Option<(Pair, Mark)> {
-    core.above(last.as_ref())
-}
-
-// Whether there is a row at the pair's place, with its key.
-fn has_row(core: &Core<Global>, pair: &Pair) -> bool {
-    match core.get(pair.rid) {
-        Some(row) => row.key == pair.key,
-        None => false,
-    }
-}
-
-// How many visible entries there are, and how many of them are pairs of rows.
-fn count_shown(core: &Core<Global>, entries: u32) -> (u32, u32) {
-    let mut shown: u32 = 0;
-    let mut fitting: u32 = 0;
-    let mut last = None;
-    for _ in 0..entries {
-        let Some((pair, mark)) = entry_above(core, last) else {
-            break;
-        };
-        if mark == Mark::Live {
-            shown = shown.saturating_add(1);
-            if has_row(core, &pair) {
-                fitting = fitting.saturating_add(1);
-            }
-        }
-        last = Some(pair);
-    }
-    (shown, fitting)
 }
 
 /// Opens the store on the device, carries its build to the end, and looks at its rows and visible entries.
-pub fn look<D: Device + Drop>(alloc: Global, device: D, geometry: Geometry) -> Result<Found, Error>
-    ensures { IfOk result (λ found. found.same ≡ true → found.shown ≡ found.rows) }
+///
+/// The rows are those that the device gave, and the visible entries those that the build left (`found`). Where what the device
+/// gave is something that a core may begin with, these are just the pairs of the rows, and as many; and so they are of whatever a
+/// run of an engine left (`same`).
+pub fn look<D: Device + Drop>(alloc: Global, device: D) -> Result<Found, Error>
+    ensures found { IfOk result (IsFoundOn D.history device) }
+    ensures same { IfOk result (IsSameOfAnyRun D.history device) }
+    ensures refused { IfErr result (IsNotFound D.history D.failures device) }
+    ensures equal { IfOk result (λ found. found.same ≡ true → found.shown ≡ found.rows) }
 {
     let mut engine = match restart(alloc, device) {
         Ok(engine) => engine,
         Err((error, _)) => return Err(error),
     };
     engine.build_to_end()?;
-    let rows = count_rows(engine.core(), geometry.pages);
-    let (shown, fitting) = count_shown(engine.core(), geometry.entries);
-    Ok(Found {
-        rows,
-        shown,
-        same: shown == rows && fitting == rows,
-    })
+    Ok(found_in(engine.core()))
 }

@@ -3,6 +3,7 @@
 #![tactic(auto)]
 
 mod after_crash;
+mod count;
 mod progress;
 mod rows;
 mod writer;

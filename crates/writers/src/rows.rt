@@ -1,5 +1,16 @@
-//! The rows that are there before the writers begin, and the changes of a row that every call of a seat makes whole.
-ghost use Rattle.std.specs.Prelude.{◌≡◌, ◌≤◌};
+//! The rows that are there before the writers begin, and a seat's calls with a test before them.
+ghost use Rattle.std.specs.Prelude.{◌≡◌, ◌≤◌, ◌⊎◌, ◌++◌, ◌∷◌, [], Err, IfErr, IfOk, None, OnErr, OnOk, Some, false, true, ℕ};
+ghost use Rattle.records.specs.declared.error.Error.TheVariants.{NoSuchTxn};
+ghost use Rattle.records.specs.Values.{Place};
+ghost use Rattle.core_contracts.specs.Events.{Event, Refused, Reply};
+ghost use Rattle.nsf_core.specs.declared.parts.Ticket.{Ticket as TicketValue};
+ghost use Rattle.nsf_core.specs.Replies.{reply_of_ticket, reply_by};
+ghost use Rattle.sessions.specs.Steps.{committed};
+ghost use Rattle.sessions.specs.Values.{is_ready};
+ghost use Rattle.shared.specs.Changed.{HasChanged};
+ghost use Rattle.shared.specs.Served.{WasServedTo};
+ghost use Rattle.writers.specs.Rows.{key_value, row_value};
+ghost use Rattle.writers.specs.Transactions.{tickets_of};
 
 use nsf_core::Ticket;
 use records::{Body, Error, Key, Rid, Txn};
@@ -12,14 +23,20 @@ const ROWS_OF_COMMIT: u16 = 50;
 // The first half of their keys, which no writer's key has.
 const ROWS_FIRST: u16 = 0xffff;
 
-/// The key of these two numbers.
-pub fn key_of(first: u16, second: u16) -> Result<Key, Error> {
+/// The key of these two numbers, of two bytes each, the higher byte first. It is never refused.
+pub fn key_of(first: u16, second: u16) -> Result<Key, Error>
+    ensures { result ≡ Ok (key_value first second) }
+{
     let [a, b] = first.to_be_bytes();
     let [c, d] = second.to_be_bytes();
     Key::new(&[a, b, c, d])
 }
 
-/// Inserts a row with this key, and an empty body.
+/// Inserts a row with the key of these two numbers, and an empty body.
+///
+/// `NoSuchTxn` where the transaction isn't one of the seat's that may begin a change, and else the refusals of the seat's own
+/// `insert`, and of the steps behind it. After a refusal of its first step the session is as before, after one of a later step the
+/// change is left to finish.
 pub fn insert<B: Group, R: Wait>(
     rt: &R,
     shared: &Shared<B>,
@@ -28,7 +45,12 @@ pub fn insert<B: Group, R: Wait>(
     first: u16,
     second: u16,
 ) -> Result<Rid, Error>
-    ensures { seat.new.number ≡ seat.old.number }
+    ensures not_ready { is_ready seat.old.session txn ≡ false → result ≡ Err NoSuchTxn }
+    ensures ok { IfOk result (λ rid. HasChanged seat.old.session txn (record { rid = rid; row = Some (row_value first second) }) None seat.new.session) }
+    ensures served { IfOk result (λ rid. ∥ WasServedTo B.site.opened seat.old.number seat.old.session (Event.Insert txn (row_value first second)) (Reply.Rid rid) ∥₁) }
+    ensures why { IfErr result (λ e. is_ready seat.old.session txn ≡ true → ∥ WasServedTo B.site.opened seat.old.number seat.old.session (Event.Insert txn (row_value first second)) (Refused e) ∥₁ ⊎ ∥ WasServedTo B.site.opened seat.new.number seat.new.session (Event.Step txn) (Refused e) ∥₁) }
+    ensures err { IfErr result (λ e. (seat.new.session ≡ seat.old.session) ⊎ ((rid : Place) × HasChanged seat.old.session txn (record { rid = rid; row = Some (row_value first second) }) (Some e) seat.new.session)) }
+    ensures seat { seat.new ≡ record seat.old { session = seat.new.session } }
 {
     if !seat.ready(txn) {
         return Err(Error::NoSuchTxn);
@@ -41,6 +63,8 @@ pub fn insert<B: Group, R: Wait>(
 }
 
 /// Deletes a row.
+///
+/// The refusals are those of `insert`, with the seat's own `delete` in place of its `insert`.
 pub fn delete<B: Group, R: Wait>(
     rt: &R,
     shared: &Shared<B>,
@@ -48,7 +72,12 @@ pub fn delete<B: Group, R: Wait>(
     txn: Txn,
     rid: Rid,
 ) -> Result<(), Error>
-    ensures { seat.new.number ≡ seat.old.number }
+    ensures not_ready { is_ready seat.old.session txn ≡ false → result ≡ Err NoSuchTxn }
+    ensures ok { OnOk result (HasChanged seat.old.session txn (record { rid = rid; row = None }) None seat.new.session) }
+    ensures served { OnOk result ∥ WasServedTo B.site.opened seat.old.number seat.old.session (Event.Delete txn rid) Reply.Stepped ∥₁ }
+    ensures why { IfErr result (λ e. is_ready seat.old.session txn ≡ true → ∥ WasServedTo B.site.opened seat.old.number seat.old.session (Event.Delete txn rid) (Refused e) ∥₁ ⊎ ∥ WasServedTo B.site.opened seat.new.number seat.new.session (Event.Step txn) (Refused e) ∥₁) }
+    ensures err { IfErr result (λ e. (seat.new.session ≡ seat.old.session) ⊎ HasChanged seat.old.session txn (record { rid = rid; row = None }) (Some e) seat.new.session) }
+    ensures seat { seat.new ≡ record seat.old { session = seat.new.session } }
 {
     if !seat.ready(txn) {
         return Err(Error::NoSuchTxn);
@@ -60,13 +89,19 @@ pub fn delete<B: Group, R: Wait>(
 }
 
 /// Commits a transaction.
+///
+/// `NoSuchTxn` where the transaction isn't one of the seat's that may begin a change, and else the refusals of the seat's own
+/// `commit`. After a refusal the seat is as before.
 pub fn commit<B: Group, R: Wait>(
     rt: &R,
     shared: &Shared<B>,
     seat: &mut Seat<B>,
     txn: Txn,
 ) -> Result<Ticket, Error>
-    ensures { seat.new.number ≡ seat.old.number }
+    ensures not_ready { is_ready seat.old.session txn ≡ false → result ≡ Err NoSuchTxn }
+    ensures served { is_ready seat.old.session txn ≡ true → ∥ WasServedTo B.site.opened seat.old.number seat.old.session (Event.Commit txn) (reply_by reply_of_ticket result) ∥₁ }
+    ensures ok { IfOk result (λ ticket. seat.new ≡ record seat.old { session = committed seat.old.session txn ticket }) }
+    ensures refused { OnErr result (seat.new ≡ seat.old) }
 {
     if !seat.ready(txn) {
         return Err(Error::NoSuchTxn);
@@ -82,7 +117,9 @@ fn put_half<B: Group, R: Wait>(
     from: u16,
 ) -> Result<(), Error>
     requires { from ≤ ROWS_OF_COMMIT }
-    ensures { seat.new.number ≡ seat.old.number }
+    ensures ok { OnOk result ((ticket : TicketValue) × (tickets_of seat.new.session ≡ tickets_of seat.old.session ++ ticket ∷ [])) }
+    ensures creations { seat.new.session.creations ≡ seat.old.session.creations }
+    ensures seat { seat.new ≡ record seat.old { session = seat.new.session } }
 {
     let txn = shared.begin(rt, seat)?;
     for row in 0..ROWS_OF_COMMIT {
@@ -93,12 +130,16 @@ fn put_half<B: Group, R: Wait>(
 }
 
 /// Inserts the rows in two commits, and creates the index.
+///
+/// The refusals are those of the calls that this takes.
 pub fn set_up<B: Group, R: Wait>(
     rt: &R,
     shared: &Shared<B>,
     seat: &mut Seat<B>,
 ) -> Result<(), Error>
-    ensures { seat.new.number ≡ seat.old.number }
+    ensures ok { OnOk result ((first : TicketValue) × (second : TicketValue) × (tickets_of seat.new.session ≡ tickets_of seat.old.session ++ first ∷ second ∷ [])) }
+    ensures creation { OnOk result ((number : ℕ) × (seat.new.session.creations ≡ seat.old.session.creations ++ number ∷ [])) }
+    ensures seat { seat.new ≡ record seat.old { session = seat.new.session } }
 {
     put_half(rt, shared, seat, 0)?;
     put_half(rt, shared, seat, ROWS_OF_COMMIT)?;

@@ -1,4 +1,4 @@
-use Rattle.std.proofs.Common.{◌≡◌, ◌∙◌, ap, sym, subst, ℕ}
+use Rattle.std.proofs.Common.{◌∙◌, ap, sym, subst, ℕ}
 use Rattle.core_model.specs.Histories.{Opened}
 use Rattle.nsf_core.specs.View.{CoreValue}
 use Rattle.restart.specs.Reopening.{IsTurned}
@@ -11,20 +11,22 @@ use Rattle.threads.proofs.opening.open_store.Goals as goal
 pub invariant_of-result : goal.invariant_of-result
 invariant_of-result g c =
     let is = c.in-Ok.ensures.opened in
+    let emptied = c.in-Ok.ensures.emptied in
     let parted = c.in-Ok-into_parts.ensures in
     let made = c.in-Ok-open.ensures.made in
     let same = c.in-Ok-open.ensures.core in (
       subst (λ (n : ℕ). IsOpening n c.in-Ok-open.opening) (sym made.counted.0) made,
-      subst IsJustOpened (sym same) (just_opened g.D.Device.history c.args.device c.in-Ok.engine is c.requires.opens _ _ parted.parts parted.left),
+      subst IsJustOpened (sym same) (just_opened g.D.Device.history c.args.device c.in-Ok.engine is emptied c.requires.opens _ _ parted.parts parted.left),
       subst (λ (v : CoreValue). IsNewWriter g.D.Device.history (opened_of v) c.in-Ok-into_parts.parts.1) (sym same)
-          (new_over_core g.D.Device.history c.args.device c.in-Ok.engine is c.requires.opens _ _ parted.parts parted.left),
+          (new_over_core g.D.Device.history c.args.device c.in-Ok.engine is emptied c.requires.opens _ _ parted.parts parted.left),
     )
 
 pub returns-in-Ok-open-clause-opened : goal.returns-in-Ok-open-clause-opened
 returns-in-Ok-open-clause-opened g c =
     let is = c.in-Ok.ensures.opened in
+    let emptied = c.in-Ok.ensures.emptied in
     let parted = c.in-Ok-into_parts.ensures in
-    let over_engine = opened_is g.D.Device.history c.args.device c.in-Ok.engine is c.requires.opens _ _ parted.parts parted.left in
+    let over_engine = opened_is g.D.Device.history c.args.device c.in-Ok.engine is emptied c.requires.opens _ _ parted.parts parted.left in
     record {
       seats = c.in-Ok-open.ensures.made.counted.0;
       opened = subst (λ (o : Opened). Opens (g.D.Device.history c.args.device).disk.content o) (sym (ap opened_of c.in-Ok-open.ensures.core ∙ over_engine))

@@ -19,7 +19,7 @@ returns-in-Ok g c =
     (λ status told. inl (
       c.in-Ok.arguments,
       c.in-Ok.ensures.asked,
-      (found, c.work_and_look-found.ensures, subst (λ (w : g.row.W.Denot). IsTold contents found status w c.told.new.output) c.in-Ok.ensures.output told),
+      (found, c.work_and_look-found.ensures.found, c.work_and_look-found.ensures.refused, subst (λ (w : g.row.W.Denot). IsTold contents found status w c.told.new.output) c.in-Ok.ensures.output told),
     ))
     c.told.ensures
 

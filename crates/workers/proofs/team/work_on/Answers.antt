@@ -1,6 +1,15 @@
 use Rattle.std.proofs.lemmas.Result.{IfOk-weaker}
+use Rattle.workers.proofs.Refused.{err_of_both, not_begun}
 use Rattle.workers.proofs.team.work_on.Goals as goal
 
-pub returns-in-Ok : goal.returns-in-Ok
-returns-in-Ok g c =
-    IfOk-weaker c.begin.result _ _ (λ worked left. (c.in-Ok.store.site.opened, c.in-Ok.ensures.opened.opened, left)) c.begin.ensures
+pub begin-requires-clause-opens : goal.begin-requires-clause-opens
+begin-requires-clause-opens g c = λ κs outlives. c.requires c.in-Ok.store.site.opened c.in-Ok.ensures.opened.opened
+
+pub returns-in-Ok-clause-left : goal.returns-in-Ok-clause-left
+returns-in-Ok-clause-left g c =
+    IfOk-weaker c.begin.result _ _ (λ worked left. (c.in-Ok.store.site.opened, c.in-Ok.ensures.opened.opened, left)) c.begin.ensures.left
+
+pub returns-in-Ok-clause-refused : goal.returns-in-Ok-clause-refused
+returns-in-Ok-clause-refused g c =
+    err_of_both _ _ _ c.begin.result c.begin.ensures.no_memory c.begin.ensures.back
+    (λ r none same. not_begun g.D.Device.history g.D.Device.failures c.args.device _ c.in-Ok.store r.1 r.0 c.in-Ok.ensures.opened none same)

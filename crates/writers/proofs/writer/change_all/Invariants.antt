@@ -1,5 +1,13 @@
-use Rattle.std.proofs.Common.{◌≡◌}
+use Rattle.std.proofs.Common.{◌≡◌, ◌≤◌, ◌++◌, [], vec_len}
+use Rattle.writers.specs.Transactions.{kept_of, tickets_in, tickets_of}
 use Rattle.writers.proofs.writer.change_all.Given as goal
 
 abbrev pub invariant-loop-number : goal.invariant-loop-number
-invariant-loop-number g l = l.written.seat.number ≡ l.fn.written.seat.number
+invariant-loop-number g l = record {
+  number : l.written.seat.number ≡ l.fn.written.seat.number;
+  whole : l.written.acknowledged.items ≡ kept_of l.writer l.number;
+  counted : vec_len l.written.acks ≡ vec_len l.written.acknowledged;
+  fewer : vec_len l.written.acknowledged ≤ vec_len l.written.acks;
+  none_open : l.fn.written.seat.session.active ≡ [] → l.written.seat.session.active ≡ [];
+  told : tickets_of l.written.seat.session ≡ tickets_of l.fn.written.seat.session ++ tickets_in l.written.acks.items;
+}

@@ -1,4 +1,5 @@
 use Rattle.std.proofs.Common.{◌≡◌, ◌∙◌, ap, inl, inr, map, refl, subst, sym, true}
+use Rattle.std.proofs.lemmas.Bool.{false≢true}
 use Rattle.core_contracts.specs.Events.{Event, Refused}
 use Rattle.nsf_core.specs.Value.{value_of}
 use Rattle.registry.specs.Halves.{shown}
@@ -30,6 +31,12 @@ returns-then-may_end-clause-served g c =
     let own : is_active c.seat.inside.part.session c.args.txn ≡ true = ap (λ (s : SeatValue). is_active s.session c.args.txn) c.seat.view_is ∙ c.requires in
     inl (subst (λ (s : SeatValue). ∥ WasServedTo o s.number s.session event reply ∥₁) c.seat.view_is
     (served_to o (value_of was.core) (value_of c.end.new.self.core) was.pusher.records (map shown was.book.items) was.shared event reply (c.in-Err.ensures.served own) _ _ c.end.ensures.before))
+
+pub returns-in-Ok-undo_step-clause-last : goal.returns-in-Ok-undo_step-clause-last
+returns-in-Ok-undo_step-clause-last g c = λ last. absurd (false≢true last)
+
+pub returns-in-Ok-undo_step-clause-taken : goal.returns-in-Ok-undo_step-clause-taken
+returns-in-Ok-undo_step-clause-taken g c = λ last. absurd (false≢true last)
 
 pub returns-in-Ok-undo_step-clause-back : goal.returns-in-Ok-undo_step-clause-back
 returns-in-Ok-undo_step-clause-back g c = λ undone.

@@ -1,0 +1,45 @@
+-- A commit that was not acknowledged.
+use Rattle.std.proofs.Common.{◌≡◌, ◌∙◌, ◌++◌, ◌∷◌, [], arith, List, map, None, OnErr, Result, Ok, Err, ⊎_elim, ℕ, refl, sym, ap, append_assoc, append-nil}
+use Rattle.std.proofs.lemmas.List.{map-append}
+use Rattle.model.specs.declared.write.Write.{Write}
+use Rattle.nsf_core.specs.declared.parts.Ticket.{Ticket}
+use Rattle.records.specs.declared.error.Error.{Error}
+use Rattle.sessions.specs.Steps.{committed}
+use Rattle.sessions.specs.Values.{CommitValue, SessionValue}
+use Rattle.shared.specs.Changed.{HasChanged}
+use Rattle.shared.specs.Seats.{SeatValue}
+use Rattle.shared.specs.Waits.{HasReadWhy}
+use Rattle.writers.specs.Transactions.{AreAllButOne, tickets_of}
+
+-- there is none
+pub none_late : (these all : List Ticket) → all ≡ these → AreAllButOne these all
+none_late these all same = ([], omega (arith), same ∙ sym (append-nil these))
+
+-- there is one
+pub one_late : (these all : List Ticket) (t : Ticket) → all ≡ these ++ t ∷ [] → AreAllButOne these all
+one_late these all t more = (t ∷ [], omega (arith), more)
+
+-- behind the same tickets
+pub late_behind : (before these all : List Ticket) → AreAllButOne these all → AreAllButOne (before ++ these) (before ++ all)
+late_behind before these all late = (late.0, late.1, ap (λ more. before ++ more) late.2 ∙ sym (append_assoc before these late.0))
+
+-- what is so anyhow
+pub on_err : {T E P : Type 0} (r : Result T E) → P → OnErr r P
+on_err (Ok t) p = tt
+on_err (Err e) p = p
+
+-- a change is no commit
+pub changed_tickets : (old new : SessionValue) (txn : ℕ) (change : Write) → HasChanged old txn change None new → tickets_of new ≡ tickets_of old
+changed_tickets old new txn change changed = ap (λ (s : SessionValue). tickets_of s) changed.0.others
+
+-- a commit has its ticket
+pub committed_ticket : (s : SessionValue) (txn : ℕ) (t : Ticket) → tickets_of (committed s txn t) ≡ tickets_of s ++ t ∷ []
+committed_ticket s txn t = map-append (λ (c : CommitValue). c.ticket) s.commits _
+
+-- a wait that was refused leaves the session
+pub session_waited : (e : Error) (before after : SeatValue) → HasReadWhy e before after → after.session ≡ before.session
+session_waited e before after why = ⊎_elim (λ failed. ap (λ (s : SeatValue). s.session) failed.1) (λ stopped. ap (λ (s : SeatValue). s.session) stopped.1) why
+
+-- tickets that were told, and those of one more transaction
+pub told_more : (before told more now : List Ticket) (was : List Ticket) → was ≡ before ++ told → now ≡ was ++ more → now ≡ before ++ (told ++ more)
+told_more before told more now was first then = then ∙ (ap (λ ts. ts ++ more) first ∙ append_assoc before told more)

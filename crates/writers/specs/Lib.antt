@@ -1,0 +1,5 @@
+pub mod Rows
+pub mod Progress
+pub mod Transactions
+pub mod Found
+pub mod Private
