@@ -8,6 +8,7 @@ mod holds;
 mod life;
 mod requests;
 mod rounds;
+mod steps;
 mod timing;
 mod watch;
 

@@ -7,6 +7,7 @@ use crate::clock::used;
 use crate::life::{Lived, live};
 use crate::requests::{build, fill};
 use crate::rounds::{Round, write};
+use crate::steps::longest;
 use crate::watch::Seen;
 use anyhow::{Result, bail};
 use records::{Error, Geometry, SLOTS_PER_PAGE};
@@ -83,7 +84,8 @@ fn copy_in_memory<R: CpuClock>(rt: &R, alloc: Global, sectors: u64) -> Result<u6
 
 /// Prints a line for a store of so many pages, all full of rows: in processor time, what a row costs to insert, and to build, with
 /// flushes and images; what a restart costs behind that, and once more with an empty log, and what a copy of a half in memory does; and
-/// how long the core is held for the longest piece of an image, and for all cells at once.
+/// how long the core is held for the longest step of a transaction and of the builder, for the longest piece of an image, and for all
+/// cells at once.
 pub(crate) fn restart<R: Print + Alloc<A = Global> + CpuClock>(rt: &R, pages: u16) -> Result<()> {
     let alloc = rt.alloc();
     let geometry = geometry_of(pages)?;
@@ -93,13 +95,23 @@ pub(crate) fn restart<R: Print + Alloc<A = Global> + CpuClock>(rt: &R, pages: u1
     let opened = live(rt, alloc, built.disk, geometry, &[])?;
     let again = live(rt, alloc, opened.disk, geometry, &[])?;
     let copied = copy_in_memory(rt, alloc, geometry.half_sectors())?;
+    let steps = longest(
+        rt,
+        alloc,
+        geometry,
+        CALLS,
+        &fill(alloc, pages)?,
+        &build(alloc, pages)?,
+    )?;
     println!(rt;
-        "{pages} pages, {rows} rows: {} nanoseconds a row inserted, {} a row built; microseconds: restart {}, with an empty log {}, copy of a half in memory {}, core held for a piece of an image {}, for all cells {}",
+        "{pages} pages, {rows} rows: {} nanoseconds a row inserted, {} a row built; microseconds: restart {}, with an empty log {}, copy of a half in memory {}, core held for a step of a transaction {}, of the builder {}, for a piece of an image {}, for all cells {}",
         filled.serving.checked_div(rows).unwrap_or(0),
         built.serving.checked_div(rows).unwrap_or(0),
         opened.opening / 1_000,
         again.opening / 1_000,
         copied / 1_000,
+        steps.txn / 1_000,
+        steps.build / 1_000,
         built.held.piece / 1_000,
         built.held.whole / 1_000
     )?;

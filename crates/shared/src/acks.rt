@@ -48,6 +48,8 @@ impl<B: Group> Shared<B> {
     fn ended(&self, seat: &mut Seat<B>) -> Option<Error>
         ensures why { IfSome result (λ e. HasReadWhy e seat.old seat.new) }
         ensures none { IfNone result (seat.new ≡ seat.old) }
+        ensures unfailed { IfNone result (seat.old.sight.failed ≡ false) }
+        ensures unstopped { IfNone result (seat.old.sight.stopped ≡ false) }
     {
         if self.board.failed(&mut seat.view) {
             return Some(Error::DeviceFailed);
@@ -60,9 +62,9 @@ impl<B: Group> Shared<B> {
 
     /// Waits until the record of the ticket is safe on the device.
     ///
-    /// `DeviceFailed` where the flusher says that its device failed, and `Stopped` where the threads are asked to stop; neither
-    /// where the horizon that was read last reaches the record. The seat has then read a horizon and the flag that says why, and
-    /// else a horizon alone.
+    /// `DeviceFailed` where the flusher says that its device failed, and else `Stopped` where the threads are asked to stop; neither
+    /// where the horizon that was read last reaches the record. After an error the seat has seen a horizon and the flag that says
+    /// why, after `Ok` a horizon, and no more.
     pub fn await_ack<R: Wait>(
         &self,
         rt: &R,

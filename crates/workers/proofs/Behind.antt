@@ -1,5 +1,5 @@
 -- What the threads leave of a new store, and what is found behind a crash of it.
-use Rattle.std.proofs.Common.{◌≡◌, ◌∙◌, ◌∷◌, [], List, None, Option, Result, Ok, Err, IfOk, Some, ⊎_elim, ap, inl, inr, refl, true}
+use Rattle.std.proofs.Common.{◌≡◌, ◌∙◌, ◌∷◌, [], List, None, Option, Result, Ok, Err, IfOk, Some, ⊎_elim, ap, inl, inr, refl, subst, true}
 use Rattle.std.proofs.Math.Logic.{∥∥₁_elim}
 use Rattle.std.specs.Coded.{Coded-set}
 use Rattle.std.specs.FinMap.{code, empty, len}
@@ -21,7 +21,7 @@ use Rattle.threads.specs.Openings.{Opens}
 use Rattle.threads_arguments.specs.declared.Arguments.{Arguments}
 use Rattle.writers.specs.Found.{IsFoundOn, IsNotFound}
 use Rattle.writers.specs.declared.after_crash.Found.{Found}
-use Rattle.workers.specs.Left.{IsWhole, first_of}
+use Rattle.workers.specs.Left.{AreSeatsOf, IsWhole, all_kept, first_of}
 use Rattle.workers.specs.Printed.{IsCrashed, IsFoundBehindCrash, IsNothingFound, IsWantOrFailure}
 
 -- where there is no first refusal, there is none at either end
@@ -60,7 +60,7 @@ module _ (arguments : Arguments) (disk : MemDisk Global) (crashed : IsCrashed ar
   refusals_end : crashed.worked.refusals.end ≡ None
   refusals_end = none_last crashed.worked.refusals.writer crashed.worked.refusals.flusher crashed.worked.refusals.builder crashed.worked.refusals.end crashed.unrefused
 
-  whole : IsWhole history_of (over crashed.threads.geometry nothing) crashed.worked.device
+  whole : IsWhole history_of (over crashed.threads.geometry nothing) crashed.threads.left.seats crashed.worked.device
   whole = crashed.threads.left.whole refusals_end
 
   -- what gives something is never refused as unreadable
@@ -83,13 +83,25 @@ module _ (arguments : Arguments) (disk : MemDisk Global) (crashed : IsCrashed ar
     may_open = crashed.threads.left.opens image crashed.crash (over on.opens.geometry on.opens.given)
         (record { geometry = on.opens.geometry; given = on.opens.given; gives = on.opens.gives; opened = refl })
 
+    refusals_writer : crashed.worked.refusals.writer ≡ None
+    refusals_writer = none_first crashed.worked.refusals.writer _ crashed.unrefused
+
+    acknowledged : crashed.worked.acknowledged.items ≡ all_kept arguments.writers arguments.changes
+    acknowledged = crashed.threads.acknowledged refusals_writer refusals_end
+
+    -- and the seats are the writers'
+    made : AreSeatsOf arguments.writers arguments.changes crashed.threads.left.seats (all_kept arguments.writers arguments.changes) None
+    made = subst (λ told. AreSeatsOf arguments.writers arguments.changes crashed.threads.left.seats told None) acknowledged
+        (subst (λ (e : Option Error). AreSeatsOf arguments.writers arguments.changes crashed.threads.left.seats crashed.worked.acknowledged.items e) refusals_writer (crashed.threads.left.made (inl refusals_end)))
+
     pub found_behind : (found.same ≡ true → found.shown ≡ found.rows) → IsFoundBehindCrash arguments found
     found_behind equal = record {
       disk = disk;
       crashed = crashed;
-      acknowledged = crashed.threads.acknowledged (none_first crashed.worked.refusals.writer _ crashed.unrefused) refusals_end;
+      acknowledged = acknowledged;
       on = on;
       whole = whole;
+      made = made;
       table = table;
       rows = on.rows ∙ ap (λ (t : Table). len t) table;
       shown = equal (on.whole may_open);

@@ -3,3 +3,5 @@ mod Orders
 mod Refused
 mod Stores
 mod Acknowledgements
+mod Surviving
+mod Seated

@@ -1,5 +1,5 @@
 -- Refusals.
-use Rattle.std.proofs.Common.{◌≡◌, ◌∙◌, ℕ, None, Result, Ok, Err, IfErr, IfSome, Bool, false, true, true≢false, ap, inl, refl, subst, sym}
+use Rattle.std.proofs.Common.{◌≡◌, ◌∙◌, ℕ, None, Option, Some, Result, Ok, Err, IfErr, IfSome, Bool, false, true, true≢false, ap, inl, refl, subst, sym}
 use Rattle.std.specs.Result.{result_err}
 use Rattle.records.specs.declared.error.Error.{Error}
 use Rattle.records.specs.declared.error.Error.TheVariants.{NoMemory}
@@ -32,3 +32,11 @@ not_begun {D} history failures before count s after e over none same = record {
   told = λ other. ap failures same ∙ over.quiet;
   synced = λ other. subst (λ (d : D). IsSynced (history d).disk) (sym same) over.synced;
 }
+
+pub err_some : {X E : Type 0} (P : E → Type 0) (r : Result X E) → IfErr r P → IfSome (result_err r) P
+err_some P (Ok x) holds = tt
+err_some P (Err e) holds = holds
+
+pub some_weaker : {E : Type 0} (P Q : E → Type 0) (e : Option E) → ((x : E) → P x → Q x) → IfSome e P → IfSome e Q
+some_weaker P Q None then holds = tt
+some_weaker P Q (Some x) then holds = then x holds

@@ -1,21 +1,27 @@
 -- What the threads leave.
-use Rattle.std.specs.Prelude.{◌≡◌, ◌≢◌, [], ◌++◌, ◌∷◌, IfSome, List, None, Option, Some, suc, zero, ℕ}
+use Rattle.std.specs.Prelude.{◌≡◌, ◌≢◌, ◌⊎◌, [], ◌++◌, ◌∷◌, All, IfSome, List, None, Option, Some, flat_map, length, map, slice_get, suc, zero, ℕ}
 use Rattle.records.specs.GeometryValue.{GeometryValue}
 use Rattle.records.specs.RecordValue.{RecordValue}
 use Rattle.records.specs.declared.error.Error.{Error}
-use Rattle.records.specs.declared.error.Error.TheVariants.{DeviceFailed}
-use Rattle.model.specs.Given.{given_after}
+use Rattle.records.specs.declared.error.Error.TheVariants.{DeviceFailed, NoMemory, Stopped}
+use Rattle.model.specs.Given.{Given, given_after}
+use Rattle.records.specs.Values.{Place}
 use Rattle.core_model.specs.Histories.{Opened}
 use Rattle.nsf_core.specs.View.{CoreValue}
 use Rattle.sector_device.specs.Disk.{Image, IsCrashImage}
 use Rattle.sector_device.specs.History.{History}
 use Rattle.store_reader.specs.Contents.{Gives}
-use Rattle.sessions.specs.Values.{CommitValue}
+use Rattle.sessions.specs.Values.{CommitValue, SessionValue, empty_session}
+use Rattle.board.specs.Views.{Sighting}
+use Rattle.core_contracts.specs.Events.{Event, Refused}
+use Rattle.locked_core.specs.Names.{IsShared}
 use Rattle.shared.specs.Seats.{SeatValue}
-use Rattle.closing.specs.Closing.{GivesAll, IsCoreOf}
-use Rattle.closing.specs.Gathered.{AreCommitsOf}
+use Rattle.shared.specs.Served.{WasServed}
+use Rattle.closing.specs.Closing.{GivesAll, IsCoreOf, table_with, up_to}
+use Rattle.closing.specs.Gathered.{AreCommitsOf, sessions_of}
 use Rattle.threads.specs.Openings.{StaysOpenable}
-use Rattle.writers.specs.Transactions.{kept_of}
+use Rattle.writers.specs.Refusals.{IsRefusal, IsStepRefusal}
+use Rattle.writers.specs.Transactions.{AreSetUp, HasWritten, IsCommitOf, kept_of}
 use Rattle.writers.specs.declared.writer.Acknowledged.{Acknowledged}
 use Rattle.workers.specs.declared.team.Worked.{Worked}
 
@@ -25,11 +31,38 @@ first_of [] = None
 first_of (Some e ∷ rest) = Some e
 first_of (None ∷ rest) = first_of rest
 
+-- ---- the writers
+
+-- a writer that is done: its seat, what it was told to be safe, and why it ended early, if so
+pub record DoneValue : Type 0 where
+  pub seat : SeatValue
+  pub told : List Acknowledged
+  pub refused : Option Error
+
+-- These are the seats of so many writers, which made their transactions from nothing, and behind them that of the rows which were there
+-- before, which created the index once; and this is all that the writers were told, and the first refusal that one of them had.
+pub record AreSeatsOf (writers changes : ℕ) (seats : List SeatValue) (told : List Acknowledged) (refused : Option Error) : Type 0 where
+  pub done : List DoneValue
+  pub counted : length done ≡ writers
+  pub each : (k : ℕ) (w : DoneValue) → slice_get done k ≡ Some w → HasWritten k changes empty_session w.seat.session w.told w.refused
+  pub last : SeatValue
+  pub set_up : AreSetUp last.session.commits
+  pub created : length last.session.creations ≡ 1
+  pub are : seats ≡ map (λ w. w.seat) done ++ last ∷ []
+  pub tells : told ≡ flat_map (λ w. w.told) done
+  pub first : refused ≡ first_of (map (λ w. w.refused) done)
+
+-- the transactions that so many writers commit, which make so many each, writer by writer
+abbrev pub all_kept : (writers changes : ℕ) → List Acknowledged
+all_kept zero changes = []
+all_kept (suc n) changes = all_kept n changes ++ kept_of n changes
+
+-- ---- what a crash leaves
+
 -- The core is as these seats left it, and these are their commits, by number; and whatever a crash leaves of the device gives all that
 -- the core held, and the table of what was opened with the commits set over it.
-pub record IsWhole {D : Type 0} (history : D → History) (o : Opened) (device : D) : Type 0 where
+pub record IsWhole {D : Type 0} (history : D → History) (o : Opened) (seats : List SeatValue) (device : D) : Type 0 where
   pub geometry : GeometryValue
-  pub seats : List SeatValue
   pub popped : List RecordValue
   pub core : CoreValue
   pub commits : List CommitValue
@@ -43,16 +76,58 @@ pub record GivesMore (o : Opened) (image : Image) : Type 0 where
   pub records : List RecordValue
   pub gives : Gives image geometry (given_after o.given records)
 
--- The device is whole where nothing was refused at the end; and whatever was refused, a crash leaves on it what some records make of what was
--- opened, and it may be opened again. The flusher was refused nothing, unless the device failed; and then something was refused at the end too.
-pub record IsLeft {D : Type 0} (history : D → History) (o : Opened) (worked : Worked D) : Type 0 where
-  pub whole : worked.refusals.end ≡ None → IsWhole history o worked.device
+-- A store on a device with this content gives the table of what was opened with the commits of these seats set over it, up to the number of a
+-- record, as a core has them that may lie under the lock with their sessions. One of these commits is that of this transaction, and is one of
+-- the seat of its writer.
+pub record GivesCommitOf (o : Opened) (seats : List SeatValue) (image : Image) (made : Acknowledged) : Type 0 where
+  pub geometry : GeometryValue
+  pub given : Given
+  pub gives : Gives image geometry given
+  pub core : CoreValue
+  pub pushed : List RecordValue
+  pub shared : IsShared o core pushed (sessions_of seats)
+  pub commits : List CommitValue
+  pub gathered : AreCommitsOf seats commits
+  pub number : ℕ
+  pub table : given.table ≡ table_with o.given.table (up_to number commits)
+  pub commit : CommitValue
+  pub before : List CommitValue
+  pub after : List CommitValue
+  pub there : up_to number commits ≡ before ++ commit ∷ after
+  pub session : SessionValue
+  pub here : slice_get (sessions_of seats) made.writer ≡ Some session
+  pub earlier : List CommitValue
+  pub later : List CommitValue
+  pub own : session.commits ≡ earlier ++ commit ∷ later
+  pub places : ℕ → Place
+  pub is : IsCommitOf places made commit
+
+-- The builder was asked to stop; or some core that may lie under the lock refuses so a step of it, and not for want of memory.
+abbrev pub IsBuildRefusal : Opened → Error → Type 0
+IsBuildRefusal o e = (e ≡ Stopped) ⊎ ((e ≢ NoMemory) × ∥ WasServed o Event.Build (Refused e) ∥₁)
+
+-- A writer is refused so, at a seat that has seen as much of the board.
+abbrev pub IsWriterRefusal : Opened → Error → Type 0
+IsWriterRefusal o e = (sight : Sighting) × IsRefusal o sight e
+
+-- Something is refused so before the threads begin, or at the end.
+abbrev pub IsEndRefusal : Opened → Error → Type 0
+IsEndRefusal o e = IsStepRefusal o e ⊎ (e ≡ DeviceFailed)
+
+-- What so many writers leave, which make so many transactions each. Where nothing was refused at the end, or something is told as acknowledged,
+-- the seats are those of these writers. Where nothing was refused at the end, the device is whole, by these seats. Whatever was refused, what a
+-- crash leaves on the device gives what some records make of what was opened, and has the commit of each transaction that is told as
+-- acknowledged; and it may be opened again. The flusher was refused nothing, unless the device failed; and then something
+-- was refused at the end too. A writer was refused what its calls may be, and so was the end; the builder was told to stop, or refused a step.
+pub record IsLeft {D : Type 0} (history : D → History) (o : Opened) (writers changes : ℕ) (worked : Worked D) : Type 0 where
+  pub seats : List SeatValue
+  pub whole : worked.refusals.end ≡ None → IsWhole history o seats worked.device
+  pub made : (worked.refusals.end ≡ None) ⊎ (worked.acknowledged.items ≢ []) → AreSeatsOf writers changes seats worked.acknowledged.items worked.refusals.writer
   pub gives : (image : Image) → IsCrashImage (history worked.device).disk image → ∥ GivesMore o image ∥₁
+  pub keeps : (image : Image) → IsCrashImage (history worked.device).disk image → All (λ made. ∥ GivesCommitOf o seats image made ∥₁) worked.acknowledged.items
   pub opens : StaysOpenable (history worked.device).disk
   pub flusher : IfSome worked.refusals.flusher (λ e. e ≡ DeviceFailed)
   pub failed : worked.refusals.flusher ≢ None → worked.refusals.end ≢ None
-
--- the transactions that so many writers commit, which make so many each, writer by writer
-abbrev pub all_kept : (writers changes : ℕ) → List Acknowledged
-all_kept zero changes = []
-all_kept (suc n) changes = all_kept n changes ++ kept_of n changes
+  pub writer : IfSome worked.refusals.writer (IsWriterRefusal o)
+  pub builder : IfSome worked.refusals.builder (IsBuildRefusal o)
+  pub end : IfSome worked.refusals.end (IsEndRefusal o)

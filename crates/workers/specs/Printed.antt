@@ -19,7 +19,7 @@ use Rattle.threads_arguments.specs.CommandLine.{Ask, AskForHelp, HaveFault}
 use Rattle.threads_arguments.specs.declared.Arguments.{Arguments}
 use Rattle.writers.specs.Found.{IsBuildRefused, IsFoundOn}
 use Rattle.writers.specs.declared.after_crash.Found.{Found}
-use Rattle.workers.specs.Left.{IsLeft, IsWhole, all_kept, first_of}
+use Rattle.workers.specs.Left.{AreSeatsOf, IsLeft, IsWhole, all_kept, first_of}
 use Rattle.workers.specs.declared.team.Worked.{Worked}
 
 -- ---- what is found
@@ -28,7 +28,7 @@ use Rattle.workers.specs.declared.team.Worked.{Worked}
 -- writer nor the end was refused anything, just the transactions that the writers are to commit are acknowledged.
 pub record IsOfThreads (arguments : Arguments) (worked : Worked (MemDisk Global)) : Type 0 where
   pub geometry : GeometryValue
-  pub left : IsLeft history_of (over geometry nothing) worked
+  pub left : IsLeft history_of (over geometry nothing) arguments.writers arguments.changes worked
   pub acknowledged : worked.refusals.writer ≡ None → worked.refusals.end ≡ None → worked.acknowledged.items ≡ all_kept arguments.writers arguments.changes
 
 -- the first refusal that is told of the threads
@@ -43,14 +43,15 @@ pub record IsCrashed (arguments : Arguments) (disk : MemDisk Global) : Type 0 wh
   pub crash : IsCrashImage (history_of worked.device).disk (history_of disk).disk.content
 
 -- This was found on a disk that a crash left of what such threads left. Just the transactions that the writers are to commit were acknowledged.
--- The disk gives the table of all commits, set over no row. So many rows are in that, and as many entries are visible, which are just the pairs
--- of these rows.
+-- The seats are those of these writers, and the disk gives the table of all their commits, set over no row. So many rows are in that, and as
+-- many entries are visible, which are just the pairs of these rows.
 pub record IsFoundBehindCrash (arguments : Arguments) (found : Found) : Type 0 where
   pub disk : MemDisk Global
   pub crashed : IsCrashed arguments disk
   pub acknowledged : crashed.worked.acknowledged.items ≡ all_kept arguments.writers arguments.changes
   pub on : IsFoundOn history_of disk found
-  pub whole : IsWhole history_of (over crashed.threads.geometry nothing) crashed.worked.device
+  pub whole : IsWhole history_of (over crashed.threads.geometry nothing) crashed.threads.left.seats crashed.worked.device
+  pub made : AreSeatsOf arguments.writers arguments.changes crashed.threads.left.seats (all_kept arguments.writers arguments.changes) None
   pub table : on.opens.given.table ≡ table_with map.empty whole.commits
   pub rows : found.rows ≡ map.len (table_with map.empty whole.commits)
   pub shown : found.shown ≡ found.rows

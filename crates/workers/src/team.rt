@@ -1,17 +1,19 @@
 //! The threads of the program.
-ghost use Rattle.std.specs.Prelude.{◌≡◌, ◌≤◌, ◌<◌, ◌+◌, ◌++◌, ◌∷◌, [], ℕ, IfErr, IfOk, IfSome, None, OnErr, OnOk, Some, false, flat_map, map, slice_get, slice_index_or, true, vec_len};
+ghost use Rattle.std.specs.Prelude.{◌≡◌, ◌⊎◌, ◌≤◌, ◌<◌, ◌+◌, ◌++◌, ◌∷◌, [], ℕ, All, IfErr, IfOk, IfSome, None, OnErr, OnOk, Some, false, flat_map, length, map, slice_get, slice_index_or, true, vec_len};
 ghost use Rattle.std.specs.Result.{result_err};
 ghost use Rattle.records.specs.declared.error.Error.TheVariants.{DeviceFailed, NoMemory};
-ghost use Rattle.store_writer.specs.Parts.{has_failed};
+ghost use Rattle.store_writer.specs.Parts.{halves_of, has_failed, synced_of};
+ghost use Rattle.flusher.specs.Part.{popped_by};
+ghost use Rattle.closing.specs.Closing.{GivesSome};
 ghost use Rattle.closing.specs.Gathered.{AreAllSeats};
 ghost use Rattle.sector_device.specs.Disk.{Image, IsCrashImage};
 ghost use Rattle.shared.specs.Seats.{AreNewSeats};
 ghost use Rattle.core_model.specs.Histories.{CanOpen, Opened};
 ghost use Rattle.restart.specs.Reopening.{IsNotOpened};
 ghost use Rattle.threads.specs.Openings.{IsNewFlusher, IsOpenable, Opens, StaysOpenable};
-ghost use Rattle.writers.specs.Transactions.{kept_of};
-ghost use Rattle.workers.specs.Left.{GivesMore, IsLeft, IsWhole, all_kept, first_of};
-ghost use Rattle.workers.specs.Private.{HaveMade};
+ghost use Rattle.writers.specs.Transactions.{AreSetUp};
+ghost use Rattle.workers.specs.Left.{GivesMore, IsBuildRefusal, IsEndRefusal, IsLeft, IsWhole, IsWriterRefusal, all_kept, first_of};
+ghost use Rattle.workers.specs.Private.{HasDone, HaveMade, HaveWorked};
 
 use beside::{Ended, run_beside};
 use board::{BuildView, View};
@@ -97,6 +99,19 @@ fn jobs_of<B: Group>(alloc: Global, seats: Vec<Seat<B>>) -> Result<Vec<Job<B>>, 
     Ok(jobs)
 }
 
+// Makes the transactions of a writer.
+fn do_job<B: Group, R: Wait>(
+    rt: &R,
+    alloc: Global,
+    shared: &Shared<B>,
+    job: Job<B>,
+    changes: u16,
+) -> Written<B>
+    ensures { HasDone B.site.opened changes job.writer job.seat result.seat result.acks.items result.acknowledged.items result.refused }
+{
+    write(rt, alloc, shared, job.seat, job.writer, changes)
+}
+
 // Runs all writers, each in a thread.
 fn write_all<B: Group + Send + Sync, R: Threads + Wait + Sync>(
     rt: &R,
@@ -106,13 +121,12 @@ fn write_all<B: Group + Send + Sync, R: Threads + Wait + Sync>(
     changes: u16,
 ) -> Result<Vec<Written<B>>, AllocError>
     ensures len { IfOk result (λ v. vec_len v ≡ vec_len jobs) }
-    ensures numbers { IfOk result (λ v. (k : ℕ) (job : _) (writer : _) → k < vec_len jobs → (slice_index_or v.items k writer).seat.number ≡ (slice_index_or jobs.items k job).seat.number) }
-    ensures made { IfOk result (λ v. (k : ℕ) (job : _) (writer : _) → k < vec_len jobs → (slice_index_or v.items k writer).refused ≡ None → (slice_index_or v.items k writer).acknowledged.items ≡ kept_of (slice_index_or jobs.items k job).writer changes) }
+    ensures done { IfOk result (λ v. (k : ℕ) (job : _) (writer : _) → k < vec_len jobs → HasDone B.site.opened changes (slice_index_or jobs.items k job).writer (slice_index_or jobs.items k job).seat (slice_index_or v.items k writer).seat (slice_index_or v.items k writer).acks.items (slice_index_or v.items k writer).acknowledged.items (slice_index_or v.items k writer).refused) }
 {
     map_vec(
         rt,
         jobs,
-        &|job: Job<B>| write(rt, alloc, shared, job.seat, job.writer, changes),
+        &|job: Job<B>| do_job(rt, alloc, shared, job, changes),
     )
 }
 
@@ -140,8 +154,7 @@ fn write_and_watch<B: Group + Send + Sync, R: Threads + Wait + Sync, E: Write + 
 ) -> Result<Vec<Written<B>>, AllocError>
     requires { view.board ≡ B.board }
     ensures len { IfOk result (λ v. vec_len v ≡ vec_len jobs) }
-    ensures numbers { IfOk result (λ v. (k : ℕ) (job : _) (writer : _) → k < vec_len jobs → (slice_index_or v.items k writer).seat.number ≡ (slice_index_or jobs.items k job).seat.number) }
-    ensures made { IfOk result (λ v. (k : ℕ) (job : _) (writer : _) → k < vec_len jobs → (slice_index_or v.items k writer).refused ≡ None → (slice_index_or v.items k writer).acknowledged.items ≡ kept_of (slice_index_or jobs.items k job).writer changes) }
+    ensures done { IfOk result (λ v. (k : ℕ) (job : _) (writer : _) → k < vec_len jobs → HasDone B.site.opened changes (slice_index_or jobs.items k job).writer (slice_index_or jobs.items k job).seat (slice_index_or v.items k writer).seat (slice_index_or v.items k writer).acks.items (slice_index_or v.items k writer).acknowledged.items (slice_index_or v.items k writer).refused) }
 {
     match errors {
         None => write_all(rt, alloc, shared, jobs, changes),
@@ -220,7 +233,9 @@ fn refused<B: Group, D: Device>(
 ) -> Worked<D>
     requires opens { CanOpen B.site.opened }
     requires flusher { IfSome before.flusher (λ e. e ≡ DeviceFailed) }
-    ensures left { IsLeft D.history B.site.opened result }
+    requires builder { IfSome before.builder (IsBuildRefusal B.site.opened) }
+    requires end { IsEndRefusal B.site.opened error }
+    ensures left { (writers changes : ℕ) → IfSome before.writer (IsWriterRefusal B.site.opened) → IsLeft D.history B.site.opened writers changes result }
     ensures told { result.refusals ≡ record before { end = Some error } }
 {
     left_by_threads();
@@ -246,9 +261,12 @@ fn close<B: Group, D: Device, R: Wait>(
 ) -> (D, Option<Error>)
     requires seats { AreAllSeats B.site.seats seats.items }
     requires flush { flush.published.board ≡ B.board }
-    ensures whole { result.1 ≡ None → IsWhole D.history B.site.opened result.0 }
+    ensures whole { result.1 ≡ None → IsWhole D.history B.site.opened seats.items result.0 }
+    ensures some { (image : Image) → IsCrashImage (D.history result.0).disk image → ∥ GivesSome B.site.opened (halves_of flush.writer).geometry seats.items (popped_by flush) (synced_of flush.writer) image ∥₁ }
+    ensures acked { All (λ a. a.ticket.«record» ≤ synced_of flush.writer) acks.items }
     ensures gives { (image : Image) → IsCrashImage (D.history result.0).disk image → ∥ GivesMore B.site.opened image ∥₁ }
     ensures opens { StaysOpenable (D.history result.0).disk }
+    ensures why { IfSome result.1 (λ e. (e ≡ NoMemory) ⊎ (e ≡ DeviceFailed)) }
     ensures sound { result.1 ≡ None → has_failed flush.writer ≡ false }
 {
     left_by_threads();
@@ -269,8 +287,9 @@ fn end<B: Group, D: Device + Drop, R: Wait>(
     requires opens { CanOpen B.site.opened }
     requires seats { IfOk ended.clients (λ v. AreAllSeats B.site.seats (map (λ w. w.seat) v.items ++ ended.seat ∷ [])) }
     requires flush { ended.flush.published.board ≡ B.board }
+    requires why { IfErr ended.built (IsBuildRefusal B.site.opened) }
     requires failed { IfErr ended.flushed (λ e. (e ≡ DeviceFailed) × (has_failed ended.flush.writer ≡ true)) }
-    ensures left { IsLeft D.history B.site.opened result }
+    ensures left { (writers changes : ℕ) → IfOk ended.clients (λ v. (vec_len v ≡ writers) × HaveWorked B.site.opened (λ w. w.seat) (λ w. w.acks.items) (λ w. w.acknowledged.items) (λ w. w.refused) changes v.items) → AreSetUp ended.seat.session.commits → length ended.seat.session.creations ≡ 1 → IsLeft D.history B.site.opened writers changes result }
     ensures flusher { result.refusals.flusher ≡ result_err ended.flushed }
     ensures builder { result.refusals.builder ≡ result_err ended.built }
     ensures writer { IfOk ended.clients (λ v. result.refusals.writer ≡ first_of (map (λ w. w.refused) v.items)) }
@@ -331,9 +350,10 @@ fn run_all<
     requires flush { flush.published.board ≡ B.board }
     requires build { build.board ≡ B.board }
     ensures len { IfOk result.clients (λ v. vec_len v ≡ vec_len jobs) }
-    ensures numbers { IfOk result.clients (λ v. (k : ℕ) (job : _) (writer : _) → k < vec_len jobs → (slice_index_or v.items k writer).seat.number ≡ (slice_index_or jobs.items k job).seat.number) }
-    ensures made { IfOk result.clients (λ v. (k : ℕ) (job : _) (writer : _) → k < vec_len jobs → (slice_index_or v.items k writer).refused ≡ None → (slice_index_or v.items k writer).acknowledged.items ≡ kept_of (slice_index_or jobs.items k job).writer team.entry.changes) }
+    ensures done { IfOk result.clients (λ v. (k : ℕ) (job : _) (writer : _) → k < vec_len jobs → HasDone B.site.opened team.entry.changes (slice_index_or jobs.items k job).writer (slice_index_or jobs.items k job).seat (slice_index_or v.items k writer).seat (slice_index_or v.items k writer).acks.items (slice_index_or v.items k writer).acknowledged.items (slice_index_or v.items k writer).refused) }
     ensures last { result.seat.number ≡ last.number }
+    ensures session { result.seat.session ≡ last.session }
+    ensures why { IfErr result.built (IsBuildRefusal B.site.opened) }
     ensures board { result.flush.published.board ≡ B.board }
     ensures failed { IfErr result.flushed (λ e. (e ≡ DeviceFailed) × (has_failed result.flush.writer ≡ true)) }
 {
@@ -371,7 +391,7 @@ fn work_together<
     requires flush { IsNewFlusher B.board B.site.opened parts.flush }
     requires build { parts.build ≡ record { board = B.board; progress = 0 } }
     requires few { B.site.seats ≤ 256 }
-    ensures left { IsLeft D.history B.site.opened result }
+    ensures left { (writers : ℕ) → writers + 1 ≡ B.site.seats → IsLeft D.history B.site.opened writers team.entry.changes result }
     ensures acknowledged { (writers : ℕ) → writers + 1 ≡ B.site.seats → result.refusals.writer ≡ None → result.refusals.end ≡ None → result.acknowledged.items ≡ all_kept writers team.entry.changes }
 {
     let rt = team.rt;
@@ -412,7 +432,7 @@ fn begin<
     requires board { store.board ≡ B.board }
     requires opens { CanOpen B.site.opened }
     requires few { B.site.seats ≤ 256 }
-    ensures left { IfOk result (IsLeft D.history B.site.opened) }
+    ensures left { IfOk result (λ worked. (writers : ℕ) → writers + 1 ≡ B.site.seats → IsLeft D.history B.site.opened writers team.entry.changes worked) }
     ensures acknowledged { IfOk result (λ worked. (writers : ℕ) → writers + 1 ≡ B.site.seats → worked.refusals.writer ≡ None → worked.refusals.end ≡ None → worked.acknowledged.items ≡ all_kept writers team.entry.changes) }
     ensures no_memory { IfErr result (λ r. r.0 ≡ NoMemory) }
     ensures back { IfErr result (λ r. r.1 ≡ store.device) }
@@ -426,8 +446,9 @@ fn begin<
 /// Opens the store on the device, with a seat for each writer and one more, lets the threads work, and takes back what they leave.
 ///
 /// The errors are those of `restart`, and `NoMemory`. The device is given back then, and gives what it gave (`refused`). A refusal
-/// later on is told in `Worked`, and the device may be opened again. Where no writer was refused anything, and nothing at the end, each
-/// transaction of each writer that was to be committed is acknowledged (`acknowledged`).
+/// later on is told in `Worked`, and the device may be opened again. Whatever was refused, each transaction that is told as
+/// acknowledged is there behind a crash; and where nothing was refused at the end, all commits of all writers are (`left`). Where no
+/// writer was refused anything either, each transaction of each writer that was to be committed is acknowledged (`acknowledged`).
 pub fn work_on<
     D: Device + Send + Drop,
     R: Threads + Wait + Sync,
@@ -435,7 +456,7 @@ pub fn work_on<
     E: Write + Send + Drop,
 >(device: D, writers: u8, team: Team<'_, R, G, E>) -> Result<Worked<D>, (Error, D)>
     requires { IsOpenable (D.history device).disk.content }
-    ensures left { IfOk result (λ worked. (o : Opened) × Opens (D.history device).disk.content o × IsLeft D.history o worked) }
+    ensures left { IfOk result (λ worked. (o : Opened) × Opens (D.history device).disk.content o × IsLeft D.history o writers team.entry.changes worked) }
     ensures acknowledged { IfOk result (λ worked. worked.refusals.writer ≡ None → worked.refusals.end ≡ None → worked.acknowledged.items ≡ all_kept writers team.entry.changes) }
     ensures refused { IfErr result (λ r. IsNotOpened D.history D.failures device r.1 r.0) }
 {

@@ -1,5 +1,5 @@
 -- A commit that was not acknowledged.
-use Rattle.std.proofs.Common.{◌≡◌, ◌∙◌, ◌++◌, ◌∷◌, [], arith, List, map, None, OnErr, Result, Ok, Err, ⊎_elim, ℕ, refl, sym, ap, append_assoc, append-nil}
+use Rattle.std.proofs.Common.{◌≡◌, ◌∙◌, ◌++◌, ◌∷◌, [], arith, List, map, None, OnErr, OnOk, Result, Ok, Err, ◌⊎◌, ⊎_elim, ℕ, sym, ap, append_assoc, append-nil}
 use Rattle.std.proofs.lemmas.List.{map-append}
 use Rattle.model.specs.declared.write.Write.{Write}
 use Rattle.nsf_core.specs.declared.parts.Ticket.{Ticket}
@@ -9,6 +9,7 @@ use Rattle.sessions.specs.Values.{CommitValue, SessionValue}
 use Rattle.shared.specs.Changed.{HasChanged}
 use Rattle.shared.specs.Seats.{SeatValue}
 use Rattle.shared.specs.Waits.{HasReadWhy}
+use Rattle.writers.specs.Private.{HasCommitted}
 use Rattle.writers.specs.Transactions.{AreAllButOne, tickets_of}
 
 -- there is none
@@ -38,8 +39,26 @@ committed_ticket s txn t = map-append (λ (c : CommitValue). c.ticket) s.commits
 
 -- a wait that was refused leaves the session
 pub session_waited : (e : Error) (before after : SeatValue) → HasReadWhy e before after → after.session ≡ before.session
-session_waited e before after why = ⊎_elim (λ failed. ap (λ (s : SeatValue). s.session) failed.1) (λ stopped. ap (λ (s : SeatValue). s.session) stopped.1) why
+session_waited e before after why = ⊎_elim (λ failed. ap (λ (s : SeatValue). s.session) failed.1) (λ stopped. ap (λ (s : SeatValue). s.session) stopped.2) why
 
 -- tickets that were told, and those of one more transaction
 pub told_more : (before told more now : List Ticket) (was : List Ticket) → was ≡ before ++ told → now ≡ was ++ more → now ≡ before ++ (told ++ more)
 told_more before told more now was first then = then ∙ (ap (λ ts. ts ++ more) first ∙ append_assoc before told more)
+
+-- what follows from what is so where there was no refusal
+pub on_ok_both : {T E P Q : Type 0} (r : Result T E) → OnOk r P → (P → Q) → OnOk r Q
+on_ok_both (Ok t) p f = f p
+on_ok_both (Err e) p f = tt
+
+-- what was perhaps committed
+pub perhaps_late : (first old new : SessionValue) (txn : ℕ) → old.commits ≡ first.commits → (new ≡ old) ⊎ ((t : Ticket) × HasCommitted old txn t new) → AreAllButOne (tickets_of first) (tickets_of new)
+perhaps_late first old new txn same what =
+    let before : tickets_of old ≡ tickets_of first = ap (λ (cs : List CommitValue). map (λ (c : CommitValue). c.ticket) cs) same in
+    ⊎_elim
+    (λ none. none_late _ _ (ap (λ (s : SessionValue). tickets_of s) none ∙ before))
+    (λ one. one_late _ _ one.0 (ap (λ (s : SessionValue). tickets_of s) one.1.0 ∙ (committed_ticket old txn one.0 ∙ ap (λ (ts : List Ticket). ts ++ one.0 ∷ []) before)))
+    what
+
+pub on_ok : {T E P : Type 0} (r : Result T E) → P → OnOk r P
+on_ok (Ok t) p = p
+on_ok (Err e) p = tt

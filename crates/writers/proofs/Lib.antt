@@ -4,3 +4,6 @@ mod Tally
 mod Counted
 mod Fitting
 mod Kept
+mod Holding
+mod Made
+mod Refusing

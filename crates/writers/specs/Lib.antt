@@ -3,3 +3,4 @@ pub mod Progress
 pub mod Transactions
 pub mod Found
 pub mod Private
+pub mod Refusals

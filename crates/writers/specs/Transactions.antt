@@ -1,9 +1,65 @@
--- What a writer's transactions make of its seat.
-use Rattle.std.specs.Prelude.{[], Bool, if◌then◌else◌, length, List, map, None, not, Option, Some, suc, zero, ℕ, ◌%◌, ◌++◌, ◌==◌, ◌≡◌, ◌≤◌, ◌∷◌}
+-- What the writers' transactions write, and what they make of a seat.
+use Rattle.std.specs.Prelude.{[], All, Bool, if◌then◌else◌, length, List, map, None, not, Option, Some, suc, true, zero, ℕ, ◌%◌, ◌++◌, ◌==◌, ◌≡◌, ◌≢◌, ◌<◌, ◌≤◌, ◌+◌, ◌∷◌}
 use Rattle.nsf_core.specs.declared.parts.Ticket.{Ticket}
-use Rattle.sessions.specs.Values.{SessionValue}
+use Rattle.model.specs.Table.{Table, applied}
+use Rattle.model.specs.declared.write.Write.{Write}
+use Rattle.records.specs.Values.{Place}
+use Rattle.records.specs.declared.error.Error.{Error}
+use Rattle.sessions.specs.Values.{CommitValue, SessionValue}
 use Rattle.shared.specs.Seats.{AckValue}
+use Rattle.writers.specs.Rows.{row_value}
 use Rattle.writers.specs.declared.writer.Acknowledged.{Acknowledged}
+
+-- ---- what is written
+
+-- a row with the key of these two numbers is put at a place
+abbrev pub put : (first second : ℕ) → Place → Write
+put first second place = record { rid = place; row = Some (row_value first second) }
+
+-- rows with the first number, and with so many second ones from this one on, are put, each at its place
+abbrev pub puts : (first from count : ℕ) → (places : ℕ → Place) → List Write
+puts first from zero places = []
+puts first from (suc n) places = puts first from n places ++ put first (from + n) (places n) ∷ []
+
+-- the row at a place is deleted, if there is a place
+abbrev pub deletion : Option Place → List Write
+deletion None = []
+deletion (Some place) = record { rid = place; row = None } ∷ []
+
+-- the place of the row that the transaction of this number deletes: each third of four deletes the one before
+abbrev pub deleted : (change : ℕ) → (before : Option Place) → Option Place
+deleted change before = if change % 4 == 2 then before else None
+
+-- the writes of a transaction in order, with the place of its row and that of the row before: in each third of four that is deleted, and its own
+-- row is put
+abbrev pub writes_of : Acknowledged → (before : Option Place) → Place → List Write
+writes_of made before place = deletion (deleted made.change before) ++ put made.writer made.change place ∷ []
+
+-- Set over any table, the rows of the commit leave what these writes leave, one after the other.
+abbrev pub Sets : List Write → CommitValue → Type 0
+Sets writes c = (table : Table) → applied table c.writes ≡ applied table writes
+
+-- The commit sets what this transaction writes, where its row and the one before have these places, and the one that it deletes is another.
+abbrev pub IsCommitAt : Acknowledged → (before : Option Place) → Place → CommitValue → Type 0
+IsCommitAt made before place c = Sets (writes_of made before place) c × (deleted made.change before ≢ Some place)
+
+-- the place of the row before that of this number, if there is one
+abbrev pub before_of : (places : ℕ → Place) → ℕ → Option Place
+before_of places zero = None
+before_of places (suc n) = Some (places n)
+
+-- The commit is that of this transaction of a writer whose rows have these places, by number.
+abbrev pub IsCommitOf : (places : ℕ → Place) → Acknowledged → CommitValue → Type 0
+IsCommitOf places made = IsCommitAt made (before_of places made.change) (places made.change)
+
+-- One by one, the commits are those of these transactions.
+abbrev pub AreCommitsOfEach : (places : ℕ → Place) → List Acknowledged → List CommitValue → Type 0
+AreCommitsOfEach places [] [] = Unit {0}
+AreCommitsOfEach places (a ∷ rest) (c ∷ cs) = IsCommitOf places a c × AreCommitsOfEach places rest cs
+AreCommitsOfEach places [] (c ∷ cs) = ⊥
+AreCommitsOfEach places (a ∷ rest) [] = ⊥
+
+-- ---- what is committed
 
 -- the tickets of its commits
 abbrev pub tickets_of : SessionValue → List Ticket
@@ -30,3 +86,36 @@ tickets_in acks = map (λ a. a.ticket) acks
 -- these are all of those tickets, or all but the last
 abbrev pub AreAllButOne : (these all : List Ticket) → Type 0
 AreAllButOne these all = (late : List Ticket) × (length late ≤ 1) × (all ≡ these ++ late)
+
+-- Of a writer's first transactions, so many of them, those that it commits are committed, and just these were told; and the commit of the
+-- next one may be there too, if it is to be committed. Where nothing was refused, these are all its transactions, and there is no more. It
+-- created nothing.
+pub record HasWritten (writer changes : ℕ) (old new : SessionValue) (told : List Acknowledged) (refused : Option Error) : Type 0 where
+  pub count : ℕ
+  pub most : count ≤ changes
+  pub tells : told ≡ kept_of writer count
+  pub places : ℕ → Place
+  pub made : List CommitValue
+  pub late : List CommitValue
+  pub commits : new.commits ≡ old.commits ++ made ++ late
+  pub are : AreCommitsOfEach places (kept_of writer count) made
+  pub few : length late ≤ 1
+  pub next : All (λ c. (count < changes) × (is_kept count ≡ true) × IsCommitOf places (record { writer = writer; change = count }) c) late
+  pub whole : refused ≡ None → (count ≡ changes) × (late ≡ [])
+  pub creations : new.creations ≡ old.creations
+
+-- the first of these places, so many of them, are each another
+abbrev pub AreApart : (count : ℕ) (places : ℕ → Place) → Type 0
+AreApart count places = (i j : ℕ) → i < j → j < count → places i ≢ places j
+
+-- One commit puts the first fifty rows that are there before the writers begin, each at a place of its own, and one the other fifty.
+pub record AreSetUp (commits : List CommitValue) : Type 0 where
+  pub first : CommitValue
+  pub second : CommitValue
+  pub two : commits ≡ first ∷ second ∷ []
+  pub places : ℕ → Place
+  pub other_places : ℕ → Place
+  pub apart : AreApart 50 places
+  pub others_apart : AreApart 50 other_places
+  pub puts_first : Sets (puts 65535 0 50 places) first
+  pub puts_second : Sets (puts 65535 50 50 other_places) second

@@ -1,16 +1,18 @@
 //! The rows that are there before the writers begin, and a seat's calls with a test before them.
-ghost use Rattle.std.specs.Prelude.{◌≡◌, ◌≤◌, ◌⊎◌, ◌++◌, ◌∷◌, [], Err, IfErr, IfOk, None, OnErr, OnOk, Some, false, true, ℕ};
+ghost use Rattle.std.specs.Prelude.{◌≡◌, ◌≢◌, ◌≤◌, ◌⊎◌, ◌+◌, ◌++◌, ◌∷◌, [], Err, IfErr, IfOk, List, None, OnErr, OnOk, Some, false, true, ℕ};
 ghost use Rattle.records.specs.declared.error.Error.TheVariants.{NoSuchTxn};
 ghost use Rattle.records.specs.Values.{Place};
 ghost use Rattle.core_contracts.specs.Events.{Event, Refused, Reply};
 ghost use Rattle.nsf_core.specs.declared.parts.Ticket.{Ticket as TicketValue};
 ghost use Rattle.nsf_core.specs.Replies.{reply_of_ticket, reply_by};
 ghost use Rattle.sessions.specs.Steps.{committed};
-ghost use Rattle.sessions.specs.Values.{is_ready};
-ghost use Rattle.shared.specs.Changed.{HasChanged};
+ghost use Rattle.sessions.specs.Values.{CommitValue, is_ready};
+ghost use Rattle.shared.specs.Changed.{HasChanged, row_of};
 ghost use Rattle.shared.specs.Served.{WasServedTo};
 ghost use Rattle.writers.specs.Rows.{key_value, row_value};
-ghost use Rattle.writers.specs.Transactions.{tickets_of};
+ghost use Rattle.writers.specs.Private.{HasCommitted, HasPut};
+ghost use Rattle.writers.specs.Refusals.{IsStepRefusal};
+ghost use Rattle.writers.specs.Transactions.{AreSetUp, tickets_of};
 
 use nsf_core::Ticket;
 use records::{Body, Error, Key, Rid, Txn};
@@ -32,7 +34,7 @@ pub fn key_of(first: u16, second: u16) -> Result<Key, Error>
     Key::new(&[a, b, c, d])
 }
 
-/// Inserts a row with the key of these two numbers, and an empty body.
+/// Inserts a row with the key of these two numbers, and an empty body, at a place that the transaction didn't hold.
 ///
 /// `NoSuchTxn` where the transaction isn't one of the seat's that may begin a change, and else the refusals of the seat's own
 /// `insert`, and of the steps behind it. After a refusal of its first step the session is as before, after one of a later step the
@@ -48,6 +50,7 @@ pub fn insert<B: Group, R: Wait>(
     ensures not_ready { is_ready seat.old.session txn ≡ false → result ≡ Err NoSuchTxn }
     ensures ok { IfOk result (λ rid. HasChanged seat.old.session txn (record { rid = rid; row = Some (row_value first second) }) None seat.new.session) }
     ensures served { IfOk result (λ rid. ∥ WasServedTo B.site.opened seat.old.number seat.old.session (Event.Insert txn (row_value first second)) (Reply.Rid rid) ∥₁) }
+    ensures apart { IfOk result (λ rid. (place : Place) → row_of seat.old.session txn place ≢ None → place ≢ rid) }
     ensures why { IfErr result (λ e. is_ready seat.old.session txn ≡ true → ∥ WasServedTo B.site.opened seat.old.number seat.old.session (Event.Insert txn (row_value first second)) (Refused e) ∥₁ ⊎ ∥ WasServedTo B.site.opened seat.new.number seat.new.session (Event.Step txn) (Refused e) ∥₁) }
     ensures err { IfErr result (λ e. (seat.new.session ≡ seat.old.session) ⊎ ((rid : Place) × HasChanged seat.old.session txn (record { rid = rid; row = Some (row_value first second) }) (Some e) seat.new.session)) }
     ensures seat { seat.new ≡ record seat.old { session = seat.new.session } }
@@ -109,27 +112,47 @@ pub fn commit<B: Group, R: Wait>(
     shared.commit(rt, seat, txn)
 }
 
-// Inserts the rows from this number on, in one transaction.
-fn put_half<B: Group, R: Wait>(
+// Commits a transaction. Its commit sets what it held.
+pub(crate) fn commit_held<B: Group, R: Wait>(
+    rt: &R,
+    shared: &Shared<B>,
+    seat: &mut Seat<B>,
+    txn: Txn,
+) -> Result<Ticket, Error>
+    ensures ok { IfOk result (λ ticket. HasCommitted seat.old.session txn ticket seat.new.session) }
+    ensures refused { OnErr result (seat.new ≡ seat.old) }
+    ensures why { is_ready seat.old.session txn ≡ true → IfErr result (IsStepRefusal B.site.opened) }
+    ensures seat { seat.new ≡ record seat.old { session = seat.new.session } }
+{
+    commit(rt, shared, seat, txn)
+}
+
+// Inserts so many rows, from this number on, in one transaction.
+fn put_rows<B: Group, R: Wait>(
     rt: &R,
     shared: &Shared<B>,
     seat: &mut Seat<B>,
     from: u16,
+    count: u16,
 ) -> Result<(), Error>
-    requires { from ≤ ROWS_OF_COMMIT }
+    requires { from + count ≤ 100 }
     ensures ok { OnOk result ((ticket : TicketValue) × (tickets_of seat.new.session ≡ tickets_of seat.old.session ++ ticket ∷ [])) }
     ensures creations { seat.new.session.creations ≡ seat.old.session.creations }
+    ensures none_open { seat.old.session.active ≡ [] → OnOk result (seat.new.session.active ≡ []) }
+    ensures why { seat.old.session.active ≡ [] → IfErr result (IsStepRefusal B.site.opened) }
+    ensures made { seat.old.session.active ≡ [] → OnOk result (HasPut from count seat.old.session.commits seat.new.session.commits) }
     ensures seat { seat.new ≡ record seat.old { session = seat.new.session } }
 {
     let txn = shared.begin(rt, seat)?;
-    for row in 0..ROWS_OF_COMMIT {
+    for row in 0..count {
         insert(rt, shared, seat, txn, ROWS_FIRST, from + row)?;
     }
-    commit(rt, shared, seat, txn)?;
+    commit_held(rt, shared, seat, txn)?;
     Ok(())
 }
 
-/// Inserts the rows in two commits, and creates the index.
+/// Inserts the rows in two commits, and creates the index. The rows are those of the keys of 65,535 and each number below 100, with
+/// empty bodies, the first fifty in the one commit and the others in the next.
 ///
 /// The refusals are those of the calls that this takes.
 pub fn set_up<B: Group, R: Wait>(
@@ -138,11 +161,13 @@ pub fn set_up<B: Group, R: Wait>(
     seat: &mut Seat<B>,
 ) -> Result<(), Error>
     ensures ok { OnOk result ((first : TicketValue) × (second : TicketValue) × (tickets_of seat.new.session ≡ tickets_of seat.old.session ++ first ∷ second ∷ [])) }
+    ensures made { seat.old.session.active ≡ [] → OnOk result ((commits : List CommitValue) × AreSetUp commits × (seat.new.session.commits ≡ seat.old.session.commits ++ commits)) }
+    ensures why { seat.old.session.active ≡ [] → IfErr result (IsStepRefusal B.site.opened) }
     ensures creation { OnOk result ((number : ℕ) × (seat.new.session.creations ≡ seat.old.session.creations ++ number ∷ [])) }
     ensures seat { seat.new ≡ record seat.old { session = seat.new.session } }
 {
-    put_half(rt, shared, seat, 0)?;
-    put_half(rt, shared, seat, ROWS_OF_COMMIT)?;
+    put_rows(rt, shared, seat, 0, ROWS_OF_COMMIT)?;
+    put_rows(rt, shared, seat, ROWS_OF_COMMIT, ROWS_OF_COMMIT)?;
     shared.create_index(rt, seat)?;
     Ok(())
 }

@@ -1,13 +1,17 @@
 //! A thread that writes.
-ghost use Rattle.std.specs.Prelude.{◌≡◌, ◌≤◌, ◌++◌, ◌∷◌, [], if◌then◌else◌, IfOk, IfSome, None, OnErr, OnOk, Some, is_some, vec_len, ℕ};
-ghost use Rattle.sessions.specs.Steps.{committed};
-ghost use Rattle.sessions.specs.Values.{SessionValue};
+ghost use Rattle.std.specs.Prelude.{◌≡◌, ◌≢◌, ◌≤◌, ◌⊎◌, ◌++◌, ◌∷◌, [], if◌then◌else◌, IfErr, IfOk, IfSome, List, None, OnErr, OnOk, is_some, true, vec_len, ℕ};
+ghost use Rattle.std.specs.Result.{result_err};
+ghost use Rattle.model.specs.declared.write.Write.{Write};
+ghost use Rattle.nsf_core.specs.declared.parts.Ticket.{Ticket as TicketValue};
+ghost use Rattle.records.specs.declared.error.Error.TheVariants.{NoMemory};
+ghost use Rattle.sessions.specs.Values.{is_ready, without};
 ghost use Rattle.shared.specs.Changed.{row_of};
-ghost use Rattle.writers.specs.Rows.{row_value};
-ghost use Rattle.writers.specs.Transactions.{AreAllButOne, is_kept, kept_of, tickets_in, tickets_of, told_by};
+ghost use Rattle.writers.specs.Private.{Adds, HasCommitted, Holds, MayAdd};
+ghost use Rattle.writers.specs.Refusals.{IsRefusal, IsStepRefusal};
+ghost use Rattle.writers.specs.Transactions.{AreAllButOne, HasWritten, deleted, deletion, is_kept, kept_of, tickets_in, tickets_of, told_by};
 
-use crate::rows::{commit, delete, insert};
-use records::{Error, Rid};
+use crate::rows::{commit_held, delete, insert};
+use records::{Error, Rid, Txn};
 use shared::{Ack, Group, Seat, Shared};
 use std::alloc::Global;
 use std::sync::Wait;
@@ -28,7 +32,75 @@ pub struct Written<B: Group> {
     pub refused: Option<Error>,
 }
 
-// One transaction: an insertion, and in each third of four the deletion of the row before it. Each fourth is taken back, and the
+// The place of the row that a transaction deletes: each third of four deletes the row before.
+fn to_delete(change: u16, before: Option<Rid>) -> Option<Rid>
+    ensures { result ≡ deleted change before }
+{
+    if change % 4 == 2 { before } else { None }
+}
+
+// Deletes the row at a place, if there is a place.
+fn delete_row<B: Group, R: Wait>(
+    rt: &R,
+    shared: &Shared<B>,
+    seat: &mut Seat<B>,
+    txn: Txn,
+    place: Option<Rid>,
+) -> Result<(), Error>
+    ensures seat { seat.new ≡ record seat.old { session = seat.new.session } }
+    ensures commits { seat.new.session.commits ≡ seat.old.session.commits }
+    ensures creations { seat.new.session.creations ≡ seat.old.session.creations }
+    ensures holds { (writes : List Write) → Holds seat.old.session txn writes → OnOk result (Holds seat.new.session txn (writes ++ deletion place)) }
+    ensures held { OnOk result (IfSome place (λ rid. row_of seat.new.session txn rid ≢ None)) }
+    ensures others { OnOk result (without txn seat.new.session.active ≡ without txn seat.old.session.active) }
+    ensures ready { is_ready seat.old.session txn ≡ true → OnOk result (is_ready seat.new.session txn ≡ true) }
+    ensures why { is_ready seat.old.session txn ≡ true → IfErr result (IsStepRefusal B.site.opened) }
+{
+    match place {
+        Some(rid) => delete(rt, shared, seat, txn, rid),
+        None => Ok(()),
+    }
+}
+
+// Begins a transaction, and deletes the row at a place, if there is a place.
+fn begin_without<B: Group, R: Wait>(
+    rt: &R,
+    shared: &Shared<B>,
+    seat: &mut Seat<B>,
+    place: Option<Rid>,
+) -> Result<Txn, Error>
+    ensures seat { seat.new ≡ record seat.old { session = seat.new.session } }
+    ensures commits { seat.new.session.commits ≡ seat.old.session.commits }
+    ensures creations { seat.new.session.creations ≡ seat.old.session.creations }
+    ensures holds { seat.old.session.active ≡ [] → IfOk result (λ txn. Holds seat.new.session txn (deletion place)) }
+    ensures held { seat.old.session.active ≡ [] → IfOk result (λ txn. IfSome place (λ rid. row_of seat.new.session txn rid ≢ None)) }
+    ensures alone { seat.old.session.active ≡ [] → IfOk result (λ txn. without txn seat.new.session.active ≡ []) }
+    ensures ready { seat.old.session.active ≡ [] → IfOk result (λ txn. is_ready seat.new.session txn ≡ true) }
+    ensures why { seat.old.session.active ≡ [] → IfErr result (IsStepRefusal B.site.opened) }
+{
+    let txn = shared.begin(rt, seat)?;
+    delete_row(rt, shared, seat, txn, place)?;
+    Ok(txn)
+}
+
+// Commits a transaction, and waits until that is safe. After a refusal it may be committed.
+fn commit_safely<B: Group, R: Wait>(
+    rt: &R,
+    shared: &Shared<B>,
+    seat: &mut Seat<B>,
+    txn: Txn,
+) -> Result<Ack<B>, Error>
+    ensures number { seat.new.number ≡ seat.old.number }
+    ensures creations { seat.new.session.creations ≡ seat.old.session.creations }
+    ensures ok { IfOk result (λ ack. HasCommitted seat.old.session txn ack.ticket seat.new.session) }
+    ensures err { OnErr result ((seat.new.session ≡ seat.old.session) ⊎ ((ticket : TicketValue) × HasCommitted seat.old.session txn ticket seat.new.session)) }
+    ensures why { is_ready seat.old.session txn ≡ true → IfErr result (IsRefusal B.site.opened seat.new.sight) }
+{
+    let ticket = commit_held(rt, shared, seat, txn)?;
+    shared.await_ack(rt, seat, ticket)
+}
+
+// One transaction: in each third of four the deletion of the row before it, and an insertion. Each fourth is taken back, and the
 // others are committed. After a refusal there may be a commit that wasn't acknowledged.
 fn change<B: Group, R: Wait>(
     rt: &R,
@@ -38,24 +110,22 @@ fn change<B: Group, R: Wait>(
     before: Option<Rid>,
 ) -> Result<(Rid, Option<Ack<B>>), Error>
     ensures number { seat.new.number ≡ seat.old.number }
+    ensures creations { seat.new.session.creations ≡ seat.old.session.creations }
     ensures kept { IfOk result (λ r. is_some r.1 ≡ is_kept made.change) }
+    ensures none_open { seat.old.session.active ≡ [] → OnOk result (seat.new.session.active ≡ []) }
     ensures told { IfOk result (λ r. tickets_of seat.new.session ≡ tickets_of seat.old.session ++ told_by r.1) }
     ensures late { OnErr result (AreAllButOne (tickets_of seat.old.session) (tickets_of seat.new.session)) }
-    ensures none_open { seat.old.session.active ≡ [] → OnOk result (seat.new.session.active ≡ []) }
-    ensures put { IfOk result (λ r. (before ≡ Some r.0 → ⊥) → IfSome r.1 (λ ack. (s : SessionValue) × (txn : ℕ) × (seat.new.session ≡ committed s txn ack.ticket) × (row_of s txn r.0 ≡ Some (Some (row_value made.writer made.change))))) }
+    ensures adds { seat.old.session.active ≡ [] → IfOk result (λ r. Adds made before r.0 r.1 seat.old.session.commits seat.new.session.commits) }
+    ensures may_add { seat.old.session.active ≡ [] → OnErr result (MayAdd made before seat.old.session.commits seat.new.session.commits) }
+    ensures why { seat.old.session.active ≡ [] → IfErr result (IsRefusal B.site.opened seat.new.sight) }
 {
-    let txn = shared.begin(rt, seat)?;
+    let txn = begin_without(rt, shared, seat, to_delete(made.change, before))?;
     let rid = insert(rt, shared, seat, txn, made.writer, made.change)?;
-    match (made.change % 4, before) {
-        (3, _) => {
-            shared.abort(rt, seat, txn)?;
-            return Ok((rid, None));
-        }
-        (2, Some(before)) => delete(rt, shared, seat, txn, before)?,
-        _ => {}
+    if made.change % 4 == 3 {
+        shared.abort(rt, seat, txn)?;
+        return Ok((rid, None));
     }
-    let ticket = commit(rt, shared, seat, txn)?;
-    let ack = shared.await_ack(rt, seat, ticket)?;
+    let ack = commit_safely(rt, shared, seat, txn)?;
     Ok((rid, Some(ack)))
 }
 
@@ -72,6 +142,7 @@ fn keep<B: Group>(
     ensures late { OnErr result (AreAllButOne (tickets_in written.new.acks.items) (tickets_in written.old.acks.items ++ told_by ack)) }
     ensures unkept { OnErr result (written.new.acknowledged.items ≡ written.old.acknowledged.items) }
     ensures fewer { vec_len written.old.acknowledged ≤ vec_len written.old.acks → vec_len written.new.acknowledged ≤ vec_len written.new.acks }
+    ensures no_memory { IfErr result (λ e. e ≡ NoMemory) }
 {
     if let Some(ack) = ack {
         written.acks.push(ack)?;
@@ -91,6 +162,7 @@ fn change_all<B: Group, R: Wait>(
     requires acks { written.old.acks.items ≡ [] }
     requires acknowledged { written.old.acknowledged.items ≡ [] }
     ensures number { written.new.seat.number ≡ written.old.seat.number }
+    ensures creations { written.new.seat.session.creations ≡ written.old.seat.session.creations }
     ensures whole { OnOk result (written.new.acknowledged.items ≡ kept_of writer changes) }
     ensures counted { OnOk result (vec_len written.new.acks ≡ vec_len written.new.acknowledged) }
     ensures told { OnOk result (tickets_of written.new.seat.session ≡ tickets_of written.old.seat.session ++ tickets_in written.new.acks.items) }
@@ -98,6 +170,8 @@ fn change_all<B: Group, R: Wait>(
     ensures begun { (count : ℕ) × (count ≤ changes) × (written.new.acknowledged.items ≡ kept_of writer count) }
     ensures fewer { vec_len written.new.acknowledged ≤ vec_len written.new.acks }
     ensures none_open { written.old.seat.session.active ≡ [] → OnOk result (written.new.seat.session.active ≡ []) }
+    ensures why { written.old.seat.session.active ≡ [] → IfErr result (IsRefusal B.site.opened written.new.seat.sight) }
+    ensures made { written.old.seat.session.active ≡ [] → HasWritten writer changes written.old.seat.session written.new.seat.session written.new.acknowledged.items (result_err result) }
 {
     let mut before = None;
     for number in 0..changes {
@@ -116,7 +190,9 @@ fn change_all<B: Group, R: Wait>(
 ///
 /// Where nothing is refused, all but each fourth are committed and acknowledged (`whole`), and none is left open (`none_open`). Each
 /// acknowledgement is that of one of the seat's commits, in order (`told`); and where something is refused, one more may be committed
-/// (`late`), and what is told as acknowledged is what the transactions before that committed (`begun`).
+/// (`late`), and what is told as acknowledged is what the transactions before that committed (`begun`). Of a seat with no open
+/// transaction, each commit has the row of the transaction that is told, and in each third of four the deletion of the row before
+/// (`made`); and a refusal is one of a step of the seat, `NoMemory`, or an end of the wait for a commit (`why`).
 pub fn write<B: Group, R: Wait>(
     rt: &R,
     alloc: Global,
@@ -133,6 +209,8 @@ pub fn write<B: Group, R: Wait>(
     ensures begun { (count : ℕ) × (count ≤ changes) × (result.acknowledged.items ≡ kept_of writer count) }
     ensures fewer { vec_len result.acknowledged ≤ vec_len result.acks }
     ensures none_open { seat.session.active ≡ [] → result.refused ≡ None → result.seat.session.active ≡ [] }
+    ensures why { seat.session.active ≡ [] → IfSome result.refused (IsRefusal B.site.opened result.seat.sight) }
+    ensures made { seat.session.active ≡ [] → HasWritten writer changes seat.session result.seat.session result.acknowledged.items result.refused }
 {
     let mut written = Written {
         seat,

@@ -1,6 +1,7 @@
 use Rattle.std.proofs.Common.{◌∙◌, ℕ, ap, subst}
 use Rattle.model.specs.Given.{nothing}
 use Rattle.core_model.specs.Histories.{Opened}
+use Rattle.restart.specs.Store.{over}
 use Rattle.sector_device.specs.MemDisk.{history_of}
 use Rattle.workers.specs.Left.{IsLeft, all_kept}
 use Rattle.workers.proofs.Behind.{opens_new, refused_readable}
@@ -12,8 +13,9 @@ returns-in-Ok-clause-left g c =
     let image = (history_of c.in_ok-disk.disk).disk.content in
     record {
       geometry = c.in_ok-geometry.geometry;
-      left = subst (λ (o : Opened). IsLeft history_of o c.in-Ok.worked)
-          (opens_new c.one_answer.ensures.geometry c.one_answer.ensures.given image c.in_ok-geometry.geometry c.in_ok-disk.ensures.gives left.0 left.1) left.2;
+      left = subst (λ (n : ℕ). IsLeft history_of (over c.in_ok-geometry.geometry nothing) c.args.arguments.now.writers n c.in-Ok.worked) c.from.ensures
+          (subst (λ (o : Opened). IsLeft history_of o c.args.arguments.now.writers c.from.result c.in-Ok.worked)
+          (opens_new c.one_answer.ensures.geometry c.one_answer.ensures.given image c.in_ok-geometry.geometry c.in_ok-disk.ensures.gives left.0 left.1) left.2);
       acknowledged = λ writer end. c.in-Ok.ensures.acknowledged writer end ∙ ap (λ (n : ℕ). all_kept c.args.arguments.now.writers n) c.from.ensures;
     }
 

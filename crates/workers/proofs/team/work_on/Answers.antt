@@ -1,3 +1,4 @@
+use Rattle.std.proofs.Common.{◌+◌, ◌∙◌, ℕ, ap, sym}
 use Rattle.std.proofs.lemmas.Result.{IfOk-weaker}
 use Rattle.workers.proofs.Refused.{err_of_both, not_begun}
 use Rattle.workers.proofs.team.work_on.Goals as goal
@@ -7,7 +8,7 @@ begin-requires-clause-opens g c = λ κs outlives. c.requires c.in-Ok.store.site
 
 pub returns-in-Ok-clause-left : goal.returns-in-Ok-clause-left
 returns-in-Ok-clause-left g c =
-    IfOk-weaker c.begin.result _ _ (λ worked left. (c.in-Ok.store.site.opened, c.in-Ok.ensures.opened.opened, left)) c.begin.ensures.left
+    IfOk-weaker c.begin.result _ _ (λ worked left. (c.in-Ok.store.site.opened, c.in-Ok.ensures.opened.opened, left c.args.writers (ap (λ (n : ℕ). n + 1) (sym c.from-seats.ensures) ∙ sym c.in-Ok.ensures.opened.seats))) c.begin.ensures.left
 
 pub returns-in-Ok-clause-refused : goal.returns-in-Ok-clause-refused
 returns-in-Ok-clause-refused g c =

@@ -1,5 +1,4 @@
-use Rattle.std.proofs.Common.{rules}
-use Rattle.writers.proofs.Shown.{shows_none, shows_one}
+use Rattle.writers.proofs.Shown.{shows_one}
 use Rattle.writers.proofs.progress.show.Goals as goal
 
 pub returns-in_ok-write : goal.returns-in_ok-write

@@ -1,4 +1,5 @@
 use Rattle.std.proofs.Common.{◌≡◌, ◌≤◌, ◌++◌, [], vec_len}
+use Rattle.writers.specs.Private.{HasCome}
 use Rattle.writers.specs.Transactions.{kept_of, tickets_in, tickets_of}
 use Rattle.writers.proofs.writer.change_all.Given as goal
 
@@ -8,6 +9,8 @@ invariant-loop-number g l = record {
   whole : l.written.acknowledged.items ≡ kept_of l.writer l.number;
   counted : vec_len l.written.acks ≡ vec_len l.written.acknowledged;
   fewer : vec_len l.written.acknowledged ≤ vec_len l.written.acks;
+  creations : l.written.seat.session.creations ≡ l.fn.written.seat.session.creations;
   none_open : l.fn.written.seat.session.active ≡ [] → l.written.seat.session.active ≡ [];
+  come : l.fn.written.seat.session.active ≡ [] → HasCome l.writer l.number l.fn.written.seat.session.commits l.written.seat.session.commits l.before;
   told : tickets_of l.written.seat.session ≡ tickets_of l.fn.written.seat.session ++ tickets_in l.written.acks.items;
 }

@@ -1,0 +1,305 @@
+-- What a writer's transactions make, one after the other.
+use Rattle.std.proofs.Common.{◌≡◌, ◌≢◌, ◌∙◌, ◌+◌, ◌++◌, ◌<◌, ◌≤◌, ◌∷◌, [], zero, suc, ◌⊎◌, ⊎_elim, Bool, Err, IfSome, List, None, Ok, Option, Result, Some, ℕ, ap, append-nil, append_assoc, arith, eq-eqb, false, inl, inr, is_some, ne_eqb, refl, subst, sym, true}
+use Rattle.std.proofs.lemmas.List.Elements.{All-from_recursion, All-nil}
+use Rattle.std.specs.List.{AllByRecursion}
+use Rattle.std.specs.Result.{IsErr, result_err}
+use Rattle.std.specs.Prelude.{if◌then◌else◌, ◌==◌}
+use Rattle.model.specs.declared.write.Write.{Write}
+use Rattle.records.specs.Values.{Place}
+use Rattle.records.specs.declared.error.Error.{Error}
+use Rattle.records.specs.declared.row.Row.{Row}
+use Rattle.nsf_core.specs.declared.parts.Ticket.{Ticket}
+use Rattle.sessions.specs.Values.{CommitValue, SessionValue, rows_of}
+use Rattle.shared.specs.Seats.{AckValue}
+use Rattle.shared.specs.Changed.{HasChanged, IsGoingBack, row_of}
+use Rattle.writers.proofs.Holding.{holds_more}
+use Rattle.writers.specs.Private.{Adds, HasCome, HasCommitted, HasPut, Holds, HoldsPuts, MayAdd}
+use Rattle.writers.specs.Transactions.{AreApart, AreCommitsOfEach, IsCommitAt, deleted, HasWritten, IsCommitOf, Sets, before_of, is_kept, kept_of, put, puts, writes_of}
+use Rattle.writers.specs.declared.writer.Acknowledged.{Acknowledged}
+
+-- ---- places
+
+not_equal : (k n : ℕ) → k < n → (k == n) ≡ false
+not_equal k n less = ne_eqb k n (λ is. absurd (omega (arith, less, is)))
+
+-- the places, with this one at a number
+abbrev place_at : (places : ℕ → Place) → ℕ → Place → ℕ → Place
+place_at places n place k = if k == n then place else places k
+
+placed : (places : ℕ → Place) (n : ℕ) (place : Place) → place_at places n place n ≡ place
+placed places n place = ap (λ (b : Bool). if b then place else places n) (eq-eqb n n refl)
+
+placed_before : (places : ℕ → Place) (n : ℕ) (place : Place) (k : ℕ) → k < n → place_at places n place k ≡ places k
+placed_before places n place k less = ap (λ (b : Bool). if b then place else places k) (not_equal k n less)
+
+before_placed : (places : ℕ → Place) (n : ℕ) (place : Place) (k : ℕ) → k ≤ n → before_of (place_at places n place) k ≡ before_of places k
+before_placed places n place zero less = refl
+before_placed places n place (suc k) less = ap Some (placed_before places n place k less)
+
+-- ---- commits
+
+at_is : (a : Acknowledged) (before other : Option Place) (place there : Place) (c : CommitValue) → before ≡ other → place ≡ there → IsCommitAt a before place c → IsCommitAt a other there c
+at_is a before other place there c same here is =
+    subst (λ (p : Place). IsCommitAt a other p c) here (subst (λ (b : Option Place). IsCommitAt a b place c) same is)
+
+commit_placed : (places : ℕ → Place) (n : ℕ) (place : Place) (a : Acknowledged) (c : CommitValue) → a.change < n → IsCommitOf places a c → IsCommitOf (place_at places n place) a c
+commit_placed places n place a c less is =
+    let within : a.change ≤ n = omega (arith, less) in
+    at_is a _ _ _ _ c (sym (before_placed places n place a.change within)) (sym (placed_before places n place a.change less)) is
+
+each_placed : (places : ℕ → Place) (n : ℕ) (place : Place) (ts : List Acknowledged) (cs : List CommitValue) → AllByRecursion (λ a. a.change < n) ts → AreCommitsOfEach places ts cs → AreCommitsOfEach (place_at places n place) ts cs
+each_placed places n place [] [] below are = tt
+each_placed places n place (a ∷ ts) (c ∷ cs) below are = (commit_placed places n place a c below.0 are.0, each_placed places n place ts cs below.1 are.1)
+each_placed places n place [] (c ∷ cs) below are = absurd are
+each_placed places n place (a ∷ ts) [] below are = absurd are
+
+each_more : (places : ℕ → Place) (ts : List Acknowledged) (cs : List CommitValue) (a : Acknowledged) (c : CommitValue) → AreCommitsOfEach places ts cs → IsCommitOf places a c → AreCommitsOfEach places (ts ++ a ∷ []) (cs ++ c ∷ [])
+each_more places [] [] a c are is = (is, tt)
+each_more places (b ∷ ts) (d ∷ cs) a c are is = (are.0, each_more places ts cs a c are.1 is)
+each_more places [] (d ∷ cs) a c are is = absurd are
+each_more places (b ∷ ts) [] a c are is = absurd are
+
+-- ---- those that are committed
+
+one_below : (w n : ℕ) (b : Bool) → AllByRecursion (λ (a : Acknowledged). a.change < suc n) (if b then record { writer = w; change = n } ∷ [] else [])
+one_below w n true =
+    let less : n < suc n = omega (arith) in
+    (less, tt)
+one_below w n false = tt
+
+all_append : {X : Type 0} (P : X → Type 0) (xs ys : List X) → AllByRecursion P xs → AllByRecursion P ys → AllByRecursion P (xs ++ ys)
+all_append P [] ys first second = second
+all_append P (x ∷ xs) ys first second = (first.0, all_append P xs ys first.1 second)
+
+all_later : (n : ℕ) (ts : List Acknowledged) → AllByRecursion (λ a. a.change < n) ts → AllByRecursion (λ a. a.change < suc n) ts
+all_later n [] below = tt
+all_later n (a ∷ ts) below =
+    let less : a.change < suc n = omega (arith, below.0) in
+    (less, all_later n ts below.1)
+
+kept_below : (w n : ℕ) → AllByRecursion (λ (a : Acknowledged). a.change < n) (kept_of w n)
+kept_below w zero = tt
+kept_below w (suc n) = all_append (λ (a : Acknowledged). a.change < suc n) (kept_of w n) _ (all_later n (kept_of w n) (kept_below w n)) (one_below w n (is_kept n))
+
+-- ---- the transactions of a writer
+
+abbrev here : ℕ → ℕ → Acknowledged
+here w n = record { writer = w; change = n }
+
+is_placed : (places : ℕ → Place) (w n : ℕ) (place : Place) (before : Option Place) (c : CommitValue) → before ≡ before_of places n → IsCommitAt (here w n) before place c → IsCommitOf (place_at places n place) (here w n) c
+is_placed places w n place before c last is =
+    let itself : n ≤ n = omega (arith) in
+    at_is (here w n) before (before_of (place_at places n place) n) place (place_at places n place n) c (last ∙ sym (before_placed places n place n itself)) (sym (placed places n place)) is
+
+-- at first there are none
+pub none_come : (writer : ℕ) (old : List CommitValue) (place : Place) → HasCome writer 0 old old None
+none_come writer old place = ((λ k. place), [], sym (append-nil old), tt, refl)
+
+-- and then there is one more
+pub come_more : (w n : ℕ) (old now new : List CommitValue) (before : Option Place) (place : Place) (ack : Option AckValue)
+    → is_some ack ≡ is_kept n → HasCome w n old now before → Adds (here w n) before place ack now new → HasCome w (suc n) old new (Some place)
+come_more w n old now new before place None kept come adds =
+    let places = come.0 in
+    let made = come.1 in (
+      place_at places n place,
+      made,
+      adds ∙ come.2,
+      subst (λ (ts : List Acknowledged). AreCommitsOfEach (place_at places n place) ts made)
+          (sym (append-nil (kept_of w n)) ∙ ap (λ (b : Bool). kept_of w n ++ (if b then here w n ∷ [] else [])) kept)
+          (each_placed places n place (kept_of w n) made (kept_below w n) come.3),
+      sym (ap Some (placed places n place)),
+    )
+come_more w n old now new before place (Some ack) kept come adds =
+    let places = come.0 in
+    let made = come.1 in
+    let c = adds.0 in (
+      place_at places n place,
+      made ++ c ∷ [],
+      adds.1 ∙ (ap (λ cs. cs ++ c ∷ []) come.2 ∙ append_assoc old made (c ∷ [])),
+      subst (λ (ts : List Acknowledged). AreCommitsOfEach (place_at places n place) ts (made ++ c ∷ []))
+          (ap (λ (b : Bool). kept_of w n ++ (if b then here w n ∷ [] else [])) kept)
+          (each_more (place_at places n place) (kept_of w n) made (here w n) c (each_placed places n place (kept_of w n) made (kept_below w n) come.3)
+          (is_placed places w n place before c come.4 adds.3)),
+      sym (ap Some (placed places n place)),
+    )
+
+-- which is kept
+pub come_next : (w n : ℕ) (old now new kept : List CommitValue) (before : Option Place) (place : Place) (ack : Option AckValue) → kept ≡ new
+    → is_some ack ≡ is_kept n → HasCome w n old now before → Adds (here w n) before place ack now new → HasCome w (n + 1) old kept (Some place)
+come_next w n old now new kept before place ack same is come adds =
+    let one_more : suc n ≡ n + 1 = omega (arith) in
+    subst (λ (m : ℕ). HasCome w m old kept (Some place)) one_more (subst (λ (cs : List CommitValue). HasCome w (suc n) old cs (Some place)) (sym same) (come_more w n old now new before place ack is come adds))
+
+-- what was made may be one more where it wasn't kept
+pub may_add : (a : Acknowledged) (before : Option Place) (place : Place) (ack : Option AckValue) (now new : List CommitValue) → is_some ack ≡ is_kept a.change → Adds a before place ack now new → MayAdd a before now new
+may_add a before place None now new kept adds =
+    let few : 0 ≤ 1 = omega (arith) in
+    ([], place, adds ∙ sym (append-nil now), few, tt)
+may_add a before place (Some ack) now new kept adds =
+    let few : 1 ≤ 1 = omega (arith) in
+    (adds.0 ∷ [], place, adds.1, few, ((sym kept, adds.3), tt))
+
+all_placed : (places : ℕ → Place) (w n changes : ℕ) (place : Place) (before : Option Place) (late : List CommitValue) → n < changes → before ≡ before_of places n → AllByRecursion (λ c. (is_kept n ≡ true) × IsCommitAt (here w n) before place c) late
+    → AllByRecursion (λ c. (n < changes) × (is_kept n ≡ true) × IsCommitOf (place_at places n place) (here w n) c) late
+all_placed places w n changes place before [] less last are = tt
+all_placed places w n changes place before (c ∷ cs) less last are = ((less, are.0.0, is_placed places w n place before c last are.0.1), all_placed places w n changes place before cs less last are.1)
+
+-- what is kept has as many
+pub adds_kept : (a : Acknowledged) (before : Option Place) (place : Place) (ack : Option AckValue) (old new kept : List CommitValue) → kept ≡ new → Adds a before place ack old new → Adds a before place ack old kept
+adds_kept a before place ack old new kept same adds = subst (λ (cs : List CommitValue). Adds a before place ack old cs) (sym same) adds
+
+-- where there is none more
+pub may_none : (a : Acknowledged) (before : Option Place) (old new : List CommitValue) → new ≡ old → MayAdd a before old new
+may_none a before old new same =
+    let few : 0 ≤ 1 = omega (arith) in
+    ([], record { page = 0; slot = 0 }, same ∙ sym (append-nil old), few, tt)
+
+-- or there may be one
+pub may_commit : (a : Acknowledged) (before : Option Place) (place : Place) (first old new : SessionValue) (txn : ℕ) → is_kept a.change ≡ true → old.commits ≡ first.commits → Holds old txn (writes_of a before place) → deleted a.change before ≢ Some place
+    → (new ≡ old) ⊎ ((t : Ticket) × HasCommitted old txn t new) → MayAdd a before first.commits new.commits
+may_commit a before place first old new txn kept same holds apart what = ⊎_elim
+    (λ none. may_none a before first.commits new.commits (ap (λ (s : SessionValue). s.commits) none ∙ same))
+    (λ one.
+    let few : 1 ≤ 1 = omega (arith) in
+    let c : CommitValue = record { ticket = one.0; writes = rows_of txn old.active } in
+    (c ∷ [], place, ap (λ (s : SessionValue). s.commits) one.1.0 ∙ ap (λ (cs : List CommitValue). cs ++ c ∷ []) same, few, ((kept, (one.1.1 (writes_of a before place) holds, apart)), tt)))
+    what
+
+-- or there is one, which was acknowledged
+pub adds_one : (a : Acknowledged) (before : Option Place) (place : Place) (first old new : SessionValue) (txn : ℕ) (ack : AckValue) → old.commits ≡ first.commits → Holds old txn (writes_of a before place) → deleted a.change before ≢ Some place
+    → HasCommitted old txn ack.ticket new → Adds a before place (Some ack) first.commits new.commits
+adds_one a before place first old new txn ack same holds apart one =
+    let c : CommitValue = record { ticket = ack.ticket; writes = rows_of txn old.active } in
+    (c, ap (λ (s : SessionValue). s.commits) one.0 ∙ ap (λ (cs : List CommitValue). cs ++ c ∷ []) same, refl, (one.1 (writes_of a before place) holds, apart))
+
+-- the row that is deleted is held, so that the new one is elsewhere
+pub deleted_apart : (session : SessionValue) (txn : ℕ) (gone : Option Place) (place : Place) → IfSome gone (λ rid. row_of session txn rid ≢ None) → ((q : Place) → row_of session txn q ≢ None → q ≢ place) → gone ≢ Some place
+deleted_apart session txn None place held apart same = absurd cc
+deleted_apart session txn (Some rid) place held apart same =
+    let is : rid ≡ place = cc in
+    apart rid held is
+
+-- a rollback makes none
+pub back_commits : (old new : SessionValue) (txn : ℕ) → (new ≡ old) ⊎ IsGoingBack old txn new → new.commits ≡ old.commits
+back_commits old new txn what = ⊎_elim (λ none. ap (λ (s : SessionValue). s.commits) none) (λ back. ap (λ (s : SessionValue). s.commits) back.others) what
+
+-- nor does an insertion
+pub more_commits : (old new : SessionValue) (txn : ℕ) (row : Option Row) (e : Error) → (new ≡ old) ⊎ ((rid : Place) × HasChanged old txn (record { rid = rid; row = row }) (Some e) new) → new.commits ≡ old.commits
+more_commits old new txn row e what = ⊎_elim (λ none. ap (λ (s : SessionValue). s.commits) none) (λ more. ap (λ (s : SessionValue). s.commits) more.1.0.others) what
+
+-- where a transaction was refused something
+pub written_some : (w n changes : ℕ) (old now new : SessionValue) (before : Option Place) (told : List Acknowledged) (e : Error)
+    → n < changes → new.creations ≡ old.creations → told ≡ kept_of w n → HasCome w n old.commits now.commits before → MayAdd (here w n) before now.commits new.commits → HasWritten w changes old new told (Some e)
+written_some w n changes old now new before told e less created tells come may =
+    let most : n ≤ changes = omega (arith, less) in
+    let places = come.0 in
+    let made = come.1 in
+    let late = may.0 in
+    record {
+      count = n;
+      most = most;
+      tells = tells;
+      places = place_at places n may.1;
+      made = made;
+      late = late;
+      commits = may.2 ∙ ap (λ cs. cs ++ late) come.2;
+      are = each_placed places n may.1 (kept_of w n) made (kept_below w n) come.3;
+      few = may.3;
+      next = All-from_recursion (λ c. (n < changes) × (is_kept n ≡ true) × IsCommitOf (place_at places n may.1) (here w n) c) late (all_placed places w n changes may.1 before late less come.4 may.4);
+      whole = λ none. absurd cc;
+      creations = created;
+    }
+
+pub written_err : {T : Type 0} (w n changes : ℕ) (old now new : SessionValue) (before : Option Place) (told : List Acknowledged) (r : Result T Error) → IsErr r
+    → n < changes → new.creations ≡ old.creations → told ≡ kept_of w n → HasCome w n old.commits now.commits before → MayAdd (here w n) before now.commits new.commits → HasWritten w changes old new told (result_err r)
+written_err w n changes old now new before told (Err e) is less created tells come may = written_some w n changes old now new before told e less created tells come may
+written_err w n changes old now new before told (Ok t) is less created tells come may = absurd cc
+
+-- where none was
+pub written_all : (w changes : ℕ) (old new : SessionValue) (before : Option Place) (told : List Acknowledged)
+    → new.creations ≡ old.creations → told ≡ kept_of w changes → HasCome w changes old.commits new.commits before → HasWritten w changes old new told None
+written_all w changes old new before told created tells come =
+    let most : changes ≤ changes = omega (arith) in
+    let few : 0 ≤ 1 = omega (arith) in
+    record {
+      count = changes;
+      most = most;
+      tells = tells;
+      places = come.0;
+      made = come.1;
+      late = [];
+      commits = come.2 ∙ sym (append-nil (old.commits ++ come.1));
+      are = come.3;
+      few = few;
+      next = All-nil (λ c. (changes < changes) × (is_kept changes ≡ true) × IsCommitOf come.0 (here w changes) c);
+      whole = λ none. (refl, refl);
+      creations = created;
+    }
+
+-- ---- the rows that are there before
+
+puts_placed : (places : ℕ → Place) (first from n : ℕ) (place : Place) (count : ℕ) → count ≤ n → puts first from count (place_at places n place) ≡ puts first from count places
+puts_placed places first from n place zero few = refl
+puts_placed places first from n place (suc count) few =
+    let less : count < n = omega (arith, few) in
+    let fewer : count ≤ n = omega (arith, few) in
+    ap (λ (ws : List Write). ws ++ put first (from + count) (place_at places n place count) ∷ []) (puts_placed places first from n place count fewer)
+    ∙ ap (λ (p : Place). puts first from count places ++ put first (from + count) p ∷ []) (placed_before places n place count less)
+
+below_or_last : (j n : ℕ) → j < suc n → (j < n) ⊎ (j ≡ n)
+below_or_last zero zero less = inr refl
+below_or_last zero (suc n) less = inl (omega (arith))
+below_or_last (suc j) zero less = absurd (omega (arith, less))
+below_or_last (suc j) (suc n) less =
+    let before : j < suc n = omega (arith, less) in
+    ⊎_elim (λ early. inl (omega (arith, early))) (λ last. inr (ap suc last)) (below_or_last j n before)
+
+some_none : {X : Type 0} {x : X} → Some x ≡ None → ⊥
+some_none same = absurd cc
+
+puts_next : (old new : SessionValue) (txn from n : ℕ) (place : Place) → HoldsPuts old txn from n → HasChanged old txn (put 65535 (from + n) place) None new → ((q : Place) → row_of old txn q ≢ None → q ≢ place) → HoldsPuts new txn from (suc n)
+puts_next old new txn from n place puts_held changed new_place =
+    let itself : n ≤ n = omega (arith) in
+    let places = puts_held.0 in
+    let there : (i : ℕ) → i < n → place_at places n place i ≡ places i = λ i less. placed_before places n place i less in
+    let apart_from : (i : ℕ) → i < n → places i ≢ place = λ i less. new_place (places i) (puts_held.3 i less) in (
+      place_at places n place,
+      subst (λ (ws : List Write). Holds new txn ws)
+          (sym (ap (λ (ws : List Write). ws ++ put 65535 (from + n) (place_at places n place n) ∷ []) (puts_placed places 65535 from n place n itself)
+          ∙ ap (λ (p : Place). puts 65535 from n places ++ put 65535 (from + n) p ∷ []) (placed places n place)))
+          (holds_more old new txn (puts 65535 from n places) (put 65535 (from + n) place) puts_held.1 changed),
+      (λ i j less within same. ⊎_elim
+          (λ early.
+          let first : i < n = omega (arith, less, early) in
+          puts_held.2 i j less early (sym (there i first) ∙ (same ∙ there j early)))
+          (λ last.
+          let first : i < n = omega (arith, less, last) in
+          apart_from i first (sym (there i first) ∙ (same ∙ (ap (place_at places n place) last ∙ placed places n place))))
+          (below_or_last j n within)),
+      (λ i within none. ⊎_elim
+          (λ early. puts_held.3 i early (sym (changed.0.rows (places i) (apart_from i early)) ∙ (ap (row_of new txn) (sym (there i early)) ∙ none)))
+          (λ last. some_none (sym (changed.0.row changed.1) ∙ (ap (row_of new txn) (sym (ap (place_at places n place) last ∙ placed places n place)) ∙ none)))
+          (below_or_last i n within)),
+    )
+
+-- one more
+pub puts_more : (old new : SessionValue) (txn from n : ℕ) (place : Place) → HoldsPuts old txn from n → HasChanged old txn (put 65535 (from + n) place) None new → ((q : Place) → row_of old txn q ≢ None → q ≢ place) → HoldsPuts new txn from (n + 1)
+puts_more old new txn from n place held changed apart =
+    let one_more : suc n ≡ n + 1 = omega (arith) in
+    subst (λ m. HoldsPuts new txn from m) one_more (puts_next old new txn from n place held changed apart)
+
+-- at first there are none
+pub puts_none : (s : SessionValue) (txn from : ℕ) → Holds s txn [] → HoldsPuts s txn from 0
+puts_none s txn from holds = (λ k. record { page = 0; slot = 0 }, holds, (λ i j less within. absurd (omega (arith, within))), (λ i within. absurd (omega (arith, within))))
+
+-- all of them, in one commit
+pub puts_all : (first old new : SessionValue) (txn from n count : ℕ) (ticket : Ticket) → n ≡ count → old.commits ≡ first.commits → HoldsPuts old txn from n → HasCommitted old txn ticket new
+    → HasPut from count first.commits new.commits
+puts_all first old new txn from n count ticket all same held one =
+    let c : CommitValue = record { ticket = ticket; writes = rows_of txn old.active } in (
+      c,
+      held.0,
+      ap (λ (s : SessionValue). s.commits) one.0 ∙ ap (λ (cs : List CommitValue). cs ++ c ∷ []) same,
+      subst (λ (m : ℕ). Sets (puts 65535 from m held.0) c) all (one.1 (puts 65535 from n held.0) held.1),
+      subst (λ (m : ℕ). AreApart m held.0) all held.2,
+    )
