@@ -4,12 +4,14 @@
 #![tactic(auto)]
 
 mod clock;
+mod handing;
 mod holds;
 mod life;
 mod requests;
 mod rounds;
 mod steps;
 mod timing;
+mod turns;
 mod watch;
 
 use anyhow::Result;
@@ -20,12 +22,15 @@ use std::sync::Wait;
 use std::thread::Threads;
 use std::time::CpuClock;
 
-// Prints what restarts, builds and commits cost.
+// Prints what restarts, builds and commits cost, and how long the lock is held.
 fn time<R: Print + Alloc<A = Global> + Threads + Wait + Clock + CpuClock + Sync>(
     rt: &R,
 ) -> Result<()> {
     for pages in [1, 16, 64, 256] {
         timing::restart(rt, pages)?;
+    }
+    for txns in [1, 16] {
+        timing::hand_in(rt, txns)?;
     }
     for writers in [1, 2, 4, 8] {
         timing::writers(rt, writers)?;

@@ -1,5 +1,5 @@
 //! What is asked of a store.
-use records::{ATTEMPTS_PER_CHECKPOINT, Body, Error, Key, SLOTS_PER_PAGE, Txn};
+use records::{ATTEMPTS_PER_CHECKPOINT, Body, Error, Key, Rid, SLOTS_PER_PAGE, Txn};
 use restart::Event;
 use std::alloc::Global;
 
@@ -55,5 +55,26 @@ pub(crate) fn build(alloc: Global, pages: u16) -> Result<Vec<Event>, Error> {
         }
     }
     flush(&mut requests)?;
+    Ok(requests)
+}
+
+/// So many pages are filled, the index is built, the rows of the first page are deleted by a transaction with this number, and the cleaner
+/// looks at each entry.
+pub(crate) fn fill_build_and_clean(alloc: Global, pages: u16) -> Result<Vec<Event>, Error> {
+    let mut requests = fill(alloc, pages)?;
+    requests.extend_from_slice(&build(alloc, pages)?)?;
+    let Some(txn) = Txn::new(u64::from(pages) + 1) else {
+        return Ok(requests);
+    };
+    requests.push(Event::Begin)?;
+    for slot in 0..SLOTS_PER_PAGE {
+        let rid = Rid { page: 0, slot };
+        requests.push(Event::Delete { txn, rid })?;
+        requests.push(Event::Step { txn })?;
+    }
+    requests.push(Event::Commit { txn })?;
+    for _ in 0..u32::from(pages) * u32::from(SLOTS_PER_PAGE) {
+        requests.push(Event::Clean)?;
+    }
     Ok(requests)
 }

@@ -7,21 +7,24 @@ use std::alloc::Global;
 use std::time::CpuClock;
 use threads::format_store;
 
-/// Nanoseconds of processor time: the longest step of a transaction, and of the builder, each with its record handed to the writer.
+/// Nanoseconds of processor time: the longest step of a transaction, of the builder and of the cleaner, each with its record handed to the
+/// writer.
 #[derive(Clone, Copy)]
 pub(crate) struct Steps {
     pub txn: u64,
     pub build: u64,
+    pub clean: u64,
 }
 
 impl Steps {
     // Notes how long a request took, if it was such a step.
     fn note(&mut self, request: Event, took: u64) {
         match request {
-            Event::Begin | Event::Insert { .. } | Event::Commit { .. } => {
+            Event::Begin | Event::Insert { .. } | Event::Delete { .. } | Event::Commit { .. } => {
                 self.txn = took.max(self.txn);
             }
             Event::Create | Event::Build => self.build = took.max(self.build),
+            Event::Clean => self.clean = took.max(self.clean),
             _ => {}
         }
     }
@@ -42,14 +45,13 @@ fn serve_each<R: CpuClock>(
     Ok(())
 }
 
-/// Serves these requests one by one in a new store, and then those, and tells how long the longest steps took.
+/// Serves these requests one by one in a new store, and tells how long the longest steps took.
 pub(crate) fn longest<R: CpuClock>(
     rt: &R,
     alloc: Global,
     geometry: Geometry,
     calls: usize,
-    first: &[Event],
-    then: &[Event],
+    requests: &[Event],
 ) -> Result<Steps, Error> {
     let mut disk = MemDisk::new(alloc, geometry.sectors(), calls)?;
     format_store(&mut disk, geometry)?;
@@ -57,8 +59,11 @@ pub(crate) fn longest<R: CpuClock>(
         Ok(engine) => engine,
         Err((error, _)) => return Err(error),
     };
-    let mut steps = Steps { txn: 0, build: 0 };
-    serve_each(rt, &mut engine, first, &mut steps)?;
-    serve_each(rt, &mut engine, then, &mut steps)?;
+    let mut steps = Steps {
+        txn: 0,
+        build: 0,
+        clean: 0,
+    };
+    serve_each(rt, &mut engine, requests, &mut steps)?;
     Ok(steps)
 }

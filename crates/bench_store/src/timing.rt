@@ -4,10 +4,12 @@ ghost use Rattle.sector_device.specs.MemDisk.{history_of};
 ghost use Rattle.threads.specs.Openings.{IsOpenable};
 
 use crate::clock::used;
+use crate::handing::handing;
 use crate::life::{Lived, live};
-use crate::requests::{build, fill};
+use crate::requests::{build, fill, fill_build_and_clean};
 use crate::rounds::{Round, write};
 use crate::steps::longest;
+use crate::turns::watch_lock;
 use crate::watch::Seen;
 use anyhow::{Result, bail};
 use records::{Error, Geometry, SLOTS_PER_PAGE};
@@ -84,8 +86,8 @@ fn copy_in_memory<R: CpuClock>(rt: &R, alloc: Global, sectors: u64) -> Result<u6
 
 /// Prints a line for a store of so many pages, all full of rows: in processor time, what a row costs to insert, and to build, with
 /// flushes and images; what a restart costs behind that, and once more with an empty log, and what a copy of a half in memory does; and
-/// how long the core is held for the longest step of a transaction and of the builder, for the longest piece of an image, and for all
-/// cells at once.
+/// how long the core is held for the longest step of a transaction, of the builder and of the cleaner, for the longest piece of an image,
+/// and for all cells at once.
 pub(crate) fn restart<R: Print + Alloc<A = Global> + CpuClock>(rt: &R, pages: u16) -> Result<()> {
     let alloc = rt.alloc();
     let geometry = geometry_of(pages)?;
@@ -95,16 +97,10 @@ pub(crate) fn restart<R: Print + Alloc<A = Global> + CpuClock>(rt: &R, pages: u1
     let opened = live(rt, alloc, built.disk, geometry, &[])?;
     let again = live(rt, alloc, opened.disk, geometry, &[])?;
     let copied = copy_in_memory(rt, alloc, geometry.half_sectors())?;
-    let steps = longest(
-        rt,
-        alloc,
-        geometry,
-        CALLS,
-        &fill(alloc, pages)?,
-        &build(alloc, pages)?,
-    )?;
+    let requests = fill_build_and_clean(alloc, pages)?;
+    let steps = longest(rt, alloc, geometry, CALLS, &requests)?;
     println!(rt;
-        "{pages} pages, {rows} rows: {} nanoseconds a row inserted, {} a row built; microseconds: restart {}, with an empty log {}, copy of a half in memory {}, core held for a step of a transaction {}, of the builder {}, for a piece of an image {}, for all cells {}",
+        "{pages} pages, {rows} rows: {} nanoseconds a row inserted, {} a row built; microseconds: restart {}, with an empty log {}, copy of a half in memory {}, core held for a step of a transaction {}, of the builder {}, of the cleaner {}, for a piece of an image {}, for all cells {}",
         filled.serving.checked_div(rows).unwrap_or(0),
         built.serving.checked_div(rows).unwrap_or(0),
         opened.opening / 1_000,
@@ -112,8 +108,25 @@ pub(crate) fn restart<R: Print + Alloc<A = Global> + CpuClock>(rt: &R, pages: u1
         copied / 1_000,
         steps.txn / 1_000,
         steps.build / 1_000,
+        steps.clean / 1_000,
         built.held.piece / 1_000,
         built.held.whole / 1_000
+    )?;
+    Ok(())
+}
+
+/// Prints a line that says how long the lock is held to hand in at once what so many transactions made.
+pub(crate) fn hand_in<R: Print + Alloc<A = Global> + Wait + CpuClock>(
+    rt: &R,
+    txns: u16,
+) -> Result<()> {
+    let alloc = rt.alloc();
+    let geometry = geometry_of(256)?;
+    let filled = filled(rt, alloc, geometry, 0)?;
+    let (took, records) = handing(rt, alloc, filled.disk, txns)?;
+    println!(rt;
+        "{records} records handed in at once: lock held for {} microseconds",
+        took / 1_000
     )?;
     Ok(())
 }
@@ -185,10 +198,29 @@ fn print_measured<R: Print>(rt: &R, pages: u16, writers: u8, measured: Measured)
     Ok(())
 }
 
+// Prints a line for so many writers that commit beside the loops, while a thread takes the lock again and again.
+fn take_turns<R: Print + Threads + Wait + Clock + CpuClock + Sync>(
+    rt: &R,
+    alloc: Global,
+    pages: u16,
+    writers: u8,
+    changes: u16,
+) -> Result<()> {
+    let filled = filled(rt, alloc, geometry_of(256)?, pages)?;
+    let turns = watch_lock(rt, alloc, filled.disk, writers, changes)?;
+    println!(rt;
+        "{pages} pages full, {writers} writers, and a thread that had the lock {} times: at most {} microseconds from one to the next",
+        turns.count,
+        turns.longest / 1_000
+    )?;
+    Ok(())
+}
+
 /// Prints two lines for so many writers that commit beside the loops: over a store in which no page is full as the build begins, and
 /// over one in which many are, where they commit for about as long as the build goes on. They say how many commits a second were
 /// acknowledged, how many records a group had, for how much of the time the index was built, and how long it was at most from one
-/// step of the builder to the next.
+/// step of the builder to the next. Two more, for the same stores, say how long one more thread waited for the lock at most, which takes
+/// it again and again.
 pub(crate) fn writers<R: Print + Alloc<A = Global> + Threads + Wait + Clock + CpuClock + Sync>(
     rt: &R,
     writers: u8,
@@ -199,7 +231,9 @@ pub(crate) fn writers<R: Print + Alloc<A = Global> + Threads + Wait + Clock + Cp
     let tried = measure(rt, alloc, PAGES_FULL, writers, CHANGES)?;
     let changes = as_long_as_build(CHANGES, tried.seen);
     let beside = measure(rt, alloc, PAGES_FULL, writers, changes)?;
-    print_measured(rt, PAGES_FULL, writers, beside)
+    print_measured(rt, PAGES_FULL, writers, beside)?;
+    take_turns(rt, alloc, 0, writers, CHANGES)?;
+    take_turns(rt, alloc, PAGES_FULL, writers, changes)
 }
 
 // Prints how many rows and visible entries there are in the store.
@@ -226,5 +260,12 @@ pub(crate) fn check<R: Print + Alloc<A = Global> + Threads + Wait + Clock + CpuC
     } = write(rt, alloc, second.disk, 2, 8)?;
     device.crash(&[Fate::Junk]);
     println!(rt; "commits {commits}")?;
-    print_found(rt, look(alloc, device)?)
+    print_found(rt, look(alloc, device)?)?;
+    let third = filled(rt, alloc, geometry, 1)?;
+    let (_, records) = handing(rt, alloc, third.disk, 1)?;
+    println!(rt; "records handed in {records}")?;
+    let fourth = filled(rt, alloc, geometry, 1)?;
+    let turns = watch_lock(rt, alloc, fourth.disk, 2, 8)?;
+    println!(rt; "lock taken {}", turns.count > 0)?;
+    Ok(())
 }

@@ -107,6 +107,7 @@ pub fn finish<B: Group, D: Device, R: Wait>(
     ensures left { IfErr result (λ r. LeavesOnly (D.history (device_of flush.writer)) (D.history r.1) (λ image. ∥ GivesSome B.site.opened (halves_of flush.writer).geometry seats.items (popped_by flush) (synced_of flush.writer) image ∥₁)) }
     ensures sound { OnOk result (has_failed flush.writer ≡ false) }
     ensures err { IfErr result (λ r. (r.0 ≡ NoMemory) ⊎ ((r.0 ≡ DeviceFailed) × (has_failed flush.writer ≡ false → Rises (D.failures (device_of flush.writer)) (D.failures r.1)))) }
+    ensures later { IfErr result (λ r. D.failures (device_of flush.writer) ≤ D.failures r.1) }
 {
     let (mut locked, queue, registry, board) = shared.into_parts();
     settle_all(&board, &mut flush, acks);

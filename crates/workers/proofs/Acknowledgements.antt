@@ -10,12 +10,20 @@ use Rattle.records.specs.declared.error.Error.TheVariants.{NoMemory}
 use Rattle.shared.specs.Seats.{SeatValue}
 use Rattle.writers.specs.Transactions.{kept_of}
 use Rattle.writers.specs.declared.writer.Acknowledged.{Acknowledged}
-use Rattle.workers.specs.Left.{all_kept, first_of}
+use Rattle.workers.specs.Left.{TellsAll, all_kept, first_of}
 use Rattle.workers.specs.Private.{HaveMade}
 use Rattle.workers.proofs.Orders.{get_either, some_at}
 
-none_some : {X : Type 0} {x : X} → None ≡ Some x → ⊥
-none_some is = absurd cc
+-- want of memory at the end
+no_memory : (end : Option Error) → end ≡ Some NoMemory → TellsAll end → ⊥
+no_memory end lost tells = ⊎_elim
+    (λ none.
+    let clash = sym none ∙ lost in
+    absurd cc)
+    (λ failed.
+    let clash = sym failed ∙ lost in
+    absurd cc)
+    tells
 
 -- where there is no refusal, the first is none, and there is none behind it
 first_none : (refusal : Option Error) (rest : List (Option Error)) → first_of (refusal ∷ rest) ≡ None → (refusal ≡ None) × (first_of rest ≡ None)
@@ -104,14 +112,14 @@ pub all_of_jobs : {J W X Y E : Type 0} (number : J → ℕ) (refused : W → Opt
     → ((k : ℕ) (job : J) → slice_get jobs.items k ≡ Some job → number job ≡ k)
     → IfOk left (λ v. v.len ≡ jobs.len)
     → IfOk left (λ v. (k : ℕ) (x : J) (y : W) → k < jobs.len → refused (slice_index_or v.items k y) ≡ None → made (slice_index_or v.items k y) ≡ kept_of (number (slice_index_or jobs.items k x)) changes)
-    → IfOk left (λ v. HaveMade refused made changes v.items → first ≡ None → last ≡ None → told ≡ all_kept v.len changes)
+    → IfOk left (λ v. HaveMade refused made changes v.items → first ≡ None → TellsAll last → told ≡ all_kept v.len changes)
     → OnErr left (last ≡ Some NoMemory)
-    → first ≡ None → last ≡ None → told ≡ all_kept writers changes
-all_of_jobs number refused made changes writers jobs (Ok v) first last told many numbered same each all lost none ended =
+    → first ≡ None → TellsAll last → told ≡ all_kept writers changes
+all_of_jobs number refused made changes writers jobs (Ok v) first last told many numbered same each all lost none tells =
     all (made_in_order number refused made changes jobs.items v.items (sym v.ok.0 ∙ (same ∙ jobs.ok.0))
-    (λ k x y within. each k x y (subst (λ (m : ℕ). k < m) (sym jobs.ok.0) within)) numbered) none ended
+    (λ k x y within. each k x y (subst (λ (m : ℕ). k < m) (sym jobs.ok.0) within)) numbered) none tells
     ∙ ap (λ n. all_kept n changes) (same ∙ many)
-all_of_jobs number refused made changes writers jobs (Err e) first last told many numbered same each all lost none ended = absurd (none_some (sym ended ∙ lost))
+all_of_jobs number refused made changes writers jobs (Err e) first last told many numbered same each all lost none tells = absurd (no_memory last lost tells)
 
 -- as many jobs as writers
 pub jobs_of_writers : {J X : Type 0} (seat : J → SeatValue) (jobs : Vec J X) (seats : List SeatValue) (writers count : ℕ)

@@ -87,12 +87,12 @@ module _ (arguments : Arguments) (disk : MemDisk Global) (crashed : IsCrashed ar
     refusals_writer = none_first crashed.worked.refusals.writer _ crashed.unrefused
 
     acknowledged : crashed.worked.acknowledged.items ≡ all_kept arguments.writers arguments.changes
-    acknowledged = crashed.threads.acknowledged refusals_writer refusals_end
+    acknowledged = crashed.threads.acknowledged refusals_writer (inl refusals_end)
 
     -- and the seats are the writers'
-    made : AreSeatsOf arguments.writers arguments.changes crashed.threads.left.seats (all_kept arguments.writers arguments.changes) None
-    made = subst (λ told. AreSeatsOf arguments.writers arguments.changes crashed.threads.left.seats told None) acknowledged
-        (subst (λ (e : Option Error). AreSeatsOf arguments.writers arguments.changes crashed.threads.left.seats crashed.worked.acknowledged.items e) refusals_writer (crashed.threads.left.made (inl refusals_end)))
+    made : AreSeatsOf (over crashed.threads.geometry nothing) arguments.writers arguments.changes crashed.threads.left.seats (all_kept arguments.writers arguments.changes) None
+    made = subst (λ told. AreSeatsOf (over crashed.threads.geometry nothing) arguments.writers arguments.changes crashed.threads.left.seats told None) acknowledged
+        (subst (λ (e : Option Error). AreSeatsOf (over crashed.threads.geometry nothing) arguments.writers arguments.changes crashed.threads.left.seats crashed.worked.acknowledged.items e) refusals_writer (crashed.threads.left.made (inl (inl refusals_end))))
 
     pub found_behind : (found.same ≡ true → found.shown ≡ found.rows) → IsFoundBehindCrash arguments found
     found_behind equal = record {

@@ -5,3 +5,4 @@ mod Stores
 mod Acknowledgements
 mod Surviving
 mod Seated
+mod Counting

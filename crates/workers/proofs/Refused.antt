@@ -1,5 +1,5 @@
 -- Refusals.
-use Rattle.std.proofs.Common.{◌≡◌, ◌∙◌, ℕ, None, Option, Some, Result, Ok, Err, IfErr, IfSome, Bool, false, true, true≢false, ap, inl, refl, subst, sym}
+use Rattle.std.proofs.Common.{◌≡◌, ◌∙◌, ℕ, None, Option, Some, Result, Ok, Err, IfErr, IfOk, IfSome, Bool, false, true, true≢false, ap, inl, refl, subst, sym}
 use Rattle.std.specs.Result.{result_err}
 use Rattle.records.specs.declared.error.Error.{Error}
 use Rattle.records.specs.declared.error.Error.TheVariants.{NoMemory}
@@ -40,3 +40,12 @@ err_some P (Err e) holds = holds
 pub some_weaker : {E : Type 0} (P Q : E → Type 0) (e : Option E) → ((x : E) → P x → Q x) → IfSome e P → IfSome e Q
 some_weaker P Q None then holds = tt
 some_weaker P Q (Some x) then holds = then x holds
+
+-- one error is the other
+pub some_same : {X : Type 0} {x y : X} → Some x ≡ Some y → x ≡ y
+some_same same = cc
+
+-- where there is no error, there is what holds otherwise
+pub ok_some : {X E : Type 0} (P : X → Type 0) (r : Result X E) → IfOk r P → result_err r ≡ None → (x : X) × P x
+ok_some P (Ok x) holds none = (x, holds)
+ok_some P (Err e) holds none = absurd cc

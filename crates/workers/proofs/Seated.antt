@@ -1,5 +1,5 @@
 -- The seats of the writers, and what they were told.
-use Rattle.std.proofs.Common.{◌≡◌, ◌∙◌, ◌++◌, ◌<◌, ◌≤◌, ◌∷◌, [], All, Err, IfOk, IfSome, List, None, Ok, Option, Result, Some, ℕ, zero, suc, ap, arith, length, map, refl, subst, sym}
+use Rattle.std.proofs.Common.{◌≡◌, ◌≢◌, ◌∙◌, ◌++◌, ◌<◌, ◌≤◌, ◌∷◌, [], false, All, Err, IfOk, IfSome, List, None, Ok, Option, Result, Some, ℕ, zero, suc, ap, arith, length, map, refl, subst, sym}
 use Rattle.std.proofs.lemmas.List.{length-map}
 use Rattle.std.proofs.lemmas.List.Elements.{recursion_from_All}
 use Rattle.std.proofs.lemmas.Option.{get_or_from_slice_get, slice_get_within}
@@ -7,14 +7,18 @@ use Rattle.std.specs.List.{AllByRecursion}
 use Rattle.std.specs.Prelude.{flat_map, slice_get, slice_index_or}
 use Rattle.std.specs.declared.vec.Vec.{Vec}
 use Rattle.atomic_table.specs.Seated.{TableId}
+use Rattle.board.specs.Views.{Sighting}
 use Rattle.core_model.specs.Histories.{Opened}
 use Rattle.records.specs.declared.error.Error.{Error}
+use Rattle.records.specs.declared.error.Error.TheVariants.{DeviceFailed}
 use Rattle.sessions.specs.Values.{CommitValue, SessionValue, empty_session}
+use Rattle.closing.specs.Gathered.{AreAllSeats}
 use Rattle.shared.specs.Seats.{AckValue, AreNewSeats, SeatValue}
-use Rattle.writers.specs.Transactions.{AreSetUp, HasWritten}
-use Rattle.writers.specs.Refusals.{IsRefusal}
+use Rattle.writers.specs.Transactions.{AreSetUp, CreatesBehind, HasWritten}
+use Rattle.writers.proofs.Sound.{set_up_sound}
+use Rattle.writers.specs.Refusals.{IsSetUpRefusal, IsWritingRefusal}
 use Rattle.writers.specs.declared.writer.Acknowledged.{Acknowledged}
-use Rattle.workers.specs.Left.{AreSeatsOf, DoneValue, IsWriterRefusal, first_of}
+use Rattle.workers.specs.Left.{AreSeatsOf, DoneValue, HasSetUp, IsWriterRefusal, first_of}
 use Rattle.workers.specs.Private.{HasDone, HasWorked, HaveWorked}
 use Rattle.workers.proofs.Orders.{get_first, get_last, in_mapped, of_mapped, some_at}
 use Rattle.workers.proofs.Refused.{some_weaker}
@@ -32,20 +36,26 @@ ok_is P r x is holds = subst (λ s. IfOk s P) is holds
 pub last_new : (board : TableId) (count : ℕ) (seats : List SeatValue) (s : SeatValue) → AreNewSeats board count (seats ++ s ∷ []) → s.session ≡ empty_session
 last_new board count seats s new = (new.each (length seats) s (get_last seats s)).1
 
+-- so that setting up the rows is not refused for a device that failed
+pub sound_at_first : (o : Opened) (board : TableId) (count : ℕ) (all seats : List SeatValue) (last after : SeatValue) (e : Error) → all ≡ seats ++ last ∷ [] → AreNewSeats board count all → (last.session.active ≡ [] → IsSetUpRefusal o after e) → e ≢ DeviceFailed
+sound_at_first o board count all seats last after e are new why =
+    set_up_sound o after e (why (ap (λ (s : SessionValue). s.active) (last_new board count seats last (subst (λ (items : List SeatValue). AreNewSeats board count items) are new))))
+
 -- and so were those of the jobs
 pub jobs_new : {J : Type 0} (seat : J → SeatValue) (board : TableId) (count : ℕ) (jobs : List J) (seats : List SeatValue) (s : SeatValue) → map seat jobs ≡ seats → AreNewSeats board count (seats ++ s ∷ [])
-    → (k : ℕ) (job : J) → slice_get jobs k ≡ Some job → (seat job).session ≡ empty_session
+    → (k : ℕ) (job : J) → slice_get jobs k ≡ Some job → ((seat job).session ≡ empty_session) × ((seat job).sight.stops ≡ false)
 jobs_new seat board count jobs seats s same new k job at =
     let there : slice_get seats k ≡ Some (seat job) = subst (λ (ss : List SeatValue). slice_get ss k ≡ Some (seat job)) same (in_mapped seat jobs k job at) in
-    (new.each k (seat job) (get_first seats s (seat job) k there)).1
+    let one = new.each k (seat job) (get_first seats s (seat job) k there) in
+    (one.1, ap (λ (sight : Sighting). sight.stops) one.2)
 
--- the index is created once in a seat that had nothing
-pub created_new : (old new : SessionValue) → old ≡ empty_session → ((number : ℕ) × (new.creations ≡ old.creations ++ number ∷ [])) → length new.creations ≡ 1
-created_new old new empty made = ap (λ (ns : List ℕ). length ns) (made.1 ∙ ap (λ (s : SessionValue). s.creations ++ made.0 ∷ []) empty)
-
--- the rows are set up in a seat that had nothing
-pub set_up_new : (old new : SessionValue) → old ≡ empty_session → ((commits : List CommitValue) × AreSetUp commits × (new.commits ≡ old.commits ++ commits)) → AreSetUp new.commits
-set_up_new old new empty made = subst AreSetUp (sym (made.2 ∙ ap (λ (s : SessionValue). s.commits ++ made.0) empty)) made.1
+-- the rows are set up, and the index created, in a seat that had nothing
+pub set_up_new : (old new last : SessionValue) → old ≡ empty_session → last ≡ new → ((commits : List CommitValue) × AreSetUp commits × (new.commits ≡ old.commits ++ commits)) → CreatesBehind old new → new.active ≡ [] → HasSetUp last
+set_up_new old new last empty same made created closed = subst HasSetUp (sym same) (record {
+  rows = subst AreSetUp (sym (made.2 ∙ ap (λ (s : SessionValue). s.commits ++ made.0) empty)) made.1;
+  created = subst (λ (s : SessionValue). CreatesBehind s new) empty created;
+  closed = closed;
+})
 
 module _ {J W : Type 0} (o : Opened) (number : J → ℕ) (before : J → SeatValue) (seat : W → SeatValue) (acks : W → List AckValue) (told : W → List Acknowledged) (refused : W → Option Error) where
   abbrev pub Does : ℕ → J → W → Type 0
@@ -58,22 +68,24 @@ module _ {J W : Type 0} (o : Opened) (number : J → ℕ) (before : J → SeatVa
   -- what came of each job at a new seat is by its number
   pub worked_in_order : (changes : ℕ) (jobs : List J) (ws : List W) → length ws ≡ length jobs → AllDone changes jobs ws
       → ((k : ℕ) (job : J) → slice_get jobs k ≡ Some job → number job ≡ k)
-      → ((k : ℕ) (job : J) → slice_get jobs k ≡ Some job → (before job).session ≡ empty_session)
+      → ((k : ℕ) (job : J) → slice_get jobs k ≡ Some job → ((before job).session ≡ empty_session) × ((before job).sight.stops ≡ false))
       → HaveWorked o seat acks told refused changes ws
   worked_in_order changes jobs ws same each numbered new k w at =
       let within : k < length jobs = omega (arith, slice_get_within ws k w at, same) in
       let job = some_at jobs k within in
       let w_is = get_or_from_slice_get ws k w w at in
       let job_is = get_or_from_slice_get jobs k job.0 job.0 job.1 in
-      let done : Does changes job.0 w = subst (λ (v : W). Does changes job.0 v) w_is (subst (λ (j : J). Does changes j (slice_index_or ws k w)) job_is (each k job.0 w within)) in
-      subst (λ n. HasWorked o changes n (seat w) (acks w) (told w) (refused w)) (numbered k job.0 job.1) (done.worked (new k job.0 job.1))
+      let done : Does changes job.0 w = subst (λ (v : W). Does changes job.0 v) w_is (subst (λ (j : J). Does changes j (slice_index_or ws k w)) job_is (each k job.0 w within)) in (
+        subst (λ n. HasWorked o changes n (seat w) (acks w) (told w) (refused w)) (numbered k job.0 job.1) (done.worked (new k job.0 job.1).0),
+        ap (λ (s : Sighting). s.stops) done.seen ∙ (new k job.0 job.1).1,
+      )
 
   -- and so where there are any
   pub both_done : {X Y E : Type 0} (changes writers : ℕ) (jobs : Vec J X) (left : Result (Vec W Y) E) → jobs.len ≡ writers
       → IfOk left (λ v. v.len ≡ jobs.len)
       → IfOk left (λ v. (k : ℕ) (j : J) (w : W) → k < jobs.len → Does changes (slice_index_or jobs.items k j) (slice_index_or v.items k w))
       → ((k : ℕ) (job : J) → slice_get jobs.items k ≡ Some job → number job ≡ k)
-      → ((k : ℕ) (job : J) → slice_get jobs.items k ≡ Some job → (before job).session ≡ empty_session)
+      → ((k : ℕ) (job : J) → slice_get jobs.items k ≡ Some job → ((before job).session ≡ empty_session) × ((before job).sight.stops ≡ false))
       → IfOk left (λ v. (v.len ≡ writers) × HaveWorked o seat acks told refused changes v.items)
   both_done changes writers jobs (Ok v) many same each numbered new =
       (same ∙ many, worked_in_order changes jobs.items v.items (sym v.ok.0 ∙ (same ∙ jobs.ok.0)) (λ k j w within. each k j w (subst (λ (m : ℕ). k < m) (sym jobs.ok.0) within)) numbered new)
@@ -96,17 +108,25 @@ module _ {W : Type 0} (o : Opened) (seat : W → SeatValue) (acks : W → List A
   refused_same (w ∷ ws) = ap (λ rs. refused w ∷ rs) (refused_same ws)
 
   pub seats_of : (writers changes : ℕ) (ws : List W) (last : SeatValue) (seats : List SeatValue) (all : List Acknowledged) (first : Option Error)
-      → length ws ≡ writers → HaveWorked o seat acks told refused changes ws → AreSetUp last.session.commits → length last.session.creations ≡ 1
-      → seats ≡ map seat ws ++ last ∷ [] → all ≡ flat_map told ws → first ≡ first_of (map refused ws) → AreSeatsOf writers changes seats all first
-  seats_of writers changes ws last seats all first many worked set created are tells one = record {
+      → length ws ≡ writers → (count : ℕ) → AreAllSeats count (map seat ws ++ last ∷ []) → HaveWorked o seat acks told refused changes ws → HasSetUp last.session
+      → seats ≡ map seat ws ++ last ∷ [] → all ≡ flat_map told ws → first ≡ first_of (map refused ws) → AreSeatsOf o writers changes seats all first
+  seats_of writers changes ws last seats all first many count own worked set are tells one = record {
     done = map done_of ws;
     counted = length-map ws done_of ∙ many;
     each = λ k d at.
         let v = of_mapped done_of ws k d at in
-        subst (λ (x : DoneValue). HasWritten k changes empty_session x.seat.session x.told x.refused) v.2 (worked k v.0 v.1).written;
+        subst (λ (x : DoneValue). HasWritten k changes empty_session x.seat.session x.told x.refused) v.2 (worked k v.0 v.1).0.written;
+    why = λ k d at.
+        let v = of_mapped done_of ws k d at in
+        subst (λ (x : DoneValue). IfSome x.refused (IsWritingRefusal o empty_session x.seat x.told)) v.2 (worked k v.0 v.1).0.why;
+    numbered = λ k d at.
+        let v = of_mapped done_of ws k d at in
+        subst (λ (x : DoneValue). x.seat.number ≡ k) v.2 (own.each k (seat v.0) (get_first (map seat ws) last (seat v.0) k (in_mapped seat ws k v.0 v.1)));
+    silent = λ k d at.
+        let v = of_mapped done_of ws k d at in
+        subst (λ (x : DoneValue). x.seat.sight.stops ≡ false) v.2 (worked k v.0 v.1).1;
     last = last;
     set_up = set;
-    created = created;
     are = are ∙ ap (λ ss. ss ++ last ∷ []) (sym (seats_same ws));
     tells = tells ∙ sym (told_same ws);
     first = one ∙ ap first_of (sym (refused_same ws));
@@ -121,12 +141,12 @@ module _ {W : Type 0} (o : Opened) (seat : W → SeatValue) (acks : W → List A
       subst (λ (ts : List Acknowledged). AllByRecursion (HasCommit seats floor) ts) (sym tells)
       (all_of_flat (HasCommit seats floor) told ws (λ k w at.
       let there : slice_get seats k ≡ Some (seat w) = subst (λ (ss : List SeatValue). slice_get ss k ≡ Some (seat w)) (sym are) (get_first (map seat ws) last (seat w) k (in_mapped seat ws k w at)) in
-      worked_kept o seats floor changes k (seat w) (acks w) (told w) (refused w) (in_mapped (λ (s : SeatValue). s.session) seats k (seat w) there) (worked k w at)
+      worked_kept o seats floor changes k (seat w) (acks w) (told w) (refused w) (in_mapped (λ (s : SeatValue). s.session) seats k (seat w) there) (worked k w at).0
       (all_in_flat (λ (a : AckValue). a.ticket.«record» ≤ floor) acks ws each_low k w at)))
 
   -- and the first refusal is one that a writer's calls may have
   pub first_why : (changes : ℕ) (ws : List W) → HaveWorked o seat acks told refused changes ws → IfSome (first_of (map refused ws)) (IsWriterRefusal o)
-  first_why changes ws worked = each ws (λ k w at. some_weaker (IsRefusal o (seat w).sight) (IsWriterRefusal o) (refused w) (λ e why. ((seat w).sight, why)) (worked k w at).why)
+  first_why changes ws worked = each ws (λ k w at. some_weaker (IsWritingRefusal o empty_session (seat w) (told w)) (IsWriterRefusal o) (refused w) (λ e why. (seat w, told w, why)) (worked k w at).0.why)
     where
       each : (vs : List W) → ((k : ℕ) (w : W) → slice_get vs k ≡ Some w → IfSome (refused w) (IsWriterRefusal o)) → IfSome (first_of (map refused vs)) (IsWriterRefusal o)
       each [] why = tt

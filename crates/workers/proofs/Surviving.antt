@@ -3,7 +3,7 @@ use Rattle.std.proofs.Common.{◌≡◌, ◌∙◌, ◌+◌, ◌++◌, ◌≤◌
 use Rattle.std.proofs.Math.Logic.{∥∥₁_map}
 use Rattle.std.proofs.lemmas.Bool.{le-leb}
 use Rattle.std.proofs.lemmas.List.{length-map, map-append}
-use Rattle.std.specs.List.{AllByRecursion}
+use Rattle.std.specs.List.{AllByRecursion, AllZip}
 use Rattle.std.specs.Prelude.{if◌then◌else◌, flat_map, nat_le, slice_get, ◌==◌}
 use Rattle.records.specs.GeometryValue.{GeometryValue}
 use Rattle.records.specs.RecordValue.{RecordValue}
@@ -17,9 +17,10 @@ use Rattle.sessions.specs.Values.{CommitValue, SessionValue}
 use Rattle.shared.specs.Seats.{AckValue, SeatValue}
 use Rattle.closing.specs.Closing.{GivesSome}
 use Rattle.closing.specs.Gathered.{sessions_of}
-use Rattle.writers.specs.Transactions.{AreCommitsOfEach, IsCommitOf, is_kept, kept_of, tickets_in}
+use Rattle.writers.proofs.Lists.{all_append, zip_length}
+use Rattle.writers.specs.Transactions.{IsCommitOf, is_kept, kept_of, tickets_in}
 use Rattle.writers.specs.declared.writer.Acknowledged.{Acknowledged}
-use Rattle.workers.specs.Left.{GivesCommitOf}
+use Rattle.workers.specs.Left.{GivesCommitOf, GivesCommits}
 use Rattle.workers.specs.Private.{HasWorked}
 
 head_is : {X : Type 0} {x y : X} {xs ys : List X} → x ∷ xs ≡ y ∷ ys → x ≡ y
@@ -97,7 +98,23 @@ pub record HasCommit (seats : List SeatValue) (floor : ℕ) (made : Acknowledged
 low_enough : (a b : ℕ) → a ≤ b → nat_le a b ≡ true
 low_enough a b le = le-leb a b le
 
+-- the commits that a crash leaves
+pub gives_all : (o : Opened) (g : GeometryValue) (seats : List SeatValue) (popped : List RecordValue) (floor : ℕ) (image : Image) → GivesSome o g seats popped floor image → GivesCommits o seats image
+gives_all o g seats popped floor image some = record {
+  geometry = g;
+  given = _;
+  gives = some.gives;
+  core = some.core;
+  pushed = some.pushed;
+  shared = some.shared;
+  commits = some.commits;
+  gathered = some.all;
+  number = o.given.last + some.count;
+  table = some.table;
+}
+
 gives_commit : (o : Opened) (g : GeometryValue) (seats : List SeatValue) (popped : List RecordValue) (floor : ℕ) (image : Image) (made : Acknowledged) → HasCommit seats floor made → GivesSome o g seats popped floor image → GivesCommitOf o seats image made
+unfolding gives_all
 gives_commit o g seats popped floor image made has some =
     let all = some.all.all in
     let c = has.commit in
@@ -107,21 +124,12 @@ gives_commit o g seats popped floor image made has some =
     let of_all : IsIn c some.commits = subst (λ cs. IsIn c cs) (sym some.all.by_number) (made_in has.seat c all.commits of_seat) in
     let is = in_filter (λ (d : CommitValue). nat_le d.ticket.«record» number) c some.commits (low_enough _ _ low) of_all in
     record {
-      geometry = g;
-      given = _;
-      gives = some.gives;
-      core = some.core;
-      pushed = some.pushed;
-      shared = some.shared;
+      all = gives_all o g seats popped floor image some;
       session = has.session;
       here = subst (λ (k : ℕ). slice_get (sessions_of seats) k ≡ Some has.session) (sym has.own) has.here;
       earlier = has.among.before;
       later = has.among.after;
       own = has.among.there;
-      commits = some.commits;
-      gathered = some.all;
-      number = number;
-      table = some.table;
       before = is.before;
       commit = c;
       after = is.after;
@@ -137,13 +145,9 @@ each_kept o g seats popped floor image [] has some = tt
 each_kept o g seats popped floor image (made ∷ told) has some =
     (∥∥₁_map some (gives_commit o g seats popped floor image made has.0), each_kept o g seats popped floor image told has.1 some)
 
-all_both : {X : Type 0} (P : X → Type 0) (xs ys : List X) → AllByRecursion P xs → AllByRecursion P ys → AllByRecursion P (xs ++ ys)
-all_both P [] ys first second = second
-all_both P (x ∷ xs) ys first second = (first.0, all_both P xs ys first.1 second)
-
 kept_own : (w n : ℕ) → AllByRecursion (λ (a : Acknowledged). a.writer ≡ w) (kept_of w n)
 kept_own w zero = tt
-kept_own w (suc n) = all_both (λ (a : Acknowledged). a.writer ≡ w) (kept_of w n) (if is_kept n then record { writer = w; change = n } ∷ [] else []) (kept_own w n) (by (is_kept n))
+kept_own w (suc n) = all_append (λ (a : Acknowledged). a.writer ≡ w) (kept_of w n) (if is_kept n then record { writer = w; change = n } ∷ [] else []) (kept_own w n) (by (is_kept n))
   where
     by : (b : Bool) → AllByRecursion (λ (a : Acknowledged). a.writer ≡ w) (if b then record { writer = w; change = n } ∷ [] else [])
     by true = (refl, tt)
@@ -163,14 +167,8 @@ all_tickets : (floor : ℕ) (acks : List AckValue) → AllByRecursion (λ a. a.t
 all_tickets floor [] low = tt
 all_tickets floor (a ∷ acks) low = (low.0, all_tickets floor acks low.1)
 
-as_many : (places : ℕ → Place) (told : List Acknowledged) (made : List CommitValue) → AreCommitsOfEach places told made → length told ≡ length made
-as_many places [] [] are = refl
-as_many places (a ∷ told) (c ∷ made) are = ap suc (as_many places told made are.1)
-as_many places [] (c ∷ made) are = absurd are
-as_many places (a ∷ told) [] are = absurd are
-
 module _ (seats : List SeatValue) (floor seat : ℕ) (session : SessionValue) (here : slice_get (sessions_of seats) seat ≡ Some session) (places : ℕ → Place) where
-  has_each : (told : List Acknowledged) (before made late : List CommitValue) → session.commits ≡ before ++ made ++ late → AreCommitsOfEach places told made → AllByRecursion (λ t. t.«record» ≤ floor) (map (λ c. c.ticket) made) → AllByRecursion (λ a. a.writer ≡ seat) told → AllByRecursion (HasCommit seats floor) told
+  has_each : (told : List Acknowledged) (before made late : List CommitValue) → session.commits ≡ before ++ made ++ late → AllZip (IsCommitOf places) told made → AllByRecursion (λ t. t.«record» ≤ floor) (map (λ c. c.ticket) made) → AllByRecursion (λ a. a.writer ≡ seat) told → AllByRecursion (HasCommit seats floor) told
   has_each [] before [] late all are low own = tt
   has_each (a ∷ told) before (c ∷ made) late all are low own = (
     record {
@@ -193,7 +191,7 @@ pub worked_kept : (o : Opened) (seats : List SeatValue) (floor changes writer : 
     → slice_get (sessions_of seats) writer ≡ Some seat.session → HasWorked o changes writer seat acks told refused → AllByRecursion (λ a. a.ticket.«record» ≤ floor) acks → AllByRecursion (HasCommit seats floor) told
 worked_kept o seats floor changes writer seat acks told refused here worked low =
     let w = worked.written in
-    let many = as_many w.places (kept_of writer w.count) w.made w.are in
+    let many = zip_length (IsCommitOf w.places) (kept_of writer w.count) w.made w.are in
     let long : length (map (λ (c : CommitValue). c.ticket) w.made) ≡ length w.made = length-map w.made _ in
     let same_acks : length (tickets_in acks) ≡ length acks = length-map acks _ in
     let tells : length told ≡ length (kept_of writer w.count) = ap length w.tells in
@@ -216,7 +214,7 @@ all_rest P (x ∷ xs) ys all = all_rest P xs ys all.1
 
 pub all_of_flat : {W X : Type 0} (P : X → Type 0) (f : W → List X) (ws : List W) → ((k : ℕ) (w : W) → slice_get ws k ≡ Some w → AllByRecursion P (f w)) → AllByRecursion P (flat_map f ws)
 all_of_flat P f [] each = tt
-all_of_flat P f (w ∷ ws) each = all_both P (f w) (flat_map f ws) (each zero w refl) (all_of_flat P f ws (λ k v at. each (suc k) v at))
+all_of_flat P f (w ∷ ws) each = all_append P (f w) (flat_map f ws) (each zero w refl) (all_of_flat P f ws (λ k v at. each (suc k) v at))
 
 pub all_in_flat : {W X : Type 0} (P : X → Type 0) (f : W → List X) (ws : List W) → AllByRecursion P (flat_map f ws) → (k : ℕ) (w : W) → slice_get ws k ≡ Some w → AllByRecursion P (f w)
 all_in_flat P f [] all k w at = absurd cc

@@ -1,5 +1,5 @@
 -- What the threads leave.
-use Rattle.std.specs.Prelude.{◌≡◌, ◌≢◌, ◌⊎◌, [], ◌++◌, ◌∷◌, All, IfSome, List, None, Option, Some, flat_map, length, map, slice_get, suc, zero, ℕ}
+use Rattle.std.specs.Prelude.{◌≡◌, ◌≢◌, ◌⊎◌, [], ◌++◌, ◌∷◌, false, All, IfSome, List, None, Option, Some, flat_map, length, map, slice_get, suc, zero, ℕ}
 use Rattle.records.specs.GeometryValue.{GeometryValue}
 use Rattle.records.specs.RecordValue.{RecordValue}
 use Rattle.records.specs.declared.error.Error.{Error}
@@ -12,17 +12,20 @@ use Rattle.sector_device.specs.Disk.{Image, IsCrashImage}
 use Rattle.sector_device.specs.History.{History}
 use Rattle.store_reader.specs.Contents.{Gives}
 use Rattle.sessions.specs.Values.{CommitValue, SessionValue, empty_session}
-use Rattle.board.specs.Views.{Sighting}
 use Rattle.core_contracts.specs.Events.{Event, Refused}
+use Rattle.nsf_core.specs.Builds.{built}
+use Rattle.nsf_core.specs.declared.parts.Ticket.{Ticket}
+use Rattle.nsf_core.specs.declared.reply.BuildReply.TheVariants as reply
 use Rattle.locked_core.specs.Names.{IsShared}
 use Rattle.shared.specs.Seats.{SeatValue}
 use Rattle.shared.specs.Served.{WasServed}
 use Rattle.closing.specs.Closing.{GivesAll, IsCoreOf, table_with, up_to}
 use Rattle.closing.specs.Gathered.{AreCommitsOf, sessions_of}
 use Rattle.threads.specs.Openings.{StaysOpenable}
-use Rattle.writers.specs.Refusals.{IsRefusal, IsStepRefusal}
-use Rattle.writers.specs.Transactions.{AreSetUp, HasWritten, IsCommitOf, kept_of}
+use Rattle.writers.specs.Refusals.{IsSetUpRefusal, IsWritingRefusal}
+use Rattle.writers.specs.Transactions.{AreSetUp, CreatesBehind, HasWritten, IsCommitOf, kept_of}
 use Rattle.writers.specs.declared.writer.Acknowledged.{Acknowledged}
+use Rattle.workers.specs.declared.team.Refusals.{Refusals}
 use Rattle.workers.specs.declared.team.Worked.{Worked}
 
 -- the first of these refusals that there is
@@ -39,15 +42,23 @@ pub record DoneValue : Type 0 where
   pub told : List Acknowledged
   pub refused : Option Error
 
--- These are the seats of so many writers, which made their transactions from nothing, and behind them that of the rows which were there
--- before, which created the index once; and this is all that the writers were told, and the first refusal that one of them had.
-pub record AreSeatsOf (writers changes : ℕ) (seats : List SeatValue) (told : List Acknowledged) (refused : Option Error) : Type 0 where
+-- a session that set the rows up from nothing, and then created the index, once; it has no transaction open
+pub record HasSetUp (session : SessionValue) : Type 0 where
+  pub rows : AreSetUp session.commits
+  pub created : CreatesBehind empty_session session
+  pub closed : session.active ≡ []
+
+-- These are the seats of so many writers, which made their transactions from nothing, each refused what its own seat was, and asked nobody to stop,
+-- and behind them that of the rows which were there before; and this is all that the writers were told, and the first refusal that one of them had.
+pub record AreSeatsOf (o : Opened) (writers changes : ℕ) (seats : List SeatValue) (told : List Acknowledged) (refused : Option Error) : Type 0 where
   pub done : List DoneValue
   pub counted : length done ≡ writers
   pub each : (k : ℕ) (w : DoneValue) → slice_get done k ≡ Some w → HasWritten k changes empty_session w.seat.session w.told w.refused
+  pub why : (k : ℕ) (w : DoneValue) → slice_get done k ≡ Some w → IfSome w.refused (IsWritingRefusal o empty_session w.seat w.told)
+  pub numbered : (k : ℕ) (w : DoneValue) → slice_get done k ≡ Some w → w.seat.number ≡ k
+  pub silent : (k : ℕ) (w : DoneValue) → slice_get done k ≡ Some w → w.seat.sight.stops ≡ false
   pub last : SeatValue
-  pub set_up : AreSetUp last.session.commits
-  pub created : length last.session.creations ≡ 1
+  pub set_up : HasSetUp last.session
   pub are : seats ≡ map (λ w. w.seat) done ++ last ∷ []
   pub tells : told ≡ flat_map (λ w. w.told) done
   pub first : refused ≡ first_of (map (λ w. w.refused) done)
@@ -77,9 +88,8 @@ pub record GivesMore (o : Opened) (image : Image) : Type 0 where
   pub gives : Gives image geometry (given_after o.given records)
 
 -- A store on a device with this content gives the table of what was opened with the commits of these seats set over it, up to the number of a
--- record, as a core has them that may lie under the lock with their sessions. One of these commits is that of this transaction, and is one of
--- the seat of its writer.
-pub record GivesCommitOf (o : Opened) (seats : List SeatValue) (image : Image) (made : Acknowledged) : Type 0 where
+-- record, as a core has them that may lie under the lock with their sessions.
+pub record GivesCommits (o : Opened) (seats : List SeatValue) (image : Image) : Type 0 where
   pub geometry : GeometryValue
   pub given : Given
   pub gives : Gives image geometry given
@@ -90,10 +100,14 @@ pub record GivesCommitOf (o : Opened) (seats : List SeatValue) (image : Image) (
   pub gathered : AreCommitsOf seats commits
   pub number : ℕ
   pub table : given.table ≡ table_with o.given.table (up_to number commits)
+
+-- One of these commits is that of this transaction, and is one of the seat of its writer.
+pub record GivesCommitOf (o : Opened) (seats : List SeatValue) (image : Image) (made : Acknowledged) : Type 0 where
+  pub all : GivesCommits o seats image
   pub commit : CommitValue
   pub before : List CommitValue
   pub after : List CommitValue
-  pub there : up_to number commits ≡ before ++ commit ∷ after
+  pub there : up_to all.number all.commits ≡ before ++ commit ∷ after
   pub session : SessionValue
   pub here : slice_get (sessions_of seats) made.writer ≡ Some session
   pub earlier : List CommitValue
@@ -106,28 +120,44 @@ pub record GivesCommitOf (o : Opened) (seats : List SeatValue) (image : Image) (
 abbrev pub IsBuildRefusal : Opened → Error → Type 0
 IsBuildRefusal o e = (e ≡ Stopped) ⊎ ((e ≢ NoMemory) × ∥ WasServed o Event.Build (Refused e) ∥₁)
 
--- A writer is refused so, at a seat that has seen as much of the board.
+-- A writer is refused so, at some seat.
 abbrev pub IsWriterRefusal : Opened → Error → Type 0
-IsWriterRefusal o e = (sight : Sighting) × IsRefusal o sight e
+IsWriterRefusal o e = (seat : SeatValue) × (told : List Acknowledged) × IsWritingRefusal o empty_session seat told e
 
 -- Something is refused so before the threads begin, or at the end.
 abbrev pub IsEndRefusal : Opened → Error → Type 0
-IsEndRefusal o e = IsStepRefusal o e ⊎ (e ≡ DeviceFailed)
+IsEndRefusal o e = ((seat : SeatValue) × IsSetUpRefusal o seat e) ⊎ (e ≡ NoMemory) ⊎ (e ≡ DeviceFailed)
 
--- What so many writers leave, which make so many transactions each. Where nothing was refused at the end, or something is told as acknowledged,
--- the seats are those of these writers. Where nothing was refused at the end, the device is whole, by these seats. Whatever was refused, what a
+-- A core that may lie under the lock answers that a step of the builder completed the index.
+abbrev pub IsBuilt : Opened → Type 0
+IsBuilt o = (ticket : Ticket) × ∥ WasServed o Event.Build (built (reply.Done ticket)) ∥₁
+
+-- The device is told to have failed, by the flusher or at the end.
+abbrev pub TellsFailure : Refusals → Type 0
+TellsFailure refusals = (refusals.flusher ≢ None) ⊎ (refusals.end ≡ Some DeviceFailed)
+
+-- Nothing was refused at the end, or the device failed there. All that the writers were told is told then; else there may have been no memory for it.
+abbrev pub TellsAll : Option Error → Type 0
+TellsAll end = (end ≡ None) ⊎ (end ≡ Some DeviceFailed)
+
+-- What so many writers leave, which make so many transactions each. Where nothing was refused at the end, or the device failed there, or something
+-- is told as acknowledged, the seats are those of these writers. Where nothing was refused at the end, the device is whole, by these seats. Whatever was refused, what a
 -- crash leaves on the device gives what some records make of what was opened, and has the commit of each transaction that is told as
--- acknowledged; and it may be opened again. The flusher was refused nothing, unless the device failed; and then something
--- was refused at the end too. A writer was refused what its calls may be, and so was the end; the builder was told to stop, or refused a step.
+-- acknowledged; it is the table of commits of these seats, where nothing was refused at the end, or the device failed there; and it may be opened
+-- again. The flusher was refused nothing, unless the device failed; and then something
+-- was refused at the end too. A writer was refused what its calls may be, and so was the end; the builder was told to stop, or refused a step; and
+-- where it wasn't, and the seats are those of the writers, the index was completed.
 pub record IsLeft {D : Type 0} (history : D → History) (o : Opened) (writers changes : ℕ) (worked : Worked D) : Type 0 where
   pub seats : List SeatValue
   pub whole : worked.refusals.end ≡ None → IsWhole history o seats worked.device
-  pub made : (worked.refusals.end ≡ None) ⊎ (worked.acknowledged.items ≢ []) → AreSeatsOf writers changes seats worked.acknowledged.items worked.refusals.writer
+  pub made : TellsAll worked.refusals.end ⊎ (worked.acknowledged.items ≢ []) → AreSeatsOf o writers changes seats worked.acknowledged.items worked.refusals.writer
   pub gives : (image : Image) → IsCrashImage (history worked.device).disk image → ∥ GivesMore o image ∥₁
+  pub table : TellsAll worked.refusals.end → (image : Image) → IsCrashImage (history worked.device).disk image → ∥ GivesCommits o seats image ∥₁
   pub keeps : (image : Image) → IsCrashImage (history worked.device).disk image → All (λ made. ∥ GivesCommitOf o seats image made ∥₁) worked.acknowledged.items
   pub opens : StaysOpenable (history worked.device).disk
   pub flusher : IfSome worked.refusals.flusher (λ e. e ≡ DeviceFailed)
   pub failed : worked.refusals.flusher ≢ None → worked.refusals.end ≢ None
   pub writer : IfSome worked.refusals.writer (IsWriterRefusal o)
   pub builder : IfSome worked.refusals.builder (IsBuildRefusal o)
+  pub built : TellsAll worked.refusals.end ⊎ (worked.acknowledged.items ≢ []) → worked.refusals.builder ≡ None → IsBuilt o
   pub end : IfSome worked.refusals.end (IsEndRefusal o)

@@ -19,17 +19,17 @@ use Rattle.threads_arguments.specs.CommandLine.{Ask, AskForHelp, HaveFault}
 use Rattle.threads_arguments.specs.declared.Arguments.{Arguments}
 use Rattle.writers.specs.Found.{IsBuildRefused, IsFoundOn}
 use Rattle.writers.specs.declared.after_crash.Found.{Found}
-use Rattle.workers.specs.Left.{AreSeatsOf, IsLeft, IsWhole, all_kept, first_of}
+use Rattle.workers.specs.Left.{AreSeatsOf, IsLeft, IsWhole, TellsAll, all_kept, first_of}
 use Rattle.workers.specs.declared.team.Worked.{Worked}
 
 -- ---- what is found
 
--- Threads that such arguments ask for worked on a new store of this geometry, with no row, no index and no record, and left this. Where neither a
--- writer nor the end was refused anything, just the transactions that the writers are to commit are acknowledged.
+-- Threads that such arguments ask for worked on a new store of this geometry, with no row, no index and no record, and left this. Where no writer
+-- was refused anything, and the end nothing but for a failed device, just the transactions that the writers are to commit are acknowledged.
 pub record IsOfThreads (arguments : Arguments) (worked : Worked (MemDisk Global)) : Type 0 where
   pub geometry : GeometryValue
   pub left : IsLeft history_of (over geometry nothing) arguments.writers arguments.changes worked
-  pub acknowledged : worked.refusals.writer ≡ None → worked.refusals.end ≡ None → worked.acknowledged.items ≡ all_kept arguments.writers arguments.changes
+  pub acknowledged : worked.refusals.writer ≡ None → TellsAll worked.refusals.end → worked.acknowledged.items ≡ all_kept arguments.writers arguments.changes
 
 -- the first refusal that is told of the threads
 abbrev pub refusal_of : Worked (MemDisk Global) → Option Error
@@ -51,7 +51,7 @@ pub record IsFoundBehindCrash (arguments : Arguments) (found : Found) : Type 0 w
   pub acknowledged : crashed.worked.acknowledged.items ≡ all_kept arguments.writers arguments.changes
   pub on : IsFoundOn history_of disk found
   pub whole : IsWhole history_of (over crashed.threads.geometry nothing) crashed.threads.left.seats crashed.worked.device
-  pub made : AreSeatsOf arguments.writers arguments.changes crashed.threads.left.seats (all_kept arguments.writers arguments.changes) None
+  pub made : AreSeatsOf (over crashed.threads.geometry nothing) arguments.writers arguments.changes crashed.threads.left.seats (all_kept arguments.writers arguments.changes) None
   pub table : on.opens.given.table ≡ table_with map.empty whole.commits
   pub rows : found.rows ≡ map.len (table_with map.empty whole.commits)
   pub shown : found.shown ≡ found.rows

@@ -1,11 +1,11 @@
 -- What private functions say; no public clause cites it.
-use Rattle.std.specs.Prelude.{◌≡◌, ◌≤◌, IfSome, List, None, Option, length, slice_get, Some, ℕ}
+use Rattle.std.specs.Prelude.{◌≡◌, ◌≤◌, false, IfSome, List, None, Option, length, slice_get, Some, ℕ}
 use Rattle.core_model.specs.Histories.{Opened}
 use Rattle.records.specs.declared.error.Error.{Error}
 use Rattle.sessions.specs.Values.{empty_session}
 use Rattle.shared.specs.Seats.{AckValue, SeatValue}
-use Rattle.writers.specs.Refusals.{IsRefusal}
-use Rattle.writers.specs.Transactions.{AreAllButOne, HasWritten, kept_of, tickets_in, tickets_of}
+use Rattle.writers.specs.Refusals.{IsWritingRefusal}
+use Rattle.writers.specs.Transactions.{AreAllButOne, HasWritten, SeesNoMore, kept_of, tickets_in, tickets_of}
 use Rattle.writers.specs.declared.writer.Acknowledged.{Acknowledged}
 
 -- of these writers, the one at place k, if it was refused nothing, has acknowledged just what the writer of number k is to commit
@@ -18,14 +18,15 @@ pub record HasWorked (o : Opened) (changes writer : ℕ) (seat : SeatValue) (ack
   pub written : HasWritten writer changes empty_session seat.session told refused
   pub acked : AreAllButOne (tickets_in acks) (tickets_of seat.session)
   pub enough : length told ≤ length acks
-  pub why : IfSome refused (IsRefusal o seat.sight)
+  pub why : IfSome refused (IsWritingRefusal o empty_session seat told)
 
 -- what a writer of this number makes of its seat
 pub record HasDone (o : Opened) (changes writer : ℕ) (before after : SeatValue) (acks : List AckValue) (told : List Acknowledged) (refused : Option Error) : Type 0 where
   pub number : after.number ≡ before.number
+  pub seen : SeesNoMore before.sight after.sight
   pub whole : refused ≡ None → told ≡ kept_of writer changes
   pub worked : before.session ≡ empty_session → HasWorked o changes writer after acks told refused
 
--- each of these writers has worked, by its place
+-- each of these writers has worked, by its place, and has asked nobody to stop
 abbrev pub HaveWorked : {W : Type 0} → Opened → (W → SeatValue) → (W → List AckValue) → (W → List Acknowledged) → (W → Option Error) → (changes : ℕ) → List W → Type 0
-HaveWorked {W} o seat acks told refused changes writers = (k : ℕ) (w : W) → slice_get writers k ≡ Some w → HasWorked o changes k (seat w) (acks w) (told w) (refused w)
+HaveWorked {W} o seat acks told refused changes writers = (k : ℕ) (w : W) → slice_get writers k ≡ Some w → HasWorked o changes k (seat w) (acks w) (told w) (refused w) × ((seat w).sight.stops ≡ false)

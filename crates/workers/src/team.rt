@@ -1,18 +1,22 @@
 //! The threads of the program.
-ghost use Rattle.std.specs.Prelude.{◌≡◌, ◌⊎◌, ◌≤◌, ◌<◌, ◌+◌, ◌++◌, ◌∷◌, [], ℕ, All, IfErr, IfOk, IfSome, None, OnErr, OnOk, Some, false, flat_map, length, map, slice_get, slice_index_or, true, vec_len};
+ghost use Rattle.std.specs.Prelude.{◌≡◌, ◌≢◌, ◌⊎◌, ◌≤◌, ◌<◌, ◌+◌, ◌++◌, ◌∷◌, [], ℕ, All, IfErr, IfOk, IfSome, None, OnErr, OnOk, Some, false, flat_map, length, map, slice_get, slice_index_or, true, vec_len};
 ghost use Rattle.std.specs.Result.{result_err};
 ghost use Rattle.records.specs.declared.error.Error.TheVariants.{DeviceFailed, NoMemory};
-ghost use Rattle.store_writer.specs.Parts.{halves_of, has_failed, synced_of};
+ghost use Rattle.store_writer.specs.Parts.{device_of, halves_of, has_failed, synced_of};
 ghost use Rattle.flusher.specs.Part.{popped_by};
 ghost use Rattle.closing.specs.Closing.{GivesSome};
 ghost use Rattle.closing.specs.Gathered.{AreAllSeats};
 ghost use Rattle.sector_device.specs.Disk.{Image, IsCrashImage};
+ghost use Rattle.sector_device.specs.History.{Rises};
+ghost use Rattle.core_contracts.specs.Events.{Event};
+ghost use Rattle.nsf_core.specs.Builds.{built};
+ghost use Rattle.nsf_core.specs.declared.reply.BuildReply.TheVariants as reply;
+ghost use Rattle.shared.specs.Served.{WasServed};
 ghost use Rattle.shared.specs.Seats.{AreNewSeats};
 ghost use Rattle.core_model.specs.Histories.{CanOpen, Opened};
 ghost use Rattle.restart.specs.Reopening.{IsNotOpened};
 ghost use Rattle.threads.specs.Openings.{IsNewFlusher, IsOpenable, Opens, StaysOpenable};
-ghost use Rattle.writers.specs.Transactions.{AreSetUp};
-ghost use Rattle.workers.specs.Left.{GivesMore, IsBuildRefusal, IsEndRefusal, IsLeft, IsWhole, IsWriterRefusal, all_kept, first_of};
+ghost use Rattle.workers.specs.Left.{GivesMore, HasSetUp, IsBuildRefusal, IsEndRefusal, IsLeft, IsWhole, IsWriterRefusal, TellsAll, TellsFailure, all_kept, first_of};
 ghost use Rattle.workers.specs.Private.{HasDone, HaveMade, HaveWorked};
 
 use beside::{Ended, run_beside};
@@ -235,8 +239,10 @@ fn refused<B: Group, D: Device>(
     requires flusher { IfSome before.flusher (λ e. e ≡ DeviceFailed) }
     requires builder { IfSome before.builder (IsBuildRefusal B.site.opened) }
     requires end { IsEndRefusal B.site.opened error }
+    requires sound { error ≢ DeviceFailed }
     ensures left { (writers changes : ℕ) → IfSome before.writer (IsWriterRefusal B.site.opened) → IsLeft D.history B.site.opened writers changes result }
     ensures told { result.refusals ≡ record before { end = Some error } }
+    ensures device { result.device ≡ device_of flush.writer }
 {
     left_by_threads();
     flush.stands();
@@ -268,6 +274,8 @@ fn close<B: Group, D: Device, R: Wait>(
     ensures opens { StaysOpenable (D.history result.0).disk }
     ensures why { IfSome result.1 (λ e. (e ≡ NoMemory) ⊎ (e ≡ DeviceFailed)) }
     ensures sound { result.1 ≡ None → has_failed flush.writer ≡ false }
+    ensures counted { result.1 ≡ Some DeviceFailed → has_failed flush.writer ≡ false → Rises (D.failures (device_of flush.writer)) (D.failures result.0) }
+    ensures later { result.1 ≢ None → D.failures (device_of flush.writer) ≤ D.failures result.0 }
 {
     left_by_threads();
     flush.stands();
@@ -289,12 +297,14 @@ fn end<B: Group, D: Device + Drop, R: Wait>(
     requires flush { ended.flush.published.board ≡ B.board }
     requires why { IfErr ended.built (IsBuildRefusal B.site.opened) }
     requires failed { IfErr ended.flushed (λ e. (e ≡ DeviceFailed) × (has_failed ended.flush.writer ≡ true)) }
-    ensures left { (writers changes : ℕ) → IfOk ended.clients (λ v. (vec_len v ≡ writers) × HaveWorked B.site.opened (λ w. w.seat) (λ w. w.acks.items) (λ w. w.acknowledged.items) (λ w. w.refused) changes v.items) → AreSetUp ended.seat.session.commits → length ended.seat.session.creations ≡ 1 → IsLeft D.history B.site.opened writers changes result }
+    requires built { IfOk ended.built (λ ticket. ∥ WasServed B.site.opened Event.Build (built (reply.Done ticket)) ∥₁) }
+    ensures left { (writers changes : ℕ) → IfOk ended.clients (λ v. (vec_len v ≡ writers) × HaveWorked B.site.opened (λ w. w.seat) (λ w. w.acks.items) (λ w. w.acknowledged.items) (λ w. w.refused) changes v.items) → HasSetUp ended.seat.session → IsLeft D.history B.site.opened writers changes result }
+    ensures counted { (floor : ℕ) → (has_failed ended.flush.writer ≡ true → Rises floor (D.failures (device_of ended.flush.writer))) → floor ≤ D.failures (device_of ended.flush.writer) → TellsFailure result.refusals → Rises floor (D.failures result.device) }
     ensures flusher { result.refusals.flusher ≡ result_err ended.flushed }
     ensures builder { result.refusals.builder ≡ result_err ended.built }
     ensures writer { IfOk ended.clients (λ v. result.refusals.writer ≡ first_of (map (λ w. w.refused) v.items)) }
     ensures lost { OnErr ended.clients (result.refusals.end ≡ Some NoMemory) }
-    ensures acknowledged { (changes : ℕ) → IfOk ended.clients (λ v. HaveMade (λ w. w.refused) (λ w. w.acknowledged.items) changes v.items → result.refusals.writer ≡ None → result.refusals.end ≡ None → result.acknowledged.items ≡ all_kept (vec_len v) changes) }
+    ensures acknowledged { (changes : ℕ) → IfOk ended.clients (λ v. HaveMade (λ w. w.refused) (λ w. w.acknowledged.items) changes v.items → result.refusals.writer ≡ None → TellsAll result.refusals.end → result.acknowledged.items ≡ all_kept (vec_len v) changes) }
 {
     let Ended {
         clients,
@@ -354,7 +364,10 @@ fn run_all<
     ensures last { result.seat.number ≡ last.number }
     ensures session { result.seat.session ≡ last.session }
     ensures why { IfErr result.built (IsBuildRefusal B.site.opened) }
+    ensures built { IfOk result.built (λ ticket. ∥ WasServed B.site.opened Event.Build (built (reply.Done ticket)) ∥₁) }
     ensures board { result.flush.published.board ≡ B.board }
+    ensures counted { has_failed result.flush.writer ≡ true → has_failed flush.writer ≡ false → Rises (D.failures (device_of flush.writer)) (D.failures (device_of result.flush.writer)) }
+    ensures later { D.failures (device_of flush.writer) ≤ D.failures (device_of result.flush.writer) }
     ensures failed { IfErr result.flushed (λ e. (e ≡ DeviceFailed) × (has_failed result.flush.writer ≡ true)) }
 {
     let Team {
@@ -392,7 +405,8 @@ fn work_together<
     requires build { parts.build ≡ record { board = B.board; progress = 0 } }
     requires few { B.site.seats ≤ 256 }
     ensures left { (writers : ℕ) → writers + 1 ≡ B.site.seats → IsLeft D.history B.site.opened writers team.entry.changes result }
-    ensures acknowledged { (writers : ℕ) → writers + 1 ≡ B.site.seats → result.refusals.writer ≡ None → result.refusals.end ≡ None → result.acknowledged.items ≡ all_kept writers team.entry.changes }
+    ensures acknowledged { (writers : ℕ) → writers + 1 ≡ B.site.seats → result.refusals.writer ≡ None → TellsAll result.refusals.end → result.acknowledged.items ≡ all_kept writers team.entry.changes }
+    ensures counted { TellsFailure result.refusals → Rises (D.failures (device_of parts.flush.writer)) (D.failures result.device) }
 {
     let rt = team.rt;
     let alloc = team.alloc;
@@ -433,7 +447,8 @@ fn begin<
     requires opens { CanOpen B.site.opened }
     requires few { B.site.seats ≤ 256 }
     ensures left { IfOk result (λ worked. (writers : ℕ) → writers + 1 ≡ B.site.seats → IsLeft D.history B.site.opened writers team.entry.changes worked) }
-    ensures acknowledged { IfOk result (λ worked. (writers : ℕ) → writers + 1 ≡ B.site.seats → worked.refusals.writer ≡ None → worked.refusals.end ≡ None → worked.acknowledged.items ≡ all_kept writers team.entry.changes) }
+    ensures acknowledged { IfOk result (λ worked. (writers : ℕ) → writers + 1 ≡ B.site.seats → worked.refusals.writer ≡ None → TellsAll worked.refusals.end → worked.acknowledged.items ≡ all_kept writers team.entry.changes) }
+    ensures counted { IfOk result (λ worked. TellsFailure worked.refusals → Rises (D.failures store.device) (D.failures worked.device)) }
     ensures no_memory { IfErr result (λ r. r.0 ≡ NoMemory) }
     ensures back { IfErr result (λ r. r.1 ≡ store.device) }
 {
@@ -448,7 +463,9 @@ fn begin<
 /// The errors are those of `restart`, and `NoMemory`. The device is given back then, and gives what it gave (`refused`). A refusal
 /// later on is told in `Worked`, and the device may be opened again. Whatever was refused, each transaction that is told as
 /// acknowledged is there behind a crash; and where nothing was refused at the end, all commits of all writers are (`left`). Where no
-/// writer was refused anything either, each transaction of each writer that was to be committed is acknowledged (`acknowledged`).
+/// writer was refused anything, and the end nothing but for a failed device, each transaction of each writer that was to be committed is
+/// told as acknowledged (`acknowledged`). That the device failed is told, by the flusher or at the end, only where it has counted a failure
+/// (`counted`).
 pub fn work_on<
     D: Device + Send + Drop,
     R: Threads + Wait + Sync,
@@ -457,7 +474,8 @@ pub fn work_on<
 >(device: D, writers: u8, team: Team<'_, R, G, E>) -> Result<Worked<D>, (Error, D)>
     requires { IsOpenable (D.history device).disk.content }
     ensures left { IfOk result (λ worked. (o : Opened) × Opens (D.history device).disk.content o × IsLeft D.history o writers team.entry.changes worked) }
-    ensures acknowledged { IfOk result (λ worked. worked.refusals.writer ≡ None → worked.refusals.end ≡ None → worked.acknowledged.items ≡ all_kept writers team.entry.changes) }
+    ensures acknowledged { IfOk result (λ worked. worked.refusals.writer ≡ None → TellsAll worked.refusals.end → worked.acknowledged.items ≡ all_kept writers team.entry.changes) }
+    ensures counted { IfOk result (λ worked. TellsFailure worked.refusals → Rises (D.failures device) (D.failures worked.device)) }
     ensures refused { IfErr result (λ r. IsNotOpened D.history D.failures device r.1 r.0) }
 {
     let seats = usize::from(writers) + 1;

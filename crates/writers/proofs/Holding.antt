@@ -25,6 +25,7 @@ use Rattle.records.specs.Values.{Place}
 use Rattle.records.specs.declared.error.Error.{Error}
 use Rattle.records.specs.declared.error.Error.TheVariants.{NoSuchTxn}
 use Rattle.records.specs.declared.row.Row.{Row}
+use Rattle.register.proofs.Laws.{written_last}
 use Rattle.register.specs.Agreement.{Agree, IsOneEach, active_in, row_at, row_held, seen_at}
 use Rattle.sessions.specs.Steps.{begun, committed}
 use Rattle.sessions.specs.Values.{ActiveValue, SessionValue, active_of, can_go_on, is_active, is_ready, new_active, rows_of, without}
@@ -35,21 +36,17 @@ use Rattle.writers.specs.Transactions.{Sets}
 
 -- ---- writes
 
-last_written : (ws : List Write) (w : Write) (q : Place) (v : Option Row) → written_at (ws ++ w ∷ []) q v ≡ cond (eq_by_cmp rid_cmp q w.rid) w.row (written_at ws q v)
-last_written [] w q v = refl
-last_written (x ∷ xs) w q v = last_written xs w q (cond (eq_by_cmp rid_cmp q x.rid) x.row v)
-
 -- one change more
 pub holds_more : (old new : SessionValue) (txn : ℕ) (ws : List Write) (w : Write) → Holds old txn ws → HasChanged old txn w None new → Holds new txn (ws ++ w ∷ [])
 holds_more old new txn ws w holds changed q v = elim (rid_decided q w.rid) [
   | inl is ↦
       ap (λ (r : Place). unwrap_or (row_of new txn r) v) is
       ∙ (ap (λ (o : Option (Option Row)). unwrap_or o v) (changed.0.row changed.1)
-      ∙ sym (last_written ws w q v ∙ ap (λ b. cond b w.row (written_at ws q v)) (ap (λ (r : Place). eq_by_cmp rid_cmp r w.rid) is ∙ same_key rid_exact w.rid)))
+      ∙ sym (written_last ws w q v ∙ ap (λ b. cond b w.row (written_at ws q v)) (ap (λ (r : Place). eq_by_cmp rid_cmp r w.rid) is ∙ same_key rid_exact w.rid)))
   | inr apart ↦
       ap (λ (o : Option (Option Row)). unwrap_or o v) (changed.0.rows q apart)
       ∙ (holds q v
-      ∙ sym (last_written ws w q v ∙ ap (λ b. cond b w.row (written_at ws q v)) (other_key rid_exact q w.rid apart)))
+      ∙ sym (written_last ws w q v ∙ ap (λ b. cond b w.row (written_at ws q v)) (other_key rid_exact q w.rid apart)))
 ]
 
 -- ---- a new transaction

@@ -1,6 +1,7 @@
 -- A commit that was not acknowledged.
-use Rattle.std.proofs.Common.{◌≡◌, ◌∙◌, ◌++◌, ◌∷◌, [], arith, List, map, None, OnErr, OnOk, Result, Ok, Err, ◌⊎◌, ⊎_elim, ℕ, sym, ap, append_assoc, append-nil}
+use Rattle.std.proofs.Common.{◌≡◌, ◌∙◌, ◌++◌, ◌∷◌, [], arith, List, map, None, OnErr, OnOk, Result, Ok, Err, ◌⊎◌, ⊎_elim, ℕ, subst, sym, ap, append_assoc, append-nil}
 use Rattle.std.proofs.lemmas.List.{map-append}
+use Rattle.board.specs.Views.{Sighting}
 use Rattle.model.specs.declared.write.Write.{Write}
 use Rattle.nsf_core.specs.declared.parts.Ticket.{Ticket}
 use Rattle.records.specs.declared.error.Error.{Error}
@@ -10,7 +11,7 @@ use Rattle.shared.specs.Changed.{HasChanged}
 use Rattle.shared.specs.Seats.{SeatValue}
 use Rattle.shared.specs.Waits.{HasReadWhy}
 use Rattle.writers.specs.Private.{HasCommitted}
-use Rattle.writers.specs.Transactions.{AreAllButOne, tickets_of}
+use Rattle.writers.specs.Transactions.{AreAllButOne, SeesNoMore, tickets_of}
 
 -- there is none
 pub none_late : (these all : List Ticket) → all ≡ these → AreAllButOne these all
@@ -62,3 +63,10 @@ perhaps_late first old new txn same what =
 pub on_ok : {T E P : Type 0} (r : Result T E) → P → OnOk r P
 on_ok (Ok t) p = p
 on_ok (Err e) p = tt
+
+-- what was seen of the board, and then more
+pub sees_on : (first old new : Sighting) → SeesNoMore first old → SeesNoMore old new → SeesNoMore first new
+sees_on first old new before then = then ∙ ap (λ (s : Sighting). record s { horizon = new.horizon; failed = new.failed; stopped = new.stopped; name = new.name }) before
+
+pub sees_as : (first : Sighting) (old new : SeatValue) → new ≡ old → SeesNoMore first old.sight → SeesNoMore first new.sight
+sees_as first old new same seen = subst (λ (s : SeatValue). SeesNoMore first s.sight) (sym same) seen

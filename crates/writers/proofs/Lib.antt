@@ -1,3 +1,5 @@
+pub mod Lists
+pub mod Sound
 mod Late
 mod Shown
 mod Tally
@@ -7,3 +9,4 @@ mod Kept
 mod Holding
 mod Made
 mod Refusing
+mod Ordered

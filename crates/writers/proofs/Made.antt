@@ -1,20 +1,20 @@
 -- What a writer's transactions make, one after the other.
-use Rattle.std.proofs.Common.{◌≡◌, ◌≢◌, ◌∙◌, ◌+◌, ◌++◌, ◌<◌, ◌≤◌, ◌∷◌, [], zero, suc, ◌⊎◌, ⊎_elim, Bool, Err, IfSome, List, None, Ok, Option, Result, Some, ℕ, ap, append-nil, append_assoc, arith, eq-eqb, false, inl, inr, is_some, ne_eqb, refl, subst, sym, true}
+use Rattle.std.proofs.Common.{◌≡◌, ◌≢◌, ◌∙◌, ◌+◌, ◌++◌, ◌<◌, ◌≤◌, ◌∷◌, [], zero, suc, ◌⊎◌, ⊎_elim, Bool, Err, IfSome, List, None, Ok, Option, Result, Some, ℕ, ap, append-nil, append_assoc, arith, length, length-append, eq-eqb, false, inl, inr, is_some, ne_eqb, refl, subst, sym, true}
 use Rattle.std.proofs.lemmas.List.Elements.{All-from_recursion, All-nil}
-use Rattle.std.specs.List.{AllByRecursion}
+use Rattle.std.specs.List.{AllByRecursion, AllZip}
 use Rattle.std.specs.Result.{IsErr, result_err}
 use Rattle.std.specs.Prelude.{if◌then◌else◌, ◌==◌}
 use Rattle.model.specs.declared.write.Write.{Write}
 use Rattle.records.specs.Values.{Place}
 use Rattle.records.specs.declared.error.Error.{Error}
-use Rattle.records.specs.declared.row.Row.{Row}
 use Rattle.nsf_core.specs.declared.parts.Ticket.{Ticket}
 use Rattle.sessions.specs.Values.{CommitValue, SessionValue, rows_of}
 use Rattle.shared.specs.Seats.{AckValue}
 use Rattle.shared.specs.Changed.{HasChanged, IsGoingBack, row_of}
 use Rattle.writers.proofs.Holding.{holds_more}
-use Rattle.writers.specs.Private.{Adds, HasCome, HasCommitted, HasPut, Holds, HoldsPuts, MayAdd}
-use Rattle.writers.specs.Transactions.{AreApart, AreCommitsOfEach, IsCommitAt, deleted, HasWritten, IsCommitOf, Sets, before_of, is_kept, kept_of, put, puts, writes_of}
+use Rattle.writers.proofs.Lists.{all_append, zip_length, zip_more}
+use Rattle.writers.specs.Private.{Adds, HasCome, HasCommitted, Holds, HoldsPuts, MayAdd}
+use Rattle.writers.specs.Transactions.{AreApart, AreSetUp, HasPut, IsCommitAt, deleted, deletion, HasWritten, IsCommitOf, Sets, before_of, is_kept, kept_of, put, puts, writes_of}
 use Rattle.writers.specs.declared.writer.Acknowledged.{Acknowledged}
 
 -- ---- places
@@ -47,17 +47,11 @@ commit_placed places n place a c less is =
     let within : a.change ≤ n = omega (arith, less) in
     at_is a _ _ _ _ c (sym (before_placed places n place a.change within)) (sym (placed_before places n place a.change less)) is
 
-each_placed : (places : ℕ → Place) (n : ℕ) (place : Place) (ts : List Acknowledged) (cs : List CommitValue) → AllByRecursion (λ a. a.change < n) ts → AreCommitsOfEach places ts cs → AreCommitsOfEach (place_at places n place) ts cs
+each_placed : (places : ℕ → Place) (n : ℕ) (place : Place) (ts : List Acknowledged) (cs : List CommitValue) → AllByRecursion (λ a. a.change < n) ts → AllZip (IsCommitOf places) ts cs → AllZip (IsCommitOf (place_at places n place)) ts cs
 each_placed places n place [] [] below are = tt
 each_placed places n place (a ∷ ts) (c ∷ cs) below are = (commit_placed places n place a c below.0 are.0, each_placed places n place ts cs below.1 are.1)
 each_placed places n place [] (c ∷ cs) below are = absurd are
 each_placed places n place (a ∷ ts) [] below are = absurd are
-
-each_more : (places : ℕ → Place) (ts : List Acknowledged) (cs : List CommitValue) (a : Acknowledged) (c : CommitValue) → AreCommitsOfEach places ts cs → IsCommitOf places a c → AreCommitsOfEach places (ts ++ a ∷ []) (cs ++ c ∷ [])
-each_more places [] [] a c are is = (is, tt)
-each_more places (b ∷ ts) (d ∷ cs) a c are is = (are.0, each_more places ts cs a c are.1 is)
-each_more places [] (d ∷ cs) a c are is = absurd are
-each_more places (b ∷ ts) [] a c are is = absurd are
 
 -- ---- those that are committed
 
@@ -66,10 +60,6 @@ one_below w n true =
     let less : n < suc n = omega (arith) in
     (less, tt)
 one_below w n false = tt
-
-all_append : {X : Type 0} (P : X → Type 0) (xs ys : List X) → AllByRecursion P xs → AllByRecursion P ys → AllByRecursion P (xs ++ ys)
-all_append P [] ys first second = second
-all_append P (x ∷ xs) ys first second = (first.0, all_append P xs ys first.1 second)
 
 all_later : (n : ℕ) (ts : List Acknowledged) → AllByRecursion (λ a. a.change < n) ts → AllByRecursion (λ a. a.change < suc n) ts
 all_later n [] below = tt
@@ -104,7 +94,7 @@ come_more w n old now new before place None kept come adds =
       place_at places n place,
       made,
       adds ∙ come.2,
-      subst (λ (ts : List Acknowledged). AreCommitsOfEach (place_at places n place) ts made)
+      subst (λ (ts : List Acknowledged). AllZip (IsCommitOf (place_at places n place)) ts made)
           (sym (append-nil (kept_of w n)) ∙ ap (λ (b : Bool). kept_of w n ++ (if b then here w n ∷ [] else [])) kept)
           (each_placed places n place (kept_of w n) made (kept_below w n) come.3),
       sym (ap Some (placed places n place)),
@@ -116,9 +106,9 @@ come_more w n old now new before place (Some ack) kept come adds =
       place_at places n place,
       made ++ c ∷ [],
       adds.1 ∙ (ap (λ cs. cs ++ c ∷ []) come.2 ∙ append_assoc old made (c ∷ [])),
-      subst (λ (ts : List Acknowledged). AreCommitsOfEach (place_at places n place) ts (made ++ c ∷ []))
+      subst (λ (ts : List Acknowledged). AllZip (IsCommitOf (place_at places n place)) ts (made ++ c ∷ []))
           (ap (λ (b : Bool). kept_of w n ++ (if b then here w n ∷ [] else [])) kept)
-          (each_more (place_at places n place) (kept_of w n) made (here w n) c (each_placed places n place (kept_of w n) made (kept_below w n) come.3)
+          (zip_more (IsCommitOf (place_at places n place)) (kept_of w n) made (here w n) c (each_placed places n place (kept_of w n) made (kept_below w n) come.3)
           (is_placed places w n place before c come.4 adds.3)),
       sym (ap Some (placed places n place)),
     )
@@ -173,19 +163,35 @@ adds_one a before place first old new txn ack same holds apart one =
     (c, ap (λ (s : SessionValue). s.commits) one.0 ∙ ap (λ (cs : List CommitValue). cs ++ c ∷ []) same, refl, (one.1 (writes_of a before place) holds, apart))
 
 -- the row that is deleted is held, so that the new one is elsewhere
-pub deleted_apart : (session : SessionValue) (txn : ℕ) (gone : Option Place) (place : Place) → IfSome gone (λ rid. row_of session txn rid ≢ None) → ((q : Place) → row_of session txn q ≢ None → q ≢ place) → gone ≢ Some place
+deleted_apart : (session : SessionValue) (txn : ℕ) (gone : Option Place) (place : Place) → IfSome gone (λ rid. row_of session txn rid ≢ None) → ((q : Place) → row_of session txn q ≢ None → q ≢ place) → gone ≢ Some place
 deleted_apart session txn None place held apart same = absurd cc
 deleted_apart session txn (Some rid) place held apart same =
     let is : rid ≡ place = cc in
     apart rid held is
 
+-- so the transaction holds what it is to write, its row at another place than the one that it deletes
+pub row_put : (a : Acknowledged) (before gone : Option Place) (place : Place) (old new : SessionValue) (txn : ℕ) → gone ≡ deleted a.change before → Holds old txn (deletion gone) → IfSome gone (λ rid. row_of old txn rid ≢ None)
+    → ((q : Place) → row_of old txn q ≢ None → q ≢ place) → HasChanged old txn (put a.writer a.change place) None new → Holds new txn (writes_of a before place) × (deleted a.change before ≢ Some place)
+row_put a before gone place old new txn same holds held apart changed =
+    let row = put a.writer a.change place in (
+      subst (λ (g : Option Place). Holds new txn (deletion g ++ row ∷ [])) same (holds_more old new txn (deletion gone) row holds changed),
+      subst (λ (g : Option Place). g ≢ Some place) same (deleted_apart old txn gone place held apart),
+    )
+
 -- a rollback makes none
 pub back_commits : (old new : SessionValue) (txn : ℕ) → (new ≡ old) ⊎ IsGoingBack old txn new → new.commits ≡ old.commits
 back_commits old new txn what = ⊎_elim (λ none. ap (λ (s : SessionValue). s.commits) none) (λ back. ap (λ (s : SessionValue). s.commits) back.others) what
 
--- nor does an insertion
-pub more_commits : (old new : SessionValue) (txn : ℕ) (row : Option Row) (e : Error) → (new ≡ old) ⊎ ((rid : Place) × HasChanged old txn (record { rid = rid; row = row }) (Some e) new) → new.commits ≡ old.commits
-more_commits old new txn row e what = ⊎_elim (λ none. ap (λ (s : SessionValue). s.commits) none) (λ more. ap (λ (s : SessionValue). s.commits) more.1.0.others) what
+-- where it could not be kept, there is one more than is told
+pub unkept_less : (w n : ℕ) (old now new : List CommitValue) (before : Option Place) (place : Place) (ack : Option AckValue) (told : List Acknowledged)
+    → is_some ack ≡ true → told ≡ kept_of w n → HasCome w n old now before → Adds (here w n) before place ack now new → length old + length told < length new
+unkept_less w n old now new before place None told some tells come adds = absurd cc
+unkept_less w n old now new before place (Some ack) told some tells come adds =
+    let longer : length new ≡ length now + 1 = ap length adds.1 ∙ length-append now (adds.0 ∷ []) in
+    let both : length now ≡ length old + length come.1 = ap length come.2 ∙ length-append old come.1 in
+    let many : length (kept_of w n) ≡ length come.1 = zip_length (IsCommitOf come.0) (kept_of w n) come.1 come.3 in
+    let same : length told ≡ length (kept_of w n) = ap length tells in
+    omega (arith, longer, both, many, same)
 
 -- where a transaction was refused something
 pub written_some : (w n changes : ℕ) (old now new : SessionValue) (before : Option Place) (told : List Acknowledged) (e : Error)
@@ -206,6 +212,7 @@ written_some w n changes old now new before told e less created tells come may =
       are = each_placed places n may.1 (kept_of w n) made (kept_below w n) come.3;
       few = may.3;
       next = All-from_recursion (λ c. (n < changes) × (is_kept n ≡ true) × IsCommitOf (place_at places n may.1) (here w n) c) late (all_placed places w n changes may.1 before late less come.4 may.4);
+      early = λ some. less;
       whole = λ none. absurd cc;
       creations = created;
     }
@@ -217,8 +224,8 @@ written_err w n changes old now new before told (Ok t) is less created tells com
 
 -- where none was
 pub written_all : (w changes : ℕ) (old new : SessionValue) (before : Option Place) (told : List Acknowledged)
-    → new.creations ≡ old.creations → told ≡ kept_of w changes → HasCome w changes old.commits new.commits before → HasWritten w changes old new told None
-written_all w changes old new before told created tells come =
+    → new.creations ≡ old.creations → new.active ≡ [] → told ≡ kept_of w changes → HasCome w changes old.commits new.commits before → HasWritten w changes old new told None
+written_all w changes old new before told created closed tells come =
     let most : changes ≤ changes = omega (arith) in
     let few : 0 ≤ 1 = omega (arith) in
     record {
@@ -232,7 +239,8 @@ written_all w changes old new before told created tells come =
       are = come.3;
       few = few;
       next = All-nil (λ c. (changes < changes) × (is_kept changes ≡ true) × IsCommitOf come.0 (here w changes) c);
-      whole = λ none. (refl, refl);
+      early = λ some. absurd (some refl);
+      whole = λ none. (refl, refl, closed);
       creations = created;
     }
 
@@ -303,3 +311,21 @@ puts_all first old new txn from n count ticket all same held one =
       subst (λ (m : ℕ). Sets (puts 65535 from m held.0) c) all (one.1 (puts 65535 from n held.0) held.1),
       subst (λ (m : ℕ). AreApart m held.0) all held.2,
     )
+
+-- both commits
+pub puts_both : (old between new : List CommitValue) → HasPut 0 50 old between → HasPut 50 50 between new → (commits : List CommitValue) × AreSetUp commits × (new ≡ old ++ commits)
+puts_both old between new first second = (
+  first.0 ∷ second.0 ∷ [],
+  record {
+    first = first.0;
+    second = second.0;
+    two = refl;
+    places = first.1;
+    other_places = second.1;
+    apart = first.4;
+    others_apart = second.4;
+    puts_first = first.3;
+    puts_second = second.3;
+  },
+  second.2 ∙ (ap (λ (cs : List CommitValue). cs ++ second.0 ∷ []) first.2 ∙ append_assoc old (first.0 ∷ []) (second.0 ∷ [])),
+)

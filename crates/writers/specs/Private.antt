@@ -1,7 +1,7 @@
 -- What private functions say; no public clause cites it.
 use Rattle.std.specs.FinMap as map
 use Rattle.std.specs.Prelude.{Bool, List, Option, Some, None, false, nat_eq, unwrap_or, ℕ, true, ◌≡◌, ◌≢◌, ◌<◌, ◌++◌, ◌∷◌, [], ◌≤◌, length}
-use Rattle.std.specs.List.{AllByRecursion}
+use Rattle.std.specs.List.{AllByRecursion, AllZip}
 use Rattle.std.specs.Cmp.Lexicographic.{pointwise}
 use Rattle.records.specs.Values.{Place}
 use Rattle.records.specs.declared.pair.Pair.{Pair}
@@ -13,7 +13,7 @@ use Rattle.sessions.specs.Steps.{committed}
 use Rattle.sessions.specs.Values.{CommitValue, SessionValue, rows_of}
 use Rattle.shared.specs.Changed.{row_of}
 use Rattle.shared.specs.Seats.{AckValue}
-use Rattle.writers.specs.Transactions.{AreApart, AreCommitsOfEach, IsCommitAt, Sets, before_of, is_kept, kept_of, puts}
+use Rattle.writers.specs.Transactions.{AreApart, IsCommitAt, IsCommitOf, Sets, before_of, is_kept, kept_of, puts}
 use Rattle.writers.specs.declared.writer.Acknowledged.{Acknowledged}
 
 abbrev pub has_key : Option Row → Pair → Bool
@@ -36,10 +36,6 @@ HasCommitted old txn ticket new =
     (new ≡ committed old txn ticket)
     × ((writes : List Write) → Holds old txn writes → Sets writes (record { ticket = ticket; writes = rows_of txn old.active }))
 
--- There is one commit more, which puts so many of the rows that are there before the writers begin, from this number on, each at a place of its own.
-abbrev pub HasPut : (from count : ℕ) (old new : List CommitValue) → Type 0
-HasPut from count old new = (c : CommitValue) × (places : ℕ → Place) × (new ≡ old ++ c ∷ []) × Sets (puts 65535 from count places) c × AreApart count places
-
 -- the transaction holds these first places, so many of them, which are each another, and has put so many rows there
 abbrev pub HoldsPuts : SessionValue → (txn from count : ℕ) → Type 0
 HoldsPuts s txn from count = (places : ℕ → Place) × Holds s txn (puts 65535 from count places) × AreApart count places × ((i : ℕ) → i < count → row_of s txn (places i) ≢ None)
@@ -56,4 +52,4 @@ MayAdd made before old new = (late : List CommitValue) × (place : Place) × (ne
 -- So many of a writer's transactions have made these commits behind the old ones, and the last of them put its row at this place.
 abbrev pub HasCome : (writer count : ℕ) (old new : List CommitValue) (last : Option Place) → Type 0
 HasCome writer count old new last =
-    (places : ℕ → Place) × (made : List CommitValue) × (new ≡ old ++ made) × AreCommitsOfEach places (kept_of writer count) made × (last ≡ before_of places count)
+    (places : ℕ → Place) × (made : List CommitValue) × (new ≡ old ++ made) × AllZip (IsCommitOf places) (kept_of writer count) made × (last ≡ before_of places count)

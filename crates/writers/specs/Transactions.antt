@@ -1,5 +1,7 @@
 -- What the writers' transactions write, and what they make of a seat.
-use Rattle.std.specs.Prelude.{[], All, Bool, if◌then◌else◌, length, List, map, None, not, Option, Some, suc, true, zero, ℕ, ◌%◌, ◌++◌, ◌==◌, ◌≡◌, ◌≢◌, ◌<◌, ◌≤◌, ◌+◌, ◌∷◌}
+use Rattle.std.specs.Prelude.{[], All, Bool, if◌then◌else◌, length, List, map, None, not, Option, Some, suc, true, zero, ℕ, ◌%◌, ◌++◌, ◌==◌, ◌≡◌, ◌≢◌, ◌<◌, ◌≤◌, ◌+◌, ◌∷◌, ◌⊎◌}
+use Rattle.std.specs.List.{AllZip}
+use Rattle.board.specs.Views.{Sighting}
 use Rattle.nsf_core.specs.declared.parts.Ticket.{Ticket}
 use Rattle.model.specs.Table.{Table, applied}
 use Rattle.model.specs.declared.write.Write.{Write}
@@ -52,13 +54,6 @@ before_of places (suc n) = Some (places n)
 abbrev pub IsCommitOf : (places : ℕ → Place) → Acknowledged → CommitValue → Type 0
 IsCommitOf places made = IsCommitAt made (before_of places made.change) (places made.change)
 
--- One by one, the commits are those of these transactions.
-abbrev pub AreCommitsOfEach : (places : ℕ → Place) → List Acknowledged → List CommitValue → Type 0
-AreCommitsOfEach places [] [] = Unit {0}
-AreCommitsOfEach places (a ∷ rest) (c ∷ cs) = IsCommitOf places a c × AreCommitsOfEach places rest cs
-AreCommitsOfEach places [] (c ∷ cs) = ⊥
-AreCommitsOfEach places (a ∷ rest) [] = ⊥
-
 -- ---- what is committed
 
 -- the tickets of its commits
@@ -88,8 +83,8 @@ abbrev pub AreAllButOne : (these all : List Ticket) → Type 0
 AreAllButOne these all = (late : List Ticket) × (length late ≤ 1) × (all ≡ these ++ late)
 
 -- Of a writer's first transactions, so many of them, those that it commits are committed, and just these were told; and the commit of the
--- next one may be there too, if it is to be committed. Where nothing was refused, these are all its transactions, and there is no more. It
--- created nothing.
+-- next one may be there too, if it is to be committed. Where nothing was refused, these are all its transactions, there is no more, and none
+-- is left open; and where something was, they are not all. It created nothing.
 pub record HasWritten (writer changes : ℕ) (old new : SessionValue) (told : List Acknowledged) (refused : Option Error) : Type 0 where
   pub count : ℕ
   pub most : count ≤ changes
@@ -98,10 +93,11 @@ pub record HasWritten (writer changes : ℕ) (old new : SessionValue) (told : Li
   pub made : List CommitValue
   pub late : List CommitValue
   pub commits : new.commits ≡ old.commits ++ made ++ late
-  pub are : AreCommitsOfEach places (kept_of writer count) made
+  pub are : AllZip (IsCommitOf places) (kept_of writer count) made
   pub few : length late ≤ 1
   pub next : All (λ c. (count < changes) × (is_kept count ≡ true) × IsCommitOf places (record { writer = writer; change = count }) c) late
-  pub whole : refused ≡ None → (count ≡ changes) × (late ≡ [])
+  pub early : refused ≢ None → count < changes
+  pub whole : refused ≡ None → (count ≡ changes) × (late ≡ []) × (new.active ≡ [])
   pub creations : new.creations ≡ old.creations
 
 -- the first of these places, so many of them, are each another
@@ -119,3 +115,19 @@ pub record AreSetUp (commits : List CommitValue) : Type 0 where
   pub others_apart : AreApart 50 other_places
   pub puts_first : Sets (puts 65535 0 50 places) first
   pub puts_second : Sets (puts 65535 50 50 other_places) second
+
+-- There is one commit more, which puts so many of the rows that are there before the writers begin, from this number on, each at a place of its own.
+abbrev pub HasPut : (from count : ℕ) (old new : List CommitValue) → Type 0
+HasPut from count old new = (c : CommitValue) × (places : ℕ → Place) × (new ≡ old ++ c ∷ []) × Sets (puts 65535 from count places) c × AreApart count places
+
+-- Of the two commits that put the rows which are there before the writers begin, none is there, or the first one, or both.
+abbrev pub AreBegun : (old new : List CommitValue) → Type 0
+AreBegun old new = (new ≡ old) ⊎ HasPut 0 50 old new ⊎ ((between : List CommitValue) × HasPut 0 50 old between × HasPut 50 50 between new)
+
+-- The seat has created the index once more, behind all its commits: their records have lower numbers than that of the creation.
+abbrev pub CreatesBehind : (old new : SessionValue) → Type 0
+CreatesBehind old new = (number : ℕ) × (new.creations ≡ old.creations ++ number ∷ []) × All (λ c. c.ticket.«record» < number) new.commits
+
+-- Of the board the one has seen no more than the other, but for a horizon and the two flags. Its name may be longer.
+abbrev pub SeesNoMore : (old new : Sighting) → Type 0
+SeesNoMore old new = new ≡ record old { horizon = new.horizon; failed = new.failed; stopped = new.stopped; name = new.name }

@@ -1,5 +1,5 @@
 //! The rows that are there before the writers begin, and a seat's calls with a test before them.
-ghost use Rattle.std.specs.Prelude.{◌≡◌, ◌≢◌, ◌≤◌, ◌⊎◌, ◌+◌, ◌++◌, ◌∷◌, [], Err, IfErr, IfOk, List, None, OnErr, OnOk, Some, false, true, ℕ};
+ghost use Rattle.std.specs.Prelude.{◌≡◌, ◌≢◌, ◌≤◌, ◌+◌, ◌++◌, ◌∷◌, [], Err, IfErr, IfOk, List, None, OnErr, OnOk, Some, false, true, ℕ};
 ghost use Rattle.records.specs.declared.error.Error.TheVariants.{NoSuchTxn};
 ghost use Rattle.records.specs.Values.{Place};
 ghost use Rattle.core_contracts.specs.Events.{Event, Refused, Reply};
@@ -10,9 +10,9 @@ ghost use Rattle.sessions.specs.Values.{CommitValue, is_ready};
 ghost use Rattle.shared.specs.Changed.{HasChanged, row_of};
 ghost use Rattle.shared.specs.Served.{WasServedTo};
 ghost use Rattle.writers.specs.Rows.{key_value, row_value};
-ghost use Rattle.writers.specs.Private.{HasCommitted, HasPut};
-ghost use Rattle.writers.specs.Refusals.{IsStepRefusal};
-ghost use Rattle.writers.specs.Transactions.{AreSetUp, tickets_of};
+ghost use Rattle.writers.specs.Private.{HasCommitted};
+ghost use Rattle.writers.specs.Refusals.{IsChangeRefusal, IsSetUpRefusal};
+ghost use Rattle.writers.specs.Transactions.{AreBegun, AreSetUp, CreatesBehind, HasPut, tickets_of};
 
 use nsf_core::Ticket;
 use records::{Body, Error, Key, Rid, Txn};
@@ -37,7 +37,7 @@ pub fn key_of(first: u16, second: u16) -> Result<Key, Error>
 /// Inserts a row with the key of these two numbers, and an empty body, at a place that the transaction didn't hold.
 ///
 /// `NoSuchTxn` where the transaction isn't one of the seat's that may begin a change, and else the refusals of the seat's own
-/// `insert`, and of the steps behind it. After a refusal of its first step the session is as before, after one of a later step the
+/// `insert`, and of the steps behind it. After a refusal of its first step the seat is as before, after one of a later step the
 /// change is left to finish.
 pub fn insert<B: Group, R: Wait>(
     rt: &R,
@@ -47,12 +47,11 @@ pub fn insert<B: Group, R: Wait>(
     first: u16,
     second: u16,
 ) -> Result<Rid, Error>
-    ensures not_ready { is_ready seat.old.session txn ≡ false → result ≡ Err NoSuchTxn }
+    ensures not_ready { is_ready seat.old.session txn ≡ false → (result ≡ Err NoSuchTxn) × (seat.new ≡ seat.old) }
     ensures ok { IfOk result (λ rid. HasChanged seat.old.session txn (record { rid = rid; row = Some (row_value first second) }) None seat.new.session) }
     ensures served { IfOk result (λ rid. ∥ WasServedTo B.site.opened seat.old.number seat.old.session (Event.Insert txn (row_value first second)) (Reply.Rid rid) ∥₁) }
     ensures apart { IfOk result (λ rid. (place : Place) → row_of seat.old.session txn place ≢ None → place ≢ rid) }
-    ensures why { IfErr result (λ e. is_ready seat.old.session txn ≡ true → ∥ WasServedTo B.site.opened seat.old.number seat.old.session (Event.Insert txn (row_value first second)) (Refused e) ∥₁ ⊎ ∥ WasServedTo B.site.opened seat.new.number seat.new.session (Event.Step txn) (Refused e) ∥₁) }
-    ensures err { IfErr result (λ e. (seat.new.session ≡ seat.old.session) ⊎ ((rid : Place) × HasChanged seat.old.session txn (record { rid = rid; row = Some (row_value first second) }) (Some e) seat.new.session)) }
+    ensures err { IfErr result (λ e. (rid : Place) × IsChangeRefusal B.site.opened (Event.Insert txn (row_value first second)) txn (record { rid = rid; row = Some (row_value first second) }) seat.old seat.new e) }
     ensures seat { seat.new ≡ record seat.old { session = seat.new.session } }
 {
     if !seat.ready(txn) {
@@ -75,11 +74,10 @@ pub fn delete<B: Group, R: Wait>(
     txn: Txn,
     rid: Rid,
 ) -> Result<(), Error>
-    ensures not_ready { is_ready seat.old.session txn ≡ false → result ≡ Err NoSuchTxn }
+    ensures not_ready { is_ready seat.old.session txn ≡ false → (result ≡ Err NoSuchTxn) × (seat.new ≡ seat.old) }
     ensures ok { OnOk result (HasChanged seat.old.session txn (record { rid = rid; row = None }) None seat.new.session) }
     ensures served { OnOk result ∥ WasServedTo B.site.opened seat.old.number seat.old.session (Event.Delete txn rid) Reply.Stepped ∥₁ }
-    ensures why { IfErr result (λ e. is_ready seat.old.session txn ≡ true → ∥ WasServedTo B.site.opened seat.old.number seat.old.session (Event.Delete txn rid) (Refused e) ∥₁ ⊎ ∥ WasServedTo B.site.opened seat.new.number seat.new.session (Event.Step txn) (Refused e) ∥₁) }
-    ensures err { IfErr result (λ e. (seat.new.session ≡ seat.old.session) ⊎ HasChanged seat.old.session txn (record { rid = rid; row = None }) (Some e) seat.new.session) }
+    ensures err { IfErr result (IsChangeRefusal B.site.opened (Event.Delete txn rid) txn (record { rid = rid; row = None }) seat.old seat.new) }
     ensures seat { seat.new ≡ record seat.old { session = seat.new.session } }
 {
     if !seat.ready(txn) {
@@ -121,7 +119,7 @@ pub(crate) fn commit_held<B: Group, R: Wait>(
 ) -> Result<Ticket, Error>
     ensures ok { IfOk result (λ ticket. HasCommitted seat.old.session txn ticket seat.new.session) }
     ensures refused { OnErr result (seat.new ≡ seat.old) }
-    ensures why { is_ready seat.old.session txn ≡ true → IfErr result (IsStepRefusal B.site.opened) }
+    ensures why { is_ready seat.old.session txn ≡ true → IfErr result (λ e. ∥ WasServedTo B.site.opened seat.new.number seat.new.session (Event.Commit txn) (Refused e) ∥₁) }
     ensures seat { seat.new ≡ record seat.old { session = seat.new.session } }
 {
     commit(rt, shared, seat, txn)
@@ -138,8 +136,9 @@ fn put_rows<B: Group, R: Wait>(
     requires { from + count ≤ 100 }
     ensures ok { OnOk result ((ticket : TicketValue) × (tickets_of seat.new.session ≡ tickets_of seat.old.session ++ ticket ∷ [])) }
     ensures creations { seat.new.session.creations ≡ seat.old.session.creations }
+    ensures unmade { OnErr result (seat.new.session.commits ≡ seat.old.session.commits) }
     ensures none_open { seat.old.session.active ≡ [] → OnOk result (seat.new.session.active ≡ []) }
-    ensures why { seat.old.session.active ≡ [] → IfErr result (IsStepRefusal B.site.opened) }
+    ensures why { seat.old.session.active ≡ [] → IfErr result (IsSetUpRefusal B.site.opened seat.new) }
     ensures made { seat.old.session.active ≡ [] → OnOk result (HasPut from count seat.old.session.commits seat.new.session.commits) }
     ensures seat { seat.new ≡ record seat.old { session = seat.new.session } }
 {
@@ -151,10 +150,10 @@ fn put_rows<B: Group, R: Wait>(
     Ok(())
 }
 
-/// Inserts the rows in two commits, and creates the index. The rows are those of the keys of 65,535 and each number below 100, with
+/// Inserts the rows in two commits, and then creates the index. The rows are those of the keys of 65,535 and each number below 100, with
 /// empty bodies, the first fifty in the one commit and the others in the next.
 ///
-/// The refusals are those of the calls that this takes.
+/// The refusals are those of the calls that this takes. After one of them the commits before it are there, and no index was created.
 pub fn set_up<B: Group, R: Wait>(
     rt: &R,
     shared: &Shared<B>,
@@ -162,8 +161,11 @@ pub fn set_up<B: Group, R: Wait>(
 ) -> Result<(), Error>
     ensures ok { OnOk result ((first : TicketValue) × (second : TicketValue) × (tickets_of seat.new.session ≡ tickets_of seat.old.session ++ first ∷ second ∷ [])) }
     ensures made { seat.old.session.active ≡ [] → OnOk result ((commits : List CommitValue) × AreSetUp commits × (seat.new.session.commits ≡ seat.old.session.commits ++ commits)) }
-    ensures why { seat.old.session.active ≡ [] → IfErr result (IsStepRefusal B.site.opened) }
-    ensures creation { OnOk result ((number : ℕ) × (seat.new.session.creations ≡ seat.old.session.creations ++ number ∷ [])) }
+    ensures why { seat.old.session.active ≡ [] → IfErr result (IsSetUpRefusal B.site.opened seat.new) }
+    ensures creation { OnOk result (CreatesBehind seat.old.session seat.new.session) }
+    ensures none_open { seat.old.session.active ≡ [] → OnOk result (seat.new.session.active ≡ []) }
+    ensures uncreated { OnErr result (seat.new.session.creations ≡ seat.old.session.creations) }
+    ensures left { seat.old.session.active ≡ [] → OnErr result (AreBegun seat.old.session.commits seat.new.session.commits) }
     ensures seat { seat.new ≡ record seat.old { session = seat.new.session } }
 {
     put_rows(rt, shared, seat, 0, ROWS_OF_COMMIT)?;

@@ -7,8 +7,8 @@ ghost use Rattle.records.specs.declared.error.Error.TheVariants.{NoMemory};
 ghost use Rattle.sessions.specs.Values.{is_ready, without};
 ghost use Rattle.shared.specs.Changed.{row_of};
 ghost use Rattle.writers.specs.Private.{Adds, HasCommitted, Holds, MayAdd};
-ghost use Rattle.writers.specs.Refusals.{IsRefusal, IsStepRefusal};
-ghost use Rattle.writers.specs.Transactions.{AreAllButOne, HasWritten, deleted, deletion, is_kept, kept_of, tickets_in, tickets_of, told_by};
+ghost use Rattle.writers.specs.Refusals.{IsRefusal, IsStepRefusal, IsWritingRefusal};
+ghost use Rattle.writers.specs.Transactions.{AreAllButOne, HasWritten, SeesNoMore, deleted, deletion, is_kept, kept_of, tickets_in, tickets_of, told_by};
 
 use crate::rows::{commit_held, delete, insert};
 use records::{Error, Rid, Txn};
@@ -54,7 +54,7 @@ fn delete_row<B: Group, R: Wait>(
     ensures held { OnOk result (IfSome place (λ rid. row_of seat.new.session txn rid ≢ None)) }
     ensures others { OnOk result (without txn seat.new.session.active ≡ without txn seat.old.session.active) }
     ensures ready { is_ready seat.old.session txn ≡ true → OnOk result (is_ready seat.new.session txn ≡ true) }
-    ensures why { is_ready seat.old.session txn ≡ true → IfErr result (IsStepRefusal B.site.opened) }
+    ensures why { is_ready seat.old.session txn ≡ true → IfErr result (IsStepRefusal B.site.opened seat.new) }
 {
     match place {
         Some(rid) => delete(rt, shared, seat, txn, rid),
@@ -76,7 +76,7 @@ fn begin_without<B: Group, R: Wait>(
     ensures held { seat.old.session.active ≡ [] → IfOk result (λ txn. IfSome place (λ rid. row_of seat.new.session txn rid ≢ None)) }
     ensures alone { seat.old.session.active ≡ [] → IfOk result (λ txn. without txn seat.new.session.active ≡ []) }
     ensures ready { seat.old.session.active ≡ [] → IfOk result (λ txn. is_ready seat.new.session txn ≡ true) }
-    ensures why { seat.old.session.active ≡ [] → IfErr result (IsStepRefusal B.site.opened) }
+    ensures why { seat.old.session.active ≡ [] → IfErr result (IsStepRefusal B.site.opened seat.new) }
 {
     let txn = shared.begin(rt, seat)?;
     delete_row(rt, shared, seat, txn, place)?;
@@ -91,10 +91,11 @@ fn commit_safely<B: Group, R: Wait>(
     txn: Txn,
 ) -> Result<Ack<B>, Error>
     ensures number { seat.new.number ≡ seat.old.number }
+    ensures seen { SeesNoMore seat.old.sight seat.new.sight }
     ensures creations { seat.new.session.creations ≡ seat.old.session.creations }
     ensures ok { IfOk result (λ ack. HasCommitted seat.old.session txn ack.ticket seat.new.session) }
     ensures err { OnErr result ((seat.new.session ≡ seat.old.session) ⊎ ((ticket : TicketValue) × HasCommitted seat.old.session txn ticket seat.new.session)) }
-    ensures why { is_ready seat.old.session txn ≡ true → IfErr result (IsRefusal B.site.opened seat.new.sight) }
+    ensures why { is_ready seat.old.session txn ≡ true → IfErr result (IsRefusal B.site.opened seat.new) }
 {
     let ticket = commit_held(rt, shared, seat, txn)?;
     shared.await_ack(rt, seat, ticket)
@@ -110,6 +111,7 @@ fn change<B: Group, R: Wait>(
     before: Option<Rid>,
 ) -> Result<(Rid, Option<Ack<B>>), Error>
     ensures number { seat.new.number ≡ seat.old.number }
+    ensures seen { SeesNoMore seat.old.sight seat.new.sight }
     ensures creations { seat.new.session.creations ≡ seat.old.session.creations }
     ensures kept { IfOk result (λ r. is_some r.1 ≡ is_kept made.change) }
     ensures none_open { seat.old.session.active ≡ [] → OnOk result (seat.new.session.active ≡ []) }
@@ -117,7 +119,7 @@ fn change<B: Group, R: Wait>(
     ensures late { OnErr result (AreAllButOne (tickets_of seat.old.session) (tickets_of seat.new.session)) }
     ensures adds { seat.old.session.active ≡ [] → IfOk result (λ r. Adds made before r.0 r.1 seat.old.session.commits seat.new.session.commits) }
     ensures may_add { seat.old.session.active ≡ [] → OnErr result (MayAdd made before seat.old.session.commits seat.new.session.commits) }
-    ensures why { seat.old.session.active ≡ [] → IfErr result (IsRefusal B.site.opened seat.new.sight) }
+    ensures why { seat.old.session.active ≡ [] → IfErr result (IsRefusal B.site.opened seat.new) }
 {
     let txn = begin_without(rt, shared, seat, to_delete(made.change, before))?;
     let rid = insert(rt, shared, seat, txn, made.writer, made.change)?;
@@ -142,6 +144,7 @@ fn keep<B: Group>(
     ensures late { OnErr result (AreAllButOne (tickets_in written.new.acks.items) (tickets_in written.old.acks.items ++ told_by ack)) }
     ensures unkept { OnErr result (written.new.acknowledged.items ≡ written.old.acknowledged.items) }
     ensures fewer { vec_len written.old.acknowledged ≤ vec_len written.old.acks → vec_len written.new.acknowledged ≤ vec_len written.new.acks }
+    ensures some { OnErr result (is_some ack ≡ true) }
     ensures no_memory { IfErr result (λ e. e ≡ NoMemory) }
 {
     if let Some(ack) = ack {
@@ -162,6 +165,7 @@ fn change_all<B: Group, R: Wait>(
     requires acks { written.old.acks.items ≡ [] }
     requires acknowledged { written.old.acknowledged.items ≡ [] }
     ensures number { written.new.seat.number ≡ written.old.seat.number }
+    ensures seen { SeesNoMore written.old.seat.sight written.new.seat.sight }
     ensures creations { written.new.seat.session.creations ≡ written.old.seat.session.creations }
     ensures whole { OnOk result (written.new.acknowledged.items ≡ kept_of writer changes) }
     ensures counted { OnOk result (vec_len written.new.acks ≡ vec_len written.new.acknowledged) }
@@ -170,7 +174,7 @@ fn change_all<B: Group, R: Wait>(
     ensures begun { (count : ℕ) × (count ≤ changes) × (written.new.acknowledged.items ≡ kept_of writer count) }
     ensures fewer { vec_len written.new.acknowledged ≤ vec_len written.new.acks }
     ensures none_open { written.old.seat.session.active ≡ [] → OnOk result (written.new.seat.session.active ≡ []) }
-    ensures why { written.old.seat.session.active ≡ [] → IfErr result (IsRefusal B.site.opened written.new.seat.sight) }
+    ensures why { written.old.seat.session.active ≡ [] → IfErr result (IsWritingRefusal B.site.opened written.old.seat.session written.new.seat written.new.acknowledged.items) }
     ensures made { written.old.seat.session.active ≡ [] → HasWritten writer changes written.old.seat.session written.new.seat.session written.new.acknowledged.items (result_err result) }
 {
     let mut before = None;
@@ -192,7 +196,8 @@ fn change_all<B: Group, R: Wait>(
 /// acknowledgement is that of one of the seat's commits, in order (`told`); and where something is refused, one more may be committed
 /// (`late`), and what is told as acknowledged is what the transactions before that committed (`begun`). Of a seat with no open
 /// transaction, each commit has the row of the transaction that is told, and in each third of four the deletion of the row before
-/// (`made`); and a refusal is one of a step of the seat, `NoMemory`, or an end of the wait for a commit (`why`).
+/// (`made`); and a refusal is one of a step of the seat, an end of the wait for a commit, or `NoMemory` (`why`). Of the board the seat has
+/// seen no more than a horizon and the two flags (`seen`).
 pub fn write<B: Group, R: Wait>(
     rt: &R,
     alloc: Global,
@@ -209,7 +214,8 @@ pub fn write<B: Group, R: Wait>(
     ensures begun { (count : ℕ) × (count ≤ changes) × (result.acknowledged.items ≡ kept_of writer count) }
     ensures fewer { vec_len result.acknowledged ≤ vec_len result.acks }
     ensures none_open { seat.session.active ≡ [] → result.refused ≡ None → result.seat.session.active ≡ [] }
-    ensures why { seat.session.active ≡ [] → IfSome result.refused (IsRefusal B.site.opened result.seat.sight) }
+    ensures why { seat.session.active ≡ [] → IfSome result.refused (IsWritingRefusal B.site.opened seat.session result.seat result.acknowledged.items) }
+    ensures seen { SeesNoMore seat.sight result.seat.sight }
     ensures made { seat.session.active ≡ [] → HasWritten writer changes seat.session result.seat.session result.acknowledged.items result.refused }
 {
     let mut written = Written {

@@ -1,10 +1,10 @@
-use Rattle.std.proofs.Common.{◌≡◌, ◌∙◌, ℕ, List, length, map, ap, refl, subst, take}
+use Rattle.std.proofs.Common.{◌≡◌, ◌≤◌, ◌∙◌, ℕ, List, length, map, ap, refl, subst, sym, take}
 use Rattle.nsf_core.specs.Value.{value_of}
 use Rattle.locked_core.specs.Locked.{LockedValue, locked_of}
 use Rattle.sessions.specs.Values.{CommitValue}
 use Rattle.shared.specs.Seats.{SeatValue}
 use Rattle.register.specs.Register.{AreAllCommits}
-use Rattle.store_writer.specs.Parts.{halves_of, synced_of}
+use Rattle.store_writer.specs.Parts.{device_of, halves_of, synced_of}
 use Rattle.flusher.specs.Part.{FlushValue, popped_by}
 use Rattle.closing.specs.Gathered.{sessions_of}
 use Rattle.closing.specs.Written.{WritesOn}
@@ -149,3 +149,10 @@ returns-in-Err-clause-err g c =
     let popped : popped_by old ≡ take (length (popped_by old)) l.pushed = subst (λ (x : FlushValue _). popped_by x ≡ take (length (popped_by x)) l.pushed) c.settle_all.ensures.same c.close.ensures.popped in
     let writes : WritesOn history failures z.opened old f = subst (λ (x : FlushValue _). WritesOn history failures z.opened x f) c.settle_all.ensures.same c.close.ensures.writes in
     failed_at_end history failures z.opened seats l book under.shared (popped_by old) popped old f writes c.into_parts-rest.result.0 c.into_parts-rest.ensures.device c.in-Err.error c.in-Err.ensures.err
+
+pub returns-in-Err-clause-later : goal.returns-in-Err-clause-later
+returns-in-Err-clause-later g c =
+    let z = g.B.Site.site in
+    let writes : WritesOn g.D.Device.history g.D.Device.failures z.opened c.args.flush c.close.new.flush =
+    subst (λ (x : FlushValue _). WritesOn g.D.Device.history g.D.Device.failures z.opened x c.close.new.flush) c.settle_all.ensures.same c.close.ensures.writes in
+    subst (λ d. g.D.Device.failures (device_of c.args.flush.writer) ≤ g.D.Device.failures d) (sym c.into_parts-rest.ensures.device) writes.later

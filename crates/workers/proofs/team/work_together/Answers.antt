@@ -4,9 +4,11 @@ use Rattle.closing.specs.Gathered.{AreAllSeats}
 use Rattle.sessions.specs.Values.{SessionValue}
 use Rattle.shared.specs.Seats.{AreNewSeats, SeatValue}
 use Rattle.workers.proofs.Acknowledgements.{all_of_jobs, jobs_of_writers}
+use Rattle.workers.proofs.Counting.{no_failure, not_all}
+use Rattle.workers.specs.declared.team.Refusals.{Refusals}
 use Rattle.workers.proofs.Orders.{all_but_last, all_left}
-use Rattle.workers.proofs.Seated.{both_done, created_new, jobs_new, last_new, set_up_new}
-use Rattle.writers.specs.Transactions.{AreSetUp}
+use Rattle.workers.proofs.Seated.{both_done, jobs_new, last_new, set_up_new, sound_at_first}
+use Rattle.store_writer.specs.Parts.{device_of}
 use Rattle.workers.proofs.team.work_together.Goals as goal
 
 pub end-requires-clause-seats : goal.end-requires-clause-seats
@@ -29,8 +31,8 @@ returns-clause-left g c writers more =
     c.end.ensures.left writers c.args.team.changes
     (both_done g.B.Site.site.opened (λ j. j.writer) (λ j. j.seat) (λ w. w.seat) (λ w. w.acks.items) (λ w. w.acknowledged.items) (λ w. w.refused) c.args.team.changes writers c.in-Ok.jobs c.run_all-ended.result.clients many c.run_all-ended.ensures.len c.run_all-ended.ensures.done c.in-Ok.ensures.numbered
     (jobs_new (λ j. j.seat) g.B.Group.board g.B.Site.site.seats c.in-Ok.jobs.items seats c.in-Some.last c.in-Ok.ensures.seats new))
-    (subst (λ (s : SessionValue). AreSetUp s.commits) (sym c.run_all-ended.ensures.session) (set_up_new c.in-Some.last.session c.set_up.new.seat.session empty (c.in_default-set_up.ensures.made (ap (λ (s : SessionValue). s.active) empty))))
-    (ap (λ (s : SessionValue). length s.creations) c.run_all-ended.ensures.session ∙ created_new c.in-Some.last.session c.set_up.new.seat.session empty c.in_default-set_up.ensures.creation)
+    (set_up_new c.in-Some.last.session c.set_up.new.seat.session c.run_all-ended.result.seat.session empty c.run_all-ended.ensures.session (c.in_default-set_up.ensures.made (ap (λ (s : SessionValue). s.active) empty))
+    c.in_default-set_up.ensures.creation (c.in_default-set_up.ensures.none_open (ap (λ (s : SessionValue). s.active) empty)))
 
 pub returns-clause-acknowledged : goal.returns-clause-acknowledged
 returns-clause-acknowledged g c writers more =
@@ -47,4 +49,18 @@ refused-requires-in-Err-clause-end g c =
     let seats : List SeatValue = c.pop.new.self.items in
     let new = subst (λ (items : List SeatValue). AreNewSeats g.B.Group.board g.B.Site.site.seats items) c.in-Some.ensures.items c.requires.seats in
     let empty = last_new g.B.Group.board g.B.Site.site.seats seats c.in-Some.last new in
-    inl (c.in-Err.ensures.why (ap (λ (s : SessionValue). s.active) empty))
+    inl (c.set_up.new.seat, c.in-Err.ensures.why (ap (λ (s : SessionValue). s.active) empty))
+
+pub refused-requires-in-Err-clause-sound : goal.refused-requires-in-Err-clause-sound
+refused-requires-in-Err-clause-sound g c = sound_at_first g.B.Site.site.opened g.B.Group.board g.B.Site.site.seats c.args.parts.seats.items c.pop.new.self.items c.in-Some.last c.set_up.new.seat c.in-Err.error c.in-Some.ensures.items c.requires.seats c.in-Err.ensures.why
+
+pub returns-clause-counted : goal.returns-clause-counted
+returns-clause-counted g c tells = c.end.ensures.counted (g.D.Device.failures (device_of c.args.parts.flush.writer)) (λ failed. c.run_all-ended.ensures.counted failed c.requires.flush.sound) c.run_all-ended.ensures.later tells
+
+pub returns-in-Err-clause-acknowledged : goal.returns-in-Err-clause-acknowledged
+returns-in-Err-clause-acknowledged g c writers more none tells =
+    absurd (not_all c.refused-in-Err.result.refusals.end c.in-Err.error (ap (λ (r : Refusals). r.end) c.refused-in-Err.ensures.told) (sound_at_first g.B.Site.site.opened g.B.Group.board g.B.Site.site.seats c.args.parts.seats.items c.pop.new.self.items c.in-Some.last c.set_up.new.seat c.in-Err.error c.in-Some.ensures.items c.requires.seats c.in-Err.ensures.why) tells)
+
+pub returns-in-Err-clause-counted : goal.returns-in-Err-clause-counted
+returns-in-Err-clause-counted g c tells =
+    absurd (no_failure c.refused-in-Err.result.refusals c.in-Err.error (ap (λ (r : Refusals). r.flusher) c.refused-in-Err.ensures.told) (ap (λ (r : Refusals). r.end) c.refused-in-Err.ensures.told) (sound_at_first g.B.Site.site.opened g.B.Group.board g.B.Site.site.seats c.args.parts.seats.items c.pop.new.self.items c.in-Some.last c.set_up.new.seat c.in-Err.error c.in-Some.ensures.items c.requires.seats c.in-Err.ensures.why) tells)

@@ -10,4 +10,4 @@ returns-clause-ok g c = held_committed g.B.Site.site.opened c.args.seat.now.numb
     (IfOk-weaker c.commit.result _ _ (λ ticket is. ap (λ (s : SeatValue). s.session) is) c.commit.ensures.ok)
 
 pub returns-clause-why : goal.returns-clause-why
-returns-clause-why g c ready = commit_refused g.B.Site.site.opened c.args.seat.now.number c.args.seat.now.session c.args.txn c.commit.result ready (c.commit.ensures.served ready)
+returns-clause-why g c ready = commit_refused g.B.Site.site.opened c.args.seat.now c.commit.new.seat c.args.txn c.commit.result (c.commit.ensures.served ready) c.commit.ensures.refused

@@ -1,14 +1,10 @@
-use Rattle.std.proofs.Common.{inl, ◌≢◌, ◌%◌, ◌∙◌, ◌∷◌, ◌++◌, [], Option, Some, ap, ne_eqb, not, subst, sym}
-use Rattle.records.specs.Values.{Place}
+use Rattle.std.proofs.Common.{inl, ◌%◌, ◌∙◌, ap, ne_eqb, not, subst, sym}
 use Rattle.records.specs.declared.error.Error.{Error}
 use Rattle.sessions.specs.Values.{SessionValue}
-use Rattle.writers.specs.Private.{Holds}
-use Rattle.writers.specs.Refusals.{IsRefusal}
-use Rattle.writers.specs.Transactions.{deleted, deletion, put, writes_of}
-use Rattle.writers.proofs.Holding.{holds_more}
+use Rattle.writers.specs.Refusals.{IsRefusal, IsStepOf}
 use Rattle.writers.proofs.Late.{on_err, perhaps_late}
-use Rattle.writers.proofs.Made.{adds_one, back_commits, deleted_apart, may_commit, may_none, more_commits}
-use Rattle.writers.proofs.Refusing.{back_refused, if_err, insert_refused, ready_active}
+use Rattle.writers.proofs.Made.{adds_one, back_commits, may_commit, may_none, row_put}
+use Rattle.writers.proofs.Refusing.{back_refused, change_refused, if_err, others_left, ready_active}
 use Rattle.writers.proofs.writer.change.Goals as goal
 
 pub returns-in_err-txn-clause-may_add : goal.returns-in_err-txn-clause-may_add
@@ -16,14 +12,14 @@ returns-in_err-txn-clause-may_add g c alone = on_err c.from_residual.result (may
 
 pub returns-in_err-rid-clause-may_add : goal.returns-in_err-rid-clause-may_add
 returns-in_err-rid-clause-may_add g c alone = on_err c.from_residual-in_err-rid.result
-    (may_none c.args.made c.args.before _ _ (more_commits c.begin_without.new.seat.session c.insert.new.seat.session _ _ c.in_err-rid.field-0.0 c.in_err-rid.ensures.err ∙ c.begin_without.ensures.commits))
+    (may_none c.args.made c.args.before _ _ (ap (λ (s : SessionValue). s.commits) (others_left g.B.Site.site.opened _ c.in_ok-txn.txn _ c.begin_without.new.seat c.insert.new.seat c.in_err-rid.field-0.0 c.in_err-rid.ensures.err.1) ∙ c.begin_without.ensures.commits))
 
 pub returns-in_err-rid-clause-why : goal.returns-in_err-rid-clause-why
 returns-in_err-rid-clause-why g c alone =
     let ready = c.in_ok-txn.ensures.ready alone in
-    if_err _ (IsRefusal g.B.Site.site.opened c.insert.new.seat.sight) c.from_residual-in_err-rid.result c.from_residual-in_err-rid.ensures.1
-    (λ x is. subst (λ (e : Error). IsRefusal g.B.Site.site.opened c.insert.new.seat.sight e) (sym is)
-    (inl (insert_refused g.B.Site.site.opened c.begin_without.new.seat.number c.insert.new.seat.number c.begin_without.new.seat.session c.insert.new.seat.session c.in_ok-txn.txn _ c.in_err-rid.field-0.0 ready c.in_err-rid.ensures.err (c.in_err-rid.ensures.why ready))))
+    if_err _ (IsRefusal g.B.Site.site.opened c.insert.new.seat) c.from_residual-in_err-rid.result c.from_residual-in_err-rid.ensures.1
+    (λ x is. subst (λ (e : Error). IsRefusal g.B.Site.site.opened c.insert.new.seat e) (sym is)
+    (inl (change_refused IsStepOf g.B.Site.site.opened _ c.in_ok-txn.txn _ c.begin_without.new.seat c.insert.new.seat c.in_err-rid.field-0.0 ready (ready_active c.begin_without.new.seat.session c.in_ok-txn.txn ready) (λ s active. active) c.in_err-rid.ensures.err.1)))
 
 pub returns-in_err-abort-clause-may_add : goal.returns-in_err-abort-clause-may_add
 returns-in_err-abort-clause-may_add g c alone = on_err c.from_residual-in_err-abort.result
@@ -33,9 +29,9 @@ returns-in_err-abort-clause-may_add g c alone = on_err c.from_residual-in_err-ab
 pub returns-in_err-abort-clause-why : goal.returns-in_err-abort-clause-why
 returns-in_err-abort-clause-why g c alone =
     let active = ready_active c.insert.new.seat.session c.in_ok-txn.txn (c.in_ok-rid.ensures.ok.0.ready c.in_ok-rid.ensures.ok.1) in
-    if_err _ (IsRefusal g.B.Site.site.opened c.abort.new.seat.sight) c.from_residual-in_err-abort.result c.from_residual-in_err-abort.ensures.1
-    (λ x is. subst (λ (e : Error). IsRefusal g.B.Site.site.opened c.abort.new.seat.sight e) (sym is)
-    (inl (back_refused g.B.Site.site.opened c.abort.new.seat.number c.insert.new.seat.session c.abort.new.seat.session c.in_ok-txn.txn c.in_err-abort.field-0.0 active c.in_err-abort.ensures.err (c.in_err-abort.ensures.served active))))
+    if_err _ (IsRefusal g.B.Site.site.opened c.abort.new.seat) c.from_residual-in_err-abort.result c.from_residual-in_err-abort.ensures.1
+    (λ x is. subst (λ (e : Error). IsRefusal g.B.Site.site.opened c.abort.new.seat e) (sym is)
+    (inl (back_refused g.B.Site.site.opened c.abort.new.seat c.insert.new.seat.session c.in_ok-txn.txn c.in_err-abort.field-0.0 active c.in_err-abort.ensures.err (c.in_err-abort.ensures.served active))))
 
 pub returns-in_err-ack-clause-late : goal.returns-in_err-ack-clause-late
 returns-in_err-ack-clause-late g c = on_err c.from_residual-in_err-ack.result
@@ -44,27 +40,13 @@ returns-in_err-ack-clause-late g c = on_err c.from_residual-in_err-ack.result
 
 pub returns-in_err-ack-clause-may_add : goal.returns-in_err-ack-clause-may_add
 returns-in_err-ack-clause-may_add g c alone =
-    let gone = c.to_delete.result in
-    let row = put c.args.made.writer c.args.made.change c.in_ok-rid.rid in
-    let held = holds_more c.begin_without.new.seat.session c.insert.new.seat.session c.in_ok-txn.txn (deletion gone) row (c.in_ok-txn.ensures.holds alone) c.in_ok-rid.ensures.ok in
-    let holds : Holds c.insert.new.seat.session c.in_ok-txn.txn (writes_of c.args.made c.args.before c.in_ok-rid.rid) =
-    subst (λ (place : Option Place). Holds c.insert.new.seat.session c.in_ok-txn.txn (deletion place ++ row ∷ [])) c.to_delete.ensures held in
-    let apart : deleted c.args.made.change c.args.before ≢ Some c.in_ok-rid.rid =
-    subst (λ (place : Option Place). place ≢ Some c.in_ok-rid.rid) c.to_delete.ensures
-    (deleted_apart c.begin_without.new.seat.session c.in_ok-txn.txn gone c.in_ok-rid.rid (c.in_ok-txn.ensures.held alone) c.in_ok-rid.ensures.apart) in
+    let put = row_put c.args.made c.args.before c.to_delete.result c.in_ok-rid.rid c.begin_without.new.seat.session c.insert.new.seat.session c.in_ok-txn.txn c.to_delete.ensures (c.in_ok-txn.ensures.holds alone) (c.in_ok-txn.ensures.held alone) c.in_ok-rid.ensures.apart c.in_ok-rid.ensures.ok in
     on_err c.from_residual-in_err-ack.result
     (may_commit c.args.made c.args.before c.in_ok-rid.rid c.args.seat.now.session c.insert.new.seat.session c.commit_safely.new.seat.session c.in_ok-txn.txn (ap not (ne_eqb (c.args.made.change % 4) 3 c.if-made-eq3.false))
-    (ap (λ (s : SessionValue). s.commits) c.in_ok-rid.ensures.ok.0.others ∙ c.begin_without.ensures.commits) holds apart c.in_err-ack.ensures.err)
+    (ap (λ (s : SessionValue). s.commits) c.in_ok-rid.ensures.ok.0.others ∙ c.begin_without.ensures.commits) put.0 put.1 c.in_err-ack.ensures.err)
 
 pub returns-clause-adds : goal.returns-clause-adds
 returns-clause-adds g c alone =
-    let gone = c.to_delete.result in
-    let row = put c.args.made.writer c.args.made.change c.in_ok-rid.rid in
-    let held = holds_more c.begin_without.new.seat.session c.insert.new.seat.session c.in_ok-txn.txn (deletion gone) row (c.in_ok-txn.ensures.holds alone) c.in_ok-rid.ensures.ok in
-    let holds : Holds c.insert.new.seat.session c.in_ok-txn.txn (writes_of c.args.made c.args.before c.in_ok-rid.rid) =
-    subst (λ (place : Option Place). Holds c.insert.new.seat.session c.in_ok-txn.txn (deletion place ++ row ∷ [])) c.to_delete.ensures held in
-    let apart : deleted c.args.made.change c.args.before ≢ Some c.in_ok-rid.rid =
-    subst (λ (place : Option Place). place ≢ Some c.in_ok-rid.rid) c.to_delete.ensures
-    (deleted_apart c.begin_without.new.seat.session c.in_ok-txn.txn gone c.in_ok-rid.rid (c.in_ok-txn.ensures.held alone) c.in_ok-rid.ensures.apart) in
+    let put = row_put c.args.made c.args.before c.to_delete.result c.in_ok-rid.rid c.begin_without.new.seat.session c.insert.new.seat.session c.in_ok-txn.txn c.to_delete.ensures (c.in_ok-txn.ensures.holds alone) (c.in_ok-txn.ensures.held alone) c.in_ok-rid.ensures.apart c.in_ok-rid.ensures.ok in
     adds_one c.args.made c.args.before c.in_ok-rid.rid c.args.seat.now.session c.insert.new.seat.session c.commit_safely.new.seat.session c.in_ok-txn.txn c.in_ok-ack.ack
-    (ap (λ (s : SessionValue). s.commits) c.in_ok-rid.ensures.ok.0.others ∙ c.begin_without.ensures.commits) holds apart c.in_ok-ack.ensures.ok
+    (ap (λ (s : SessionValue). s.commits) c.in_ok-rid.ensures.ok.0.others ∙ c.begin_without.ensures.commits) put.0 put.1 c.in_ok-ack.ensures.ok

@@ -1,11 +1,12 @@
 use Rattle.std.proofs.Common.{◌≡◌, ◌≤◌, ◌++◌, [], vec_len}
 use Rattle.writers.specs.Private.{HasCome}
-use Rattle.writers.specs.Transactions.{kept_of, tickets_in, tickets_of}
+use Rattle.writers.specs.Transactions.{SeesNoMore, kept_of, tickets_in, tickets_of}
 use Rattle.writers.proofs.writer.change_all.Given as goal
 
 abbrev pub invariant-loop-number : goal.invariant-loop-number
 invariant-loop-number g l = record {
   number : l.written.seat.number ≡ l.fn.written.seat.number;
+  seen : SeesNoMore l.fn.written.seat.sight l.written.seat.sight;
   whole : l.written.acknowledged.items ≡ kept_of l.writer l.number;
   counted : vec_len l.written.acks ≡ vec_len l.written.acknowledged;
   fewer : vec_len l.written.acknowledged ≤ vec_len l.written.acks;
