@@ -1,8 +1,7 @@
 -- What the writers were told, in one list.
-use Rattle.std.proofs.Common.{◌≡◌, ◌∙◌, ◌+◌, ◌++◌, ◌<◌, ◌∷◌, [], ℕ, zero, suc, Err, IfOk, List, None, Ok, OnErr, Option, Result, Some, ⊎_elim, ap, append-nil, append_assoc, arith, get_or, length, map, refl, subst, sym, take}
+use Rattle.std.proofs.Common.{◌≡◌, ◌∙◌, ◌+◌, ◌++◌, ◌<◌, ◌∷◌, [], ℕ, zero, suc, Err, IfOk, List, None, Ok, OnErr, Option, Result, Some, ⊎_elim, ap, append-nil, append_assoc, arith, length, map, refl, subst, sym}
 use Rattle.std.proofs.lemmas.Option.{get_or_from_slice_get, slice_get_within}
-use Rattle.std.proofs.lemmas.List.{length-map, map_more}
-use Rattle.std.specs.Option.{option_or}
+use Rattle.std.proofs.lemmas.List.{length-map}
 use Rattle.std.specs.Prelude.{flat_map, slice_get, slice_index_or}
 use Rattle.std.specs.declared.vec.Vec.{Vec}
 use Rattle.records.specs.declared.error.Error.{Error}
@@ -62,14 +61,6 @@ all_told refused made changes ws each none =
     none
     ∙ ap (λ n. all_kept n changes) all
 
--- and so where there are any
-pub ok_told : {W X E : Type 0} (refused : W → Option Error) (made : W → List Acknowledged) (changes : ℕ) (left : Result (Vec W X) E) (v : Vec W X) (told : List Acknowledged) (first : Option Error) (P : Type 0)
-    → left ≡ Ok v → told ≡ flat_map made v.items → first ≡ first_of (map refused v.items)
-    → IfOk left (λ w. HaveMade refused made changes w.items → first ≡ None → P → told ≡ all_kept w.len changes)
-ok_told {W} {X} {E} refused made changes left v told first P is all one =
-    subst (λ (r : Result (Vec W X) E). IfOk r (λ w. HaveMade refused made changes w.items → first ≡ None → P → told ≡ all_kept w.len changes)) (sym is)
-    (λ each none p. all ∙ (all_told refused made changes v.items each (sym one ∙ none) ∙ ap (λ n. all_kept n changes) (sym v.ok.0)))
-
 -- one more job has the next number
 pub numbered_more : {J : Type 0} (number : J → ℕ) (jobs : List J) (next : J) → ((k : ℕ) (job : J) → slice_get jobs k ≡ Some job → number job ≡ k) → number next ≡ length jobs
     → (k : ℕ) (job : J) → slice_get (jobs ++ next ∷ []) k ≡ Some job → number job ≡ k
@@ -88,22 +79,6 @@ made_in_order number refused made changes jobs ws same each numbered k w at quie
     sym (ap made w_is)
     ∙ (each k job.0 w within (ap refused w_is ∙ quiet)
     ∙ ap (λ n. kept_of n changes) (ap number job_is ∙ numbered k job.0 job.1))
-
--- the first of some refusals and one more
-pub first_more : (refusals : List (Option Error)) (next : Option Error) → first_of (refusals ++ next ∷ []) ≡ option_or (first_of refusals) next
-first_more [] None = refl
-first_more [] (Some e) = refl
-first_more (Some e ∷ rest) next = refl
-first_more (None ∷ rest) next = first_more rest next
-
--- the first of those of one writer more
-pub first_next : {W : Type 0} (refused : W → Option Error) (ws : List W) (i : ℕ) (w : W) (now next : Option Error) → i < length ws → w ≡ get_or ws i w
-    → now ≡ first_of (map refused (take i ws)) → next ≡ option_or now (refused w) → next ≡ first_of (map refused (take (i + 1) ws))
-first_next refused ws i w now next within at before then =
-    then
-    ∙ (ap (λ (r : Option Error). option_or r (refused w)) before
-    ∙ (sym (first_more (map refused (take i ws)) (refused w))
-    ∙ ap first_of (ap (λ v. map refused (take i ws) ++ refused v ∷ []) at ∙ sym (map_more refused ws i w within))))
 
 -- what the threads leave, where each writer had a job
 pub all_of_jobs : {J W X Y E : Type 0} (number : J → ℕ) (refused : W → Option Error) (made : W → List Acknowledged) (changes writers : ℕ)

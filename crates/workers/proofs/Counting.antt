@@ -1,13 +1,12 @@
 -- A device that is told to have failed has counted that.
-use Rattle.std.proofs.Common.{◌≡◌, ◌≢◌, ◌≤◌, ◌-◌, ◌^◌, ⊎_elim, ℕ, Bool, Err, IfErr, None, Ok, Option, Result, Some, arith, false, refl, sym, ◌∙◌, true}
+use Rattle.std.proofs.Common.{◌≡◌, ◌≢◌, ◌≤◌, ◌-◌, ◌^◌, ⊎_elim, ℕ, Bool, None, Option, Some, arith, false, refl, sym, ◌∙◌, true, true≢false}
 use Rattle.std.proofs.lemmas.Bool.{cases_lt}
-use Rattle.std.specs.Result.{result_err}
 use Rattle.sector_device.specs.History.{Rises}
 use Rattle.records.specs.declared.error.Error.{Error}
 use Rattle.records.specs.declared.error.Error.TheVariants.{DeviceFailed}
 use Rattle.workers.specs.Left.{TellsAll, TellsFailure}
 use Rattle.workers.specs.declared.team.Refusals.{Refusals}
-use Rattle.workers.proofs.Refused.{some_same}
+use Rattle.writers.proofs.Lists.{some_same}
 
 -- a count that has risen, and is no lower since
 pub rises_later : (a b c : ℕ) → Rises a b → b ≤ c → Rises a c
@@ -23,11 +22,6 @@ rises_earlier a b c earlier rises later few = ⊎_elim
     omega (arith, less, earlier))
     (λ above. omega (arith, above, few, later))
     (cases_lt b (2 ^ 64 - 1))
-
--- an error that is kept tells what it told
-pub some_tells : {X E : Type 0} (P : E → Type 0) (b : Bool) (r : Result X E) → IfErr r (λ e. P e × (b ≡ true)) → result_err r ≢ None → b ≡ true
-some_tells P b (Ok x) holds some = absurd (some refl)
-some_tells P b (Err e) holds some = holds.1
 
 -- at the end
 pub counted_end : (failed : Bool) (floor before after : ℕ) (end : Option Error) → (failed ≡ true → Rises floor before) → floor ≤ before
@@ -60,3 +54,7 @@ no_failure refusals e none is sound tells = ⊎_elim
     (λ some. some none)
     (λ failed. sound (some_same (sym is ∙ failed)))
     tells
+
+-- what failed did not stay sound
+pub failed_not : (failed : Bool) → failed ≡ true → failed ≡ false → ⊥
+failed_not failed is sound = true≢false (sym is ∙ sound)

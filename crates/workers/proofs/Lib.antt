@@ -6,3 +6,4 @@ mod Acknowledgements
 mod Surviving
 mod Seated
 mod Counting
+mod Renamed

@@ -1,5 +1,5 @@
 -- Refusals.
-use Rattle.std.proofs.Common.{◌≡◌, ◌∙◌, ℕ, None, Option, Some, Result, Ok, Err, IfErr, IfOk, IfSome, Bool, false, true, true≢false, ap, inl, refl, subst, sym}
+use Rattle.std.proofs.Common.{◌≡◌, ◌∙◌, ℕ, None, Option, Some, Result, Ok, Err, IfErr, IfOk, IfSome, ap, inl, subst, sym}
 use Rattle.std.specs.Result.{result_err}
 use Rattle.records.specs.declared.error.Error.{Error}
 use Rattle.records.specs.declared.error.Error.TheVariants.{NoMemory}
@@ -7,16 +7,6 @@ use Rattle.sector_device.specs.Disk.{IsSynced}
 use Rattle.sector_device.specs.History.{History}
 use Rattle.restart.specs.Reopening.{IsNotOpened, IsTurned}
 use Rattle.threads.specs.Openings.{IsOpenedOver, StoreValue}
-
--- what holds of an error holds of what is kept of it
-pub err_kept : {X E : Type 0} (P Q : E → Type 0) (r : Result X E) → IfErr r (λ e. P e × Q e) → IfSome (result_err r) P
-err_kept P Q (Ok x) holds = tt
-err_kept P Q (Err e) holds = holds.0
-
--- there is no error where it would tell what isn't so
-pub none_kept : {X E : Type 0} (P : E → Type 0) (b : Bool) (r : Result X E) → IfErr r (λ e. P e × (b ≡ true)) → b ≡ false → result_err r ≡ None
-none_kept P b (Ok x) holds sound = refl
-none_kept P b (Err e) holds sound = absurd (true≢false (sym holds.1 ∙ sound))
 
 -- two facts of an error, and what follows from both
 pub err_of_both : {X E : Type 0} (P Q R : E → Type 0) (r : Result X E) → IfErr r P → IfErr r Q → ((e : E) → P e → Q e → R e) → IfErr r R
@@ -33,19 +23,15 @@ not_begun {D} history failures before count s after e over none same = record {
   synced = λ other. subst (λ (d : D). IsSynced (history d).disk) (sym same) over.synced;
 }
 
-pub err_some : {X E : Type 0} (P : E → Type 0) (r : Result X E) → IfErr r P → IfSome (result_err r) P
-err_some P (Ok x) holds = tt
-err_some P (Err e) holds = holds
-
 pub some_weaker : {E : Type 0} (P Q : E → Type 0) (e : Option E) → ((x : E) → P x → Q x) → IfSome e P → IfSome e Q
 some_weaker P Q None then holds = tt
 some_weaker P Q (Some x) then holds = then x holds
-
--- one error is the other
-pub some_same : {X : Type 0} {x y : X} → Some x ≡ Some y → x ≡ y
-some_same same = cc
 
 -- where there is no error, there is what holds otherwise
 pub ok_some : {X E : Type 0} (P : X → Type 0) (r : Result X E) → IfOk r P → result_err r ≡ None → (x : X) × P x
 ok_some P (Ok x) holds none = (x, holds)
 ok_some P (Err e) holds none = absurd cc
+
+-- what is answered is so
+pub ok_from : {X E : Type 0} (P : X → Type 0) (r : Result X E) (x : X) → r ≡ Ok x → P x → IfOk r P
+ok_from P r x is holds = subst (λ s. IfOk s P) (sym is) holds

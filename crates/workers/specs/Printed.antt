@@ -24,10 +24,12 @@ use Rattle.workers.specs.declared.team.Worked.{Worked}
 
 -- ---- what is found
 
--- Threads that such arguments ask for worked on a new store of this geometry, with no row, no index and no record, and left this. Where no writer
--- was refused anything, and the end nothing but for a failed device, just the transactions that the writers are to commit are acknowledged.
+-- Threads that such arguments ask for worked on a new store of 8 pages, with room for 4,096 entries and 16 slots, with no row, no index and no
+-- record, and left this. Where no writer was refused anything, and the end nothing but for a failed device, just the transactions that the writers
+-- are to commit are acknowledged.
 pub record IsOfThreads (arguments : Arguments) (worked : Worked (MemDisk Global)) : Type 0 where
   pub geometry : GeometryValue
+  pub size : geometry ≡ record { pages = 8; entries = 4096; slots = 16 }
   pub left : IsLeft history_of (over geometry nothing) arguments.writers arguments.changes worked
   pub acknowledged : worked.refusals.writer ≡ None → TellsAll worked.refusals.end → worked.acknowledged.items ≡ all_kept arguments.writers arguments.changes
 
@@ -57,11 +59,11 @@ pub record IsFoundBehindCrash (arguments : Arguments) (found : Found) : Type 0 w
   pub shown : found.shown ≡ found.rows
   pub same : found.same ≡ true
 
--- there was no memory, or a disk failed
+-- it is `NoMemory` or `DeviceFailed`
 abbrev pub IsWantOrFailure : Error → Type 0
 IsWantOrFailure e = (e ≡ NoMemory) ⊎ (e ≡ DeviceFailed)
 
--- Why nothing was found: there was no memory, or a disk failed; or this is the first refusal that is told of such threads; or a crash left a
+-- Why nothing was found: it is `NoMemory` or `DeviceFailed`; or this is the first refusal that is told of such threads; or a crash left a
 -- disk of what such threads left, and the builder of the store on it was refused a step.
 abbrev pub IsNothingFound : Arguments → Error → Type 0
 IsNothingFound arguments e =

@@ -1,5 +1,5 @@
 //! The threads of the program.
-ghost use Rattle.std.specs.Prelude.{◌≡◌, ◌≢◌, ◌⊎◌, ◌≤◌, ◌<◌, ◌+◌, ◌++◌, ◌∷◌, [], ℕ, All, IfErr, IfOk, IfSome, None, OnErr, OnOk, Some, false, flat_map, length, map, slice_get, slice_index_or, true, vec_len};
+ghost use Rattle.std.specs.Prelude.{◌≡◌, ◌≢◌, ◌⊎◌, ◌≤◌, ◌<◌, ◌+◌, ◌++◌, ◌∷◌, [], ℕ, All, IfErr, IfOk, IfSome, None, OnErr, OnOk, Some, false, flat_map, map, slice_get, slice_index_or, true, vec_len};
 ghost use Rattle.std.specs.Result.{result_err};
 ghost use Rattle.records.specs.declared.error.Error.TheVariants.{DeviceFailed, NoMemory};
 ghost use Rattle.store_writer.specs.Parts.{device_of, halves_of, has_failed, synced_of};
@@ -16,8 +16,8 @@ ghost use Rattle.shared.specs.Seats.{AreNewSeats};
 ghost use Rattle.core_model.specs.Histories.{CanOpen, Opened};
 ghost use Rattle.restart.specs.Reopening.{IsNotOpened};
 ghost use Rattle.threads.specs.Openings.{IsNewFlusher, IsOpenable, Opens, StaysOpenable};
-ghost use Rattle.workers.specs.Left.{GivesMore, HasSetUp, IsBuildRefusal, IsEndRefusal, IsLeft, IsWhole, IsWriterRefusal, TellsAll, TellsFailure, all_kept, first_of};
-ghost use Rattle.workers.specs.Private.{HasDone, HaveMade, HaveWorked};
+ghost use Rattle.workers.specs.Left.{GivesMore, HasSetUp, IsBuildRefusal, IsBuilt, IsEndRefusal, IsLeft, IsWhole, IsWriterRefusal, TellsAll, TellsFailure, all_kept, first_of};
+ghost use Rattle.workers.specs.Private.{AreRenamed, HasDone, HaveMade, HaveSeenFailure, HaveWorked};
 
 use beside::{Ended, run_beside};
 use board::{BuildView, View};
@@ -185,15 +185,28 @@ fn add_acks<B: Group>(acks: &mut Vec<Ack<B>>, more: Vec<Ack<B>>) -> Result<(), A
     Ok(())
 }
 
-// The first refusal that a writer had.
-fn first_refused<B: Group>(written: &[Written<B>]) -> Option<Error>
-    ensures { result ≡ first_of (map (λ w. w.refused) written.now) }
+// The first refusal that a writer had. Its seat's view is compared with what the flusher has published: so where that writer saw
+// that the device failed, it had.
+fn first_refused<B: Group, D: Device>(
+    shared: &Shared<B>,
+    flush: &mut FlushPart<B, D>,
+    written: &mut Vec<Written<B>>,
+) -> Option<Error>
+    requires flush { flush.old.published.board ≡ B.board }
+    ensures refused { result ≡ first_of (map (λ w. w.refused) written.old.items) }
+    ensures flush { flush.new ≡ flush.old }
+    ensures renamed { AreRenamed (λ w. w.seat) (λ w. w.acks.items) (λ w. w.acknowledged.items) (λ w. w.refused) written.old.items written.new.items }
+    ensures failed { result ≡ Some DeviceFailed → HaveSeenFailure (λ w. w.seat) (λ w. w.refused) written.old.items → has_failed flush.old.writer ≡ true }
 {
-    let mut refusal = None;
-    for writer in written {
-        refusal = refusal.or(writer.refused);
+    for k in 0..written.len() {
+        let writer = &mut written[k];
+        if let Some(error) = writer.refused {
+            let mut view = shared.another_view(&mut writer.seat);
+            flush.settle(shared.board(), &mut view);
+            return Some(error);
+        }
     }
-    refusal
+    None
 }
 
 // The seats of all writers in order, with the last one behind them, and what the writers were told.
@@ -238,9 +251,10 @@ fn refused<B: Group, D: Device>(
     requires opens { CanOpen B.site.opened }
     requires flusher { IfSome before.flusher (λ e. e ≡ DeviceFailed) }
     requires builder { IfSome before.builder (IsBuildRefusal B.site.opened) }
-    requires end { IsEndRefusal B.site.opened error }
+    requires end { IsEndRefusal B.site.opened [] (record before { end = Some error }) error }
     requires sound { error ≢ DeviceFailed }
-    ensures left { (writers changes : ℕ) → IfSome before.writer (IsWriterRefusal B.site.opened) → IsLeft D.history B.site.opened writers changes result }
+    requires unwritten { (error ≡ NoMemory) ⊎ (flush.handed ≡ []) }
+    ensures left { (writers changes : ℕ) → IfSome before.writer (IsWriterRefusal B.site.opened writers changes) → (before.writer ≡ Some DeviceFailed → before.flusher ≢ None) → IsLeft D.history B.site.opened writers changes result }
     ensures told { result.refusals ≡ record before { end = Some error } }
     ensures device { result.device ≡ device_of flush.writer }
 {
@@ -285,6 +299,48 @@ fn close<B: Group, D: Device, R: Wait>(
     }
 }
 
+// Takes back what the writers leave, where these refusals came before.
+fn take_back<B: Group, D: Device + Drop, R: Wait>(
+    rt: &R,
+    alloc: Global,
+    shared: Shared<B>,
+    written: Vec<Written<B>>,
+    last: Seat<B>,
+    flush: FlushPart<B, D>,
+    before: Refusals,
+) -> Worked<D>
+    requires opens { CanOpen B.site.opened }
+    requires seats { AreAllSeats B.site.seats (map (λ w. w.seat) written.items ++ last ∷ []) }
+    requires flush { flush.published.board ≡ B.board }
+    requires writer { before.writer ≡ first_of (map (λ w. w.refused) written.items) }
+    requires flusher { IfSome before.flusher (λ e. e ≡ DeviceFailed) }
+    requires failed { before.flusher ≢ None → has_failed flush.writer ≡ true }
+    requires sound { before.flusher ≡ None → has_failed flush.writer ≡ false }
+    requires builder { IfSome before.builder (IsBuildRefusal B.site.opened) }
+    requires built { before.builder ≡ None → IsBuilt B.site.opened }
+    ensures left { (writers changes : ℕ) → vec_len written ≡ writers → HaveWorked B.site.opened (λ w. w.seat) (λ w. w.acks.items) (λ w. w.acknowledged.items) (λ w. w.refused) changes written.items → HasSetUp last.session → (before.writer ≡ Some DeviceFailed → has_failed flush.writer ≡ true) → IsLeft D.history B.site.opened writers changes result }
+    ensures counted { (floor : ℕ) → (has_failed flush.writer ≡ true → Rises floor (D.failures (device_of flush.writer))) → floor ≤ D.failures (device_of flush.writer) → TellsFailure result.refusals → Rises floor (D.failures result.device) }
+    ensures told { result.refusals ≡ record before { end = result.refusals.end } }
+    ensures acknowledged { (changes : ℕ) → HaveMade (λ w. w.refused) (λ w. w.acknowledged.items) changes written.items → before.writer ≡ None → TellsAll result.refusals.end → result.acknowledged.items ≡ all_kept (vec_len written) changes }
+{
+    let Ok(gathered) = gather(alloc, written, last) else {
+        return refused(alloc, flush, before, Error::NoMemory);
+    };
+    let Gathered {
+        seats,
+        acks,
+        acknowledged,
+    } = gathered;
+    let (device, end) = close(rt, alloc, shared, seats, flush, acks);
+    let mut refusals = before;
+    refusals.end = end;
+    Worked {
+        device,
+        acknowledged,
+        refusals,
+    }
+}
+
 // What is done once writers and loops have ended. What they were refused is told, also where there is no memory for what they left.
 fn end<B: Group, D: Device + Drop, R: Wait>(
     rt: &R,
@@ -297,6 +353,7 @@ fn end<B: Group, D: Device + Drop, R: Wait>(
     requires flush { ended.flush.published.board ≡ B.board }
     requires why { IfErr ended.built (IsBuildRefusal B.site.opened) }
     requires failed { IfErr ended.flushed (λ e. (e ≡ DeviceFailed) × (has_failed ended.flush.writer ≡ true)) }
+    requires sound { OnOk ended.flushed (has_failed ended.flush.writer ≡ false) }
     requires built { IfOk ended.built (λ ticket. ∥ WasServed B.site.opened Event.Build (built (reply.Done ticket)) ∥₁) }
     ensures left { (writers changes : ℕ) → IfOk ended.clients (λ v. (vec_len v ≡ writers) × HaveWorked B.site.opened (λ w. w.seat) (λ w. w.acks.items) (λ w. w.acknowledged.items) (λ w. w.refused) changes v.items) → HasSetUp ended.seat.session → IsLeft D.history B.site.opened writers changes result }
     ensures counted { (floor : ℕ) → (has_failed ended.flush.writer ≡ true → Rises floor (D.failures (device_of ended.flush.writer))) → floor ≤ D.failures (device_of ended.flush.writer) → TellsFailure result.refusals → Rises floor (D.failures result.device) }
@@ -309,7 +366,7 @@ fn end<B: Group, D: Device + Drop, R: Wait>(
     let Ended {
         clients,
         seat,
-        flush,
+        mut flush,
         flushed,
         built,
     } = ended;
@@ -321,25 +378,11 @@ fn end<B: Group, D: Device + Drop, R: Wait>(
         builder,
         end: None,
     };
-    let Ok(written) = clients else {
+    let Ok(mut written) = clients else {
         return refused(alloc, flush, refusals, Error::NoMemory);
     };
-    refusals.writer = first_refused(&written);
-    let Ok(gathered) = gather(alloc, written, seat) else {
-        return refused(alloc, flush, refusals, Error::NoMemory);
-    };
-    let Gathered {
-        seats,
-        acks,
-        acknowledged,
-    } = gathered;
-    let (device, end) = close(rt, alloc, shared, seats, flush, acks);
-    refusals.end = end;
-    Worked {
-        device,
-        acknowledged,
-        refusals,
-    }
+    refusals.writer = first_refused(&shared, &mut flush, &mut written);
+    take_back(rt, alloc, shared, written, seat, flush, refusals)
 }
 
 // Runs the writers and the three loops, each in a thread.
@@ -369,6 +412,7 @@ fn run_all<
     ensures counted { has_failed result.flush.writer ≡ true → has_failed flush.writer ≡ false → Rises (D.failures (device_of flush.writer)) (D.failures (device_of result.flush.writer)) }
     ensures later { D.failures (device_of flush.writer) ≤ D.failures (device_of result.flush.writer) }
     ensures failed { IfErr result.flushed (λ e. (e ≡ DeviceFailed) × (has_failed result.flush.writer ≡ true)) }
+    ensures sound { OnOk result.flushed (has_failed result.flush.writer ≡ false) }
 {
     let Team {
         rt,

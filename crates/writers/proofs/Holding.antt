@@ -31,8 +31,8 @@ use Rattle.sessions.specs.Steps.{begun, committed}
 use Rattle.sessions.specs.Values.{ActiveValue, SessionValue, active_of, can_go_on, is_active, is_ready, new_active, rows_of, without}
 use Rattle.shared.specs.Changed.{HasChanged, row_of}
 use Rattle.shared.specs.Served.{WasServedTo}
-use Rattle.writers.specs.Private.{HasCommitted, Holds}
-use Rattle.writers.specs.Transactions.{Sets}
+use Rattle.writers.specs.Private.{HasCommitted}
+use Rattle.writers.specs.Transactions.{Holds, Sets}
 
 -- ---- writes
 

@@ -1,17 +1,17 @@
 -- A commit that was not acknowledged.
-use Rattle.std.proofs.Common.{◌≡◌, ◌∙◌, ◌++◌, ◌∷◌, [], arith, List, map, None, OnErr, OnOk, Result, Ok, Err, ◌⊎◌, ⊎_elim, ℕ, subst, sym, ap, append_assoc, append-nil}
-use Rattle.std.proofs.lemmas.List.{map-append}
-use Rattle.board.specs.Views.{Sighting}
+use Rattle.std.proofs.Common.{◌≡◌, ◌∙◌, ◌+◌, ◌++◌, ◌∷◌, [], arith, Bool, List, map, None, OnErr, OnOk, Option, Result, Ok, Err, ◌⊎◌, ⊎_elim, ℕ, subst, suc, sym, ap, append_assoc, append-nil, length, length-append, refl, zero}
+use Rattle.std.proofs.lemmas.List.{length-map, map-append}
+use Rattle.board.specs.Views.{Sighting, stays_as}
 use Rattle.model.specs.declared.write.Write.{Write}
 use Rattle.nsf_core.specs.declared.parts.Ticket.{Ticket}
 use Rattle.records.specs.declared.error.Error.{Error}
 use Rattle.sessions.specs.Steps.{committed}
 use Rattle.sessions.specs.Values.{CommitValue, SessionValue}
 use Rattle.shared.specs.Changed.{HasChanged}
-use Rattle.shared.specs.Seats.{SeatValue}
+use Rattle.shared.specs.Seats.{AckValue, SeatValue}
 use Rattle.shared.specs.Waits.{HasReadWhy}
 use Rattle.writers.specs.Private.{HasCommitted}
-use Rattle.writers.specs.Transactions.{AreAllButOne, SeesNoMore, tickets_of}
+use Rattle.writers.specs.Transactions.{AreAllButOne, SeesNoMore, cut_name, tickets_in, tickets_of, told_by}
 
 -- there is none
 pub none_late : (these all : List Ticket) → all ≡ these → AreAllButOne these all
@@ -20,10 +20,6 @@ none_late these all same = ([], omega (arith), same ∙ sym (append-nil these))
 -- there is one
 pub one_late : (these all : List Ticket) (t : Ticket) → all ≡ these ++ t ∷ [] → AreAllButOne these all
 one_late these all t more = (t ∷ [], omega (arith), more)
-
--- behind the same tickets
-pub late_behind : (before these all : List Ticket) → AreAllButOne these all → AreAllButOne (before ++ these) (before ++ all)
-late_behind before these all late = (late.0, late.1, ap (λ more. before ++ more) late.2 ∙ sym (append_assoc before these late.0))
 
 -- what is so anyhow
 pub on_err : {T E P : Type 0} (r : Result T E) → P → OnErr r P
@@ -41,10 +37,6 @@ committed_ticket s txn t = map-append (λ (c : CommitValue). c.ticket) s.commits
 -- a wait that was refused leaves the session
 pub session_waited : (e : Error) (before after : SeatValue) → HasReadWhy e before after → after.session ≡ before.session
 session_waited e before after why = ⊎_elim (λ failed. ap (λ (s : SeatValue). s.session) failed.1) (λ stopped. ap (λ (s : SeatValue). s.session) stopped.2) why
-
--- tickets that were told, and those of one more transaction
-pub told_more : (before told more now : List Ticket) (was : List Ticket) → was ≡ before ++ told → now ≡ was ++ more → now ≡ before ++ (told ++ more)
-told_more before told more now was first then = then ∙ (ap (λ ts. ts ++ more) first ∙ append_assoc before told more)
 
 -- what follows from what is so where there was no refusal
 pub on_ok_both : {T E P Q : Type 0} (r : Result T E) → OnOk r P → (P → Q) → OnOk r Q
@@ -64,9 +56,44 @@ pub on_ok : {T E P : Type 0} (r : Result T E) → P → OnOk r P
 on_ok (Ok t) p = p
 on_ok (Err e) p = tt
 
--- what was seen of the board, and then more
-pub sees_on : (first old new : Sighting) → SeesNoMore first old → SeesNoMore old new → SeesNoMore first new
-sees_on first old new before then = then ∙ ap (λ (s : Sighting). record s { horizon = new.horizon; failed = new.failed; stopped = new.stopped; name = new.name }) before
+-- ---- what is seen of the board
 
-pub sees_as : (first : Sighting) (old new : SeatValue) → new ≡ old → SeesNoMore first old.sight → SeesNoMore first new.sight
-sees_as first old new same seen = subst (λ (s : SeatValue). SeesNoMore first s.sight) (sym same) seen
+-- views that are cut off, and then more
+cut_twice : (n m : ℕ) (name : List Bool) → cut_name n (cut_name m name) ≡ cut_name (n + m) name
+cut_twice zero m name =
+    let same : m ≡ 0 + m = omega (arith) in
+    ap (λ (k : ℕ). cut_name k name) same
+cut_twice (suc n) m name =
+    let one_more : suc (n + m) ≡ suc n + m = omega (arith) in
+    ap (λ (name : List Bool). stays_as name) (cut_twice n m name) ∙ ap (λ (k : ℕ). cut_name k name) one_more
+
+-- what was seen, and then more
+pub sees_on : (n m : ℕ) (first old new : Sighting) → SeesNoMore m first old → SeesNoMore n old new → SeesNoMore (n + m) first new
+sees_on n m first old new before then =
+    then
+    ∙ (ap (λ (s : Sighting). record s { horizon = new.horizon; failed = new.failed; stopped = new.stopped; name = cut_name n s.name }) before
+    ∙ ap (λ (name : List Bool). record first { horizon = new.horizon; failed = new.failed; stopped = new.stopped; name = name }) (cut_twice n m first.name))
+
+pub sees_as : (m : ℕ) (first : Sighting) (old new : SeatValue) → new ≡ old → SeesNoMore m first old.sight → SeesNoMore m first new.sight
+sees_as m first old new same seen = subst (λ (s : SeatValue). SeesNoMore m first s.sight) (sym same) seen
+
+acks_long : (acks : List AckValue) → length (tickets_in acks) ≡ length acks
+acks_long acks = length-map acks _
+
+-- at first nothing
+pub sees_nothing : (acks : ℕ) (sight : Sighting) (told : List AckValue) → acks ≡ length told → told ≡ [] → SeesNoMore acks sight sight
+sees_nothing acks sight told many none = subst (λ (n : ℕ). SeesNoMore n sight sight) (sym (many ∙ ap length none)) refl
+
+-- and with each transaction more
+pub sees_next : (before acks : ℕ) (first now made new : SeatValue) (told kept : List AckValue) (ack : Option AckValue) → before ≡ length told → acks ≡ length kept → SeesNoMore before first.sight now.sight
+    → SeesNoMore (length (told_by ack)) now.sight made.sight → new ≡ made → tickets_in kept ≡ tickets_in told ++ told_by ack → SeesNoMore acks first.sight new.sight
+sees_next before acks first now made new told kept ack many many_kept seen then same all =
+    let long : length (tickets_in kept) ≡ length (tickets_in told) + length (told_by ack) = ap length all ∙ length-append (tickets_in told) (told_by ack) in
+    let is : length (told_by ack) + before ≡ acks = omega (arith, long, many, many_kept, acks_long told, acks_long kept) in
+    subst (λ (n : ℕ). SeesNoMore n first.sight new.sight) is (sees_as (length (told_by ack) + before) first.sight made new same (sees_on (length (told_by ack)) before first.sight now.sight made.sight seen then))
+
+-- and none with one that was refused
+pub sees_refused : (acks : ℕ) (first now new : Sighting) → SeesNoMore acks first now → SeesNoMore 0 now new → SeesNoMore acks first new
+sees_refused acks first now new seen then =
+    let same : 0 + acks ≡ acks = omega (arith) in
+    subst (λ (n : ℕ). SeesNoMore n first new) same (sees_on 0 acks first now new seen then)

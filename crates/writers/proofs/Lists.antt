@@ -1,5 +1,5 @@
--- Lists. The crate above may cite them.
-use Rattle.std.proofs.Common.{◌≡◌, ◌++◌, ◌∷◌, [], List, ap, refl, suc}
+-- Lists, and what may be there. The crate above may cite them.
+use Rattle.std.proofs.Common.{◌≡◌, ◌++◌, ◌∷◌, [], List, Some, ap, refl, suc}
 use Rattle.std.specs.List.{AllByRecursion, AllZip}
 use Rattle.std.specs.Prelude.{length}
 
@@ -21,3 +21,7 @@ zip_length R [] [] each = refl
 zip_length R (x ∷ xs) (y ∷ ys) each = ap suc (zip_length R xs ys each.1)
 zip_length R [] (y ∷ ys) each = absurd each
 zip_length R (x ∷ xs) [] each = absurd each
+
+-- what is there is the same
+pub some_same : {X : Type 0} {x y : X} → Some x ≡ Some y → x ≡ y
+some_same same = cc

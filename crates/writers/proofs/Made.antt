@@ -1,26 +1,40 @@
 -- What a writer's transactions make, one after the other.
-use Rattle.std.proofs.Common.{◌≡◌, ◌≢◌, ◌∙◌, ◌+◌, ◌++◌, ◌<◌, ◌≤◌, ◌∷◌, [], zero, suc, ◌⊎◌, ⊎_elim, Bool, Err, IfSome, List, None, Ok, Option, Result, Some, ℕ, ap, append-nil, append_assoc, arith, length, length-append, eq-eqb, false, inl, inr, is_some, ne_eqb, refl, subst, sym, true}
+use Rattle.std.proofs.Common.{◌≡◌, ◌≢◌, ◌∙◌, ◌+◌, ◌++◌, ◌<◌, ◌≤◌, ◌∷◌, [], zero, suc, ◌⊎◌, ⊎_elim, Bool, IfSome, List, None, Option, Result, Some, ℕ, ap, append-nil, append_assoc, arith, eq-eqb, false, inl, inr, is_some, ne_eqb, refl, subst, sym, true}
 use Rattle.std.proofs.lemmas.List.Elements.{All-from_recursion, All-nil}
 use Rattle.std.specs.List.{AllByRecursion, AllZip}
-use Rattle.std.specs.Result.{IsErr, result_err}
-use Rattle.std.specs.Prelude.{if◌then◌else◌, ◌==◌}
+use Rattle.std.specs.Result.{result_err}
+use Rattle.std.specs.Prelude.{IsErrAnd, if◌then◌else◌, ◌==◌}
+use Rattle.core_contracts.specs.Events.{Event}
+use Rattle.core_model.specs.Histories.{Opened}
 use Rattle.model.specs.declared.write.Write.{Write}
 use Rattle.records.specs.Values.{Place}
 use Rattle.records.specs.declared.error.Error.{Error}
+use Rattle.records.specs.declared.error.Error.TheVariants.{NoMemory}
 use Rattle.nsf_core.specs.declared.parts.Ticket.{Ticket}
 use Rattle.sessions.specs.Values.{CommitValue, SessionValue, rows_of}
-use Rattle.shared.specs.Seats.{AckValue}
+use Rattle.shared.specs.Seats.{AckValue, SeatValue}
 use Rattle.shared.specs.Changed.{HasChanged, IsGoingBack, row_of}
 use Rattle.writers.proofs.Holding.{holds_more}
-use Rattle.writers.proofs.Lists.{all_append, zip_length, zip_more}
-use Rattle.writers.specs.Private.{Adds, HasCome, HasCommitted, Holds, HoldsPuts, MayAdd}
-use Rattle.writers.specs.Transactions.{AreApart, AreSetUp, HasPut, IsCommitAt, deleted, deletion, HasWritten, IsCommitOf, Sets, before_of, is_kept, kept_of, put, puts, writes_of}
+use Rattle.writers.proofs.Lists.{all_append, zip_more}
+use Rattle.writers.proofs.Refusing.{err_told, step_refused}
+use Rattle.writers.specs.Private.{Adds, HasCome, HasCommitted, IsUnsafe, LeavesOff}
+use Rattle.writers.specs.Refusals.{IsAlone, IsStepOf, IsStepRefusal, IsWritingRefusal}
+use Rattle.writers.specs.Transactions.{AreApart, HasPut, Holds, HoldsPuts, IsCommitAt, deleted, deletion, IsCommitOf, Sets, before_of, is_kept, kept_of, put, puts, writes_of}
+use Rattle.writers.specs.Written.{HasWritten, IsTakenBack}
 use Rattle.writers.specs.declared.writer.Acknowledged.{Acknowledged}
 
 -- ---- places
 
 not_equal : (k n : ℕ) → k < n → (k == n) ≡ false
 not_equal k n less = ne_eqb k n (λ is. absurd (omega (arith, less, is)))
+
+below_or_last : (j n : ℕ) → j < suc n → (j < n) ⊎ (j ≡ n)
+below_or_last zero zero less = inr refl
+below_or_last zero (suc n) less = inl (omega (arith))
+below_or_last (suc j) zero less = absurd (omega (arith, less))
+below_or_last (suc j) (suc n) less =
+    let before : j < suc n = omega (arith, less) in
+    ⊎_elim (λ early. inl (omega (arith, early))) (λ last. inr (ap suc last)) (below_or_last j n before)
 
 -- the places, with this one at a number
 abbrev place_at : (places : ℕ → Place) → ℕ → Place → ℕ → Place
@@ -82,13 +96,30 @@ is_placed places w n place before c last is =
     at_is (here w n) before (before_of (place_at places n place) n) place (place_at places n place n) c (last ∙ sym (before_placed places n place n itself)) (sym (placed places n place)) is
 
 -- at first there are none
-pub none_come : (writer : ℕ) (old : List CommitValue) (place : Place) → HasCome writer 0 old old None
-none_come writer old place = ((λ k. place), [], sym (append-nil old), tt, refl)
+pub none_come : (o : Opened) (seat writer : ℕ) (old : List CommitValue) (place : Place) → HasCome o seat writer 0 old old None
+none_come o seat writer old place = ((λ k. place), [], sym (append-nil old), tt, refl, λ n less unkept. absurd (omega (arith, less)))
+
+-- what was taken back, where one more has its place
+back_at : (o : Opened) (seat : ℕ) (a : Acknowledged) (before other : Option Place) (place there : Place) → before ≡ other → place ≡ there → IsTakenBack o seat a before place → IsTakenBack o seat a other there
+back_at o seat a before other place there same here is = subst (λ (p : Place). IsTakenBack o seat a other p) here (subst (λ (b : Option Place). IsTakenBack o seat a b place) same is)
+
+taken_placed : (o : Opened) (seat w n : ℕ) (places : ℕ → Place) (before : Option Place) (place : Place) → before ≡ before_of places n
+    → ((k : ℕ) → k < n → is_kept k ≡ false → IsTakenBack o seat (here w k) (before_of places k) (places k)) → (is_kept n ≡ false → IsTakenBack o seat (here w n) before place)
+    → (k : ℕ) → k < suc n → is_kept k ≡ false → IsTakenBack o seat (here w k) (before_of (place_at places n place) k) (place_at places n place k)
+taken_placed o seat w n places before place last earlier now k less unkept = ⊎_elim
+    (λ early.
+    let within : k ≤ n = omega (arith, early) in
+    back_at o seat (here w k) _ _ _ _ (sym (before_placed places n place k within)) (sym (placed_before places n place k early)) (earlier k early unkept))
+    (λ same.
+    let itself : n ≤ n = omega (arith) in
+    subst (λ (m : ℕ). IsTakenBack o seat (here w m) (before_of (place_at places n place) m) (place_at places n place m)) (sym same)
+    (back_at o seat (here w n) _ _ _ _ (last ∙ sym (before_placed places n place n itself)) (sym (placed places n place)) (now (subst (λ (m : ℕ). is_kept m ≡ false) same unkept))))
+    (below_or_last k n less)
 
 -- and then there is one more
-pub come_more : (w n : ℕ) (old now new : List CommitValue) (before : Option Place) (place : Place) (ack : Option AckValue)
-    → is_some ack ≡ is_kept n → HasCome w n old now before → Adds (here w n) before place ack now new → HasCome w (suc n) old new (Some place)
-come_more w n old now new before place None kept come adds =
+pub come_more : (o : Opened) (seat w n : ℕ) (old now new : List CommitValue) (before : Option Place) (place : Place) (ack : Option AckValue)
+    → is_some ack ≡ is_kept n → HasCome o seat w n old now before → Adds (here w n) before place ack now new → (is_kept n ≡ false → IsTakenBack o seat (here w n) before place) → HasCome o seat w (suc n) old new (Some place)
+come_more o seat w n old now new before place None kept come adds taken =
     let places = come.0 in
     let made = come.1 in (
       place_at places n place,
@@ -98,8 +129,9 @@ come_more w n old now new before place None kept come adds =
           (sym (append-nil (kept_of w n)) ∙ ap (λ (b : Bool). kept_of w n ++ (if b then here w n ∷ [] else [])) kept)
           (each_placed places n place (kept_of w n) made (kept_below w n) come.3),
       sym (ap Some (placed places n place)),
+      taken_placed o seat w n places before place come.4 come.5 taken,
     )
-come_more w n old now new before place (Some ack) kept come adds =
+come_more o seat w n old now new before place (Some ack) kept come adds taken =
     let places = come.0 in
     let made = come.1 in
     let c = adds.0 in (
@@ -111,48 +143,50 @@ come_more w n old now new before place (Some ack) kept come adds =
           (zip_more (IsCommitOf (place_at places n place)) (kept_of w n) made (here w n) c (each_placed places n place (kept_of w n) made (kept_below w n) come.3)
           (is_placed places w n place before c come.4 adds.3)),
       sym (ap Some (placed places n place)),
+      taken_placed o seat w n places before place come.4 come.5 taken,
     )
 
 -- which is kept
-pub come_next : (w n : ℕ) (old now new kept : List CommitValue) (before : Option Place) (place : Place) (ack : Option AckValue) → kept ≡ new
-    → is_some ack ≡ is_kept n → HasCome w n old now before → Adds (here w n) before place ack now new → HasCome w (n + 1) old kept (Some place)
-come_next w n old now new kept before place ack same is come adds =
+pub come_next : (o : Opened) (seat w n : ℕ) (old now new kept : List CommitValue) (before : Option Place) (place : Place) (ack : Option AckValue) → kept ≡ new
+    → is_some ack ≡ is_kept n → HasCome o seat w n old now before → Adds (here w n) before place ack now new → (is_kept n ≡ false → IsTakenBack o seat (here w n) before place) → HasCome o seat w (n + 1) old kept (Some place)
+come_next o seat w n old now new kept before place ack same is come adds taken =
     let one_more : suc n ≡ n + 1 = omega (arith) in
-    subst (λ (m : ℕ). HasCome w m old kept (Some place)) one_more (subst (λ (cs : List CommitValue). HasCome w (suc n) old cs (Some place)) (sym same) (come_more w n old now new before place ack is come adds))
-
--- what was made may be one more where it wasn't kept
-pub may_add : (a : Acknowledged) (before : Option Place) (place : Place) (ack : Option AckValue) (now new : List CommitValue) → is_some ack ≡ is_kept a.change → Adds a before place ack now new → MayAdd a before now new
-may_add a before place None now new kept adds =
-    let few : 0 ≤ 1 = omega (arith) in
-    ([], place, adds ∙ sym (append-nil now), few, tt)
-may_add a before place (Some ack) now new kept adds =
-    let few : 1 ≤ 1 = omega (arith) in
-    (adds.0 ∷ [], place, adds.1, few, ((sym kept, adds.3), tt))
+    subst (λ (m : ℕ). HasCome o seat w m old kept (Some place)) one_more
+    (subst (λ (cs : List CommitValue). HasCome o seat w (suc n) old cs (Some place)) (sym same) (come_more o seat w n old now new before place ack is come adds taken))
 
 all_placed : (places : ℕ → Place) (w n changes : ℕ) (place : Place) (before : Option Place) (late : List CommitValue) → n < changes → before ≡ before_of places n → AllByRecursion (λ c. (is_kept n ≡ true) × IsCommitAt (here w n) before place c) late
     → AllByRecursion (λ c. (n < changes) × (is_kept n ≡ true) × IsCommitOf (place_at places n place) (here w n) c) late
 all_placed places w n changes place before [] less last are = tt
 all_placed places w n changes place before (c ∷ cs) less last are = ((less, are.0.0, is_placed places w n place before c last are.0.1), all_placed places w n changes place before cs less last are.1)
 
--- what is kept has as many
-pub adds_kept : (a : Acknowledged) (before : Option Place) (place : Place) (ack : Option AckValue) (old new kept : List CommitValue) → kept ≡ new → Adds a before place ack old new → Adds a before place ack old kept
-adds_kept a before place ack old new kept same adds = subst (λ (cs : List CommitValue). Adds a before place ack old cs) (sym same) adds
-
--- where there is none more
-pub may_none : (a : Acknowledged) (before : Option Place) (old new : List CommitValue) → new ≡ old → MayAdd a before old new
-may_none a before old new same =
+-- where a step was refused, there is none more
+pub left_at_step : (o : Opened) (a : Acknowledged) (before : Option Place) (old : List CommitValue) (new : SeatValue) (e : Error) → new.session.commits ≡ old → IsStepRefusal o a before new e → LeavesOff o a before old new e
+left_at_step o a before old new e same why =
     let few : 0 ≤ 1 = omega (arith) in
-    ([], record { page = 0; slot = 0 }, same ∙ sym (append-nil old), few, tt)
+    ([], record { page = 0; slot = 0 }, same ∙ sym (append-nil old), few, tt, inr (inl (refl, why)))
 
--- or there may be one
-pub may_commit : (a : Acknowledged) (before : Option Place) (place : Place) (first old new : SessionValue) (txn : ℕ) → is_kept a.change ≡ true → old.commits ≡ first.commits → Holds old txn (writes_of a before place) → deleted a.change before ≢ Some place
-    → (new ≡ old) ⊎ ((t : Ticket) × HasCommitted old txn t new) → MayAdd a before first.commits new.commits
-may_commit a before place first old new txn kept same holds apart what = ⊎_elim
-    (λ none. may_none a before first.commits new.commits (ap (λ (s : SessionValue). s.commits) none ∙ same))
-    (λ one.
+-- nor before the first, where there was no memory for what will be told
+pub left_at_first : (o : Opened) (w : ℕ) (old : List CommitValue) (new : SeatValue) (e : Error) → new.session.commits ≡ old → new.session.active ≡ [] → e ≡ NoMemory → LeavesOff o (here w 0) None old new e
+left_at_first o w old new e same closed none =
+    let few : 0 ≤ 1 = omega (arith) in
+    ([], record { page = 0; slot = 0 }, same ∙ sym (append-nil old), few, tt, inl (none, refl, refl, closed))
+
+-- or the commit was, or waited for no longer
+pub left_unsafe : (o : Opened) (a : Acknowledged) (before : Option Place) (place : Place) (first : List CommitValue) (old new : SeatValue) (txn : ℕ) (e : Error) → is_kept a.change ≡ true → IsAlone old.session txn → old.session.commits ≡ first
+    → Holds old.session txn (writes_of a before place) → deleted a.change before ≢ Some place → IsUnsafe o txn old new e → LeavesOff o a before first new e
+left_unsafe o a before place first old new txn e kept alone same holds apart what = ⊎_elim
+    (λ step. left_at_step o a before first new e (ap (λ (s : SessionValue). s.commits) step.0 ∙ same)
+    (step_refused (IsStepOf a before) o new (Event.Commit txn) e (subst (λ (s : SessionValue). IsStepOf a before s (Event.Commit txn)) (sym step.0) (alone, kept, (place, apart, holds))) step.1))
+    (λ late.
     let few : 1 ≤ 1 = omega (arith) in
-    let c : CommitValue = record { ticket = one.0; writes = rows_of txn old.active } in
-    (c ∷ [], place, ap (λ (s : SessionValue). s.commits) one.1.0 ∙ ap (λ (cs : List CommitValue). cs ++ c ∷ []) same, few, ((kept, (one.1.1 (writes_of a before place) holds, apart)), tt)))
+    let c : CommitValue = record { ticket = late.0; writes = rows_of txn old.session.active } in (
+      c ∷ [],
+      place,
+      ap (λ (s : SessionValue). s.commits) late.1.0 ∙ ap (λ (cs : List CommitValue). cs ++ c ∷ []) same,
+      few,
+      ((kept, (late.1.1 (writes_of a before place) holds, apart)), tt),
+      inr (inr (c, refl, ap (λ (s : SessionValue). s.active) late.1.0 ∙ alone.1, late.2)),
+    ))
     what
 
 -- or there is one, which was acknowledged
@@ -163,7 +197,7 @@ adds_one a before place first old new txn ack same holds apart one =
     (c, ap (λ (s : SessionValue). s.commits) one.0 ∙ ap (λ (cs : List CommitValue). cs ++ c ∷ []) same, refl, (one.1 (writes_of a before place) holds, apart))
 
 -- the row that is deleted is held, so that the new one is elsewhere
-deleted_apart : (session : SessionValue) (txn : ℕ) (gone : Option Place) (place : Place) → IfSome gone (λ rid. row_of session txn rid ≢ None) → ((q : Place) → row_of session txn q ≢ None → q ≢ place) → gone ≢ Some place
+pub deleted_apart : (session : SessionValue) (txn : ℕ) (gone : Option Place) (place : Place) → IfSome gone (λ rid. row_of session txn rid ≢ None) → ((q : Place) → row_of session txn q ≢ None → q ≢ place) → gone ≢ Some place
 deleted_apart session txn None place held apart same = absurd cc
 deleted_apart session txn (Some rid) place held apart same =
     let is : rid ≡ place = cc in
@@ -182,50 +216,44 @@ row_put a before gone place old new txn same holds held apart changed =
 pub back_commits : (old new : SessionValue) (txn : ℕ) → (new ≡ old) ⊎ IsGoingBack old txn new → new.commits ≡ old.commits
 back_commits old new txn what = ⊎_elim (λ none. ap (λ (s : SessionValue). s.commits) none) (λ back. ap (λ (s : SessionValue). s.commits) back.others) what
 
--- where it could not be kept, there is one more than is told
-pub unkept_less : (w n : ℕ) (old now new : List CommitValue) (before : Option Place) (place : Place) (ack : Option AckValue) (told : List Acknowledged)
-    → is_some ack ≡ true → told ≡ kept_of w n → HasCome w n old now before → Adds (here w n) before place ack now new → length old + length told < length new
-unkept_less w n old now new before place None told some tells come adds = absurd cc
-unkept_less w n old now new before place (Some ack) told some tells come adds =
-    let longer : length new ≡ length now + 1 = ap length adds.1 ∙ length-append now (adds.0 ∷ []) in
-    let both : length now ≡ length old + length come.1 = ap length come.2 ∙ length-append old come.1 in
-    let many : length (kept_of w n) ≡ length come.1 = zip_length (IsCommitOf come.0) (kept_of w n) come.1 come.3 in
-    let same : length told ≡ length (kept_of w n) = ap length tells in
-    omega (arith, longer, both, many, same)
-
 -- where a transaction was refused something
-pub written_some : (w n changes : ℕ) (old now new : SessionValue) (before : Option Place) (told : List Acknowledged) (e : Error)
-    → n < changes → new.creations ≡ old.creations → told ≡ kept_of w n → HasCome w n old.commits now.commits before → MayAdd (here w n) before now.commits new.commits → HasWritten w changes old new told (Some e)
-written_some w n changes old now new before told e less created tells come may =
+pub written_some : (o : Opened) (w n changes : ℕ) (old : SessionValue) (now : List CommitValue) (new : SeatValue) (before : Option Place) (told : List Acknowledged) (e : Error)
+    → n < changes → new.session.creations ≡ old.creations → told ≡ kept_of w n → HasCome o new.number w n old.commits now before → LeavesOff o (here w n) before now new e → HasWritten o w changes old new told (Some e)
+written_some o w n changes old now new before told e less created tells come left =
     let most : n ≤ changes = omega (arith, less) in
+    let itself : n ≤ n = omega (arith) in
     let places = come.0 in
     let made = come.1 in
-    let late = may.0 in
+    let late = left.0 in
     record {
       count = n;
       most = most;
       tells = tells;
-      places = place_at places n may.1;
+      places = place_at places n left.1;
       made = made;
       late = late;
-      commits = may.2 ∙ ap (λ cs. cs ++ late) come.2;
-      are = each_placed places n may.1 (kept_of w n) made (kept_below w n) come.3;
-      few = may.3;
-      next = All-from_recursion (λ c. (n < changes) × (is_kept n ≡ true) × IsCommitOf (place_at places n may.1) (here w n) c) late (all_placed places w n changes may.1 before late less come.4 may.4);
+      commits = left.2 ∙ ap (λ cs. cs ++ late) come.2;
+      are = each_placed places n left.1 (kept_of w n) made (kept_below w n) come.3;
+      taken = λ k below unkept.
+          let within : k ≤ n = omega (arith, below) in
+          back_at o new.number (here w k) _ _ _ _ (sym (before_placed places n left.1 k within)) (sym (placed_before places n left.1 k below)) (come.5 k below unkept);
+      few = left.3;
+      next = All-from_recursion (λ c. (n < changes) × (is_kept n ≡ true) × IsCommitOf (place_at places n left.1) (here w n) c) late (all_placed places w n changes left.1 before late less come.4 left.4);
       early = λ some. less;
       whole = λ none. absurd cc;
+      why = subst (λ (b : Option Place). IsWritingRefusal o (here w n) b late new e) (come.4 ∙ sym (before_placed places n left.1 n itself)) left.5;
       creations = created;
     }
 
-pub written_err : {T : Type 0} (w n changes : ℕ) (old now new : SessionValue) (before : Option Place) (told : List Acknowledged) (r : Result T Error) → IsErr r
-    → n < changes → new.creations ≡ old.creations → told ≡ kept_of w n → HasCome w n old.commits now.commits before → MayAdd (here w n) before now.commits new.commits → HasWritten w changes old new told (result_err r)
-written_err w n changes old now new before told (Err e) is less created tells come may = written_some w n changes old now new before told e less created tells come may
-written_err w n changes old now new before told (Ok t) is less created tells come may = absurd cc
+pub written_err : {T : Type 0} (o : Opened) (w n changes : ℕ) (old : SessionValue) (now : List CommitValue) (new : SeatValue) (before : Option Place) (told : List Acknowledged) (r : Result T Error) (e : Error) → IsErrAnd r (λ (x : Error). x ≡ e)
+    → n < changes → new.session.creations ≡ old.creations → told ≡ kept_of w n → HasCome o new.number w n old.commits now before → LeavesOff o (here w n) before now new e → HasWritten o w changes old new told (result_err r)
+written_err o w n changes old now new before told r e is less created tells come left =
+    subst (λ (refused : Option Error). HasWritten o w changes old new told refused) (sym (err_told r e is)) (written_some o w n changes old now new before told e less created tells come left)
 
 -- where none was
-pub written_all : (w changes : ℕ) (old new : SessionValue) (before : Option Place) (told : List Acknowledged)
-    → new.creations ≡ old.creations → new.active ≡ [] → told ≡ kept_of w changes → HasCome w changes old.commits new.commits before → HasWritten w changes old new told None
-written_all w changes old new before told created closed tells come =
+pub written_all : (o : Opened) (w changes : ℕ) (old : SessionValue) (new : SeatValue) (before : Option Place) (told : List Acknowledged)
+    → new.session.creations ≡ old.creations → new.session.active ≡ [] → told ≡ kept_of w changes → HasCome o new.number w changes old.commits new.session.commits before → HasWritten o w changes old new told None
+written_all o w changes old new before told created closed tells come =
     let most : changes ≤ changes = omega (arith) in
     let few : 0 ≤ 1 = omega (arith) in
     record {
@@ -237,10 +265,12 @@ written_all w changes old new before told created closed tells come =
       late = [];
       commits = come.2 ∙ sym (append-nil (old.commits ++ come.1));
       are = come.3;
+      taken = come.5;
       few = few;
       next = All-nil (λ c. (changes < changes) × (is_kept changes ≡ true) × IsCommitOf come.0 (here w changes) c);
       early = λ some. absurd (some refl);
       whole = λ none. (refl, refl, closed);
+      why = tt;
       creations = created;
     }
 
@@ -253,14 +283,6 @@ puts_placed places first from n place (suc count) few =
     let fewer : count ≤ n = omega (arith, few) in
     ap (λ (ws : List Write). ws ++ put first (from + count) (place_at places n place count) ∷ []) (puts_placed places first from n place count fewer)
     ∙ ap (λ (p : Place). puts first from count places ++ put first (from + count) p ∷ []) (placed_before places n place count less)
-
-below_or_last : (j n : ℕ) → j < suc n → (j < n) ⊎ (j ≡ n)
-below_or_last zero zero less = inr refl
-below_or_last zero (suc n) less = inl (omega (arith))
-below_or_last (suc j) zero less = absurd (omega (arith, less))
-below_or_last (suc j) (suc n) less =
-    let before : j < suc n = omega (arith, less) in
-    ⊎_elim (λ early. inl (omega (arith, early))) (λ last. inr (ap suc last)) (below_or_last j n before)
 
 some_none : {X : Type 0} {x : X} → Some x ≡ None → ⊥
 some_none same = absurd cc
@@ -311,21 +333,3 @@ puts_all first old new txn from n count ticket all same held one =
       subst (λ (m : ℕ). Sets (puts 65535 from m held.0) c) all (one.1 (puts 65535 from n held.0) held.1),
       subst (λ (m : ℕ). AreApart m held.0) all held.2,
     )
-
--- both commits
-pub puts_both : (old between new : List CommitValue) → HasPut 0 50 old between → HasPut 50 50 between new → (commits : List CommitValue) × AreSetUp commits × (new ≡ old ++ commits)
-puts_both old between new first second = (
-  first.0 ∷ second.0 ∷ [],
-  record {
-    first = first.0;
-    second = second.0;
-    two = refl;
-    places = first.1;
-    other_places = second.1;
-    apart = first.4;
-    others_apart = second.4;
-    puts_first = first.3;
-    puts_second = second.3;
-  },
-  second.2 ∙ (ap (λ (cs : List CommitValue). cs ++ second.0 ∷ []) first.2 ∙ append_assoc old (first.0 ∷ []) (second.0 ∷ [])),
-)

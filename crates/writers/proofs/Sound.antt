@@ -1,24 +1,24 @@
 -- No step is refused for a device that failed. The crate above may cite this.
-use Rattle.std.proofs.Common.{◌≡◌, ◌≢◌, ◌∙◌, ◌∷◌, [], ℕ, ⊎_elim, None, Option, Some, refl, subst, sym}
+use Rattle.std.proofs.Common.{◌≡◌, ◌≢◌, ◌∙◌, ◌∷◌, [], ℕ, ⊎_elim, List, None, Option, Some, refl, subst, sym, true}
 use Rattle.std.proofs.Math.Logic.{∥∥₁_elim}
 use Rattle.core_contracts.specs.Events.{Event, Refused, Reply, Standing}
 use Rattle.core_contracts.specs.Replies.{IsAllowed, IsDue, IsFirst, Refusals, accepted, no_memory, refusals, refusals_of, refused, refused_last, skipped, unknown}
 use Rattle.core_model.specs.Histories.{Opened}
 use Rattle.core_model.specs.States.{State}
 use Rattle.core_model.specs.Steps.{MachineStep}
+use Rattle.records.specs.Values.{Place}
 use Rattle.records.specs.declared.error.Error.{Error}
 use Rattle.records.specs.declared.error.Error.TheVariants.{DeviceFailed}
-use Rattle.sessions.specs.Values.{SessionValue}
+use Rattle.sessions.specs.Values.{CommitValue, SessionValue}
 use Rattle.shared.specs.Seats.{SeatValue}
 use Rattle.shared.specs.Served.{WasServedTo}
-use Rattle.writers.specs.Refusals.{IsSetUpRefusal, IsSetUpStepOf, RefusesStep}
+use Rattle.writers.proofs.Lists.{some_same}
+use Rattle.writers.specs.Refusals.{IsPuttingStepOf, IsSetUpRefusal, IsStepOf, IsWritingRefusal, RefusesStep}
+use Rattle.writers.specs.declared.writer.Acknowledged.{Acknowledged}
 
 abbrev NoneFailed : Refusals → Type 0
 NoneFailed [] = Unit {0}
 NoneFailed (r ∷ rs) = (r.1 ≢ DeviceFailed) × NoneFailed rs
-
-some_same : {X : Type 0} {x y : X} → Some x ≡ Some y → x ≡ y
-some_same same = cc
 
 not_first : (rs : Refusals) (e : Error) → NoneFailed rs → IsFirst rs (Some e) → e ≢ DeviceFailed
 not_first [] e none is same = absurd cc
@@ -111,5 +111,32 @@ served_sound o seat session event e w =
     let answers = w.serves replied.state replied.standing replied.stands in
     allowed replied.state replied.standing event (Refused e) answers.step e answers.allowed refl
 
-pub set_up_sound : (o : Opened) (seat : SeatValue) (e : Error) → IsSetUpRefusal o seat e → e ≢ DeviceFailed
-set_up_sound o seat e refuses same = ∥∥₁_elim refuses (λ x y. absurd x) (λ (r : RefusesStep IsSetUpStepOf o seat e). served_sound o seat.number seat.session r.event e r.served same)
+-- so none of these is
+step_sound : (IsAsked : SessionValue → Event → Type 0) (o : Opened) (seat : SeatValue) (e : Error) → ∥ RefusesStep IsAsked o seat e ∥₁ → e ≢ DeviceFailed
+step_sound IsAsked o seat e refuses same = ∥∥₁_elim refuses (λ x y. absurd x) (λ (r : RefusesStep IsAsked o seat e). served_sound o seat.number seat.session r.event e r.served same)
+
+pub set_up_sound : (o : Opened) (old : List CommitValue) (seat : SeatValue) (e : Error) → IsSetUpRefusal o old seat e → e ≢ DeviceFailed
+set_up_sound o old seat e refusal = ⊎_elim
+    (λ first. step_sound (IsPuttingStepOf 0 50) o seat e first.1)
+    (λ later. ⊎_elim
+    (λ second. step_sound (IsPuttingStepOf 50 50) o seat e second.1)
+    (λ creation same. ∥∥₁_elim creation.2 (λ x y. absurd x) (λ (w : WasServedTo o seat.number seat.session Event.Create (Refused e)). served_sound o seat.number seat.session Event.Create e w same))
+    later)
+    refusal
+
+-- a writer is refused something for that only where its seat has seen the flag
+pub writing_sound : (o : Opened) (made : Acknowledged) (before : Option Place) (late : List CommitValue) (seat : SeatValue) (e : Error) → IsWritingRefusal o made before late seat e → e ≡ DeviceFailed → seat.sight.failed ≡ true
+writing_sound o made before late seat e refusal same = ⊎_elim
+    (λ room.
+    let clash = sym room.0 ∙ same in
+    absurd cc)
+    (λ begun. ⊎_elim
+    (λ step. absurd (step_sound (IsStepOf made before) o seat e step.1 same))
+    (λ commit. ⊎_elim
+    (λ failed. failed.1)
+    (λ stopped.
+    let clash = sym stopped.0 ∙ same in
+    absurd cc)
+    commit.3.1)
+    begun)
+    refusal

@@ -1,13 +1,13 @@
 -- What the writers' transactions write, and what they make of a seat.
-use Rattle.std.specs.Prelude.{[], All, Bool, if◌then◌else◌, length, List, map, None, not, Option, Some, suc, true, zero, ℕ, ◌%◌, ◌++◌, ◌==◌, ◌≡◌, ◌≢◌, ◌<◌, ◌≤◌, ◌+◌, ◌∷◌, ◌⊎◌}
-use Rattle.std.specs.List.{AllZip}
-use Rattle.board.specs.Views.{Sighting}
+use Rattle.std.specs.Prelude.{[], All, Bool, if◌then◌else◌, length, List, map, None, not, Option, Some, suc, unwrap_or, zero, ℕ, ◌%◌, ◌++◌, ◌==◌, ◌≡◌, ◌≢◌, ◌<◌, ◌≤◌, ◌+◌, ◌∷◌}
+use Rattle.board.specs.Views.{Sighting, stays_as}
 use Rattle.nsf_core.specs.declared.parts.Ticket.{Ticket}
-use Rattle.model.specs.Table.{Table, applied}
+use Rattle.model.specs.Table.{Table, applied, written_at}
 use Rattle.model.specs.declared.write.Write.{Write}
 use Rattle.records.specs.Values.{Place}
-use Rattle.records.specs.declared.error.Error.{Error}
+use Rattle.records.specs.declared.row.Row.{Row}
 use Rattle.sessions.specs.Values.{CommitValue, SessionValue}
+use Rattle.shared.specs.Changed.{row_of}
 use Rattle.shared.specs.Seats.{AckValue}
 use Rattle.writers.specs.Rows.{row_value}
 use Rattle.writers.specs.declared.writer.Acknowledged.{Acknowledged}
@@ -54,6 +54,29 @@ before_of places (suc n) = Some (places n)
 abbrev pub IsCommitOf : (places : ℕ → Place) → Acknowledged → CommitValue → Type 0
 IsCommitOf places made = IsCommitAt made (before_of places made.change) (places made.change)
 
+-- ---- what is held
+
+-- At the places that the transaction holds, its rows are what these writes leave, one after the other; and they write no other place.
+abbrev pub Holds : SessionValue → (txn : ℕ) → List Write → Type 0
+Holds s txn writes = (q : Place) (v : Option Row) → unwrap_or (row_of s txn q) v ≡ written_at writes q v
+
+-- the first of these places, so many of them, are each another
+abbrev pub AreApart : (count : ℕ) (places : ℕ → Place) → Type 0
+AreApart count places = (i j : ℕ) → i < j → j < count → places i ≢ places j
+
+-- The transaction has put so many of the rows that are there before the writers begin, from this number on, and holds their places, which
+-- are each another; and no other place.
+abbrev pub HoldsPuts : SessionValue → (txn from count : ℕ) → Type 0
+HoldsPuts s txn from count = (places : ℕ → Place) × Holds s txn (puts 65535 from count places) × AreApart count places × ((i : ℕ) → i < count → row_of s txn (places i) ≢ None)
+
+-- At each place but this one, the rows of the transaction are what these writes leave, one after the other; and beside that place it holds no other.
+abbrev pub HoldsBeside : SessionValue → (txn : ℕ) → Place → List Write → Type 0
+HoldsBeside s txn place writes = (q : Place) (v : Option Row) → q ≢ place → unwrap_or (row_of s txn q) v ≡ written_at writes q v
+
+-- The transaction holds no place but this one.
+abbrev pub HoldsAlone : SessionValue → (txn : ℕ) → Place → Type 0
+HoldsAlone s txn place = (q : Place) → q ≢ place → row_of s txn q ≡ None
+
 -- ---- what is committed
 
 -- the tickets of its commits
@@ -82,52 +105,25 @@ tickets_in acks = map (λ a. a.ticket) acks
 abbrev pub AreAllButOne : (these all : List Ticket) → Type 0
 AreAllButOne these all = (late : List Ticket) × (length late ≤ 1) × (all ≡ these ++ late)
 
--- Of a writer's first transactions, so many of them, those that it commits are committed, and just these were told; and the commit of the
--- next one may be there too, if it is to be committed. Where nothing was refused, these are all its transactions, there is no more, and none
--- is left open; and where something was, they are not all. It created nothing.
-pub record HasWritten (writer changes : ℕ) (old new : SessionValue) (told : List Acknowledged) (refused : Option Error) : Type 0 where
-  pub count : ℕ
-  pub most : count ≤ changes
-  pub tells : told ≡ kept_of writer count
-  pub places : ℕ → Place
-  pub made : List CommitValue
-  pub late : List CommitValue
-  pub commits : new.commits ≡ old.commits ++ made ++ late
-  pub are : AllZip (IsCommitOf places) (kept_of writer count) made
-  pub few : length late ≤ 1
-  pub next : All (λ c. (count < changes) × (is_kept count ≡ true) × IsCommitOf places (record { writer = writer; change = count }) c) late
-  pub early : refused ≢ None → count < changes
-  pub whole : refused ≡ None → (count ≡ changes) × (late ≡ []) × (new.active ≡ [])
-  pub creations : new.creations ≡ old.creations
-
--- the first of these places, so many of them, are each another
-abbrev pub AreApart : (count : ℕ) (places : ℕ → Place) → Type 0
-AreApart count places = (i j : ℕ) → i < j → j < count → places i ≢ places j
-
--- One commit puts the first fifty rows that are there before the writers begin, each at a place of its own, and one the other fifty.
-pub record AreSetUp (commits : List CommitValue) : Type 0 where
-  pub first : CommitValue
-  pub second : CommitValue
-  pub two : commits ≡ first ∷ second ∷ []
-  pub places : ℕ → Place
-  pub other_places : ℕ → Place
-  pub apart : AreApart 50 places
-  pub others_apart : AreApart 50 other_places
-  pub puts_first : Sets (puts 65535 0 50 places) first
-  pub puts_second : Sets (puts 65535 50 50 other_places) second
-
 -- There is one commit more, which puts so many of the rows that are there before the writers begin, from this number on, each at a place of its own.
 abbrev pub HasPut : (from count : ℕ) (old new : List CommitValue) → Type 0
 HasPut from count old new = (c : CommitValue) × (places : ℕ → Place) × (new ≡ old ++ c ∷ []) × Sets (puts 65535 from count places) c × AreApart count places
 
--- Of the two commits that put the rows which are there before the writers begin, none is there, or the first one, or both.
-abbrev pub AreBegun : (old new : List CommitValue) → Type 0
-AreBegun old new = (new ≡ old) ⊎ HasPut 0 50 old new ⊎ ((between : List CommitValue) × HasPut 0 50 old between × HasPut 50 50 between new)
+-- There are two commits more, which put the hundred rows that are there before the writers begin, fifty each.
+abbrev pub AreSetUp : (old new : List CommitValue) → Type 0
+AreSetUp old new = (between : List CommitValue) × HasPut 0 50 old between × HasPut 50 50 between new
 
 -- The seat has created the index once more, behind all its commits: their records have lower numbers than that of the creation.
 abbrev pub CreatesBehind : (old new : SessionValue) → Type 0
 CreatesBehind old new = (number : ℕ) × (new.creations ≡ old.creations ++ number ∷ []) × All (λ c. c.ticket.«record» < number) new.commits
 
--- Of the board the one has seen no more than the other, but for a horizon and the two flags. Its name may be longer.
-abbrev pub SeesNoMore : (old new : Sighting) → Type 0
-SeesNoMore old new = new ≡ record old { horizon = new.horizon; failed = new.failed; stopped = new.stopped; name = new.name }
+-- ---- what is seen of the board
+
+-- the name of a view that so many were cut off
+abbrev pub cut_name : ℕ → List Bool → List Bool
+cut_name zero name = name
+cut_name (suc n) name = stays_as (cut_name n name)
+
+-- Of the board a view has seen a horizon and the two flags, and no more, and it has set no flag; and so many views were cut off it.
+abbrev pub SeesNoMore : (cut : ℕ) → (old new : Sighting) → Type 0
+SeesNoMore cut old new = new ≡ record old { horizon = new.horizon; failed = new.failed; stopped = new.stopped; name = cut_name cut old.name }

@@ -1,18 +1,19 @@
 //! The rows that are there before the writers begin, and a seat's calls with a test before them.
-ghost use Rattle.std.specs.Prelude.{◌≡◌, ◌≢◌, ◌≤◌, ◌+◌, ◌++◌, ◌∷◌, [], Err, IfErr, IfOk, List, None, OnErr, OnOk, Some, false, true, ℕ};
+ghost use Rattle.std.specs.Prelude.{◌≡◌, ◌≢◌, ◌≤◌, ◌+◌, ◌++◌, ◌∷◌, [], Err, IfErr, IfOk, None, OnErr, OnOk, Some, false, true};
 ghost use Rattle.records.specs.declared.error.Error.TheVariants.{NoSuchTxn};
 ghost use Rattle.records.specs.Values.{Place};
 ghost use Rattle.core_contracts.specs.Events.{Event, Refused, Reply};
+ghost use Rattle.model.specs.declared.write.Write.{Write};
 ghost use Rattle.nsf_core.specs.declared.parts.Ticket.{Ticket as TicketValue};
 ghost use Rattle.nsf_core.specs.Replies.{reply_of_ticket, reply_by};
 ghost use Rattle.sessions.specs.Steps.{committed};
-ghost use Rattle.sessions.specs.Values.{CommitValue, is_ready};
-ghost use Rattle.shared.specs.Changed.{HasChanged, row_of};
+ghost use Rattle.sessions.specs.Values.{is_ready};
+ghost use Rattle.shared.specs.Changed.{HasChanged, row_of, unfinished_of};
 ghost use Rattle.shared.specs.Served.{WasServedTo};
 ghost use Rattle.writers.specs.Rows.{key_value, row_value};
 ghost use Rattle.writers.specs.Private.{HasCommitted};
-ghost use Rattle.writers.specs.Refusals.{IsChangeRefusal, IsSetUpRefusal};
-ghost use Rattle.writers.specs.Transactions.{AreBegun, AreSetUp, CreatesBehind, HasPut, tickets_of};
+ghost use Rattle.writers.specs.Refusals.{IsChangeRefusal, IsPuttingRefusal, IsSetUpRefusal};
+ghost use Rattle.writers.specs.Transactions.{AreSetUp, CreatesBehind, HasPut, tickets_of};
 
 use nsf_core::Ticket;
 use records::{Body, Error, Key, Rid, Txn};
@@ -38,7 +39,7 @@ pub fn key_of(first: u16, second: u16) -> Result<Key, Error>
 ///
 /// `NoSuchTxn` where the transaction isn't one of the seat's that may begin a change, and else the refusals of the seat's own
 /// `insert`, and of the steps behind it. After a refusal of its first step the seat is as before, after one of a later step the
-/// change is left to finish.
+/// change is left to finish, at a place that the transaction didn't hold (`left`).
 pub fn insert<B: Group, R: Wait>(
     rt: &R,
     shared: &Shared<B>,
@@ -52,6 +53,7 @@ pub fn insert<B: Group, R: Wait>(
     ensures served { IfOk result (λ rid. ∥ WasServedTo B.site.opened seat.old.number seat.old.session (Event.Insert txn (row_value first second)) (Reply.Rid rid) ∥₁) }
     ensures apart { IfOk result (λ rid. (place : Place) → row_of seat.old.session txn place ≢ None → place ≢ rid) }
     ensures err { IfErr result (λ e. (rid : Place) × IsChangeRefusal B.site.opened (Event.Insert txn (row_value first second)) txn (record { rid = rid; row = Some (row_value first second) }) seat.old seat.new e) }
+    ensures left { is_ready seat.old.session txn ≡ true → OnErr result ((w : Write) (place : Place) → unfinished_of seat.new.session txn ≡ Some w → row_of seat.old.session txn place ≢ None → place ≢ w.rid) }
     ensures seat { seat.new ≡ record seat.old { session = seat.new.session } }
 {
     if !seat.ready(txn) {
@@ -138,7 +140,7 @@ fn put_rows<B: Group, R: Wait>(
     ensures creations { seat.new.session.creations ≡ seat.old.session.creations }
     ensures unmade { OnErr result (seat.new.session.commits ≡ seat.old.session.commits) }
     ensures none_open { seat.old.session.active ≡ [] → OnOk result (seat.new.session.active ≡ []) }
-    ensures why { seat.old.session.active ≡ [] → IfErr result (IsSetUpRefusal B.site.opened seat.new) }
+    ensures why { seat.old.session.active ≡ [] → IfErr result (IsPuttingRefusal B.site.opened from count seat.new) }
     ensures made { seat.old.session.active ≡ [] → OnOk result (HasPut from count seat.old.session.commits seat.new.session.commits) }
     ensures seat { seat.new ≡ record seat.old { session = seat.new.session } }
 {
@@ -153,19 +155,19 @@ fn put_rows<B: Group, R: Wait>(
 /// Inserts the rows in two commits, and then creates the index. The rows are those of the keys of 65,535 and each number below 100, with
 /// empty bodies, the first fifty in the one commit and the others in the next.
 ///
-/// The refusals are those of the calls that this takes. After one of them the commits before it are there, and no index was created.
+/// The refusals are those of the calls that this takes. After one of them no index was created; and of a seat with no open transaction
+/// just the commits before it are there (`why`).
 pub fn set_up<B: Group, R: Wait>(
     rt: &R,
     shared: &Shared<B>,
     seat: &mut Seat<B>,
 ) -> Result<(), Error>
     ensures ok { OnOk result ((first : TicketValue) × (second : TicketValue) × (tickets_of seat.new.session ≡ tickets_of seat.old.session ++ first ∷ second ∷ [])) }
-    ensures made { seat.old.session.active ≡ [] → OnOk result ((commits : List CommitValue) × AreSetUp commits × (seat.new.session.commits ≡ seat.old.session.commits ++ commits)) }
-    ensures why { seat.old.session.active ≡ [] → IfErr result (IsSetUpRefusal B.site.opened seat.new) }
+    ensures made { seat.old.session.active ≡ [] → OnOk result (AreSetUp seat.old.session.commits seat.new.session.commits) }
+    ensures why { seat.old.session.active ≡ [] → IfErr result (IsSetUpRefusal B.site.opened seat.old.session.commits seat.new) }
     ensures creation { OnOk result (CreatesBehind seat.old.session seat.new.session) }
     ensures none_open { seat.old.session.active ≡ [] → OnOk result (seat.new.session.active ≡ []) }
     ensures uncreated { OnErr result (seat.new.session.creations ≡ seat.old.session.creations) }
-    ensures left { seat.old.session.active ≡ [] → OnErr result (AreBegun seat.old.session.commits seat.new.session.commits) }
     ensures seat { seat.new ≡ record seat.old { session = seat.new.session } }
 {
     put_rows(rt, shared, seat, 0, ROWS_OF_COMMIT)?;

@@ -13,6 +13,7 @@ returns-in-Ok-clause-left g c =
     let image = (history_of c.in_ok-disk.disk).disk.content in
     record {
       geometry = c.in_ok-geometry.geometry;
+      size = c.in_ok-geometry.ensures.ok;
       left = subst (λ (n : ℕ). IsLeft history_of (over c.in_ok-geometry.geometry nothing) c.args.arguments.now.writers n c.in-Ok.worked) c.from.ensures
           (subst (λ (o : Opened). IsLeft history_of o c.args.arguments.now.writers c.from.result c.in-Ok.worked)
           (opens_new c.one_answer.ensures.geometry c.one_answer.ensures.given image c.in_ok-geometry.geometry c.in_ok-disk.ensures.gives left.0 left.1) left.2);

@@ -1,7 +1,11 @@
-use Rattle.std.proofs.Common.{◌≡◌, map, take}
-use Rattle.workers.specs.Left.{first_of}
+use Rattle.std.proofs.Common.{◌≡◌, ◌<◌, ℕ, None, Some}
+use Rattle.std.specs.Prelude.{slice_get}
 use Rattle.workers.proofs.team.first_refused.Given as goal
 
--- of the writers so far
-abbrev pub invariant-loop-writer : goal.invariant-loop-writer
-invariant-loop-writer g l = l.refusal ≡ first_of (map (λ w. w.refused) (take l.writer-index l.written))
+-- the writers so far were refused nothing
+abbrev pub invariant-loop-k : goal.invariant-loop-k
+invariant-loop-k g l = record {
+  items : l.written.items ≡ l.fn.written.items;
+  flush : l.flush ≡ l.fn.flush;
+  none : (j : ℕ) (w : _) → j < l.k → slice_get l.fn.written.items j ≡ Some w → w.refused ≡ None;
+}

@@ -1,4 +1,4 @@
-use Rattle.std.proofs.Common.{inl, ◌∙◌, ap, List, length, sym, subst}
+use Rattle.std.proofs.Common.{inr, ◌∙◌, ap, List, length, refl, sym, subst}
 use Rattle.std.proofs.lemmas.Result.{IfOk-weaker}
 use Rattle.closing.specs.Gathered.{AreAllSeats}
 use Rattle.sessions.specs.Values.{SessionValue}
@@ -7,7 +7,7 @@ use Rattle.workers.proofs.Acknowledgements.{all_of_jobs, jobs_of_writers}
 use Rattle.workers.proofs.Counting.{no_failure, not_all}
 use Rattle.workers.specs.declared.team.Refusals.{Refusals}
 use Rattle.workers.proofs.Orders.{all_but_last, all_left}
-use Rattle.workers.proofs.Seated.{both_done, jobs_new, last_new, set_up_new, sound_at_first}
+use Rattle.workers.proofs.Seated.{both_done, jobs_new, last_new, refused_at_first, set_up_new, sound_at_first}
 use Rattle.store_writer.specs.Parts.{device_of}
 use Rattle.workers.proofs.team.work_together.Goals as goal
 
@@ -46,10 +46,11 @@ returns-clause-acknowledged g c writers more =
 
 pub refused-requires-in-Err-clause-end : goal.refused-requires-in-Err-clause-end
 refused-requires-in-Err-clause-end g c =
-    let seats : List SeatValue = c.pop.new.self.items in
-    let new = subst (λ (items : List SeatValue). AreNewSeats g.B.Group.board g.B.Site.site.seats items) c.in-Some.ensures.items c.requires.seats in
-    let empty = last_new g.B.Group.board g.B.Site.site.seats seats c.in-Some.last new in
-    inl (c.set_up.new.seat, c.in-Err.ensures.why (ap (λ (s : SessionValue). s.active) empty))
+    inr (inr (
+      refl,
+      refl,
+      refused_at_first g.B.Site.site.opened g.B.Group.board g.B.Site.site.seats c.args.parts.seats.items c.pop.new.self.items c.in-Some.last c.set_up.new.seat c.in-Err.error c.in-Some.ensures.items c.requires.seats c.in-Err.ensures.uncreated c.in-Err.ensures.why,
+    ))
 
 pub refused-requires-in-Err-clause-sound : goal.refused-requires-in-Err-clause-sound
 refused-requires-in-Err-clause-sound g c = sound_at_first g.B.Site.site.opened g.B.Group.board g.B.Site.site.seats c.args.parts.seats.items c.pop.new.self.items c.in-Some.last c.set_up.new.seat c.in-Err.error c.in-Some.ensures.items c.requires.seats c.in-Err.ensures.why

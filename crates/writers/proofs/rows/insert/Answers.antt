@@ -1,8 +1,13 @@
-use Rattle.std.proofs.Common.{◌≡◌, ◌∙◌, arith, inl, inr, refl, subst, sym, true, true≢false}
+use Rattle.std.proofs.Common.{◌≡◌, ◌∙◌, Some, ap, arith, inl, inr, refl, subst, sym, true, true≢false}
 use Rattle.std.proofs.lemmas.Grind.{common_steps}
 use Rattle.sessions.specs.Values.{is_ready}
 use Rattle.writers.proofs.Holding.{new_place}
-use Rattle.writers.proofs.Refusing.{if_err, ready_active}
+use Rattle.model.specs.declared.write.Write.{Write}
+use Rattle.shared.specs.Changed.{HasChanged, unfinished_of}
+use Rattle.shared.specs.Seats.{SeatValue}
+use Rattle.writers.proofs.Late.{on_err}
+use Rattle.writers.proofs.Lists.{some_same}
+use Rattle.writers.proofs.Refusing.{if_err, ready_active, ready_finished}
 use Rattle.writers.specs.Refusals.{IsChangeRefusal}
 use Rattle.writers.specs.Rows.{row_value}
 use Rattle.writers.specs.Transactions.{put}
@@ -41,3 +46,17 @@ returns-in_err-change-clause-err g c =
 
 pub returns-in-Some-clause-err : goal.returns-in-Some-clause-err
 returns-in-Some-clause-err g c = (c.in_ok-change.change.rid, inr (grind (arith, common_steps), grind (arith, common_steps)))
+
+pub returns-then-not-ready-clause-left : goal.returns-then-not-ready-clause-left
+returns-then-not-ready-clause-left g c ready = absurd (true≢false (sym ready ∙ (sym c.ready.ensures ∙ c.if-not-ready.true)))
+
+pub returns-in_err-change-clause-left : goal.returns-in_err-change-clause-left
+returns-in_err-change-clause-left g c ready = on_err c.from_residual-in_err-change.result
+    (λ w place unfinished. absurd (ready_finished c.args.seat.now.session c.args.txn w ready (subst (λ (s : SeatValue). unfinished_of s.session c.args.txn ≡ Some w) c.in_err-change.ensures.refused unfinished)))
+
+pub returns-in-Some-clause-left : goal.returns-in-Some-clause-left
+returns-in-Some-clause-left g c ready w place unfinished held =
+    let active = ready_active c.args.seat.now.session c.args.txn ready in
+    let changed : HasChanged c.args.seat.now.session c.args.txn (put c.args.first c.args.second c.in_ok-change.change.rid) (Some c.in-Some.error) c.insert.new.seat.session = grind (arith, common_steps) in
+    let same : put c.args.first c.args.second c.in_ok-change.change.rid ≡ w = some_same (sym changed.1 ∙ unfinished) in
+    λ is. new_place g.B.Site.site.opened c.args.seat.now.number c.args.seat.now.session c.args.txn _ c.in_ok-change.change.rid place (c.in_ok-change.ensures.served active) active held (is ∙ sym (ap (λ (v : Write). v.rid) same))

@@ -1,7 +1,6 @@
 use Rattle.std.proofs.Common.{◌≡◌, [], true}
 use Rattle.sessions.specs.Values.{is_ready, without}
-use Rattle.writers.specs.Private.{HoldsPuts}
-use Rattle.writers.specs.Transactions.{tickets_of}
+use Rattle.writers.specs.Transactions.{HoldsPuts, tickets_of}
 use Rattle.writers.proofs.rows.put_rows.Given as goal
 
 abbrev pub invariant-loop-row : goal.invariant-loop-row
