@@ -13,6 +13,7 @@ mod Building
 mod Cleaning
 mod Creating
 mod Loading
+mod Walked
 mod Finding
 mod Waiting
 mod Stepped

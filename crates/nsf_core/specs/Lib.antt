@@ -6,6 +6,7 @@ pub mod Value
 pub mod Builds
 pub mod Cleaning
 pub mod Loading
+pub mod Opening
 pub mod Asked
 pub mod Outbox
 pub mod Undoing

@@ -20,8 +20,8 @@ use model::Life;
 use records::{Action, Error, IndexAction, Mark, Pair, Record, Rid, compare_pairs};
 use std::alloc::Allocator;
 
-// Whether no builder comes to the pair any more.
-fn is_passed(life: &Life, pair: &Pair) -> bool
+/// Whether no builder comes to the pair any more.
+pub(crate) fn is_passed(life: &Life, pair: &Pair) -> bool
     ensures { IsTrue result ↔ IsPassed life.now pair.now }
 {
     match life {

@@ -8,6 +8,7 @@ mod create;
 mod find;
 mod laws;
 mod load;
+mod opening;
 mod outbox;
 mod owed;
 mod parts;

@@ -13,7 +13,9 @@ ghost use Rattle.nsf_core.specs.Parts.{parts_of};
 ghost use Rattle.nsf_core.specs.Loading.{IsLifeInside, IsQuiet, IsPairInside, entry_loaded, life_loaded};
 ghost use Rattle.marked_index.specs.Index.{IsAbsent, IsFull};
 ghost use Rattle.nsf_core.specs.Asked.{IsFine, IsRefused, owed, progress_of};
+ghost use Rattle.nsf_core.specs.Opening.{opened_of};
 ghost use Rattle.nsf_core.specs.Outbox.{HandsOn};
+ghost use Rattle.core_model.specs.Histories.{CanOpen};
 ghost use Rattle.nsf_core.specs.Builds.{built};
 ghost use Rattle.nsf_core.specs.Cleaning.{cleaner};
 ghost use Rattle.nsf_core.specs.Undoing.{undone_reply};
@@ -104,6 +106,20 @@ impl<A: Allocator + Copy> Core<A> {
         ensures serves { Serves (value_of self.now) Event.Life (Reply.LifeIs result) (value_of self.now) }
     {
         self.parts.life
+    }
+
+    /// Whether a core may begin with the rows, the entries and the index's life that this one holds: each visible entry is the
+    /// pair of a row; the pair of each row is visible, as far as the index is built, and nowhere marked; without an index there is
+    /// no entry; and all of it is of the geometry.
+    ///
+    /// It tells of what is held now, be it of active transactions: where one is, it may be false of a sound core, since an entry
+    /// is owed once a row is set, and stays marked once its row was. With none active it is what a restart would begin with.
+    ///
+    /// It takes no memory, and goes over every entry and every row once.
+    pub fn can_open(&self) -> bool
+        ensures { IsTrue result ↔ CanOpen (opened_of (value_of self.now)) }
+    {
+        self.parts.can_open()
     }
 
     /// The number of the last record made, or of the last one before the core was made.

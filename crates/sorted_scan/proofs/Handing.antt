@@ -8,6 +8,7 @@ use Rattle.std.proofs.lemmas.Bool.{cases_Bool, or_cases}
 use Rattle.std.proofs.lemmas.List.Elements.{All-tail, All-contains, Contains-get_or}
 use Rattle.records.specs.Orders.{pair_cmp}
 use Rattle.records.specs.declared.pair.Pair.{Pair}
+use Rattle.sorted_scan.specs.FullRuns.{MergeValue}
 use Rattle.sorted_scan.specs.Pairs.{is_above, least, AreSame, IsOnceEach, IsLow}
 use Rattle.sorted_scan.specs.Runs.{ScanStep, Took, HandedOut, ScanRun, with_step, takes, is_given, last_pair, AreInTurn, MayHandOut, IsAtEnd}
 use Rattle.sorted_scan.specs.Scans.{ScanValue, page_from, HasRun, IsSound}
@@ -84,7 +85,10 @@ above_least p rest once lowest k d h =
           )
     ]
 
-module _ (pages next_page : ℕ) (low : Option Pair) (remaining : ℕ) (gathered merged : List Pair) (sound : IsSound pages next_page low remaining gathered merged) (past : pages ≤ next_page) where
+module _ (pages next_page : ℕ) (low : Option Pair) (remaining : ℕ) (gathered : List Pair) (merge : MergeValue) (sound : IsSound pages next_page low remaining gathered merge) (past : pages ≤ next_page) where
+  abbrev merged : List Pair
+  merged = merge.pairs
+
   none_gathered : gathered ≡ []
   none_gathered = sound.merged_all (let h = sound.inside in omega (arith, h, past))
 
@@ -109,7 +113,10 @@ module _ (pages next_page : ℕ) (low : Option Pair) (remaining : ℕ) (gathered
     at_end None e = λ none r has. is_end pages low merged r (subst (λ x. HasRun x r) value_is has) (least_none merged (sym e))
     at_end (Some p) e = tt
 
-    module _ (p : Pair) (rest : List Pair) (first : Some p ≡ least merged) (same : AreSame merged (p ∷ rest)) where
+    module _ (p : Pair) (left : MergeValue) (first : Some p ≡ least merged) (same : AreSame merged (p ∷ left.pairs)) where
+      abbrev rest : List Pair
+      rest = left.pairs
+
       pub run_out : (r : ScanRun) → HasRun v r → HasRun (scan_of pages (page_from pages next_page) (Some p) (gathered ++ rest)) (with_step r (HandedOut p))
       run_out r has =
           let it = least_has merged p (sym first) in
@@ -121,8 +128,8 @@ module _ (pages next_page : ℕ) (low : Option Pair) (remaining : ℕ) (gathered
           let a = sound.counted ∙ ap length all_merged ∙ same_length merged (p ∷ rest) same in
           omega (arith, a)
 
-      pub sound_out : IsSound pages next_page (Some p) (remaining - 1) gathered rest
-      sound_out =
+      pub sound_out : left.runs ≤ merge.runs → IsSound pages next_page (Some p) (remaining - 1) gathered left
+      sound_out no_more =
           let it = least_has merged p (sym first) in
           let once = same_once merged (p ∷ rest) same (subst IsOnceEach all_merged sound.once) in
           let on_pages = All-tail (λ q. q.rid.page < next_page) p rest (same_all (λ q. q.rid.page < next_page) merged (p ∷ rest) same (subst (All (λ q. q.rid.page < next_page)) all_merged sound.on_pages)) in
@@ -139,4 +146,6 @@ module _ (pages next_page : ℕ) (low : Option Pair) (remaining : ℕ) (gathered
             above = back (All (λ q. is_above (Some p) q ≡ true)) (above_least p rest once lowest);
             open_run = sound.open_run;
             merged_all = sound.merged_all;
+            full = λ before. absurd (omega (arith, before, past));
+            few_runs = let h = sound.few_runs in omega (arith, h, no_more);
           }

@@ -2,6 +2,7 @@ mod Order
 mod Pages
 mod Kept
 pub mod Counts
+pub mod Cutting
 mod Least
 mod Merging
 mod Handing

@@ -1,5 +1,5 @@
 -- The pairs in sorted runs.
-use Rattle.std.proofs.Common.{◌≡◌, ◌+◌, zero, suc, Bool, false, Some, List, [], ◌∷◌, ◌++◌, get_or, refl, sym, ap, subst, ◌∙◌, arith}
+use Rattle.std.proofs.Common.{◌≡◌, ◌≤◌, ◌+◌, zero, suc, Bool, false, Some, List, [], ◌∷◌, ◌++◌, get_or, length, refl, sym, ap, subst, ◌∙◌, arith}
 use Rattle.std.specs.List.{All, AllByRecursion, Contains, count_by, sum_by}
 use Rattle.std.specs.List.Sorted.{IsPermutation, IsSorted}
 use Rattle.std.specs.Ordering.{is_lt}
@@ -7,10 +7,11 @@ use Rattle.std.specs.BinaryHeap.{IsUpperBound, KeepsHeap, PopsGreatest}
 use Rattle.std.specs.Vec.Iter.{into_iter_items}
 use Rattle.std.proofs.lemmas.List.Elements.{All-append, All-cons, All-head, All-tail, All-weaker, Contains-append_left, Contains-append_right}
 use Rattle.std.proofs.lemmas.List.Sums.{sum_by-cons}
-use Rattle.std.proofs.lemmas.List.Sorted.{sum_by-IsPermutation, sorted_far, ranks_by, All-permutation, Contains-permutation, IsPermutation-sym}
+use Rattle.std.proofs.lemmas.List.Sorted.{sum_by-IsPermutation, sorted_far, ranks_by, All-permutation, length_permutation, Contains-permutation, IsPermutation-sym}
 use Rattle.records.specs.Orders.{pair_cmp, pair_cmp_total}
 use Rattle.records.specs.declared.pair.Pair.{Pair}
 use Rattle.sorted_scan.specs.declared.merge.SortedRun.{SortedRun}
+use Rattle.sorted_scan.specs.FullRuns.{full_run, runs_of}
 use Rattle.sorted_scan.specs.Pairs.{AreSame, IsLow, least}
 use Rattle.sorted_scan.specs.Merges.{run_cmp, run_pairs, pairs_in, AreSortedRuns}
 use Rattle.sorted_scan.proofs.Counts.{count_append, same_refl, same_trans, same_append, from_permutation}
@@ -64,10 +65,11 @@ module _ {Z : Type 0} where
       (same_append pairs (run_pairs run) (pairs_in runs) (pairs_in runs) (from_permutation pairs (run_pairs run) sorted) (same_refl (pairs_in runs)))
       (pairs_moved (run ∷ runs) runs' moved)
 
-  pub sound_run : (run : SortedRun Z) (runs runs' : List (SortedRun Z)) → AreSortedRuns runs → IsSorted pair_cmp (run_pairs run) → KeepsHeap run_cmp runs runs' → IsPermutation (run ∷ runs) runs' → AreSortedRuns runs'
-  sound_run run runs runs' sound sorted keeps moved = record {
+  pub sound_run : (run : SortedRun Z) (runs runs' : List (SortedRun Z)) → AreSortedRuns runs → IsSorted pair_cmp (run_pairs run) → length (run_pairs run) ≤ full_run → KeepsHeap run_cmp runs runs' → IsPermutation (run ∷ runs) runs' → AreSortedRuns runs'
+  sound_run run runs runs' sound sorted short keeps moved = record {
     heap = keeps sound.heap;
     sorted = All-permutation (λ (r : SortedRun Z). IsSorted pair_cmp (run_pairs r)) (run ∷ runs) runs' moved (All-cons (λ (r : SortedRun Z). IsSorted pair_cmp (run_pairs r)) run runs sorted sound.sorted);
+    short = All-permutation (λ (r : SortedRun Z). length (run_pairs r) ≤ full_run) (run ∷ runs) runs' moved (All-cons (λ (r : SortedRun Z). length (run_pairs r) ≤ full_run) run runs short sound.short);
   }
 
   -- a run whose first pair was taken goes back
@@ -79,15 +81,32 @@ module _ {Z : Type 0} where
   pub sorted_left : (run rest : SortedRun Z) → run_pairs run ≡ run.first ∷ run_pairs rest → IsSorted pair_cmp (run_pairs run) → IsSorted pair_cmp (run_pairs rest)
   sorted_left run rest e up = sorted_rest run.first (run_pairs rest) (subst (IsSorted pair_cmp) e up)
 
+  pub short_left : (run rest : SortedRun Z) → run_pairs run ≡ run.first ∷ run_pairs rest → length (run_pairs run) ≤ full_run → length (run_pairs rest) ≤ full_run
+  short_left run rest e short = let f = ap length e in omega arith
+
+  -- a run is of as many pairs as it was made of
+  pub short_made : (pairs : List Pair) (run : SortedRun Z) → IsPermutation pairs (run_pairs run) → length pairs ≤ full_run → length (run_pairs run) ≤ full_run
+  short_made pairs run moved short = let e = length_permutation pairs (run_pairs run) moved in omega arith
+
+  pub one_made : (pairs : List Pair) (run : SortedRun Z) → IsPermutation pairs (run_pairs run) → runs_of pairs ≡ 1
+  one_made pairs run moved = let e = length_permutation pairs (run_pairs run) moved in omega arith
+
   module _ (runs : List (SortedRun Z)) (sound : AreSortedRuns runs) (run : SortedRun Z) (rest : List (SortedRun Z)) (moved : IsPermutation runs (run ∷ rest)) (pops : PopsGreatest run_cmp runs run rest) where
     popped_all : All (λ (r : SortedRun Z). IsSorted pair_cmp (run_pairs r)) (run ∷ rest)
     popped_all = All-permutation (λ (r : SortedRun Z). IsSorted pair_cmp (run_pairs r)) runs (run ∷ rest) moved sound.sorted
+
+    all_short : All (λ (r : SortedRun Z). length (run_pairs r) ≤ full_run) (run ∷ rest)
+    all_short = All-permutation (λ (r : SortedRun Z). length (run_pairs r) ≤ full_run) runs (run ∷ rest) moved sound.short
 
     pub popped_sound : AreSortedRuns rest
     popped_sound = record {
       heap = (pops sound.heap).0;
       sorted = All-tail (λ (r : SortedRun Z). IsSorted pair_cmp (run_pairs r)) run rest popped_all;
+      short = All-tail (λ (r : SortedRun Z). length (run_pairs r) ≤ full_run) run rest all_short;
     }
+
+    pub popped_short : length (run_pairs run) ≤ full_run
+    popped_short = All-head (λ (r : SortedRun Z). length (run_pairs r) ≤ full_run) run rest all_short
 
     pub popped_sorted : IsSorted pair_cmp (run_pairs run)
     popped_sorted = All-head (λ (r : SortedRun Z). IsSorted pair_cmp (run_pairs r)) run rest popped_all

@@ -1,5 +1,5 @@
 -- Sorted runs, and the pairs that lie in them.
-use Rattle.std.specs.Prelude.{List, [], ◌∷◌, ◌++◌, All}
+use Rattle.std.specs.Prelude.{◌≤◌, List, [], ◌∷◌, ◌++◌, All, length}
 use Rattle.std.specs.declared.cmp.Ordering.{Ordering}
 use Rattle.std.specs.Cmp.{IsTotalOrder, on_total, back_total}
 use Rattle.std.specs.List.Sorted.{IsSorted}
@@ -8,6 +8,7 @@ use Rattle.std.specs.Vec.Iter.{into_iter_items}
 use Rattle.records.specs.Orders.{pair_cmp, pair_cmp_total}
 use Rattle.records.specs.declared.pair.Pair.{Pair}
 use Rattle.sorted_scan.specs.declared.merge.SortedRun.{SortedRun}
+use Rattle.sorted_scan.specs.FullRuns.{full_run}
 
 module _ {Z : Type 0} where
   -- a run whose first pair is less is greater: the greatest run has the least pair
@@ -25,7 +26,8 @@ module _ {Z : Type 0} where
   pairs_in [] = []
   pairs_in (run ∷ runs) = run_pairs run ++ pairs_in runs
 
-  -- a heap of runs, each in its order
+  -- a heap of runs, each in its order, and none longer than a full one
   pub record AreSortedRuns (runs : List (SortedRun Z)) : Type 0 where
     pub heap : IsHeap run_cmp runs
     pub sorted : All (λ run. IsSorted pair_cmp (run_pairs run)) runs
+    pub short : All (λ run. length (run_pairs run) ≤ full_run) runs

@@ -7,6 +7,7 @@ ghost use Rattle.std.specs.Cmp.Rules.{comparing};
 ghost use Rattle.std.specs.BinaryHeap.{heap_items, heap_len, heap_capacity, KeepsHeap};
 ghost use Rattle.std.proofs.Common.{rules, refl};
 ghost use Rattle.records.specs.Orders.{pair_cmp};
+ghost use Rattle.sorted_scan.specs.FullRuns.{full_run, runs_of};
 ghost use Rattle.sorted_scan.specs.Pairs.{least, AreSame};
 ghost use Rattle.sorted_scan.specs.Merges.{run_cmp, run_cmp_total, run_pairs, pairs_in, AreSortedRuns};
 
@@ -105,9 +106,10 @@ fn push_run<A: Allocator>(runs: &mut BinaryHeap<SortedRun<A>, A>, run: SortedRun
 fn push_pairs<A: Allocator>(runs: &mut BinaryHeap<SortedRun<A>, A>, pairs: Vec<Pair, A>)
     requires room { heap_len runs.old < heap_capacity runs.old }
     requires sound { AreSortedRuns (heap_items runs.old) }
+    requires short { length pairs.items ≤ full_run }
     ensures added { AreSame (pairs.items ++ pairs_in (heap_items runs.old)) (pairs_in (heap_items runs.new)) }
     ensures sound { AreSortedRuns (heap_items runs.new) }
-    ensures len { heap_len runs.new ≤ heap_len runs.old + 1 }
+    ensures len { heap_len runs.new ≡ runs_of pairs.items + heap_len runs.old }
     ensures capacity { heap_capacity runs.old ≤ heap_capacity runs.new }
 {
     match SortedRun::new(pairs) {
@@ -122,8 +124,10 @@ fn push_behind<A: Allocator>(runs: &mut BinaryHeap<SortedRun<A>, A>, run: Sorted
     requires room { heap_len runs.old < heap_capacity runs.old }
     requires sound { AreSortedRuns (heap_items runs.old) }
     requires sorted { IsSorted pair_cmp (run_pairs run) }
+    requires short { length (run_pairs run) ≤ full_run }
     ensures left { AreSame (run_pairs run ++ pairs_in (heap_items runs.old)) (run.first ∷ pairs_in (heap_items runs.new)) }
     ensures sound { AreSortedRuns (heap_items runs.new) }
+    ensures len { heap_len runs.new ≤ heap_len runs.old + 1 }
 {
     match run.behind() {
         Some(rest) => push_run(runs, rest),
@@ -138,35 +142,40 @@ pub(crate) struct Merge<A: Allocator> {
 }
 
 impl<A: Allocator> Model for Merge<A> {
-    ghost use Rattle.std.specs.Prelude.{List};
-    ghost use Rattle.records.specs.declared.pair.Pair.{Pair};
-
-    ghost Value = { List Pair };
-
-    ghost use Rattle.std.specs.BinaryHeap.{heap_items};
+    ghost use Rattle.std.specs.BinaryHeap.{heap_items, heap_len};
+    ghost use Rattle.sorted_scan.specs.FullRuns.{MergeValue};
     ghost use Rattle.sorted_scan.specs.Merges.{pairs_in, AreSortedRuns};
 
-    ghost view = { λ m. pairs_in (heap_items m.runs) };
+    ghost Value = { MergeValue };
+
+    ghost view = { λ m. record {
+      pairs = pairs_in (heap_items m.runs);
+      runs = heap_len m.runs;
+    } };
 
     ghost invariant = { λ m. AreSortedRuns (heap_items m.runs) };
 }
 
 impl<A: Allocator> Merge<A> {
     pub(crate) fn new(alloc: A) -> Self
-        ensures { result ≡ [] }
+        ensures { result ≡ record { pairs = []; runs = 0 } }
     {
         Merge {
             runs: BinaryHeap::new(alloc),
         }
     }
 
-    /// Adds two runs, of these pairs and of those; where memory is refused, neither.
+    /// Adds two runs, of these pairs and of those, each where there are any; where memory is refused,
+    /// neither.
     pub(crate) fn add(
         &mut self,
         pairs: Vec<Pair, A>,
         others: Vec<Pair, A>,
     ) -> Result<(), AllocError>
-        ensures added { OnOk result (AreSame ((pairs.items ++ others.items) ++ self.old) self.new) }
+        requires short { length pairs.items ≤ full_run }
+        requires short_others { length others.items ≤ full_run }
+        ensures added { OnOk result (AreSame ((pairs.items ++ others.items) ++ self.old.pairs) self.new.pairs) }
+        ensures runs { OnOk result (self.new.runs ≡ runs_of pairs.items + (runs_of others.items + self.old.runs)) }
         ensures unchanged { OnErr result (self.new ≡ self.old) }
     {
         self.runs.reserve(2)?;
@@ -177,7 +186,7 @@ impl<A: Allocator> Merge<A> {
 
     /// The least of the pairs.
     pub(crate) fn first(&self) -> Option<Pair>
-        ensures { result ≡ least self.now }
+        ensures { result ≡ least self.now.pairs }
     {
         match self.runs.peek() {
             Some(run) => Some(run.first),
@@ -187,8 +196,9 @@ impl<A: Allocator> Merge<A> {
 
     /// Hands the least of the pairs out. It takes no memory.
     pub(crate) fn take_first(&mut self) -> Option<Pair>
-        ensures first { result ≡ least self.old }
-        ensures others { IfSome result (λ p. AreSame self.old (p ∷ self.new)) }
+        ensures first { result ≡ least self.old.pairs }
+        ensures others { IfSome result (λ p. AreSame self.old.pairs (p ∷ self.new.pairs)) }
+        ensures runs { self.new.runs ≤ self.old.runs }
         ensures unchanged { IfNone result (self.new ≡ self.old) }
     {
         let run = self.runs.pop()?;

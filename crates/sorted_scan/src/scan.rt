@@ -1,7 +1,8 @@
 //! The scan.
-ghost use Rattle.std.specs.Prelude.{◌≡◌, ℕ, ◌+◌, ◌<◌, ◌≤◌, ◌∷◌, ◌++◌, Some, None, length, map, filter, All, OnOk, IfOk, OnErr, IfErr, IfSome, IfNone, IsTrue, ◌^◌, []};
+ghost use Rattle.std.specs.Prelude.{◌≡◌, ℕ, ◌+◌, ◌<◌, ◌≤◌, ◌∷◌, ◌++◌, Some, None, length, map, filter, All, OnOk, IfOk, OnErr, IfErr, IfSome, IfNone, IsTrue, false, ◌⊎◌, ◌^◌, []};
 ghost use Rattle.std.specs.List.Sorted.{IsStrictlyIncreasing};
 ghost use Rattle.records.specs.declared.pair.Pair.{Pair};
+ghost use Rattle.sorted_scan.specs.FullRuns.{full_run, AreFull, AreFullButOne};
 ghost use Rattle.sorted_scan.specs.Pairs.{is_above, AreSame};
 ghost use Rattle.sorted_scan.specs.Runs.{ScanRun, Took, HandedOut, with_step, MayHandOut, IsAtEnd};
 ghost use Rattle.sorted_scan.specs.Scans.{begun, begun_run, page_from, next_of, HasRun};
@@ -63,7 +64,9 @@ fn cut<A: Allocator + Copy>(
     pairs: &mut Vec<Pair, A>,
     room: usize,
 ) -> Result<Vec<Pair, A>, AllocError>
-    ensures { IfOk result (λ behind. pairs.old.items ≡ pairs.new.items ++ behind.items) }
+    ensures all { IfOk result (λ behind. pairs.old.items ≡ pairs.new.items ++ behind.items) }
+    ensures few { OnOk result (length pairs.new.items ≤ room) }
+    ensures full { IfOk result (λ behind. length behind.items ≡ 0 ⊎ length pairs.new.items ≡ room) }
 {
     if room < pairs.len() {
         pairs.split_off(room)
@@ -73,7 +76,7 @@ fn cut<A: Allocator + Copy>(
 }
 
 /// Gathers the pairs as well. A run that is full goes to the merge, and with the last pairs also one
-/// that is not.
+/// that is not: till then each run is full, and at the end each but that one.
 fn gather<A: Allocator + Copy>(
     alloc: A,
     gathered: &mut Vec<Pair, A>,
@@ -81,10 +84,13 @@ fn gather<A: Allocator + Copy>(
     mut pairs: Vec<Pair, A>,
     is_last: bool,
 ) -> Result<(), AllocError>
-    requires open_run { length gathered.old.items < RUN_PAIRS }
-    requires few { length pairs.items < RUN_PAIRS }
-    ensures added { OnOk result (AreSame (pairs.items ++ (gathered.old.items ++ merge.old)) (gathered.new.items ++ merge.new)) }
-    ensures open_run { OnOk result (length gathered.new.items < RUN_PAIRS) }
+    requires open_run { length gathered.old.items < full_run }
+    requires few { length pairs.items < full_run }
+    requires full { AreFull merge.old }
+    ensures added { OnOk result (AreSame (pairs.items ++ (gathered.old.items ++ merge.old.pairs)) (gathered.new.items ++ merge.new.pairs)) }
+    ensures open_run { OnOk result (length gathered.new.items < full_run) }
+    ensures full { OnOk result (is_last ≡ false → AreFull merge.new) }
+    ensures one_short { OnOk result (AreFullButOne merge.new) }
     ensures merged_all { OnOk result (IsTrue is_last → gathered.new.items ≡ []) }
     ensures same_gathered { OnErr result (gathered.new.items ≡ gathered.old.items) }
     ensures same_merge { OnErr result (merge.new ≡ merge.old) }
@@ -98,10 +104,10 @@ fn gather<A: Allocator + Copy>(
     if is_last {
         merge.add(run, behind)?;
         *gathered = Vec::new(alloc);
-    } else {
-        merge.add(run, Vec::new(alloc))?;
-        *gathered = behind;
+        return Ok(());
     }
+    merge.add(run, Vec::new(alloc))?;
+    *gathered = behind;
     Ok(())
 }
 
@@ -136,7 +142,7 @@ impl<A: Allocator> Model for Scan<A> {
       pages = s.pages;
       last = s.last;
       wanted = page_from s.pages s.next_page;
-      waiting = s.gathered.items ++ s.merge;
+      waiting = s.gathered.items ++ s.merge.pairs;
     } };
 
     ghost invariant = { λ s. IsSound s.pages s.next_page s.last s.remaining s.gathered.items s.merge };
