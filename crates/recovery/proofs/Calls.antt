@@ -1,7 +1,7 @@
 -- What a crash leaves while a store is opened, call by call.
 use Rattle.std.proofs.Common.{Result, OnOk, OnErr, ◌≡◌, inl, inr, ℕ, subst}
 use Rattle.sector_device.specs.declared.device.Failed.{Failed}
-use Rattle.sector_device.specs.Disk.{Image, after_sync}
+use Rattle.sector_device.specs.Disk.{Image, IsCrashImage, after_sync}
 use Rattle.sector_device.specs.History.{History, Elapses, LeavesOnly, OnlyReads}
 use Rattle.sector_device.proofs.Moments.{started, joined, at_end, sync_goes_on, weaker}
 use Rattle.sector_device.proofs.Within.{reads_leave}
@@ -16,6 +16,12 @@ refused_since before mid now e same refuses = subst (λ n. Refuses n now e) same
 module _ (old mid : History) where
   pub synced_first : (result : Result Unit Failed) → Elapses old mid → OnOk result (mid.disk ≡ after_sync old.disk) → OnErr result (mid.disk ≡ old.disk) → LeavesOnly old mid (IsLeft old.disk)
   synced_first result time ok err = sync_goes_on old old mid (IsLeft old.disk) (started old (IsLeft old.disk) (λ c crash. inl crash)) time result ok err
+
+  -- behind the sync the device was only read
+  pub only_read : (new : History) (result : Result Unit Failed) → Elapses old mid → OnOk result (mid.disk ≡ after_sync old.disk) → OnErr result (mid.disk ≡ old.disk) → OnlyReads mid new → LeavesOnly old new (IsCrashImage old.disk)
+  only_read new result time ok err reads =
+      let first : LeavesOnly old mid (IsCrashImage old.disk) = sync_goes_on old old mid (IsCrashImage old.disk) (started old (IsCrashImage old.disk) (λ c crash. crash)) time result ok err in
+      joined old mid new (IsCrashImage old.disk) first (reads_leave mid new (IsCrashImage old.disk) reads (at_end old mid (IsCrashImage old.disk) first))
 
   module _ (new : History) (first : LeavesOnly old mid (IsLeft old.disk)) where
     pub then_reads : OnlyReads mid new → LeavesOnly old new (IsLeft old.disk)

@@ -1,6 +1,6 @@
 //! A store is opened.
 ghost use Rattle.std.specs.Prelude.{◌≡◌, ◌≢◌, ◌⊎◌, ◌≤◌, ℕ, true, [], OnOk, IfOk, IfErr};
-ghost use Rattle.sector_device.specs.Disk.{IsSynced, SameOutside};
+ghost use Rattle.sector_device.specs.Disk.{IsCrashImage, IsSynced, SameOutside};
 ghost use Rattle.sector_device.specs.History.{LeavesOnly, CountsFailure};
 ghost use Rattle.records.specs.GeometryValue.{GeometryValue};
 ghost use Rattle.records.specs.declared.number.TheConstants.{LAST_NUMBER};
@@ -41,8 +41,9 @@ pub struct Reopened<A: Allocator> {
 /// is made current. The half that is read is never written.
 ///
 /// `DeviceTooSmall`, `NotFormatted` and `Damaged` where the device holds no store, or one that was harmed. `NoMemory` comes only
-/// where it holds a store whose current half begins with a header (`memory`). With each of these nothing was written, and the
-/// device is synced. `DeviceFailed` comes where the device failed in the call, and only then.
+/// where it holds a store whose current half begins with a header (`memory`). With each of these the device is synced and holds what
+/// it held (`unwritten`), and a crash at any moment of the call leaves what one before it could (`untouched`). `DeviceFailed` comes
+/// where the device failed in the call, and only then.
 ///
 /// At each moment of the call a crash leaves what one before it might have left, or what gives the same as the device did
 /// (`images`). So the device does, whatever the answer (`written`): after `DeviceFailed` it can be opened again, and gives the
@@ -66,6 +67,7 @@ pub fn reopen<D: Device, A: Allocator + Copy>(
     ensures refused { IfErr result (λ e. Refuses (D.failures device.old) (D.failures device.new) e ⊎ IsUnreadable (D.history device.old).disk.content e) }
     ensures memory { IfErr result (λ e. e ≡ Error.NoMemory → HasHeader (D.history device.old).disk.content) }
     ensures unwritten { IfErr result (λ e. e ≢ Error.DeviceFailed → (D.history device.new).disk.content ≡ (D.history device.old).disk.content) }
+    ensures untouched { IfErr result (λ e. e ≢ Error.DeviceFailed → LeavesOnly (D.history device.old) (D.history device.new) (IsCrashImage (D.history device.old).disk)) }
     ensures settled { IfErr result (λ e. e ≢ Error.DeviceFailed → IsSynced (D.history device.new).disk) }
     ensures quiet { OnOk result (D.failures device.new ≡ D.failures device.old) }
     ensures told { IfErr result (λ e. e ≢ Error.DeviceFailed → D.failures device.new ≡ D.failures device.old) }

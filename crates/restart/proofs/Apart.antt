@@ -49,6 +49,8 @@ module _ {D M : Type 0} (history : D → History) (old new : Parts D M) (hands :
       standing = is.standing;
       served = is.served;
       shown = moved.2.shown;
+      log = moved.2.log;
+      lists = moved.2.lists;
       many =
           let told : is.standing.made ≡ last_made past = ap (λ (x : Standing). x.made) (stands_over (opened (over past.geometry past.given)) (standing_at past.given.last) (core_calls past.events past.replies) is.state is.standing is.served.served) in
           omega (arith, told, is.served.number);

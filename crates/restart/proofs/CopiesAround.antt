@@ -1,13 +1,11 @@
 -- Which sectors a copy writes.
-use Rattle.std.proofs.Common.{◌≡◌, ◌⊎◌, inl, inr, ⊎_elim, ℕ, false, true, refl, sym, subst}
+use Rattle.std.proofs.Common.{◌≡◌, inl, inr, ⊎_elim, ℕ, false, true, sym, subst}
 use Rattle.records.specs.GeometryValue.{GeometryValue}
-use Rattle.sector_device.specs.Disk.{Image, SameOutside}
 use Rattle.sector_device.specs.History.{History}
-use Rattle.sector_device.proofs.Moments.{joined, started, weaker}
-use Rattle.sector_device.proofs.Sectors.{crash_outside, outside_unsynced, same_outside_then, same_outside_wider}
 use Rattle.flip_image.specs.Layout.{HalvesValue, InHalf, other}
 use Rattle.flip_image.specs.declared.half.TheConstants.{FLIP_SECTOR}
 use Rattle.flip_image.proofs.Sides.{image_inside, log_inside}
+use Rattle.store_writer.proofs.Alone.{alone_then, alone_wider, none_alone}
 use Rattle.store_writer.specs.Parts as writer
 use Rattle.store_writer.specs.Writer.{InLogs, WritesLogsAlone, WritesOnly}
 use Rattle.store_writer.specs.declared.writer.Writer.{Writer}
@@ -16,56 +14,21 @@ use Rattle.restart.specs.Handing.{HandsOver}
 use Rattle.restart.specs.Parts.{device_of, has_failed, writer_of}
 use Rattle.restart.specs.Store.{CanRun, CopiesAround, InCopy, StandsAt}
 
--- ---- calls that write certain sectors alone
-
-module _ {D : Type 0} (history : D → History) where
-  abbrev content : D → Image
-  content d = (history d).disk.content
-
-  abbrev MayChange : (ℕ → Type 0) → D → ℕ → Type 0
-  MayChange sectors d n = sectors n ⊎ ((history d).disk.unsynced n ≡ true)
-
-  -- none was written
-  none_alone : (sectors : ℕ → Type 0) (d : D) → WritesOnly history sectors d d
-  none_alone sectors d = record {
-    now = record { sectors = refl; same = λ k out. refl };
-    images = started (history d) (SameOutside (MayChange sectors d) (content d)) (λ c crash. crash_outside (MayChange sectors d) (content d) (history d).disk c (outside_unsynced sectors (history d).disk) crash);
-  }
-
-  -- among more sectors
-  wider : (few more : ℕ → Type 0) → ((n : ℕ) → few n → more n) → (old new : D) → WritesOnly history few old new → WritesOnly history more old new
-  wider few more within old new wrote = record {
-    now = same_outside_wider few more (content old) (content new) within wrote.now;
-    images = weaker (history old) (history new) (SameOutside (MayChange few old) (content old)) (SameOutside (MayChange more old) (content old))
-        (λ c same. same_outside_wider (MayChange few old) (MayChange more old) (content old) c (λ n either. ⊎_elim (λ one. inl (within n one)) (λ loose. inr loose) either) same) wrote.images;
-  }
-
-  -- one after another, where those that are unsynced between them are among the sectors
-  both : (sectors : ℕ → Type 0) (old mid new : D) → ((n : ℕ) → (history mid).disk.unsynced n ≡ true → sectors n) → WritesOnly history sectors old mid → WritesOnly history sectors mid new → WritesOnly history sectors old new
-  both sectors old mid new loose first second = record {
-    now = same_outside_then sectors (content old) (content mid) (content new) first.now second.now;
-    images = joined (history old) (history mid) (history new) (SameOutside (MayChange sectors old) (content old)) first.images
-        (weaker (history mid) (history new) (SameOutside (MayChange sectors mid) (content mid)) (SameOutside (MayChange sectors old) (content old))
-        (λ c same. same_outside_wider sectors (MayChange sectors old) (content old) c (λ n one. inl one)
-        (same_outside_then sectors (content old) (content mid) c first.now (same_outside_wider (MayChange sectors mid) sectors (content mid) c (λ n either. ⊎_elim (λ one. one) (loose n) either) same)))
-        second.images);
-  }
-
 -- ---- the writer's calls
 
 module _ {D : Type 0} (history : D → History) where
   -- one that writes the other half
   pub half_copied : (halves : HalvesValue) (old new : D) → WritesOnly history (InHalf halves.geometry (other halves.current)) old new → WritesOnly history (InCopy halves) old new
-  half_copied halves old new wrote = wider history (InHalf halves.geometry (other halves.current)) (InCopy halves) (λ n inside. inr (inl inside)) old new wrote
+  half_copied halves old new wrote = alone_wider history (InHalf halves.geometry (other halves.current)) (InCopy halves) (λ n inside. inr (inl inside)) old new wrote
 
   -- a flip
   pub flip_copied : (halves : HalvesValue) (old new : D) → WritesOnly history (λ n. n ≡ FLIP_SECTOR) old new → WritesOnly history (InCopy halves) old new
-  flip_copied halves old new wrote = wider history (λ n. n ≡ FLIP_SECTOR) (InCopy halves) (λ n is. inr (inr is)) old new wrote
+  flip_copied halves old new wrote = alone_wider history (λ n. n ≡ FLIP_SECTOR) (InCopy halves) (λ n is. inr (inr is)) old new wrote
 
 module _ {D M : Type 0} (history : D → History) where
   -- one that writes the logs alone
   pub logs_copied : (old new : Writer D M) → WritesLogsAlone history old new → WritesOnly history (InCopy (writer.halves_of old)) (writer.device_of old) (writer.device_of new)
-  logs_copied old new wrote = wider history (InLogs old) (InCopy (writer.halves_of old)) in_copy (writer.device_of old) (writer.device_of new) (record { now = wrote.now; images = wrote.images })
+  logs_copied old new wrote = alone_wider history (InLogs old) (InCopy (writer.halves_of old)) in_copy (writer.device_of old) (writer.device_of new) (record { now = wrote.now; images = wrote.images })
     where
       in_copy : (n : ℕ) → InLogs old n → InCopy (writer.halves_of old) n
       in_copy n logs = ⊎_elim (λ here. inl here) (λ there. inr (inl (log_inside (writer.halves_of old).geometry (other (writer.halves_of old).current) n there.1))) logs
@@ -90,7 +53,7 @@ module _ {D M : Type 0} (history : D → History) (old mid new : Parts D M) (can
       (image_inside can.0.geometry (other (writer.halves_of (writer_of mid)).current) n ((stands.writer.holds sound).loose n unsynced)))))
 
   pub copies_then : CopiesAround history old mid → CopiesAround history mid new → CopiesAround history old new
-  copies_then first second = both history (InCopy (writer.halves_of (writer_of old))) (device_of old) (device_of mid) (device_of new) loose first
+  copies_then first second = alone_then history (InCopy (writer.halves_of (writer_of old))) (device_of old) (device_of mid) (device_of new) loose first
       (subst (λ (h : HalvesValue). WritesOnly history (InCopy h) (device_of mid) (device_of new)) same second)
 
 -- behind a handing over

@@ -27,3 +27,6 @@ mod Apart
 mod Flips
 mod Between
 mod Reopened
+mod Storied
+mod Grouped
+mod Checkpoints

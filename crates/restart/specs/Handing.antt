@@ -7,6 +7,8 @@ use Rattle.sector_device.specs.Disk.{Image}
 use Rattle.sector_device.specs.History.{History, LeavesOnly}
 use Rattle.store_writer.specs.Contents.{LeftBy}
 use Rattle.store_writer.specs.Parts.{halves_of, log_of, has_failed, image_of}
+use Rattle.store_writer.specs.Writer.{IsFlushReply}
+use Rattle.store_writer.specs.declared.writer.FlushReply.TheVariants.{Flushed}
 use Rattle.restart.specs.declared.copying.Copying.TheVariants.{Steps}
 use Rattle.restart.specs.declared.parts.Parts.{Parts}
 use Rattle.restart.specs.Copies.{MayFlip, Succeeds, copies_left}
@@ -43,5 +45,6 @@ pub record FlushesFirst {D M : Type 0} (failures : D → ℕ) (old new : Parts D
   pub all : unhanded new ≡ []
   pub copying : new.copying ≡ Steps None
   pub could-not : ¬ MayFlip (writer_of old)
+  pub flushed : (number : ℕ) × IsFlushReply (Flushed number) (writer_of old) (writer_of new)
   pub halves : halves_of (writer_of new) ≡ halves_of (writer_of old)
   pub left : copies_left new ≤ copies_left old

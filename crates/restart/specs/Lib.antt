@@ -10,3 +10,5 @@ pub mod Ran
 pub mod Lives
 pub mod Building
 pub mod Reopening
+pub mod Story
+pub mod Groups

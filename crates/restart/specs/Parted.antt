@@ -1,8 +1,12 @@
 -- An engine taken apart.
 use Rattle.std.specs.Prelude.{◌≡◌, ◌≢◌, ◌≤◌, List, []}
 use Rattle.records.specs.RecordValue.{RecordValue}
+use Rattle.model.specs.Cells.{cells_after}
+use Rattle.model.specs.Given.{opening_cells}
 use Rattle.core_model.specs.Histories.{CanOpen}
+use Rattle.core_model.specs.Logs.{IsLogOf}
 use Rattle.core_model.specs.States.{State}
+use Rattle.core_copies.specs.Lists.{HasLists}
 use Rattle.core_contracts.specs.Events.{Standing}
 use Rattle.core_contracts.specs.Served.{HasServed}
 use Rattle.image_model.specs.Run.{end_of}
@@ -29,7 +33,8 @@ pub record ArePartsOf {D M : Type 0} (engine : Parts D M) (core : CoreValue) (w 
   pub failed : writer.has_failed w ≡ writer.has_failed (writer_of engine)
 
 -- The core has replied as the run tells, and all records that it made, which are as many as the replies tell, were handed to the
--- writer; those that were acknowledged are synced.
+-- writer; those that were acknowledged are synced. The records, each of which could follow the one before, make of what the store
+-- gave as it was opened the rows, the entries, the index's life and the transactions' lists that the core has.
 pub record LeavesParts {D M : Type 0} (history : D → History) (past : Past M) (core : CoreValue) (w : Writer D M) : Type 0 where
   pub opens : CanOpen (over past.geometry past.given)
   pub made : List RecordValue
@@ -37,6 +42,8 @@ pub record LeavesParts {D M : Type 0} (history : D → History) (past : Past M) 
   pub standing : Standing
   pub served : HasServed (over past.geometry past.given) made (core_calls past.events past.replies) state standing
   pub shown : IsState core state standing
+  pub log : IsLogOf past.geometry.pages past.given.last (opening_cells past.given) made state
+  pub lists : HasLists state (cells_after (opening_cells past.given) made)
   pub many : end_of (run_of past made) ≡ last_made past
   pub writer : IsWriter history (run_of past made) (end_of (run_of past made)) w
   pub safe : acknowledged_by past ≤ synced_of w

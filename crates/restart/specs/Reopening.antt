@@ -4,7 +4,7 @@ use Rattle.records.specs.GeometryValue.{GeometryValue}
 use Rattle.records.specs.declared.error.Error.{Error}
 use Rattle.records.specs.declared.error.Error.TheVariants.{DeviceFailed}
 use Rattle.model.specs.Given.{Given, IsBeginning, opening_cells}
-use Rattle.sector_device.specs.Disk.{Image, IsSynced}
+use Rattle.sector_device.specs.Disk.{Image, IsCrashImage, IsSynced}
 use Rattle.sector_device.specs.History.{History, LeavesOnly}
 use Rattle.gate_log.specs.Area.{Log, Refuses}
 use Rattle.flip_image.specs.Layout.{HalvesValue, other}
@@ -33,6 +33,11 @@ opening geometry given = record { geometry = geometry; given = given; events = [
 pub record IsTurned {D : Type 0} (history : D → History) (before after : D) : Type 0 where
   pub images : LeavesOnly (history before) (history after) (IsLeft (history before).disk)
   pub now : ((history after).disk.content ≡ (history before).disk.content) ⊎ IsWrittenBack (history before).disk.content (history after).disk.content
+
+-- Nothing was written: the device holds what it held, and a crash at any moment leaves what one before could.
+pub record IsUnwritten {D : Type 0} (history : D → History) (before after : D) : Type 0 where
+  pub content : (history after).disk.content ≡ (history before).disk.content
+  pub images : LeavesOnly (history before) (history after) (IsCrashImage (history before).disk)
 
 -- The engine holds what its device gave, and no transaction. Where what was given is something that a core may begin with, a run
 -- begins over it; and the core has come to where it is, so that a build that goes on to its end leaves the index whole.

@@ -18,7 +18,7 @@ use Rattle.store_reader.specs.Contents.{Gives}
 use Rattle.flip_image.specs.Layout.{HalvesValue, InHalf, InLog, other}
 use Rattle.flip_image.specs.declared.half.TheConstants.{FLIP_SECTOR}
 use Rattle.store_writer.specs.Parts.{halves_of, image_of}
-use Rattle.store_writer.specs.Writer.{IsWriter, WritesLogsAlone, WritesOnly}
+use Rattle.store_writer.specs.Writer.{InOpenedSlots, IsWriter, WritesLogsAlone, WritesOnly}
 use Rattle.core_copies.specs.Lists.{HasLists}
 use Rattle.model.specs.Cells.{cells_after}
 use Rattle.restart.specs.declared.event.Event.{Event}
@@ -116,6 +116,11 @@ ServesOn {D} {M} history event reply old new = (past : Past M) → IsAt history 
 -- it held before, and so it does after a crash at any moment of the call, if it was synced before.
 abbrev pub KeepsAround : {D M : Type 0} → (D → History) → Parts D M → Parts D M → Type 0
 KeepsAround history old new = WritesLogsAlone history (writer_of old) (writer_of new)
+
+-- No sector was written but those of the slot that a flush opens, in the log and, where an image is under way, in the log of its
+-- half: so it is at each moment of the call, as above.
+abbrev pub OpensSlotsAlone : {D M : Type 0} → (D → History) → Parts D M → Parts D M → Type 0
+OpensSlotsAlone history old new = WritesOnly history (InOpenedSlots (writer_of old)) (device_of old) (device_of new)
 
 -- a sector of the current half's log or of the other half, or the one that tells which half is current
 abbrev pub InCopy : HalvesValue → ℕ → Type 0

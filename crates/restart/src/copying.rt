@@ -49,6 +49,7 @@ impl<D: Device, A: Allocator + Copy> Parts<D, A> {
     ghost use Rattle.restart.specs.declared.copying.Copying.TheVariants.{Steps, GivenUp};
     ghost use Rattle.restart.specs.declared.event.Event.TheVariants as event;
     ghost use Rattle.restart.specs.Copies.{IsCopyAnswer, IsDue, next_place};
+    ghost use Rattle.restart.specs.Groups.{CopiesByGroups, WritesByGroups};
     ghost use Rattle.restart.specs.Handing.{FlushesFirst, MovesOn};
     ghost use Rattle.restart.specs.Parts.{has_failed, unhanded, writer_of};
     ghost use Rattle.restart.specs.Store.{CanRun, CopiesAround, ServesOn, StandsAt};
@@ -58,6 +59,7 @@ impl<D: Device, A: Allocator + Copy> Parts<D, A> {
         requires { CanRun D.history self.old }
         ensures serves { ServesOn D.history event.Copy result self.old self.new }
         ensures answer { IsCopyAnswer D.failures result self.old self.new }
+        ensures groups { CopiesByGroups self.old self.new }
         ensures around { CopiesAround D.history self.old self.new }
         ensures can_run { CanRun D.history self.new }
     {
@@ -77,6 +79,7 @@ impl<D: Device, A: Allocator + Copy> Parts<D, A> {
         requires sound { has_failed self.old ≡ false }
         ensures moves { MovesOn D.history self.old self.new }
         ensures answer { IsCopyAnswer D.failures result self.old self.new }
+        ensures groups { self.old.copying ≡ Steps None → WritesByGroups (writer_of self.old) (writer_of self.new) }
         ensures around { CopiesAround D.history self.old self.new }
     {
         match self.copying {
@@ -161,6 +164,7 @@ impl<D: Device, A: Allocator + Copy> Parts<D, A> {
         requires whole { self.old.copying ≡ Steps None }
         ensures moves { MovesOn D.history self.old self.new }
         ensures answer { IsCopyAnswer D.failures result self.old self.new }
+        ensures groups { WritesByGroups (writer_of self.old) (writer_of self.new) }
         ensures around { CopiesAround D.history self.old self.new }
     {
         'groups: loop {
@@ -180,6 +184,7 @@ impl<D: Device, A: Allocator + Copy> Parts<D, A> {
         ensures moves { MovesOn D.history self.old self.new }
         ensures answer { IfSome result (λ reply. IsCopyAnswer D.failures reply self.old self.new) }
         ensures flushed { IfNone result (FlushesFirst D.failures self.old self.new) }
+        ensures groups { IfSome result (λ reply. WritesByGroups (writer_of self.old) (writer_of self.new)) }
         ensures around { CopiesAround D.history self.old self.new }
     {
         kept_place();

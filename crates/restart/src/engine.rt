@@ -37,8 +37,9 @@ impl<D: Device, A: Allocator> Model for Engine<D, A> {
 impl<D: Device, A: Allocator + Copy> Engine<D, A> {
     ghost use Rattle.nsf_core.specs.Value.{value_of};
     ghost use Rattle.restart.specs.Parts.{core_of, device_of};
+    ghost use Rattle.restart.specs.Groups.{CopiesByGroups};
     ghost use Rattle.restart.specs.Lawful.{IsLawful, AreLawful};
-    ghost use Rattle.restart.specs.Store.{ServesOn, RunsOn, RunsLawfully, KeepsRun, KeepsAround, CopiesAround, HaveNoCopy};
+    ghost use Rattle.restart.specs.Store.{ServesOn, RunsOn, RunsLawfully, KeepsRun, KeepsAround, OpensSlotsAlone, CopiesAround, HaveNoCopy};
     ghost use Rattle.restart.specs.Parted.{ArePartsOf, LeavesPartsOf, IsGivenBack};
     ghost use Rattle.restart.specs.Ran.{KeepsWholeRun, SurvivesAnyCrash};
     ghost use Rattle.restart.specs.Building.{IsBuiltToEnd, BuildsWhole, HasCome};
@@ -46,13 +47,16 @@ impl<D: Device, A: Allocator + Copy> Engine<D, A> {
     /// Serves one request. A crash at any moment of the call leaves a store that `restart` takes back to what was
     /// told by a prefix of the requests, and nothing that an earlier reply has told to be safe is lost (`serves`). But by a
     /// copy no sector is written but those of the store's log and, where an image is under way, of the log of its half
-    /// (`around`); and by a copy none but those of the log, of the half that isn't current, and the one that tells which half
-    /// is (`copied`).
+    /// (`around`), and by a flush none but those of the slot that it opens there (`slot`); and by a copy none but those of the log, of
+    /// the half that isn't current, and the one that tells which half is (`copied`). A copy that finds a whole image waiting writes
+    /// filled groups, and none where the image could be made current at once (`groups`).
     pub fn serve(&mut self, event: Event) -> Reply<A>
         ensures serves { ServesOn D.history event result self.old self.new }
         ensures lawful { IsLawful D.failures event result self.old self.new }
         ensures around { event ≢ Event.Copy → KeepsAround D.history self.old self.new }
+        ensures slot { event ≡ Event.Flush → OpensSlotsAlone D.history self.old self.new }
         ensures copied { event ≡ Event.Copy → CopiesAround D.history self.old self.new }
+        ensures groups { event ≡ Event.Copy → CopiesByGroups self.old self.new }
     {
         self.parts.serve(event)
     }

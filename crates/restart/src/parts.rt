@@ -27,8 +27,9 @@ pub(crate) struct Parts<D: Device, A: Allocator> {
 impl<D: Device, A: Allocator + Copy> Parts<D, A> {
     ghost use Rattle.restart.specs.declared.event.Event.TheVariants.{Flush};
     ghost use Rattle.restart.specs.Parts.{device_of, unhanded};
+    ghost use Rattle.restart.specs.Groups.{CopiesByGroups};
     ghost use Rattle.restart.specs.Lawful.{IsFlushAnswer, IsLawful};
-    ghost use Rattle.restart.specs.Store.{CanRun, CopiesAround, ServesOn, KeepsAround};
+    ghost use Rattle.restart.specs.Store.{CanRun, CopiesAround, ServesOn, KeepsAround, OpensSlotsAlone};
     ghost use Rattle.restart.specs.Handing.{HandsOver};
     ghost use Rattle.restart.specs.Parted.{ArePartsOf, LeavesPartsOf, IsGivenBack};
     ghost use Rattle.nsf_core.specs.Value.{value_of};
@@ -39,7 +40,9 @@ impl<D: Device, A: Allocator + Copy> Parts<D, A> {
         ensures serves { ServesOn D.history event result self.old self.new }
         ensures lawful { IsLawful D.failures event result self.old self.new }
         ensures around { event ≢ Event.Copy → KeepsAround D.history self.old self.new }
+        ensures slot { event ≡ Event.Flush → OpensSlotsAlone D.history self.old self.new }
         ensures copied { event ≡ Event.Copy → CopiesAround D.history self.old self.new }
+        ensures groups { event ≡ Event.Copy → CopiesByGroups self.old self.new }
         ensures can_run { CanRun D.history self.new }
     {
         each_half();
@@ -108,6 +111,7 @@ impl<D: Device, A: Allocator + Copy> Parts<D, A> {
         ensures serves { ServesOn D.history Flush result self.old self.new }
         ensures answer { IsFlushAnswer D.failures result self.old self.new }
         ensures around { KeepsAround D.history self.old self.new }
+        ensures slot { OpensSlotsAlone D.history self.old self.new }
         ensures can_run { CanRun D.history self.new }
     {
         kept_place();

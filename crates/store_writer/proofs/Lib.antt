@@ -7,7 +7,7 @@ mod CarryOn
 pub mod Around
 mod Logs
 mod Idle
-mod Alone
+pub mod Alone
 mod Taking
 mod Copying
 mod Flipping

@@ -9,7 +9,7 @@ use Rattle.model.specs.Cells.{Cells}
 use Rattle.model.specs.Inside.{AreInside}
 use Rattle.model.specs.Table.{Table, Index}
 use Rattle.model.specs.declared.life.Life.{Life}
-use Rattle.gate_log.specs.Area.{InArea, Stands, records_of}
+use Rattle.gate_log.specs.Area.{InArea, InSlot, Stands, records_of}
 use Rattle.gate_log.specs.Group.{IsGroup}
 use Rattle.image_half.specs.Part.{IsImagePart}
 use Rattle.flip_image.specs.declared.half.Half.{Half}
@@ -67,6 +67,11 @@ pub record IsUnderway (run : Run) (half : Half) (image : Image) (synced : ℕ) (
 abbrev pub InNewLog : Option NewImage → ℕ → Type 0
 InNewLog None n = ⊥
 InNewLog (Some image) n = InArea image.log.area n
+
+-- a sector of the slot that the next group of that log opens
+abbrev pub InNewSlot : Option NewImage → ℕ → Type 0
+InNewSlot None n = ⊥
+InNewSlot (Some image) n = InSlot image.log.area image.log.open_slots n
 
 -- What becomes of an image when a group is flushed behind the record `synced`: it is kept where no record of the group is above
 -- its base, and else given up where its log has groups in half the slots, and else the records above its base are carried.

@@ -19,7 +19,7 @@ use Rattle.records.specs.declared.pair.Pair.{Pair}
 use Rattle.records.specs.declared.pair.Mark.{Mark}
 use Rattle.image_model.specs.Partly.{ArePageRows, AreNextEntries, AreLastEntries}
 use Rattle.model.specs.Following.{ArePlaced}
-use Rattle.gate_log.specs.Area.{Log, Stands}
+use Rattle.gate_log.specs.Area.{InSlot, Log, Stands}
 use Rattle.gate_log.specs.Group.{FitsGroup, spellings}
 use Rattle.gate_log.specs.declared.group.TheConstants.{GROUP_MAX}
 use Rattle.flip_image.specs.Layout.{HalvesValue, other, InHalfImage, InLog}
@@ -42,7 +42,7 @@ use Rattle.image_model.specs.declared.chunk.Piece.TheVariants.{Whole, Start, Pag
 use Rattle.model.specs.Redo.{cells_of}
 use Rattle.store_writer.specs.declared.writer.FlipReply.{FlipReply}
 use Rattle.store_writer.specs.declared.writer.FlipReply.TheVariants.{Flipped, Behind}
-use Rattle.store_writer.specs.Image.{IsUnderway, reach}
+use Rattle.store_writer.specs.Image.{InNewSlot, IsUnderway, reach}
 
 -- ---- what it stands for
 
@@ -127,6 +127,11 @@ pub record AreNext (run : Run) (handed : ℕ) (records : List RecordValue) : Typ
 abbrev pub InLogs : {D M : Type 0} → Writer D M → ℕ → Type 0
 InLogs w n = InLog w.halves.geometry w.halves.current n ⊎ ((w.image ≢ None) × InLog w.halves.geometry (other w.halves.current) n)
 
+-- a sector of the slot that a flush opens, the first behind the open ones: in the current half's log and, where an image is under
+-- way, in the log of its half
+abbrev pub InOpenedSlots : {D M : Type 0} → Writer D M → ℕ → Type 0
+InOpenedSlots w n = InSlot w.log.area w.log.open_slots n ⊎ InNewSlot w.image n
+
 -- Only these logs were written, and they lie where they lay. Each other sector holds what it held before the call, and so it
 -- does after a crash at any moment of the call, if it was synced before. One that was not, such as one of an image under way,
 -- may hold anything after a crash, as it might before.
@@ -137,7 +142,7 @@ pub record WritesLogsAlone {D M : Type 0} (history : D → History) (old new : W
   pub now : SameOutside (InLogs old) (history old.device).disk.content (history new.device).disk.content
   pub images : LeavesOnly (history old.device) (history new.device) (SameOutside (λ n. InLogs old n ⊎ ((history old.device).disk.unsynced n ≡ true)) (history old.device).disk.content)
 
--- ---- what a step and a flip write
+-- ---- what a call writes
 
 -- Of these sectors alone one was written. Each other sector holds what it held before the call, and so it does after a crash at
 -- any moment of the call, if it was synced before.

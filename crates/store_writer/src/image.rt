@@ -26,7 +26,8 @@ ghost use Rattle.image_model.specs.Run.{Run, end_of, records_between};
 ghost use Rattle.image_model.specs.declared.chunk.TheConstants.{CHUNK_ENTRIES};
 ghost use Rattle.store_reader.specs.Contents.{log_area};
 ghost use Rattle.store_writer.specs.declared.image.Stage.TheVariants.{Partly};
-ghost use Rattle.store_writer.specs.Image.{IsUnderway, InNewLog, IsPlan, BecomesImage};
+ghost use Rattle.store_writer.specs.Image.{IsUnderway, InNewLog, InNewSlot, IsPlan, BecomesImage};
+ghost use Rattle.store_writer.specs.Writer.{WritesOnly};
 ghost use Rattle.store_writer.specs.Writer.{stage_behind};
 
 use flip_image::Halves;
@@ -126,6 +127,7 @@ pub(crate) fn carry<D: Device, A: Allocator>(
     ensures synced { OnOk result (IsSynced (D.history device.new).disk) }
     ensures outside { SameOutside (InNewLog image) (D.history device.old).disk.content (D.history device.new).disk.content }
     ensures any_moment { LeavesOnly (D.history device.old) (D.history device.new) (SameOutside (InNewLog image) (D.history device.old).disk.content) }
+    ensures slot { WritesOnly D.history (InNewSlot image) device.old device.new }
     ensures counts { CountsFailure (D.failures device.old) (D.failures device.new) result }
     ensures keeps { image ≡ None → OnErr result ⊥ }
 {

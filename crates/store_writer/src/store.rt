@@ -57,7 +57,7 @@ impl<D: Device, A: Allocator> Model for StoreWriter<D, A> {
 }
 
 impl<D: Device, A: Allocator + Copy> StoreWriter<D, A> {
-    ghost use Rattle.store_writer.specs.Writer.{IsWriter, IsOpenedAt, opened_run, longer, AreNext, IsLogFull, IsFlushReply, IsNotFlushed, IsPageChunk, IsEntriesChunk, IsChunk, MustStartAgain, IsStepReply, CanFlip, IsFlipReply, HasFailed, WritesLogsAlone, WritesOnly, IsAsBefore, IsBeforeFlush};
+    ghost use Rattle.store_writer.specs.Writer.{IsWriter, IsOpenedAt, opened_run, longer, AreNext, IsLogFull, IsFlushReply, IsNotFlushed, IsPageChunk, IsEntriesChunk, IsChunk, MustStartAgain, IsStepReply, CanFlip, IsFlipReply, HasFailed, InOpenedSlots, WritesLogsAlone, WritesOnly, IsAsBefore, IsBeforeFlush};
 
     /// A writer to which nothing was handed, over a device that is synced. The log is that of the current half, as a reader
     /// or `LogArea::clear` left it, and the current half has the cells after the record `synced`. Nothing is read, and no
@@ -122,8 +122,9 @@ impl<D: Device, A: Allocator + Copy> StoreWriter<D, A> {
     ///
     /// `NoMemory` means that nothing was written, and nothing changed. `DeviceFailed` comes where the device fails in the
     /// call, and from then on; the log has then no group more, unless an image is under way (`left`). Whatever the answer is,
-    /// no sector is written but those of the current half's log and, where an image is under way, of the other half's
-    /// (`around`).
+    /// no sector is written but those of one slot of the current half's log, the first that isn't open, and, where an image is
+    /// under way, of one slot of the log of its half (`slot`): the halves and the place of the log stay, and each lies within its
+    /// half (`around`).
     pub fn flush_group(&mut self, alloc: A) -> Result<FlushReply, Error>
         ensures writer { (run : Run) (handed : ℕ) → IsWriter D.history run handed self.old → IsWriter D.history run handed self.new }
         ensures images { (run : Run) (handed : ℕ) → IsWriter D.history run handed self.old
@@ -139,6 +140,7 @@ impl<D: Device, A: Allocator + Copy> StoreWriter<D, A> {
         ensures quiet { OnOk result (D.failures (device_of self.new) ≡ D.failures (device_of self.old)) }
         ensures later { D.failures (device_of self.old) ≤ D.failures (device_of self.new) }
         ensures around { WritesLogsAlone D.history self.old self.new }
+        ensures slot { WritesOnly D.history (InOpenedSlots self.old) (device_of self.old) (device_of self.new) }
         ensures left { OnErr result (IsBeforeFlush self.old self.new) }
     {
         self.writer.flush_group(alloc)

@@ -15,7 +15,7 @@ ghost use Rattle.flip_image.specs.Layout.{other, InHalf};
 ghost use Rattle.flip_image.specs.declared.half.TheConstants.{FLIP_SECTOR};
 ghost use Rattle.store_writer.specs.Contents.{LeftBy};
 ghost use Rattle.store_writer.specs.Places.{IsAtPlace, IsAtPiece, AreRowsNow, AreEntriesNow};
-ghost use Rattle.store_writer.specs.Image.{IsPlan, BecomesImage};
+ghost use Rattle.store_writer.specs.Image.{InNewSlot, IsPlan, BecomesImage};
 
 use crate::image::{
     NewImage, Plan, Stage, carry, lists_alone, plan_for, rows_alone, stage_behind, with_page,
@@ -94,7 +94,7 @@ fn has_no_room(geometry: Geometry, count: u32, more: usize) -> bool
 }
 
 impl<D: Device, A: Allocator + Copy> Writer<D, A> {
-    ghost use Rattle.store_writer.specs.Writer.{IsWriter, HasAppended, IsOpenedAt, opened_run, longer, AreNext, IsWholeChunk, IsStartChunk, IsPageChunk, IsEntriesChunk, IsFlushReply, IsNotFlushed, CanFlip, IsFlipReply, HasKept, HasBegun, IsLogFull, IsPageRefused, AreRefused, MustStartAgain, IsPageAnswered, AreEntriesAnswered, IsChunk, IsStepReply, HasFailed, WritesLogsAlone, WritesOnly, IsAsBefore, IsBeforeFlush};
+    ghost use Rattle.store_writer.specs.Writer.{IsWriter, HasAppended, IsOpenedAt, opened_run, longer, AreNext, IsWholeChunk, IsStartChunk, IsPageChunk, IsEntriesChunk, IsFlushReply, IsNotFlushed, CanFlip, IsFlipReply, HasKept, HasBegun, IsLogFull, IsPageRefused, AreRefused, MustStartAgain, IsPageAnswered, AreEntriesAnswered, IsChunk, IsStepReply, HasFailed, InOpenedSlots, WritesLogsAlone, WritesOnly, IsAsBefore, IsBeforeFlush};
 
     /// A writer to which nothing was handed.
     pub(crate) fn new(alloc: A, device: D, halves: Halves, log: LogArea, synced: u64) -> Self
@@ -172,6 +172,7 @@ impl<D: Device, A: Allocator + Copy> Writer<D, A> {
         ensures quiet { OnOk result (D.failures self.new.device ≡ D.failures self.old.device) }
         ensures later { D.failures self.old.device ≤ D.failures self.new.device }
         ensures around { WritesLogsAlone D.history self.old self.new }
+        ensures slot { WritesOnly D.history (InOpenedSlots self.old) self.old.device self.new.device }
         ensures left { OnErr result (IsBeforeFlush self.old self.new) }
     {
         if self.failed {
@@ -219,6 +220,7 @@ impl<D: Device, A: Allocator + Copy> Writer<D, A> {
         ensures quiet { OnOk result (D.failures self.new.device ≡ D.failures self.old.device) }
         ensures later { D.failures self.old.device ≤ D.failures self.new.device }
         ensures around { WritesLogsAlone D.history self.old self.new }
+        ensures slot { WritesOnly D.history (InNewSlot self.old.image) self.old.device self.new.device }
         ensures left { OnErr result ((self.old.image ≢ None) × IsAsBefore self.old self.new) }
     {
         match carry(&mut self.device, self.image, plan) {

@@ -10,7 +10,7 @@ use Rattle.flip_image.specs.Layout.{HalvesValue}
 use Rattle.flip_image.proofs.Stores.{one_geometry}
 use Rattle.store_reader.specs.Contents.{Gives}
 use Rattle.recovery.specs.Reopening.{IsWrittenBack}
-use Rattle.recovery.proofs.Calls.{refused_since, synced_first, then_reads, then_writes}
+use Rattle.recovery.proofs.Calls.{only_read, refused_since, synced_first, then_reads, then_writes}
 use Rattle.recovery.proofs.opening.reopen.Goals as goal
 
 pub returns-in_err-found-clause-accepted : goal.returns-in_err-found-clause-accepted
@@ -21,6 +21,12 @@ returns-in_err-found-clause-accepted g c geometry given gives =
     let content : (h c.sync.new.self).disk.content ≡ (h c.args.device.now).disk.content = ap (λ (d : Disk). d.content) c.in-Ok.ensures.ok in
     rw p.1 (refused_since (f c.args.device.now) (f c.sync.new.self) (f c.read_store.new.device) _ c.in-Ok.ensures.counts.none
     (subst (λ e. Refuses (f c.sync.new.self) (f c.read_store.new.device) e) (sym p.2) (c.in_err-found.ensures.accepted geometry given (subst (λ (i : Image). Gives i geometry given) (sym content) gives))))
+
+pub returns-in_err-found-clause-untouched : goal.returns-in_err-found-clause-untouched
+returns-in_err-found-clause-untouched g c =
+    let h = g.D.Device.history in
+    let p = err_from_is_err_and c.from_residual.result c.from_residual.ensures.1 in
+    rw p.1 (λ other. only_read (h c.args.device.now) (h c.sync.new.self) (h c.read_store.new.device) c.sync.result c.sync.ensures.time c.sync.ensures.ok c.sync.ensures.err c.read_store.ensures.reads)
 
 pub write_back-requires-clause-geometry : goal.write_back-requires-clause-geometry
 write_back-requires-clause-geometry g c =
@@ -79,6 +85,9 @@ returns-in-Err-clause-written g c =
 
 pub returns-in-Err-clause-unwritten : goal.returns-in-Err-clause-unwritten
 returns-in-Err-clause-unwritten g c other = absurd (other refl)
+
+pub returns-in-Err-clause-untouched : goal.returns-in-Err-clause-untouched
+returns-in-Err-clause-untouched g c other = absurd (other refl)
 
 pub returns-in-Err-clause-settled : goal.returns-in-Err-clause-settled
 returns-in-Err-clause-settled g c other = absurd (other refl)

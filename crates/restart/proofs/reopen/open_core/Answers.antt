@@ -1,7 +1,7 @@
 use Rattle.std.proofs.Common.{◌≢◌, ◌∙◌, sym, ap, subst}
 use Rattle.std.proofs.lemmas.Result.{err_from_is_err_and}
 use Rattle.records.specs.GeometryValue.{GeometryValue}
-use Rattle.records.specs.declared.error.Error.TheVariants.{DeviceFailed}
+use Rattle.records.specs.declared.error.Error.TheVariants.{DeviceFailed, NoMemory}
 use Rattle.sector_device.specs.Disk.{IsSynced}
 use Rattle.gate_log.specs.Area.{Refuses}
 use Rattle.core_contracts.specs.Events.{standing_at}
@@ -10,6 +10,7 @@ use Rattle.core_model.specs.Histories.{opened}
 use Rattle.nsf_core.specs.Value.{value_of}
 use Rattle.nsf_core.specs.View.{IsState}
 use Rattle.redo.specs.Restored.{given_in}
+use Rattle.restart.specs.Reopening.{IsUnwritten}
 use Rattle.restart.specs.Store.{over}
 use Rattle.restart.proofs.reopen.open_core.Goals as goal
 
@@ -35,3 +36,9 @@ returns-clause-found g c =
       shown = subst (λ (x : GeometryValue). IsState (value_of c.in_ok-core.core) (opened (over x (given_in found.restored))) (standing_at found.restored.last)) c.in_ok-found.ensures.geometry c.in_ok-core.ensures.opened;
       opened-at = c.in_ok-found.ensures.opened;
     }
+
+pub returns-in_err-found-clause-unwritten : goal.returns-in_err-found-clause-unwritten
+returns-in_err-found-clause-unwritten g c =
+    let h = g.D.Device.history in
+    let p = err_from_is_err_and c.from_residual.result c.from_residual.ensures.1 in
+    rw p.1 (subst (λ e. e ≢ DeviceFailed → e ≢ NoMemory → IsUnwritten h c.args.device.now c.reopen.new.device) (sym p.2) (λ other _. record { content = c.in_err-found.ensures.unwritten other; images = c.in_err-found.ensures.untouched other }))

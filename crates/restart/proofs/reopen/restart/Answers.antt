@@ -46,3 +46,6 @@ returns-in-Err-clause-readable g c past floor left = c.in-Err.ensures.accepted p
 
 pub returns-in-Err-clause-refused : goal.returns-in-Err-clause-refused
 returns-in-Err-clause-refused g c = record { device = c.open_core.ensures.turned; why = c.in-Err.ensures.refused; told = c.in-Err.ensures.told; synced = c.in-Err.ensures.settled }
+
+pub returns-in-Err-clause-unwritten : goal.returns-in-Err-clause-unwritten
+returns-in-Err-clause-unwritten g c = c.in-Err.ensures.unwritten

@@ -4,9 +4,11 @@ use Rattle.sector_device.specs.Disk.{SameOutside}
 use Rattle.sector_device.specs.History.{LeavesOnly}
 use Rattle.records.specs.RecordValue.{RecordValue}
 use Rattle.gate_log.specs.Group.{IsGroup}
-use Rattle.gate_log.specs.declared.area.Appended.TheVariants.{Done}
+use Rattle.gate_log.specs.declared.area.Appended.TheVariants.{Done, Full}
 use Rattle.store_writer.specs.declared.image.NewImage.{NewImage}
-use Rattle.store_writer.specs.Image.{IsUnderway, InNewLog, IsPlan}
+use Rattle.store_writer.specs.Image.{IsUnderway, InNewLog, InNewSlot, IsPlan}
+use Rattle.store_writer.specs.Writer.{WritesOnly}
+use Rattle.store_writer.proofs.Alone.{none_alone, slot_alone}
 use Rattle.store_writer.proofs.Underway.{if_not_carried, carried_more, append_outside, append_leaves}
 use Rattle.store_writer.proofs.image.carry.Goals as goal
 
@@ -116,3 +118,41 @@ append_spelled-requires-clause-stands g c = c.requires.stands c.in-Some.image c.
 
 pub returns-clause-keeps : goal.returns-clause-keeps
 returns-clause-keeps g c = λ none. cc (none, c.in-Some.is)
+
+pub returns-in-Keep-clause-slot : goal.returns-in-Keep-clause-slot
+returns-in-Keep-clause-slot g c = none_alone g.D.Device.history (InNewSlot c.args.image) c.args.device.now
+
+pub returns-in-GiveUp-clause-slot : goal.returns-in-GiveUp-clause-slot
+returns-in-GiveUp-clause-slot g c = none_alone g.D.Device.history (InNewSlot c.args.image) c.args.device.now
+
+pub returns-in_default-clause-slot : goal.returns-in_default-clause-slot
+returns-in_default-clause-slot g c = none_alone g.D.Device.history (InNewSlot c.args.image) c.args.device.now
+
+pub returns-in-Ok-Full-clause-slot : goal.returns-in-Ok-Full-clause-slot
+returns-in-Ok-Full-clause-slot g c =
+    let full : c.append_spelled.result ≡ Ok Full = cc (c.in-Ok-Full.is, c.in-Ok-Full.field-0-is) in
+    subst (λ d. WritesOnly g.D.Device.history (InNewSlot c.args.image) c.args.device.now d) (sym (c.append_spelled.ensures.unchanged full).1) (none_alone g.D.Device.history (InNewSlot c.args.image) c.args.device.now)
+
+pub returns-in-Ok-Done-clause-slot : goal.returns-in-Ok-Done-clause-slot
+returns-in-Ok-Done-clause-slot g c =
+    let history = g.D.Device.history in
+    let new : NewImage = c.in-Some.image in
+    let (slots, synced, group, plan) = c.requires.planned in
+    let planned = subst (IsPlan c.args.image slots synced group) c.in-Carry.is plan in
+    let same : planned.0 ≡ new = cc (planned.1, c.in-Some.is) in
+    let records : List RecordValue = drop (new.base - synced) group in
+    let spelled : IsGroup records c.deref.result.now = subst (IsGroup records) (sym c.deref.ensures.value) (subst (λ (i : NewImage). IsGroup (drop (i.base - synced) group) c.in-Carry.body.items) same planned.4) in
+    subst (λ (t : Option NewImage). WritesOnly history (InNewSlot t) c.args.device.now c.append_spelled.new.device) (sym c.in-Some.is)
+    (slot_alone history new.log c.args.device.now c.append_spelled.new.device records c.append_spelled.ensures.outside (c.append_spelled.ensures.any_moment records spelled))
+
+pub returns-clause-slot : goal.returns-clause-slot
+returns-clause-slot g c =
+    let history = g.D.Device.history in
+    let new : NewImage = c.in-Some.image in
+    let (slots, synced, group, plan) = c.requires.planned in
+    let planned = subst (IsPlan c.args.image slots synced group) c.in-Carry.is plan in
+    let same : planned.0 ≡ new = cc (planned.1, c.in-Some.is) in
+    let records : List RecordValue = drop (new.base - synced) group in
+    let spelled : IsGroup records c.deref.result.now = subst (IsGroup records) (sym c.deref.ensures.value) (subst (λ (i : NewImage). IsGroup (drop (i.base - synced) group) c.in-Carry.body.items) same planned.4) in
+    subst (λ (t : Option NewImage). WritesOnly history (InNewSlot t) c.args.device.now c.append_spelled.new.device) (sym c.in-Some.is)
+    (slot_alone history new.log c.args.device.now c.append_spelled.new.device records c.append_spelled.ensures.outside (c.append_spelled.ensures.any_moment records spelled))

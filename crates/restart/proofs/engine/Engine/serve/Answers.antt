@@ -1,6 +1,7 @@
 use Rattle.std.proofs.Common.{◌≡◌, ◌≢◌, subst}
-use Rattle.restart.specs.declared.event.Event.TheVariants.{Copy}
-use Rattle.restart.specs.Store.{CopiesAround, KeepsAround, ServesOn}
+use Rattle.restart.specs.declared.event.Event.TheVariants.{Copy, Flush}
+use Rattle.restart.specs.Groups.{CopiesByGroups}
+use Rattle.restart.specs.Store.{CopiesAround, KeepsAround, OpensSlotsAlone, ServesOn}
 use Rattle.restart.proofs.engine.Engine.serve.Goals as goal
 
 pub returns-clause-serves : goal.returns-clause-serves
@@ -11,3 +12,9 @@ returns-clause-around g c = subst (λ parts. c.args.event ≢ Copy → KeepsArou
 
 pub returns-clause-copied : goal.returns-clause-copied
 returns-clause-copied g c = subst (λ parts. c.args.event ≡ Copy → CopiesAround g.D.Device.history parts c.serve.new.self) c.self.view_is c.serve.ensures.copied
+
+pub returns-clause-slot : goal.returns-clause-slot
+returns-clause-slot g c = subst (λ parts. c.args.event ≡ Flush → OpensSlotsAlone g.D.Device.history parts c.serve.new.self) c.self.view_is c.serve.ensures.slot
+
+pub returns-clause-groups : goal.returns-clause-groups
+returns-clause-groups g c = subst (λ parts. c.args.event ≡ Copy → CopiesByGroups parts c.serve.new.self) c.self.view_is c.serve.ensures.groups

@@ -6,6 +6,7 @@ use Rattle.restart.specs.Parts.{has_failed}
 use Rattle.restart.proofs.CopiesAround.{copied_over, device_copied, none_copied_around}
 use Rattle.restart.proofs.CopyAnswers.{answer_over, copy_failed_before, copy_not_over, copy_safe, of_copy}
 use Rattle.restart.proofs.Flushing.{stays}
+use Rattle.restart.proofs.Grouped.{groups_over, kept_store, not_over_kept}
 use Rattle.restart.proofs.Moving.{can_run_on, moves_then, serves_by}
 use Rattle.restart.proofs.parts.Parts.copy.Goals as goal
 
@@ -61,3 +62,12 @@ returns-then-not-hand_over-clause-around g c = device_copied g.D.Device.history 
 
 pub returns-clause-around : goal.returns-clause-around
 returns-clause-around g c = copied_over g.D.Device.history c.args.self.now c.hand_over.new.self c.copy_handed.new.self c.hand_over.ensures.hands c.copy_handed.ensures.around
+
+pub returns-then-has_failed-clause-groups : goal.returns-then-has_failed-clause-groups
+returns-then-has_failed-clause-groups g c = kept_store c.args.self.now
+
+pub returns-then-not-hand_over-clause-groups : goal.returns-then-not-hand_over-clause-groups
+returns-then-not-hand_over-clause-groups g c = not_over_kept g.D.Device.history c.args.self.now c.hand_over.new.self c.hand_over.ensures.hands
+
+pub returns-clause-groups : goal.returns-clause-groups
+returns-clause-groups g c = groups_over g.D.Device.history c.args.self.now c.hand_over.new.self c.hand_over.ensures.hands c.copy_handed.new.self (c.hand_over.ensures.all.0 c.if-not-hand_over.false) c.copy_handed.ensures.groups

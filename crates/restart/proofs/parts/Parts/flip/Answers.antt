@@ -1,9 +1,11 @@
 use Rattle.std.proofs.Common.{refl, arith, subst, sym, ◌∙◌}
 use Rattle.restart.specs.Copies.{MayFlip}
+use Rattle.restart.specs.Groups.{no_more}
 use Rattle.restart.specs.Parts.{writer_of}
 use Rattle.restart.proofs.CopiesAround.{copies_then, none_copied_around}
 use Rattle.restart.proofs.CopyAnswers.{answer_then, none_well, well_then}
 use Rattle.restart.proofs.Flushing.{stays}
+use Rattle.restart.proofs.Grouped.{group_more, groups_then}
 use Rattle.restart.proofs.Moving.{can_run_on, moves_then}
 use Rattle.restart.proofs.parts.Parts.flip.Goals as goal
 
@@ -16,6 +18,7 @@ groups-init g c = record {
   halves = refl;
   left = omega arith;
   behind = λ _. refl;
+  groups = no_more;
   around = none_copied_around g.D.Device.history c.args.self.now;
 }
 
@@ -43,6 +46,7 @@ groups-preserved g c =
       halves = more.halves ∙ first.halves;
       left = omega (arith, first.left, more.left);
       behind = λ may. absurd (more.could-not (subst (λ engine. MayFlip (writer_of engine)) (sym (first.behind may)) may));
+      groups = group_more g.D.Device.failures (writer_of c.args.self.now) c.groups.self c.flip_or_flush.new.self first.groups more;
       around = copies_then g.D.Device.history c.args.self.now c.groups.self c.flip_or_flush.new.self (can_run_on g.D.Device.history c.args.self.now c.groups.self first.moves c.requires.runs) first.well.sound first.halves first.around c.flip_or_flush.ensures.around;
     }
 
@@ -59,3 +63,6 @@ pub returns-in-Some-clause-around : goal.returns-in-Some-clause-around
 returns-in-Some-clause-around g c =
     let first = c.groups.invariant in
     copies_then g.D.Device.history c.args.self.now c.groups.self c.flip_or_flush.new.self (can_run_on g.D.Device.history c.args.self.now c.groups.self first.moves c.requires.runs) first.well.sound first.halves first.around c.flip_or_flush.ensures.around
+
+pub returns-in-Some-clause-groups : goal.returns-in-Some-clause-groups
+returns-in-Some-clause-groups g c = groups_then (writer_of c.args.self.now) (writer_of c.groups.self) (writer_of c.flip_or_flush.new.self) c.groups.invariant.groups c.in-Some.ensures.groups

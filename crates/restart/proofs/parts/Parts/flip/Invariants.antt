@@ -2,6 +2,7 @@ use Rattle.std.proofs.Common.{[], ◌≡◌, ◌≤◌, None, length}
 use Rattle.store_writer.specs.Parts.{halves_of}
 use Rattle.restart.specs.declared.copying.Copying.TheVariants.{Steps}
 use Rattle.restart.specs.Copies.{MayFlip, Succeeds, copies_left}
+use Rattle.restart.specs.Groups.{WritesGroups}
 use Rattle.restart.specs.Handing.{MovesOn}
 use Rattle.restart.specs.Parts.{unhanded, unwritten, writer_of}
 use Rattle.restart.specs.Store.{CopiesAround}
@@ -16,6 +17,7 @@ invariant-groups g l = record {
   halves : halves_of (writer_of l.self) ≡ halves_of (writer_of l.fn.self);
   left : copies_left l.self ≤ copies_left l.fn.self;
   behind : MayFlip (writer_of l.fn.self) → l.self ≡ l.fn.self;
+  groups : WritesGroups (writer_of l.fn.self) (writer_of l.self);
   around : CopiesAround g.D.Device.history l.fn.self l.self;
 }
 

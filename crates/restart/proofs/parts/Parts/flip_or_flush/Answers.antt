@@ -11,6 +11,7 @@ use Rattle.restart.specs.Handing.{MovesOn}
 use Rattle.restart.specs.Parts.{device_of, has_failed, horizon_of, writer_of}
 use Rattle.restart.proofs.Copied.{cannot_flip, few_behind, flip_current, may_not_flip, two_to_flip}
 use Rattle.restart.proofs.CopiesAround.{flip_copied, logs_copied}
+use Rattle.restart.proofs.Grouped.{at_once, by_failure, by_none}
 use Rattle.restart.proofs.CopyAnswers.{all_well, copy_failed, count_left, failed_later, put_off_as}
 use Rattle.restart.proofs.Moving.{moves_by, moves_then, open_now, slots_are, stays_failed, stays_flushed, stays_given_up, stays_idle, stays_same}
 use Rattle.restart.proofs.parts.Parts.flip_or_flush.Goals as goal
@@ -97,6 +98,7 @@ returns-in-Ok-Flushed-clause-flushed g c =
       all = c.requires.all;
       copying = c.requires.whole;
       could-not = may_not_flip history can.0 can.1 can.2 can.3 old can.4 c.requires.sound c.requires.all behind.1;
+      flushed = (c.in-Ok-Flushed.field-0-0, subst (λ w. IsFlushReply (Flushed c.in-Ok-Flushed.field-0-0) w (writer_of new)) same is);
       halves = is.3.halves-are ∙ ap (λ w. writer.halves_of w) same;
       left = few_behind old new c.requires.whole c.requires.whole (two_to_flip history can.0 can.1 can.2 can.3 old can.4 c.requires.sound c.requires.all behind.1 c.requires.whole);
     }
@@ -266,3 +268,39 @@ returns-in-Err-flush_group-clause-around g c =
     let can = c.requires.runs in
     let behind : IsFlipReply can.1 Behind (writer_of old) c.checkpoint_flip.new.self = subst (λ (r : FlipReply). IsFlipReply can.1 r (writer_of old) c.checkpoint_flip.new.self) c.in-Ok-Behind.field-0-is (c.in-Ok-Behind.ensures.flipped can.0 can.1 can.4.writer) in
     logs_copied history (writer_of old) c.flush_group.new.self (subst (λ w. WritesLogsAlone history w c.flush_group.new.self) behind.0 c.flush_group.ensures.around)
+
+pub returns-in-Ok-Flipped-clause-groups : goal.returns-in-Ok-Flipped-clause-groups
+returns-in-Ok-Flipped-clause-groups g c =
+    let old = c.args.self.now in
+    let can = c.requires.runs in
+    let flipped : IsFlipReply can.1 (Flipped c.in-Ok-Flipped.number) (writer_of old) c.checkpoint_flip.new.self = subst (λ (r : FlipReply). IsFlipReply can.1 r (writer_of old) c.checkpoint_flip.new.self) c.in-Ok-Flipped.field-0-is (c.in-Ok-Flipped.ensures.flipped can.0 can.1 can.4.writer) in
+    at_once can.1 c.in-Ok-Flipped.number (writer_of old) c.checkpoint_flip.new.self flipped
+
+pub returns-in-Err-clause-groups : goal.returns-in-Err-clause-groups
+returns-in-Err-clause-groups g c = by_failure (writer_of c.args.self.now) c.checkpoint_flip.new.self c.in-Err.ensures.err.1 c.in-Err.ensures.kept
+
+pub returns-in-Ok-Nothing-clause-groups : goal.returns-in-Ok-Nothing-clause-groups
+returns-in-Ok-Nothing-clause-groups g c =
+    let old = c.args.self.now in
+    let can = c.requires.runs in
+    let behind : IsFlipReply can.1 Behind (writer_of old) c.checkpoint_flip.new.self = subst (λ (r : FlipReply). IsFlipReply can.1 r (writer_of old) c.checkpoint_flip.new.self) c.in-Ok-Behind.field-0-is (c.in-Ok-Behind.ensures.flipped can.0 can.1 can.4.writer) in
+    let is : IsFlushReply Nothing c.checkpoint_flip.new.self c.flush_group.new.self = subst (λ (f : FlushReply). IsFlushReply f c.checkpoint_flip.new.self c.flush_group.new.self) c.in-Ok-Nothing.field-0-is c.in-Ok-Nothing.ensures.flushed in
+    by_none (writer_of old) c.flush_group.new.self (is.0 ∙ behind.0)
+
+pub returns-in-Ok-LogFull-clause-groups : goal.returns-in-Ok-LogFull-clause-groups
+returns-in-Ok-LogFull-clause-groups g c =
+    let old = c.args.self.now in
+    let can = c.requires.runs in
+    let behind : IsFlipReply can.1 Behind (writer_of old) c.checkpoint_flip.new.self = subst (λ (r : FlipReply). IsFlipReply can.1 r (writer_of old) c.checkpoint_flip.new.self) c.in-Ok-Behind.field-0-is (c.in-Ok-Behind.ensures.flipped can.0 can.1 can.4.writer) in
+    let is : IsFlushReply LogFull c.checkpoint_flip.new.self c.flush_group.new.self = subst (λ (f : FlushReply). IsFlushReply f c.checkpoint_flip.new.self c.flush_group.new.self) c.in-Ok-LogFull.field-0-is c.in-Ok-LogFull.ensures.flushed in
+    by_none (writer_of old) c.flush_group.new.self (is.0 ∙ behind.0)
+
+pub returns-in-Err-flush_group-clause-groups : goal.returns-in-Err-flush_group-clause-groups
+returns-in-Err-flush_group-clause-groups g c =
+    let old = c.args.self.now in
+    let can = c.requires.runs in
+    let behind : IsFlipReply can.1 Behind (writer_of old) c.checkpoint_flip.new.self = subst (λ (r : FlipReply). IsFlipReply can.1 r (writer_of old) c.checkpoint_flip.new.self) c.in-Ok-Behind.field-0-is (c.in-Ok-Behind.ensures.flipped can.0 can.1 can.4.writer) in
+    ⊎_elim
+    (λ none. by_none (writer_of old) c.flush_group.new.self (none.4 ∙ behind.0))
+    (λ failed. by_failure (writer_of old) c.flush_group.new.self failed.1 (c.in-Err-flush_group.ensures.kept ∙ ap (λ w. writer.synced_of w) behind.0))
+    c.in-Err-flush_group.ensures.err

@@ -10,7 +10,7 @@ use Rattle.restart.specs.declared.event.Reply.TheVariants.{Horizon, LogFull, Ref
 use Rattle.restart.specs.declared.parts.Parts.{Parts}
 use Rattle.restart.specs.Parts.{has_failed, horizon_of, unhanded, writer_of}
 use Rattle.store_writer.proofs.Around.{then_around}
-use Rattle.restart.proofs.Around.{around_hand_over, around_none}
+use Rattle.restart.proofs.Around.{around_hand_over, around_none, slots_none, slots_over, slots_then}
 use Rattle.restart.proofs.Flushing.{failed_before, flushed, log_full, moves, none_to_flush, not_flushed, not_over, stays}
 use Rattle.restart.proofs.Moving.{can_run_on, serves_by, slots_are, stays_failed, stays_flushed, stays_same}
 use Rattle.restart.proofs.parts.Parts.flush.Goals as goal
@@ -271,3 +271,21 @@ returns-in-Err-clause-around g c =
     let old = c.args.self.now in
     let mid = c.hand_over.new.self in
     then_around history (writer_of old) (writer_of mid) c.flush_group.new.self (around_hand_over history old mid c.hand_over.ensures.hands) c.flush_group.ensures.around
+
+pub returns-then-has_failed-clause-slot : goal.returns-then-has_failed-clause-slot
+returns-then-has_failed-clause-slot g c = slots_none g.D.Device.history c.args.self.now
+
+pub returns-then-not-hand_over-clause-slot : goal.returns-then-not-hand_over-clause-slot
+returns-then-not-hand_over-clause-slot g c = slots_over g.D.Device.history c.args.self.now c.hand_over.new.self c.hand_over.ensures.hands
+
+pub returns-in-Ok-Flushed-clause-slot : goal.returns-in-Ok-Flushed-clause-slot
+returns-in-Ok-Flushed-clause-slot g c = slots_then g.D.Device.history c.args.self.now c.hand_over.new.self c.hand_over.ensures.hands c.flush_group.new.self c.flush_group.ensures.slot
+
+pub returns-in-Ok-Nothing-clause-slot : goal.returns-in-Ok-Nothing-clause-slot
+returns-in-Ok-Nothing-clause-slot g c = slots_then g.D.Device.history c.args.self.now c.hand_over.new.self c.hand_over.ensures.hands c.flush_group.new.self c.flush_group.ensures.slot
+
+pub returns-in-Ok-LogFull-clause-slot : goal.returns-in-Ok-LogFull-clause-slot
+returns-in-Ok-LogFull-clause-slot g c = slots_then g.D.Device.history c.args.self.now c.hand_over.new.self c.hand_over.ensures.hands c.flush_group.new.self c.flush_group.ensures.slot
+
+pub returns-in-Err-clause-slot : goal.returns-in-Err-clause-slot
+returns-in-Err-clause-slot g c = slots_then g.D.Device.history c.args.self.now c.hand_over.new.self c.hand_over.ensures.hands c.flush_group.new.self c.flush_group.ensures.slot

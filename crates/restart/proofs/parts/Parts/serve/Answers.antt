@@ -1,8 +1,8 @@
 use Rattle.std.proofs.Common.{refl, subst, sym}
-use Rattle.restart.specs.Store.{CanRun, KeepsAround}
+use Rattle.restart.specs.Store.{CanRun, KeepsAround, OpensSlotsAlone}
 use Rattle.restart.specs.declared.event.Event.TheVariants.{Copy, Flush}
 use Rattle.restart.proofs.Serving.{answered_by_core, can_run_by_core, is_flush, lawful_as, served_by_core, serves_as}
-use Rattle.restart.proofs.Around.{around_in_core}
+use Rattle.restart.proofs.Around.{around_in_core, asks_core}
 use Rattle.restart.proofs.parts.Parts.serve.Goals as goal
 
 pub returns-in-Some-clause-serves : goal.returns-in-Some-clause-serves
@@ -43,3 +43,18 @@ returns-in-Some-clause-copied g c copy = absurd (c.in_default.not-Copy copy)
 
 pub returns-in-None-clause-copied : goal.returns-in-None-clause-copied
 returns-in-None-clause-copied g c copy = absurd (c.in_default.not-Copy copy)
+
+pub returns-in-Some-clause-slot : goal.returns-in-Some-clause-slot
+returns-in-Some-clause-slot g c flush = absurd (asks_core g.D.Device.history c.args.event c.in-Some.reply c.args.self.now c.ask_core.new.self c.in-Some.ensures.some flush)
+
+pub returns-in-None-clause-slot : goal.returns-in-None-clause-slot
+returns-in-None-clause-slot g c flush = subst (λ parts. OpensSlotsAlone g.D.Device.history parts c.flush.new.self) c.in-None.ensures.none.1 c.flush.ensures.slot
+
+pub returns-in-Copy-clause-slot : goal.returns-in-Copy-clause-slot
+returns-in-Copy-clause-slot g c flush = absurd (cc (c.in-Copy.is, flush))
+
+pub returns-in-Some-clause-groups : goal.returns-in-Some-clause-groups
+returns-in-Some-clause-groups g c copy = absurd (c.in_default.not-Copy copy)
+
+pub returns-in-None-clause-groups : goal.returns-in-None-clause-groups
+returns-in-None-clause-groups g c copy = absurd (c.in_default.not-Copy copy)

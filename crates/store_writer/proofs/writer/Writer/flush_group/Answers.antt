@@ -1,22 +1,24 @@
-use Rattle.std.proofs.Common.{⊎_elim, true, ◌≡◌, ◌≢◌, ◌≤◌, ◌<◌, ◌-◌, List, [], ◌∷◌, Ok, refl, sym, ap, subst, ◌∙◌, take, length, length-take, length-append, arith, inr, ℕ}
+use Rattle.std.proofs.Common.{⊎_elim, true, ◌≡◌, ◌≢◌, ◌≤◌, ◌<◌, ◌-◌, List, [], ◌∷◌, Ok, refl, sym, ap, subst, ◌∙◌, take, length, length-take, length-append, arith, inl, inr, ℕ}
 use Rattle.std.proofs.lemmas.Bool.{false≢true, cases_lt}
 use Rattle.std.proofs.lemmas.List.{nil_from_length}
 use Rattle.records.specs.RecordValue.{RecordValue}
 use Rattle.sector_device.proofs.Moments.{started, joined}
 use Rattle.gate_log.specs.Group.{IsGroup}
-use Rattle.gate_log.specs.declared.area.Appended.TheVariants.{Done}
+use Rattle.gate_log.specs.declared.area.Appended.TheVariants.{Done, Full}
 use Rattle.store_writer.specs.declared.writer.Writer.{Writer}
 use Rattle.store_writer.specs.Contents.{LeftBy}
 use Rattle.records.specs.GeometryValue.{GeometryValue}
 use Rattle.store_writer.specs.declared.writer.FlushReply.TheVariants.{Flushed}
 use Rattle.std.proofs.lemmas.Result.{IfErr-weaker, IfOk-at_ok}
-use Rattle.store_writer.specs.Image.{IsPlan, BecomesImage}
-use Rattle.store_writer.specs.Writer.{FillsGroup, HasAppended}
+use Rattle.store_writer.specs.Image.{InNewSlot, IsPlan, BecomesImage}
+use Rattle.store_writer.specs.Writer.{FillsGroup, HasAppended, InOpenedSlots, WritesOnly}
 use Rattle.store_writer.proofs.Numbers.{length_between}
 use Rattle.store_writer.proofs.Replies.{log_more, flushed_more, failed_behind}
 use Rattle.store_writer.proofs.Writing.{stood, stands, leaves, has_appended, carried_on, on_ok_at}
 use Rattle.store_writer.proofs.Around.{none_written, then_around}
 use Rattle.store_writer.proofs.Logs.{appended_around}
+use Rattle.store_writer.proofs.Alone.{alone_then, alone_wider, none_alone, slot_alone}
+use Rattle.gate_log.specs.Area.{InSlot}
 use Rattle.store_writer.proofs.writer.Writer.flush_group.Goals as goal
 
 pub returns-then-count-eq0-clause-images : goal.returns-then-count-eq0-clause-images
@@ -220,3 +222,46 @@ returns-in-Ok-Done-clause-left g c =
 pub returns-clause-left : goal.returns-clause-left
 returns-clause-left g c =
     record { rest = refl; log-is = λ none. c.in-Err.ensures.err }
+
+pub returns-then-self-clause-slot : goal.returns-then-self-clause-slot
+returns-then-self-clause-slot g c = none_alone g.D.Device.history (InOpenedSlots c.args.self.now) c.args.self.now.device
+
+pub returns-then-count-eq0-clause-slot : goal.returns-then-count-eq0-clause-slot
+returns-then-count-eq0-clause-slot g c = none_alone g.D.Device.history (InOpenedSlots c.args.self.now) c.args.self.now.device
+
+pub returns-then-is_full-clause-slot : goal.returns-then-is_full-clause-slot
+returns-then-is_full-clause-slot g c = none_alone g.D.Device.history (InOpenedSlots c.args.self.now) c.args.self.now.device
+
+pub returns-in_err-body-clause-slot : goal.returns-in_err-body-clause-slot
+returns-in_err-body-clause-slot g c = none_alone g.D.Device.history (InOpenedSlots c.args.self.now) c.args.self.now.device
+
+pub returns-in_err-plan-clause-slot : goal.returns-in_err-plan-clause-slot
+returns-in_err-plan-clause-slot g c = none_alone g.D.Device.history (InOpenedSlots c.args.self.now) c.args.self.now.device
+
+pub returns-in-Ok-Full-clause-slot : goal.returns-in-Ok-Full-clause-slot
+returns-in-Ok-Full-clause-slot g c =
+    let old = c.args.self.now in
+    let full : c.append_spelled.result ≡ Ok Full = cc (c.in-Ok-Full.is, c.in-Ok-Full.field-0-is) in
+    subst (λ d. WritesOnly g.D.Device.history (InOpenedSlots old) old.device d) (sym (c.append_spelled.ensures.unchanged full).1) (none_alone g.D.Device.history (InOpenedSlots old) old.device)
+
+pub returns-in-Ok-Done-clause-slot : goal.returns-in-Ok-Done-clause-slot
+returns-in-Ok-Done-clause-slot g c =
+    let history = g.D.Device.history in
+    let old = c.args.self.now in
+    let done : c.append_spelled.result ≡ Ok Done = cc (c.in-Ok-Done.is, c.in-Ok-Done.field-0-is) in
+    let group : List RecordValue = take c.group_len-count.result c.deref-2.result.now in
+    let spelled : IsGroup group c.deref-4.result.now = subst (IsGroup group) (sym c.deref-4.ensures.value) (c.in_ok-body.ensures.ok) in
+    alone_then history (InOpenedSlots old) old.device c.append_spelled.new.device c.carry_on.new.self.device
+    (λ n loose. absurd (false≢true (sym (c.append_spelled.ensures.synced done n) ∙ loose)))
+    (alone_wider history (InSlot old.log.area old.log.open_slots) (InOpenedSlots old) (λ n here. inl here) old.device c.append_spelled.new.device
+    (slot_alone history old.log old.device c.append_spelled.new.device group c.append_spelled.ensures.outside (c.append_spelled.ensures.any_moment group spelled)))
+    (alone_wider history (InNewSlot old.image) (InOpenedSlots old) (λ n there. inr there) c.append_spelled.new.device c.carry_on.new.self.device c.carry_on.ensures.slot)
+
+pub returns-clause-slot : goal.returns-clause-slot
+returns-clause-slot g c =
+    let history = g.D.Device.history in
+    let old = c.args.self.now in
+    let group : List RecordValue = take c.group_len-count.result c.deref-2.result.now in
+    let spelled : IsGroup group c.deref-4.result.now = subst (IsGroup group) (sym c.deref-4.ensures.value) (c.in_ok-body.ensures.ok) in
+    alone_wider history (InSlot old.log.area old.log.open_slots) (InOpenedSlots old) (λ n here. inl here) old.device c.append_spelled.new.device
+    (slot_alone history old.log old.device c.append_spelled.new.device group c.append_spelled.ensures.outside (c.append_spelled.ensures.any_moment group spelled))

@@ -1,0 +1,70 @@
+-- What a copy leaves behind the groups that it writes.
+use Rattle.std.proofs.Common.{◌≡◌, inl, inr, ℕ, true, List, [], ◌++◌, None, append-nil, refl, sym, ap, ◌∙◌}
+use Rattle.records.specs.RecordValue.{RecordValue}
+use Rattle.sector_device.specs.History.{History}
+use Rattle.store_writer.specs.Parts as writer
+use Rattle.store_writer.specs.Writer.{IsFlipReply}
+use Rattle.store_writer.specs.declared.writer.FlipReply.TheVariants.{Flipped}
+use Rattle.store_writer.specs.declared.writer.Writer.{Writer}
+use Rattle.restart.specs.declared.copying.Copying.TheVariants.{Steps}
+use Rattle.restart.specs.declared.parts.Parts.{Parts}
+use Rattle.restart.specs.Groups.{CopiesByGroups, HasAll, WritesByGroups, WritesGroups, no_more, one_more}
+use Rattle.restart.specs.Handing.{FlushesFirst, HandsOver}
+use Rattle.restart.specs.Parts.{unhanded, writer_of}
+use Rattle.restart.proofs.Keeping.{keeps_over}
+
+module _ {D M : Type 0} where
+  -- no group was written, and nothing else
+  pub by_none : (old new : Writer D M) → new ≡ old → WritesByGroups old new
+  by_none old new same = record { last = old; groups = no_more; behind = inl same }
+
+  -- nor was one before the device failed
+  pub by_failure : (old new : Writer D M) → writer.has_failed new ≡ true → writer.synced_of new ≡ writer.synced_of old → WritesByGroups old new
+  by_failure old new failed level = record { last = old; groups = no_more; behind = inr (inr (failed, level)) }
+
+  -- nor was one before the image was made current
+  pub at_once : (handed n : ℕ) (old new : Writer D M) → IsFlipReply handed (Flipped n) old new → WritesByGroups old new
+  at_once handed n old new flipped = record {
+    last = old;
+    groups = no_more;
+    behind = inr (inl (record {
+      may = (flipped.2.0, flipped.2.1, flipped.2.2, flipped.2.4);
+      flipped = flipped.5;
+      reached = λ image there. sym flipped.0 ∙ flipped.3 image there;
+    }));
+  }
+
+  -- groups behind others
+  groups_both : (first mid last : Writer D M) → WritesGroups first mid → WritesGroups mid last → WritesGroups first last
+  groups_both first mid last before no_more = before
+  groups_both first mid last before (one_more one another number groups could_not flushed) = one_more one last number (groups_both first mid one before groups) could_not flushed
+
+  -- behind some groups
+  pub groups_then : (first mid new : Writer D M) → WritesGroups first mid → WritesByGroups mid new → WritesByGroups first new
+  groups_then first mid new before then = record { last = then.last; groups = groups_both first mid then.last before then.groups; behind = then.behind }
+
+  -- one group more
+  pub group_more : (failures : D → ℕ) (first : Writer D M) (mid new : Parts D M) → WritesGroups first (writer_of mid) → FlushesFirst failures mid new → WritesGroups first (writer_of new)
+  group_more failures first mid new groups flushes = one_more (writer_of mid) (writer_of new) flushes.flushed.0 groups flushes.could-not flushes.flushed.1
+
+-- nothing was done
+pub kept_store : {D M : Type 0} (engine : Parts D M) → CopiesByGroups engine engine
+kept_store engine whole = inl (record { device = refl; halves = refl; log = refl; image = refl; horizon = refl })
+
+-- ---- where the writer took records first
+
+module _ {D M : Type 0} (history : D → History) (old mid : Parts D M) (over : HandsOver history old mid) where
+  pub not_over_kept : CopiesByGroups old mid
+  not_over_kept whole = inl (keeps_over history old mid over)
+
+  has_all : unhanded mid ≡ [] → HasAll old (writer_of mid)
+  has_all all = record {
+    waiting = sym (ap (λ (l : List RecordValue). writer.waiting_of (writer_of mid) ++ l) all ∙ append-nil (writer.waiting_of (writer_of mid))) ∙ over.unwritten-are;
+    halves = over.halves;
+    log = over.log;
+    image = over.image;
+    synced = over.horizon;
+  }
+
+  pub groups_over : (new : Parts D M) → unhanded mid ≡ [] → (mid.copying ≡ Steps None → WritesByGroups (writer_of mid) (writer_of new)) → CopiesByGroups old new
+  groups_over new all wrote whole = inr (writer_of mid, has_all all, wrote (over.copying ∙ whole))

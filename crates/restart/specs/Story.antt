@@ -1,0 +1,74 @@
+-- The story of a store from its formatting on, in words that know no allocator.
+use Rattle.std.specs.List.{All}
+use Rattle.std.specs.Prelude.{◌≡◌, ◌≤◌, ℕ, List, [], ◌∷◌, ◌++◌}
+use Rattle.records.specs.GeometryValue.{GeometryValue}
+use Rattle.records.specs.declared.pair.Pair.{Pair}
+use Rattle.model.specs.Given.{Given, IsBeginning, nothing}
+use Rattle.model.specs.History.{Checkpointed, Committed, Completed, Created, Deed, Item, up_to}
+use Rattle.core_model.specs.Histories.{CanOpen}
+use Rattle.sector_device.specs.Disk.{Image, IsCrashImage}
+use Rattle.sector_device.specs.History.{History}
+use Rattle.store_reader.specs.Contents.{Gives}
+use Rattle.restart.specs.declared.parts.Parts.{Parts}
+use Rattle.restart.specs.Building.{HasCome}
+use Rattle.restart.specs.Parts.{core_of}
+use Rattle.restart.specs.Reopening.{opening}
+use Rattle.restart.specs.Store.{IsAt, Past, items_told, last_made, over}
+
+-- How large the store is, the items of its history in order, and the numbers of the last record that was made and of the last one
+-- that was told to be safe.
+pub record Story : Type 0 where
+  pub geometry : GeometryValue
+  pub items : List Item
+  pub made : ℕ
+  pub safe : ℕ
+
+-- of a store that was just formatted
+abbrev pub untold : GeometryValue → Story
+untold g = record { geometry = g; items = []; made = 0; safe = 0 }
+
+-- This is what a beginning of the story's history makes of nothing, one that has every item up to the last that was told to be
+-- safe, and no record that wasn't made.
+pub record IsLeftOf (story : Story) (given : Given) : Type 0 where
+  pub beginning : IsBeginning nothing story.items story.safe given
+  pub within : given.last ≤ story.made
+
+-- Such a thing is what the image gives, and a core may begin with it.
+pub record GivesStory (story : Story) (image : Image) : Type 0 where
+  pub given : Given
+  pub gives : Gives image story.geometry given
+  pub left : IsLeftOf story given
+  pub opens : CanOpen (over story.geometry given)
+
+-- whatever a crash leaves of the device gives it
+abbrev pub KeepsStory : {D : Type 0} → (D → History) → Story → D → Type 0
+KeepsStory history story device = (image : Image) → IsCrashImage (history device).disk image → GivesStory story image
+
+-- A run begins at the engine over what was left of the story, and the core has come to where it is.
+pub record BeginsOver {D M : Type 0} (history : D → History) (story : Story) (engine : Parts D M) : Type 0 where
+  pub given : Given
+  pub left : IsLeftOf story given
+  pub at : IsAt history (opening story.geometry given) engine
+  pub come : HasCome (core_of engine)
+
+-- The story goes on with a run: behind what was left of its history comes what the run's replies tell, and records up to this
+-- number were told to be safe.
+abbrev pub and_run : {M : Type 0} → Story → Past M → (safe : ℕ) → Story
+and_run story past safe = record { geometry = story.geometry; items = up_to past.given.last story.items ++ items_told past; made = last_made past; safe = safe }
+
+-- ---- the last checkpoint
+
+abbrev pub IsCommit : Deed → Type 0
+IsCommit (Committed writes) = Unit {0}
+IsCommit Created = ⊥
+IsCommit (Checkpointed pair) = ⊥
+IsCommit Completed = ⊥
+
+-- Of the items up to record `last` the last one that is of the index is the checkpoint of this pair.
+pub record IsLastCheckpoint (items : List Item) (last : ℕ) (pair : Pair) : Type 0 where
+  pub number : ℕ
+  pub counts : number ≤ last
+  pub before : List Item
+  pub behind : List Item
+  pub there : up_to last items ≡ before ++ record { number = number; deed = Checkpointed pair } ∷ behind
+  pub commits : All (λ (item : Item). IsCommit item.deed) behind
