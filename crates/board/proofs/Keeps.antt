@@ -211,7 +211,7 @@ pub reads_horizon : (slots seat : ℕ) (me : Seated) → Allows IsKept slots sea
 reads_horizon slots seat me s k _ at _ =
     let v : Knowledge = me.0 in
     let n : ℕ = get_or s.words 0 0 in
-    let w : Knowledge = record v { horizon = n } in
+    let w : Knowledge = record v { horizon = n; checked = false } in
     let old = k.fits seat v at in
     let is : n ≡ k.posted.horizon = ap (λ (ws : List ℕ). get_or ws 0 0) k.words in
     let mine : Fits k.posted k.flusher k.builder seat w = record { horizon = omega arith; progress = old.progress; failed = old.failed; stopped = old.stopped; of_flusher = old.of_flusher; of_builder = old.of_builder; stops = old.stops } in
@@ -235,7 +235,7 @@ pub reads_failed : (slots seat : ℕ) (me : Seated) → Allows IsKept slots seat
 reads_failed slots seat me s k _ at _ =
     let v : Knowledge = me.0 in
     let n : ℕ = get_or s.words 2 0 in
-    let w : Knowledge = record v { failed = eqb n 1 } in
+    let w : Knowledge = record v { failed = eqb n 1; checked = true } in
     let old = k.fits seat v at in
     let is : eqb n 1 ≡ k.posted.failed = ap (λ (ws : List ℕ). eqb (get_or ws 2 0) 1) k.words ∙ flag_is k.posted.failed in
     let mine : Fits k.posted k.flusher k.builder seat w = record { horizon = old.horizon; progress = old.progress; failed = λ on. sym is ∙ on; stopped = old.stopped; of_flusher = old.of_flusher; of_builder = old.of_builder; stops = old.stops } in

@@ -67,6 +67,7 @@ spent_view = record {
   stops = false;
   horizon = 0;
   progress = 0;
+  checked = false;
   failed = false;
   stopped = false;
 }

@@ -67,13 +67,13 @@ abbrev pub SetsStop : Tells
 SetsStop st m n m' = m' ≡ (record m.0 { stopped = true; stops = true }, m.1)
 
 abbrev pub ReadsHorizon : Tells
-ReadsHorizon st m n m' = (m.0.horizon ≤ n) × (m' ≡ (record m.0 { horizon = n }, m.1))
+ReadsHorizon st m n m' = (m.0.horizon ≤ n) × (m' ≡ (record m.0 { horizon = n; checked = false }, m.1))
 
 abbrev pub ReadsProgress : Tells
 ReadsProgress st m n m' = (m.0.progress ≤ n) × (m' ≡ (record m.0 { progress = n }, m.1))
 
 abbrev pub ReadsFailed : Tells
-ReadsFailed st m n m' = (m.0.failed ≡ true → (n == 1) ≡ true) × (m' ≡ (record m.0 { failed = n == 1 }, m.1))
+ReadsFailed st m n m' = (m.0.failed ≡ true → (n == 1) ≡ true) × (m' ≡ (record m.0 { failed = n == 1; checked = true }, m.1))
 
 -- where the view was never made two, nobody else can have set the flag
 abbrev pub ReadsStop : Tells

@@ -4,12 +4,14 @@ use Rattle.atomic_table.specs.Seated.{TableId}
 use Rattle.board.specs.declared.knowledge.Knowledge.{Knowledge}
 
 -- What the holder of a view has seen of a board: the last horizon and the last count of attempts
--- that it read, and whether it found the failed flag and the stop flag set.
+-- that it read, whether it has read the failed flag since it last read the horizon, and whether it
+-- found the failed flag and the stop flag set.
 -- Then whether it has set the stop flag itself, and the view's name.
 pub record Sighting : Type 0 where
   pub board : TableId
   pub horizon : ℕ
   pub progress : ℕ
+  pub checked : Bool
   pub failed : Bool
   pub stopped : Bool
   pub stops : Bool
@@ -32,6 +34,7 @@ nothing_seen board = record {
   board = board;
   horizon = 0;
   progress = 0;
+  checked = false;
   failed = false;
   stopped = false;
   stops = false;
@@ -62,6 +65,7 @@ sighting_of board v = record {
   board = board;
   horizon = v.horizon;
   progress = v.progress;
+  checked = v.checked;
   failed = v.failed;
   stopped = v.stopped;
   stops = v.stops;

@@ -9,6 +9,7 @@ use crate::rule::{
     TellSeen,
 };
 use crate::views::{BuildView, FlushView, View};
+use crate::waits::Waits;
 use atomic_table::Table;
 use std::alloc::{AllocError, Allocator};
 use std::marker::Model;
@@ -21,10 +22,12 @@ const FAILED: usize = 2;
 
 const STOP: usize = 3;
 
-/// Four words that threads share by a `&`. To a contract a board is its identity, which each of its views names.
+/// Four words that threads share by a `&`, and what they sleep on. To a contract a board is its identity, which each of its views
+/// names.
 #[derive(Drop)]
 pub struct Board<A: Allocator> {
     table: Table<(), Knowledge, (), BoardRule, A>,
+    waits: Waits,
 }
 
 impl<A: Allocator> Model for Board<A> {
@@ -53,11 +56,19 @@ impl<A: Allocator> Board<A> {
         let builder = table.shared.split_seat::<CutBuilder>(&mut seat);
         let reader = table.shared.split_seat::<CutReader>(&mut seat);
         Ok((
-            Board { table },
+            Board {
+                table,
+                waits: Waits::new(),
+            },
             FlushView { seat },
             BuildView { seat: builder },
             View { seat: reader },
         ))
+    }
+
+    /// What the threads that share the board sleep on.
+    pub fn waits(&self) -> &Waits {
+        &self.waits
     }
 
     /// Makes a view for another thread, which has seen as much as this one. Each of the two has a name of its own from
@@ -73,20 +84,23 @@ impl<A: Allocator> Board<A> {
     }
 
     /// The flusher raises the horizon to the number of a record. A number that is not above its own count changes
-    /// nothing.
+    /// nothing. Those who wait for the horizon are woken.
     pub fn publish(&self, view: &mut FlushView, horizon: u64)
         requires { view.old.board ≡ self.now }
         ensures { view.new ≡ record view.old { horizon = max view.old.horizon horizon } }
     {
         let shared = &self.table.shared;
-        shared.fetch_max::<RaiseHorizon>(&mut view.seat, HORIZON, horizon);
+        let before = shared.fetch_max::<RaiseHorizon>(&mut view.seat, HORIZON, horizon);
+        if before < horizon {
+            self.waits.published.ring();
+        }
     }
 
     /// Reads the horizon: the number up to which the flusher has published that records are safe on the device. It is
     /// never below one that this view saw before.
     pub fn horizon(&self, view: &mut View) -> u64
         requires { view.old.board ≡ self.now }
-        ensures seen { view.new ≡ record view.old { horizon = result } }
+        ensures seen { view.new ≡ record view.old { horizon = result; checked = false } }
         ensures rises { view.old.horizon ≤ result }
     {
         let shared = &self.table.shared;
@@ -112,32 +126,35 @@ impl<A: Allocator> Board<A> {
         shared.load::<ReadProgress>(&mut view.seat, PROGRESS)
     }
 
-    /// The flusher sets the failed flag, which says that its device failed. It stays set.
+    /// The flusher sets the failed flag, which says that its device failed. It stays set. Those who wait for the horizon are woken.
     pub fn fail(&self, view: &mut FlushView)
         requires { view.old.board ≡ self.now }
         ensures { view.new ≡ record view.old { failed = true } }
     {
         let shared = &self.table.shared;
         shared.store::<SetFailed>(&mut view.seat, FAILED, 1);
+        self.waits.published.ring();
     }
 
-    /// Reads the failed flag. It stays true once this view has seen it.
+    /// Reads the failed flag. It stays true once this view has seen it. The view has then checked it behind the last horizon that it
+    /// read.
     pub fn failed(&self, view: &mut View) -> bool
         requires { view.old.board ≡ self.now }
-        ensures seen { view.new ≡ record view.old { failed = result } }
+        ensures seen { view.new ≡ record view.old { failed = result; checked = true } }
         ensures stays { IsTrue view.old.failed → IsTrue result }
     {
         let shared = &self.table.shared;
         shared.load::<ReadFailed>(&mut view.seat, FAILED) == 1
     }
 
-    /// Sets the stop flag, which asks all threads to stop. It stays set.
+    /// Sets the stop flag, which asks all threads to stop, and wakes all that sleep. It stays set.
     pub fn stop(&self, view: &mut View)
         requires { view.old.board ≡ self.now }
         ensures { view.new ≡ record view.old { stopped = true; stops = true } }
     {
         let shared = &self.table.shared;
         shared.store::<SetStop>(&mut view.seat, STOP, 1);
+        self.waits.ring_all();
     }
 
     /// Reads the stop flag. It stays true once this view has seen it.

@@ -24,6 +24,8 @@ pub struct Knowledge {
     pub horizon: u64,
     /// The last count of attempts that it has seen.
     pub progress: u64,
+    /// It has read the failed flag since it last read the horizon.
+    pub checked: bool,
     /// It has seen the failed flag set.
     pub failed: bool,
     /// It has seen the stop flag set.

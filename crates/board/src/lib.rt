@@ -5,6 +5,9 @@
 //! alone raises the horizon or says that the device failed. The builder has the [`BuildView`] and alone raises the
 //! progress. Every other thread has a [`View`]: it reads the four words and may set the stop flag.
 //!
+//! Threads that have nothing to do sleep on the bells of the board, which its steps ring ([`Waits`]). Nothing rests on a ring: each
+//! sleep ends by itself.
+//!
 //! Only [`Board::new`] takes memory. Every other call returns at once with its answer: it takes no memory, waits for
 //! nothing and cannot fail. A call of the six kinds of step makes one atomic step on one word.
 #![tactic(auto)]
@@ -15,6 +18,8 @@ mod rule;
 #[cfg(test)]
 mod tests;
 mod views;
+mod waits;
 
 pub use board::Board;
 pub use views::{BuildView, FlushView, View};
+pub use waits::{Bell, Waits};

@@ -84,7 +84,7 @@ fn read_all_that_is_published(
     ensures horizon { result.0 ≡ flush.old.horizon }
     ensures failed { result.1 ≡ flush.old.failed }
     ensures flush { flush.new ≡ flush.old }
-    ensures view { view.new ≡ record view.old { horizon = result.0; failed = result.1 } }
+    ensures view { view.new ≡ record view.old { horizon = result.0; checked = true; failed = result.1 } }
 {
     board.settle(flush, view);
     let horizon = board.horizon(view);

@@ -1,6 +1,7 @@
 -- What is left at the end.
-use Rattle.std.proofs.Common.{◌≡◌, ◌+◌, ◌-◌, ◌++◌, ◌≤◌, ◌⊎◌, ℕ, List, [], length, map, Some, take, true, false, inl, inr, refl, sym, ap, ◌∙◌, subst, arith, append-nil, length-append, length-take}
+use Rattle.std.proofs.Common.{◌≡◌, ◌+◌, ◌-◌, ◌++◌, ◌≤◌, ◌⊎◌, ℕ, Bool, List, [], length, map, Some, take, true, false, inl, inr, refl, sym, ap, ◌∙◌, subst, arith, append-nil, length-append, length-take}
 use Rattle.std.proofs.Math.Logic.{∥∥₁_map}
+use Rattle.std.proofs.lemmas.Bool.{false≢true}
 use Rattle.std.proofs.lemmas.List.{take-append-le, take-take, take_all}
 use Rattle.std.specs.Prelude.{slice_get}
 use Rattle.records.specs.GeometryValue.{GeometryValue}
@@ -173,9 +174,17 @@ module _ {D : Type 0} (history : D → History) (failures : D → ℕ) (o : Open
       subst (λ (d : D). LeavesOnly (history (device_of old.writer)) (history d) (λ image. ∥ GivesSome o (halves_of old.writer).geometry seats popped (synced_of old.writer) image ∥₁)) (sym is)
       (images_left history o seats l book under popped first_popped (device_of old.writer) (device_of f.writer) (halves_of old.writer).geometry (halves_of f.writer).geometry f.handed (synced_of old.writer) writes.geometry begins writes.images)
 
-  pub failed_at_end : (e : Error) → (e ≡ NoMemory) ⊎ ((e ≡ DeviceFailed) × (has_failed f.writer ≡ true)) → (e ≡ NoMemory) ⊎ ((e ≡ DeviceFailed) × (has_failed old.writer ≡ false → Rises (failures (device_of old.writer)) (failures device)))
-  failed_at_end e (inl memory) = inl memory
-  failed_at_end e (inr failed) = inr (failed.0, λ before. subst (λ (d : D). Rises (failures (device_of old.writer)) (failures d)) (sym is) (writes.counted failed.1 before))
+  pub failed_at_end : (e told : Error) → (e ≡ NoMemory) ⊎ ((e ≡ DeviceFailed) × (has_failed f.writer ≡ true)) → (has_failed f.writer ≡ true → told ≡ DeviceFailed) → (has_failed f.writer ≡ false → told ≡ e)
+      → ((told ≡ NoMemory) × (has_failed old.writer ≡ false) × (failures device ≡ failures (device_of old.writer))) ⊎ ((told ≡ DeviceFailed) × (has_failed old.writer ≡ false → Rises (failures (device_of old.writer)) (failures device)))
+  failed_at_end e told why failed sound = by (has_failed f.writer) refl
+    where
+      memory : has_failed f.writer ≡ false → (e ≡ NoMemory) ⊎ ((e ≡ DeviceFailed) × (has_failed f.writer ≡ true)) → e ≡ NoMemory
+      memory is_sound (inl none) = none
+      memory is_sound (inr device) = absurd (false≢true (sym is_sound ∙ device.1))
+
+      by : (b : Bool) → has_failed f.writer ≡ b → ((told ≡ NoMemory) × (has_failed old.writer ≡ false) × (failures device ≡ failures (device_of old.writer))) ⊎ ((told ≡ DeviceFailed) × (has_failed old.writer ≡ false → Rises (failures (device_of old.writer)) (failures device)))
+      by true has = inr (failed has, λ before. subst (λ (d : D). Rises (failures (device_of old.writer)) (failures d)) (sym is) (writes.counted has before))
+      by false has = inl (sound has ∙ memory has why, writes.stays has, ap failures is ∙ writes.quiet has)
 
   module _ (core : CoreValue) (core_is : core ≡ l.core) (none : l.core.outbox ≡ []) (commits : List CommitValue) (from : (count : ℕ) (all : AreAllCommits (sessions_of seats) count) → commits ≡ commits_in all.commits) where
     pub all_at_end : (last : (g : GeometryValue) → l.core.last ≡ end_of (lock.run_of g o l)) (cells : (g : GeometryValue) → IsCellsOf l.core (cells_at (lock.run_of g o l) l.core.last)) → f.handed ≡ l.pushed → synced_of f.writer ≡ last_handed o f

@@ -1,5 +1,6 @@
 -- How the flusher's part goes on from call to call.
-use Rattle.std.proofs.Common.{◌≡◌, ℕ, ◌≤◌, true, false, List, [], ◌++◌, Result, Ok, Err, OnOk, OnErr, refl, sym, ap, ◌∙◌, subst, arith, append-nil, append_assoc}
+use Rattle.std.proofs.Common.{◌≡◌, ℕ, ◌≤◌, true, false, List, [], ◌++◌, Result, Ok, Err, IfErr, OnOk, OnErr, inl, inr, refl, sym, ap, ◌∙◌, subst, arith, append-nil, append_assoc}
+use Rattle.std.proofs.lemmas.Bool.{false≢true}
 use Rattle.std.specs.declared.alloc.Global.{Global}
 use Rattle.records.specs.RecordValue.{RecordValue}
 use Rattle.records.specs.declared.error.Error.{Error}
@@ -10,6 +11,7 @@ use Rattle.sector_device.proofs.Moments.{joined, started, weaker}
 use Rattle.board.specs.Views.{FlusherCount}
 use Rattle.flip_image.specs.Layout.{HalvesValue}
 use Rattle.store_writer.specs.Parts.{device_of, halves_of, has_failed, synced_of, waiting_of}
+use Rattle.store_writer.specs.Writer.{HasFailed, IsNotFlushed}
 use Rattle.store_writer.specs.declared.writer.Writer.{Writer}
 use Rattle.flusher.proofs.Going.{beginning_of, counted_same, counted_then, same_store}
 use Rattle.flusher.proofs.Keeping.{is_left}
@@ -34,6 +36,7 @@ module _ {D : Type 0} (history : D → History) (failures : D → ℕ) (o : Open
     later = omega arith;
     counted = counted_same (has_failed f.writer) (has_failed f.writer) (failures (device_of f.writer)) (failures (device_of f.writer)) refl;
     stays = λ now. now;
+    quiet = λ _. refl;
   }
 
   -- by records that are popped and handed in
@@ -50,13 +53,15 @@ module _ {D : Type 0} (history : D → History) (failures : D → ℕ) (o : Open
     later = omega (arith, ap failures takes.got.device);
     counted = counted_same (has_failed old.writer) (has_failed new.writer) (failures (device_of old.writer)) (failures (device_of new.writer)) takes.got.failed;
     stays = λ now. sym takes.got.failed ∙ now;
+    quiet = λ _. ap failures takes.got.device;
   }
 
   -- by a call of the writer
   pub writes_by_call : (old new : FlushValue D) → Publishes old new → (halves_of new.writer).geometry ≡ (halves_of old.writer).geometry → synced_of old.writer ≤ synced_of new.writer
       → LeavesOnly (history (device_of old.writer)) (history (device_of new.writer)) (IsLeft o old) → failures (device_of old.writer) ≤ failures (device_of new.writer)
-      → (has_failed new.writer ≡ true → has_failed old.writer ≡ false → Rises (failures (device_of old.writer)) (failures (device_of new.writer))) → (has_failed new.writer ≡ false → has_failed old.writer ≡ false) → WritesOn history failures o old new
-  writes_by_call old new publishes geometry rises images later counted stays = record {
+      → (has_failed new.writer ≡ true → has_failed old.writer ≡ false → Rises (failures (device_of old.writer)) (failures (device_of new.writer))) → (has_failed new.writer ≡ false → has_failed old.writer ≡ false)
+      → (has_failed new.writer ≡ false → failures (device_of new.writer) ≡ failures (device_of old.writer)) → WritesOn history failures o old new
+  writes_by_call old new publishes geometry rises images later counted stays quiet = record {
     more = [];
     handed = publishes.handed ∙ sym (append-nil old.handed);
     geometry = geometry;
@@ -68,6 +73,7 @@ module _ {D : Type 0} (history : D → History) (failures : D → ℕ) (o : Open
     later = later;
     counted = counted;
     stays = stays;
+    quiet = quiet;
   }
 
   -- by one and then another
@@ -90,7 +96,20 @@ module _ {D : Type 0} (history : D → History) (failures : D → ℕ) (o : Open
     counted =
         counted_then (has_failed old.writer) (has_failed mid.writer) (has_failed new.writer) (failures (device_of old.writer)) (failures (device_of mid.writer)) (failures (device_of new.writer)) first.later second.later first.counted second.counted;
     stays = λ now. first.stays (second.stays now);
+    quiet = λ now. second.quiet now ∙ first.quiet (second.stays now);
   }
+
+-- ---- calls that met no failure of the device
+
+module _ {D : Type 0} (failures : D → ℕ) (old new : Writer D Global) where
+  pub quiet_flush : {T : Type 0} (result : Result T Error) → OnOk result (failures (device_of new) ≡ failures (device_of old)) → IfErr result (λ e. IsNotFlushed failures e old new) → has_failed new ≡ false → failures (device_of new) ≡ failures (device_of old)
+  quiet_flush (Ok x) quiet err sound = quiet
+  quiet_flush (Err e) quiet (inl none) sound = ap (λ (w : Writer D Global). failures (device_of w)) none.4
+  quiet_flush (Err e) quiet (inr device) sound = absurd (false≢true (sym sound ∙ device.1))
+
+  pub quiet_call : {T : Type 0} (result : Result T Error) → OnOk result (failures (device_of new) ≡ failures (device_of old)) → IfErr result (λ e. HasFailed failures e old new) → has_failed new ≡ false → failures (device_of new) ≡ failures (device_of old)
+  quiet_call (Ok x) quiet err sound = quiet
+  quiet_call (Err e) quiet device sound = absurd (false≢true (sym sound ∙ device.1))
 
 -- ---- records that are taken
 

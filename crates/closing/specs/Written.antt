@@ -15,7 +15,7 @@ pub record HasTaken {D : Type 0} (old new : FlushValue D) : Type 0 where
 
 -- The writer may have got some records more, and written some. The store is the same; a crash at any moment since leaves what some of
 -- the records that it has got now make of what was opened, the first ones, with all that were synced at first; and if the device failed
--- meanwhile, it counted that. One that had failed stays so.
+-- meanwhile, it counted that, and else no failure. One that had failed stays so.
 pub record WritesOn {D : Type 0} (history : D → History) (failures : D → ℕ) (o : Opened) (old new : FlushValue D) : Type 0 where
   pub more : List RecordValue
   pub handed : new.handed ≡ old.handed ++ more
@@ -26,3 +26,4 @@ pub record WritesOn {D : Type 0} (history : D → History) (failures : D → ℕ
   pub later : failures (device_of old.writer) ≤ failures (device_of new.writer)
   pub counted : has_failed new.writer ≡ true → has_failed old.writer ≡ false → Rises (failures (device_of old.writer)) (failures (device_of new.writer))
   pub stays : has_failed new.writer ≡ false → has_failed old.writer ≡ false
+  pub quiet : has_failed new.writer ≡ false → failures (device_of new.writer) ≡ failures (device_of old.writer)

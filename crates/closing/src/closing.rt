@@ -79,6 +79,18 @@ fn close<B: Group, D: Device, R: Wait>(
     gather_commits(rt, alloc, seats)
 }
 
+// The refusal, or that the device failed where it did.
+fn told<B: Group, D: Device>(flush: &FlushPart<B, D>, error: Error) -> Error
+    ensures failed { has_failed flush.now.writer ≡ true → result ≡ DeviceFailed }
+    ensures sound { has_failed flush.now.writer ≡ false → result ≡ error }
+{
+    if flush.has_failed() {
+        Error::DeviceFailed
+    } else {
+        error
+    }
+}
+
 /// Takes every seat back, and writes every record out that was made: those that wait in the core and in the queue too, in groups
 /// or, once the log is full, in an image. Then the device holds what the core does, and each acknowledgement is of a record on it.
 ///
@@ -86,7 +98,7 @@ fn close<B: Group, D: Device, R: Wait>(
 /// that were made make of what was opened, the first ones, with all that were synced before; and each acknowledgement is of one of
 /// those.
 ///
-/// `NoMemory`, or `DeviceFailed` where the device failed, now or earlier.
+/// `DeviceFailed` where the device failed, now or earlier, and else `NoMemory`.
 pub fn finish<B: Group, D: Device, R: Wait>(
     rt: &R,
     alloc: Global,
@@ -106,7 +118,7 @@ pub fn finish<B: Group, D: Device, R: Wait>(
     ensures images { IfOk result (λ c. LeavesOnly (D.history (device_of flush.writer)) (D.history c.device) (λ image. ∥ GivesSome B.site.opened (halves_of flush.writer).geometry seats.items (popped_by flush) (synced_of flush.writer) image ∥₁)) }
     ensures left { IfErr result (λ r. LeavesOnly (D.history (device_of flush.writer)) (D.history r.1) (λ image. ∥ GivesSome B.site.opened (halves_of flush.writer).geometry seats.items (popped_by flush) (synced_of flush.writer) image ∥₁)) }
     ensures sound { OnOk result (has_failed flush.writer ≡ false) }
-    ensures err { IfErr result (λ r. (r.0 ≡ NoMemory) ⊎ ((r.0 ≡ DeviceFailed) × (has_failed flush.writer ≡ false → Rises (D.failures (device_of flush.writer)) (D.failures r.1)))) }
+    ensures err { IfErr result (λ r. ((r.0 ≡ NoMemory) × (has_failed flush.writer ≡ false) × (D.failures r.1 ≡ D.failures (device_of flush.writer))) ⊎ ((r.0 ≡ DeviceFailed) × (has_failed flush.writer ≡ false → Rises (D.failures (device_of flush.writer)) (D.failures r.1)))) }
     ensures later { IfErr result (λ r. D.failures (device_of flush.writer) ≤ D.failures r.1) }
 {
     let (mut locked, queue, registry, board) = shared.into_parts();
@@ -126,8 +138,9 @@ pub fn finish<B: Group, D: Device, R: Wait>(
             })
         }
         Err(error) => {
+            let why = told(&flush, error);
             let (rest, _) = flush.into_parts();
-            Err((error, rest))
+            Err((why, rest))
         }
     }
 }

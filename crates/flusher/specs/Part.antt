@@ -12,11 +12,17 @@ use Rattle.sector_device.specs.History.{History}
 use Rattle.board.specs.Views.{FlusherCount}
 use Rattle.image_model.specs.Run.{Run}
 use Rattle.locked_core.specs.Following.{FitPlaces}
+use Rattle.tail.specs.Ends.{Handed}
 use Rattle.store_reader.specs.Contents.{Gives}
 use Rattle.store_writer.specs.declared.writer.Writer.{Writer}
 use Rattle.store_writer.specs.Contents.{StoreHas}
 use Rattle.store_writer.specs.Parts.{device_of, halves_of, log_of, waiting_of, synced_of, has_failed, image_of}
 use Rattle.store_writer.specs.Writer.{IsWriter}
+
+-- What a flusher's part is made of: the end of the queue that pops, with what was popped, and what was published.
+pub record EndsValue : Type 0 where
+  pub popper : Handed
+  pub published : FlusherCount
 
 -- The records that the writer has got, in order, and those that were popped behind them; the writer; and what was published.
 pub record FlushValue (D : Type 0) : Type 0 where

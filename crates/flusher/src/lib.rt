@@ -7,7 +7,9 @@
 #![tactic(auto)]
 
 mod copying;
+mod ends;
 mod part;
 mod settling;
 
+pub use ends::FlushEnds;
 pub use part::FlushPart;

@@ -15,6 +15,7 @@ ghost use Rattle.flip_image.specs.Layout.{InHalf, other};
 ghost use Rattle.flip_image.specs.declared.half.TheConstants.{FLIP_SECTOR};
 ghost use Rattle.store_writer.specs.Writer.{CanFlip, HasFailed, IsAsBefore, IsBeforeFlush, IsChunk, IsFlipReply, IsFlushReply, IsLogFull, IsNotFlushed, IsStepReply, IsWriter, MustStartAgain, WritesLogsAlone, WritesOnly, opened_run};
 
+use crate::ends::FlushEnds;
 use board::{Board, FlushView};
 use image_model::Chunk;
 use locked_core::{Locked, Site};
@@ -79,21 +80,17 @@ impl<B: Site, D: Device> FlushPart<B, D> {
     ghost use Rattle.flusher.specs.Part.{HasGot, IsFlusher, IsLeft, Publishes, last_handed, popped_by, run_of};
 
     /// The part of a flusher that has popped nothing, with a writer over what was opened.
-    pub fn new(
-        alloc: Global,
-        popper: Popper,
-        writer: StoreWriter<D, Global>,
-        view: FlushView,
-    ) -> FlushPart<B, D>
-        requires popper { popper ≡ record { queue = B.site.queue; records = [] } }
+    pub fn new(alloc: Global, ends: FlushEnds, writer: StoreWriter<D, Global>) -> FlushPart<B, D>
+        requires popper { ends.popper ≡ record { queue = B.site.queue; records = [] } }
         requires writer { IsWriter D.history (opened_run (halves_of writer) B.site.opened.given.last (opening_cells B.site.opened.given)) B.site.opened.given.last writer }
         requires pages { (halves_of writer).geometry.pages ≡ B.site.opened.pages }
         requires places { (halves_of writer).geometry.entries ≡ B.site.opened.places }
         requires fits { len B.site.opened.given.entries ≤ B.site.opened.places }
-        requires horizon { view.horizon ≤ synced_of writer }
-        requires failed { view.failed ≡ has_failed writer }
-        ensures { result ≡ record { handed = []; held = []; writer = writer; published = view } }
+        requires horizon { ends.published.horizon ≤ synced_of writer }
+        requires failed { ends.published.failed ≡ has_failed writer }
+        ensures { result ≡ record { handed = []; held = []; writer = writer; published = ends.published } }
     {
+        let FlushEnds { popper, view } = ends;
         let last = writer.synced();
         FlushPart {
             alloc,

@@ -2,3 +2,4 @@ mod Rounds
 mod Moments
 mod Steps
 mod Through
+pub mod Crosses

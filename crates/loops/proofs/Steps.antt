@@ -1,7 +1,8 @@
 -- What a step of the builder means to the loop.
-use Rattle.std.proofs.Common.{◌≡◌, ◌⊎◌, ◌<◌, ℕ, Bool, true, false, nat_lt, refl, Result, Ok, Err, inl, inr, sym, subst, max, arith, ltb-true, ltb-false}
+use Rattle.std.proofs.Common.{◌≡◌, ◌≢◌, ◌⊎◌, IfErr, ◌<◌, ◌≤◌, ℕ, Bool, true, false, nat_lt, refl, Result, Ok, Err, inl, inr, sym, subst, max, arith, ltb-true, ltb-false}
 use Rattle.std.proofs.Math.Logic.{∥∥₁_map}
 use Rattle.records.specs.declared.error.Error.{Error}
+use Rattle.records.specs.declared.error.Error.TheVariants.{NoMemory, Stopped}
 use Rattle.records.specs.declared.pair.Pair.{Pair}
 use Rattle.core_contracts.specs.Events.{Event, Refused}
 use Rattle.core_model.specs.Histories.{Opened}
@@ -11,7 +12,7 @@ use Rattle.nsf_core.specs.declared.parts.Ticket.{Ticket}
 use Rattle.nsf_core.specs.declared.reply.BuildReply.{BuildReply}
 use Rattle.nsf_core.specs.declared.reply.BuildReply.TheVariants as reply
 use Rattle.shared.specs.Served.{WasServed}
-use Rattle.loops.specs.Building.{HasAttempted, HasStepped}
+use Rattle.loops.specs.Building.{HasAttempted, HasPublished, HasStepped}
 
 module _ (o : Opened) (step : Result BuildReply Error) (attempts : ℕ) (was : ∥ HasStepped o (reply_by built step) attempts ∥₁) where
   -- as it was served, the step being so
@@ -24,12 +25,18 @@ module _ (o : Opened) (step : Result BuildReply Error) (attempts : ℕ) (was : �
   pub was_done : (ticket : Ticket) → step ≡ Ok (reply.Done ticket) → ∥ WasServed o Event.Build (built (reply.Done ticket)) ∥₁
   was_done ticket is = so_served (Ok (reply.Done ticket)) is
 
+  pub was_published : (ticket : Ticket) → step ≡ Ok (reply.Done ticket) → (progress : ℕ) → attempts ≤ progress → ∥ HasPublished o ticket progress ∥₁
+  was_published ticket is progress told = ∥∥₁_map (so_stepped (Ok (reply.Done ticket)) is) (λ stepped. record { attempts = attempts; stepped = stepped; told = told })
+
   pub was_refused : (e : Error) → step ≡ Err e → ∥ WasServed o Event.Build (Refused e) ∥₁
   was_refused e is = so_served (Err e) is
 
   pub was_attempted : (pair : Pair) → (step ≡ Ok (reply.Placed pair)) ⊎ (step ≡ Ok (reply.Rejected pair)) → ∥ HasAttempted o attempts ∥₁
-  was_attempted pair (inl is) = ∥∥₁_map (so_stepped (Ok (reply.Placed pair)) is) (λ stepped. (pair, inl stepped))
-  was_attempted pair (inr is) = ∥∥₁_map (so_stepped (Ok (reply.Rejected pair)) is) (λ stepped. (pair, inr stepped))
+  was_attempted pair (inl is) = ∥∥₁_map (so_stepped (Ok (reply.Placed pair)) is) (λ stepped. inl (pair, inl stepped))
+  was_attempted pair (inr is) = ∥∥₁_map (so_stepped (Ok (reply.Rejected pair)) is) (λ stepped. inl (pair, inr stepped))
+
+  pub was_completed : (ticket : Ticket) → step ≡ Ok (reply.Done ticket) → ∥ HasAttempted o attempts ∥₁
+  was_completed ticket is = ∥∥₁_map (so_stepped (Ok (reply.Done ticket)) is) (λ stepped. inr (ticket, stepped))
 
 -- a count that was raised is one of the two
 pub raised : (o : Opened) (first was attempts new : ℕ) → new ≡ max was attempts → (first < was → ∥ HasAttempted o was ∥₁) → ∥ HasAttempted o attempts ∥₁ → first < new → ∥ HasAttempted o new ∥₁
@@ -43,3 +50,9 @@ raised o first was attempts new is before now more = by (nat_lt was attempts) re
     by false not =
         let same : new ≡ was = omega (arith, is, ltb-false was attempts not) in
         at was same (before (omega (arith, same, more)))
+
+-- why a builder ended that is ended with its clients
+pub ended_why : {T : Type 0} (o : Opened) (P : Type 0) (result : Result T Error) → IfErr result (λ e. ((e ≡ Stopped) × P) ⊎ ((e ≢ NoMemory) × ∥ WasServed o Event.Build (Refused e) ∥₁)) → IfErr result (λ e. (e ≡ Stopped) ⊎ ((e ≢ NoMemory) × ∥ WasServed o Event.Build (Refused e) ∥₁))
+ended_why o P (Ok x) why = tt
+ended_why o P (Err e) (inl stopped) = inl stopped.0
+ended_why o P (Err e) (inr refused) = inr refused

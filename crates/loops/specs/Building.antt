@@ -1,11 +1,14 @@
 -- What a step of the builder means to the loop.
-use Rattle.std.specs.Prelude.{◌≡◌, ◌≢◌, ◌⊎◌, ℕ, Result, Ok, Err}
+use Rattle.std.specs.Prelude.{◌≡◌, ◌≢◌, ◌⊎◌, ◌<◌, ◌≤◌, ℕ, Result, Ok, Err, IfErr, IfOk}
 use Rattle.records.specs.declared.error.Error.{Error}
-use Rattle.records.specs.declared.error.Error.TheVariants.{NoMemory}
+use Rattle.records.specs.declared.error.Error.TheVariants.{NoMemory, Stopped}
 use Rattle.records.specs.declared.pair.Pair.{Pair}
-use Rattle.core_contracts.specs.Events.{Built, Event, Reply}
+use Rattle.board.specs.Views.{BuilderCount}
+use Rattle.core_contracts.specs.Events.{Built, Event, Refused, Reply}
 use Rattle.core_contracts.specs.Events as events
 use Rattle.core_model.specs.Histories.{Opened}
+use Rattle.nsf_core.specs.Builds.{built}
+use Rattle.nsf_core.specs.declared.parts.Ticket.{Ticket}
 use Rattle.nsf_core.specs.declared.reply.BuildReply.{BuildReply}
 use Rattle.nsf_core.specs.declared.reply.BuildReply.TheVariants as reply
 use Rattle.shared.specs.Served.{WasServed}
@@ -17,9 +20,25 @@ pub record HasStepped (o : Opened) (reply : Reply) (attempts : ℕ) : Type 0 whe
   pub served : WasServed o Event.Build reply
   pub counted : served.new.attempts ≡ attempts
 
--- so it replies by a pair that it placed, or that has an entry
+-- so it replies by a pair that it placed, or that has an entry, or that the index is complete
 abbrev pub HasAttempted : Opened → ℕ → Type 0
-HasAttempted o attempts = (pair : Pair) × (HasStepped o (Built (events.Placed pair)) attempts ⊎ HasStepped o (Built (events.Rejected pair)) attempts)
+HasAttempted o attempts = ((pair : Pair) × (HasStepped o (Built (events.Placed pair)) attempts ⊎ HasStepped o (Built (events.Rejected pair)) attempts)) ⊎ ((ticket : Ticket) × HasStepped o (built (reply.Done ticket)) attempts)
+
+-- It replies that the index is complete, with this ticket, and no attempt that it has made then is missing in what was published.
+pub record HasPublished (o : Opened) (ticket : Ticket) (progress : ℕ) : Type 0 where
+  pub attempts : ℕ
+  pub stepped : HasStepped o (built (reply.Done ticket)) attempts
+  pub told : attempts ≤ progress
+
+-- A builder that is ended with its clients has gone on so: it completed the index, and has published all attempts; or it was ended, or a
+-- step was refused, but not for want of memory. What it publishes never goes back, and is the number of attempts then.
+pub record BuildsOn (o : Opened) (old : BuilderCount) (result : Result Ticket Error) (new : BuilderCount) : Type 0 where
+  pub done : IfOk result (λ ticket. ∥ WasServed o Event.Build (built (reply.Done ticket)) ∥₁)
+  pub published : IfOk result (λ ticket. ∥ HasPublished o ticket new.progress ∥₁)
+  pub why : IfErr result (λ e. (e ≡ Stopped) ⊎ ((e ≢ NoMemory) × ∥ WasServed o Event.Build (Refused e) ∥₁))
+  pub rises : old.progress ≤ new.progress
+  pub attempted : old.progress < new.progress → ∥ HasAttempted o new.progress ∥₁
+  pub board : new.board ≡ old.board
 
 -- The loop ends where the step completed the index, or where it was refused but for want of memory; and an attempt is one. (No
 -- public clause cites this.)

@@ -1,20 +1,20 @@
 //! The loop that builds the index.
-ghost use Rattle.std.specs.Prelude.{◌≡◌, ◌≢◌, ◌⊎◌, ◌<◌, ◌≤◌, IsTrue, IfOk, IfErr};
+ghost use Rattle.std.specs.Prelude.{◌≡◌, ◌≢◌, ◌⊎◌, ◌<◌, ◌≤◌, IsTrue, IfOk, IfErr, None};
 ghost use Rattle.records.specs.declared.error.Error.TheVariants.{NoMemory, Stopped};
 ghost use Rattle.core_contracts.specs.Events.{Event, Refused};
 ghost use Rattle.nsf_core.specs.Builds.{built};
 ghost use Rattle.nsf_core.specs.Replies.{reply_by};
 ghost use Rattle.nsf_core.specs.declared.reply.BuildReply.TheVariants as reply;
 ghost use Rattle.shared.specs.Served.{WasServed};
-ghost use Rattle.loops.specs.Building.{HasAttempted, HasStepped, IsOutcome};
+ghost use Rattle.loops.specs.Building.{HasAttempted, HasPublished, HasStepped, IsOutcome};
 
 use crate::gate::{Gate, Point};
+use crate::rest::{Rest, has_ended, leave_room};
 use board::{BuildView, View};
 use nsf_core::{BuildReply, Ticket};
 use records::Error;
 use shared::{Group, Shared};
 use std::sync::Wait;
-use std::thread;
 
 /// What a step of the builder means to the loop.
 #[derive(Clone, Copy)]
@@ -29,13 +29,13 @@ pub(crate) enum Outcome {
     Attempted,
     /// A checkpoint was made.
     Marked,
-    /// Nothing was done: the index was complete before, or memory is wanting.
+    /// Nothing was done: the index was complete before, or there is none yet, or memory is wanting.
     Nothing,
 }
 
 /// Makes steps of the builder, each under the lock anew, until one completes the index, and publishes behind each attempt how many
-/// were made since the store was opened. Where the index was complete before, it waits for the next one. After want of memory it
-/// tries again.
+/// were made since the store was opened. Now and then it leaves room for the seats by a short pause. Where the index was complete
+/// before, it sleeps, and looks again. After want of memory it tries again.
 ///
 /// `Stopped` where the stop flag was read. Else the refusal is one of the core's `build_step`, but not `NoMemory`.
 pub fn build_loop<B: Group, R: Wait, G: Gate>(
@@ -48,34 +48,71 @@ pub fn build_loop<B: Group, R: Wait, G: Gate>(
     requires build { build.old.board ≡ B.board }
     requires view { view.old.board ≡ B.board }
     ensures done { IfOk result (λ ticket. ∥ WasServed B.site.opened Event.Build (built (reply.Done ticket)) ∥₁) }
+    ensures published { IfOk result (λ ticket. ∥ HasPublished B.site.opened ticket build.new.progress ∥₁) }
     ensures why { IfErr result (λ e. ((e ≡ Stopped) × IsTrue view.new.stopped) ⊎ ((e ≢ NoMemory) × ∥ WasServed B.site.opened Event.Build (Refused e) ∥₁)) }
     ensures rises { build.old.progress ≤ build.new.progress }
     ensures attempted { build.old.progress < build.new.progress → ∥ HasAttempted B.site.opened build.new.progress ∥₁ }
     ensures board { build.new.board ≡ build.old.board }
     ensures view { view.new ≡ record view.old { stopped = view.new.stopped } }
 {
+    build_until(rt, shared, build, view, gate, None)
+}
+
+/// The same, until the run ends, if it is in one. Then it also waits for an index where there is none.
+pub(crate) fn build_until<B: Group, R: Wait, G: Gate>(
+    rt: &R,
+    shared: &Shared<B>,
+    build: &mut BuildView,
+    view: &mut View,
+    gate: &G,
+    run: Option<u64>,
+) -> Result<Ticket, Error>
+    requires build { build.old.board ≡ B.board }
+    requires view { view.old.board ≡ B.board }
+    ensures done { IfOk result (λ ticket. ∥ WasServed B.site.opened Event.Build (built (reply.Done ticket)) ∥₁) }
+    ensures published { IfOk result (λ ticket. ∥ HasPublished B.site.opened ticket build.new.progress ∥₁) }
+    ensures why { IfErr result (λ e. ((e ≡ Stopped) × (run ≡ None → IsTrue view.new.stopped)) ⊎ ((e ≢ NoMemory) × ∥ WasServed B.site.opened Event.Build (Refused e) ∥₁)) }
+    ensures rises { build.old.progress ≤ build.new.progress }
+    ensures attempted { build.old.progress < build.new.progress → ∥ HasAttempted B.site.opened build.new.progress ∥₁ }
+    ensures board { build.new.board ≡ build.old.board }
+    ensures view { view.new ≡ record view.old { stopped = view.new.stopped } }
+{
+    let bell = &shared.board().waits().resting;
+    let mut rest = Rest::new();
+    let mut steps = 0;
     for _ in rt.forever() {
+        let rings = bell.rings();
+        if has_ended(shared, run) {
+            return Err(Error::Stopped);
+        }
         if shared.board().stopped(view) {
             return Err(Error::Stopped);
         }
         let (step, attempts) = build_step(rt, shared);
-        match outcome_of(step) {
-            Outcome::Done(ticket) => return Ok(ticket),
+        match outcome_of(step, run.is_some()) {
+            Outcome::Done(ticket) => {
+                shared.board().raise_progress(build, attempts);
+                return Ok(ticket);
+            }
             Outcome::Refused(error) => return Err(error),
-            Outcome::Scanned => gate.at(Point::BuildScanned),
+            Outcome::Scanned => {
+                gate.at(Point::BuildScanned);
+                steps = leave_room(rt, shared, rings, steps);
+            }
             Outcome::Attempted => {
                 shared.board().raise_progress(build, attempts);
                 gate.at(Point::BuildAttempt);
+                steps = leave_room(rt, shared, rings, steps);
             }
             Outcome::Marked => {}
-            Outcome::Nothing => thread::yield_now(),
+            Outcome::Nothing => rest.sleep(rt, bell, rings),
         }
     }
     unreachable!()
 }
 
-// What this answer of a step means.
-fn outcome_of(step: Result<BuildReply, Error>) -> Outcome
+// What this answer of a step means, to a loop that waits for an index where there is none, or to one that doesn't.
+fn outcome_of(step: Result<BuildReply, Error>, waits: bool) -> Outcome
     ensures { IsOutcome result step }
 {
     match step {
@@ -86,11 +123,12 @@ fn outcome_of(step: Result<BuildReply, Error>) -> Outcome
         Ok(BuildReply::Marked(..)) => Outcome::Marked,
         Ok(BuildReply::Idle) => Outcome::Nothing,
         Err(Error::NoMemory) => Outcome::Nothing,
+        Err(Error::NoIndex) if waits => Outcome::Nothing,
         Err(error) => Outcome::Refused(error),
     }
 }
 
-// One step of the builder, and how many attempts were made since the store was opened, with it.
+// One step of the builder, which may have made a record, and how many attempts were made since the store was opened, with it.
 fn build_step<B: Group, R: Wait>(rt: &R, shared: &Shared<B>) -> (Result<BuildReply, Error>, u64)
     ensures { ∥ HasStepped B.site.opened (reply_by built result.0) result.1 ∥₁ }
 {
@@ -99,5 +137,7 @@ fn build_step<B: Group, R: Wait>(rt: &R, shared: &Shared<B>) -> (Result<BuildRep
     let built = locked.build_step();
     let attempts = locked.attempts();
     locked.push_outbox(rt, shared.queue());
+    drop(locked);
+    shared.board().waits().pushed.ring();
     (built, attempts)
 }

@@ -1,32 +1,55 @@
 //! The loop that cleans the index.
-ghost use Rattle.std.specs.Prelude.{◌≡◌, true};
+ghost use Rattle.std.specs.Prelude.{◌≡◌, None, true};
 ghost use Rattle.core_contracts.specs.Events.{Event};
 ghost use Rattle.nsf_core.specs.Cleaning.{cleaner};
 ghost use Rattle.nsf_core.specs.Replies.{reply_by};
 ghost use Rattle.shared.specs.Served.{WasServed};
 
 use crate::gate::{Gate, Point};
+use crate::rest::{Rest, has_ended};
 use board::View;
 use nsf_core::CleanReply;
 use records::Error;
 use shared::{Group, Shared};
 use std::sync::Wait;
-use std::thread;
 
-/// Makes steps of the cleaner, each under the lock anew, until the stop flag is read. What is refused it passes over.
+/// Makes steps of the cleaner, each under the lock anew, until the stop flag is read. What is refused it passes over. Behind a round
+/// through the index that removed nothing it sleeps, longer each time.
 pub fn clean_loop<B: Group, R: Wait, G: Gate>(rt: &R, shared: &Shared<B>, view: &mut View, gate: &G)
     requires { view.old.board ≡ B.board }
     ensures { view.new ≡ record view.old { stopped = true } }
 {
+    clean_until(rt, shared, view, gate, None);
+}
+
+/// The same, until the run ends, if it is in one.
+pub(crate) fn clean_until<B: Group, R: Wait, G: Gate>(
+    rt: &R,
+    shared: &Shared<B>,
+    view: &mut View,
+    gate: &G,
+    run: Option<u64>,
+)
+    requires { view.old.board ≡ B.board }
+    ensures view { view.new ≡ record view.old { stopped = view.new.stopped } }
+    ensures stopped { run ≡ None → view.new.stopped ≡ true }
+{
+    let bell = &shared.board().waits().resting;
+    let mut rest = Rest::new();
     for _ in rt.forever() {
+        let rings = bell.rings();
+        if has_ended(shared, run) {
+            return;
+        }
         let is_stopped = shared.board().stopped(view);
         if is_stopped {
             return;
         }
         gate.at(Point::CleanStep);
         match clean_step(rt, shared) {
-            Ok(CleanReply::Cleaned(_)) | Ok(CleanReply::Kept(_)) => {}
-            Ok(CleanReply::Wrapped) | Err(_) => thread::yield_now(),
+            Ok(CleanReply::Cleaned(_)) => rest = Rest::new(),
+            Ok(CleanReply::Kept(_)) => {}
+            Ok(CleanReply::Wrapped) | Err(_) => rest.sleep(rt, bell, rings),
         }
     }
     unreachable!()
@@ -40,5 +63,7 @@ fn clean_step<B: Group, R: Wait>(rt: &R, shared: &Shared<B>) -> Result<CleanRepl
     locked.push_outbox(rt, shared.queue());
     let cleaned = locked.clean_step();
     locked.push_outbox(rt, shared.queue());
+    drop(locked);
+    shared.board().waits().pushed.ring();
     cleaned
 }

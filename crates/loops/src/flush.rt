@@ -1,5 +1,5 @@
 //! The loop that writes the records and takes images.
-ghost use Rattle.std.specs.Prelude.{◌≡◌, true, false, IsTrue, OnOk, IfOk, IfErr};
+ghost use Rattle.std.specs.Prelude.{◌≡◌, true, false, IsTrue, None, OnOk, IfOk, IfErr};
 ghost use Rattle.records.specs.declared.error.Error.TheVariants.{DeviceFailed};
 ghost use Rattle.store_writer.specs.Parts.{halves_of, has_failed, image_of};
 ghost use Rattle.store_writer.specs.Places.{IsAtPiece};
@@ -12,6 +12,7 @@ ghost use Rattle.loops.specs.Through.{RunsThrough};
 ghost use Rattle.loops.specs.declared.flush.Copying.{Copying as CopyingValue};
 
 use crate::gate::{Gate, Point};
+use crate::rest::{Found, has_ended, rest_flusher};
 use board::View;
 use flusher::FlushPart;
 use image_model::{Chunk, CopyPlace};
@@ -20,12 +21,11 @@ use sector_device::Device;
 use shared::{Group, Shared};
 use std::alloc::Global;
 use std::sync::Wait;
-use std::thread;
 use store_writer::{FlipReply, FlushReply, StepReply, kept_place};
 
 // After so many rounds the lock is taken though no record was popped: one that the queue refused may wait in the core, and nobody
 // else may call again.
-const LOOK_EVERY: u32 = 256;
+const LOOK_EVERY: u32 = 32;
 
 /// How far the copying of an image has come.
 #[derive(Clone, Copy)]
@@ -38,9 +38,10 @@ pub(crate) enum Copying {
     GivenUp,
 }
 
-/// Pops the records that wait, hands them in under the lock, writes them in groups, and publishes how far they are synced. Now and
-/// then it looks under the lock for records that the queue refused. Once half the slots of the log are open it takes an image, each
-/// chunk of it copied under the lock anew, and makes it current. After want of memory it tries again.
+/// Pops the records that wait, hands them in under the lock, writes them in groups, and publishes behind each group how far they are
+/// synced. Now and then it looks under the lock for records that the queue refused. Once half the slots of the log are open it takes
+/// an image, each chunk of it copied under the lock anew, with a pause behind it, and makes it current. Where nothing waits it sleeps
+/// until records are made, or for a short while. After want of memory it tries again.
 ///
 /// It ends where the stop flag is read, or with `DeviceFailed` where the device failed, now or earlier, stop flag or not. What is
 /// held or waits then is not written. A crash at any moment leaves all records that were synced as the loop began (`goes_on`).
@@ -59,22 +60,66 @@ pub fn flush_loop<B: Group, D: Device, R: Wait, G: Gate>(
     ensures failed { IfErr result (λ e. (e ≡ DeviceFailed) × (has_failed part.new.writer ≡ true)) }
     ensures view { view.new ≡ record view.old { stopped = view.new.stopped } }
 {
+    flush_until(rt, shared, part, view, gate, None)
+}
+
+/// The same, until the run ends, if it is in one.
+pub(crate) fn flush_until<B: Group, D: Device, R: Wait, G: Gate>(
+    rt: &R,
+    shared: &Shared<B>,
+    part: &mut FlushPart<B, D>,
+    view: &mut View,
+    gate: &G,
+    run: Option<u64>,
+) -> Result<(), Error>
+    requires part { part.old.published.board ≡ B.board }
+    requires view { view.old.board ≡ B.board }
+    ensures goes_on { GoesOn D.history D.failures B.site.opened part.old part.new }
+    ensures through { RunsThrough D.history D.failures B.site.opened part.old part.new }
+    ensures stopped { OnOk result ((run ≡ None → IsTrue view.new.stopped) × (has_failed part.new.writer ≡ false)) }
+    ensures failed { IfErr result (λ e. (e ≡ DeviceFailed) × (has_failed part.new.writer ≡ true)) }
+    ensures view { view.new ≡ record view.old { stopped = view.new.stopped } }
+{
     part.stands();
+    let bell = &shared.board().waits().pushed;
     let mut copying = Copying::Idle;
     let mut rounds: u32 = 0;
+    let mut quiet = 0;
     for _ in rt.forever() {
         if part.has_failed() {
             return Err(Error::DeviceFailed);
+        }
+        let rings = bell.rings();
+        if has_ended(shared, run) {
+            return Ok(());
         }
         if shared.board().stopped(view) {
             return Ok(());
         }
         rounds = rounds.wrapping_add(1);
-        let looks = rounds % LOOK_EVERY == 0;
-        let _ = round(rt, shared, part, &mut copying, looks, gate);
-        thread::yield_now();
+        let synced = part.synced();
+        let _ = round(
+            rt,
+            shared,
+            part,
+            &mut copying,
+            rounds % LOOK_EVERY == 0,
+            gate,
+        );
+        quiet = rest_flusher(rt, bell, rings, found(part, synced, copying), quiet);
     }
     unreachable!()
+}
+
+// What was found in a round, before which so much was synced.
+fn found<B: Group, D: Device>(part: &FlushPart<B, D>, synced: u64, copying: Copying) -> Found {
+    if part.synced() != synced || part.synced() != part.last_handed() {
+        return Found::Records;
+    }
+    match copying {
+        Copying::Idle => Found::Nothing,
+        Copying::Steps(_) | Copying::GivenUp => Found::Image,
+    }
 }
 
 // One round: the records that wait are handed in, a group of them is written, and a step of an image is made where one is due.
@@ -112,7 +157,8 @@ fn hand_in<B: Group, D: Device, R: Wait>(
     part.stands();
 }
 
-// Takes the lock only where some were popped, or where it is to look.
+// Takes none while records wait for the writer, which are to be written first; and takes the lock only where some were popped, or
+// where it is to look.
 fn take_in<B: Group, D: Device, R: Wait>(
     rt: &R,
     shared: &Shared<B>,
@@ -121,6 +167,10 @@ fn take_in<B: Group, D: Device, R: Wait>(
 ) -> Result<(), Error>
     ensures { TakesIn part.old part.new }
 {
+    let waits = part.synced() != part.last_handed();
+    if waits {
+        return Ok(());
+    }
     part.take(rt, shared.queue())?;
     let wanted = looks || part.holds_some();
     if !wanted {

@@ -2,15 +2,19 @@
 //!
 //! Each goes round under `Wait` until something that it names ends it: the stop flag of the board, a device that failed, the end
 //! of the build. What a round does is a step of the layers below; a loop adds the order, and at each of its points calls a gate,
-//! with no lock held, so that a test can hold it there.
+//! with no lock held, so that a test can hold it there. [`run_beside`] runs all three beside what the seats do, each in a thread of its
+//! own.
 #![tactic(auto)]
 
 mod build;
 mod clean;
 mod flush;
 mod gate;
+mod rest;
+mod run;
 
 pub use build::build_loop;
 pub use clean::clean_loop;
 pub use flush::flush_loop;
 pub use gate::{Gate, NoGate, Point};
+pub use run::{Ended, run_beside};

@@ -1,5 +1,5 @@
 -- What a step of a change makes of its seat's session.
-use Rattle.std.proofs.Common.{◌≡◌, ◌≢◌, ◌==◌, ℕ, Bool, true, false, cond, List, Option, Some, None, is_some, not, ◌&&◌, ⊎_elim, refl, sym, ap, ◌∙◌, subst}
+use Rattle.std.proofs.Common.{◌≡◌, ◌≢◌, ◌==◌, ℕ, Bool, true, false, cond, List, Option, Some, None, is_some, not, ◌&&◌, ◌⊎◌, inl, inr, ⊎_elim, refl, sym, ap, ◌∙◌, subst}
 use Rattle.std.specs.FinMap.{get}
 use Rattle.std.specs.Option.{option_map}
 use Rattle.std.specs.Prelude.{option_and_then, slice_get, slice_set}
@@ -25,7 +25,7 @@ use Rattle.register.specs.Agreement.{Agree, IsRegister, IsSeen, is_owed, newest_
 use Rattle.sessions.specs.Steps.{change_seen, changed, step_seen, stepped, unfinished_in}
 use Rattle.sessions.specs.Values.{active_of, ActiveValue, can_go_on, is_active, is_ready, SessionValue, with_active}
 use Rattle.shared.specs.Changed.{IsUnderWay, row_of, unfinished_of}
-use Rattle.shared.proofs.Lookups.{get_set, get_within, held_mine, number_is, others_stay, owed_one, still_active, with_own}
+use Rattle.shared.proofs.Lookups.{get_set, get_within, held_by, held_mine, number_is, others_stay, owed_one, still_active, with_own}
 use Rattle.shared.proofs.Stepped.{first, following, IsStep}
 
 -- ---- an answer
@@ -119,13 +119,20 @@ module _ (o : Opened) (can : CanOpen o) (pushed : List RecordValue) (core new : 
       others = others_stay f keeps t p;
       rows = λ x apart. row_after x ∙ ((λ i. row_held t (step.holder x apart i) (get_at x apart i)) ∙ sym (row_before x));
       unfinished = none_or_this _ (unfinished_of q t) w unfinished_now;
-      row = λ none.
-          row_after w.rid
-          ∙ (ap (λ (m : Option ℕ). row_held t m (get s'.rows w.rid)) step.mine
-          ∙ (held_mine t (get s'.rows w.rid) ∙ ap Some (step.row (not_this _ (unfinished_of q t) w unfinished_now none))));
+      row = λ none. here_now ∙ ap Some (step.row (not_this _ (unfinished_of q t) w unfinished_now none));
       ready = ready_now;
+      stays = λ before is. ∣ stay before is ∣₁;
     }
       where
+        here_now : row_of q t w.rid ≡ Some (get s'.rows w.rid)
+        here_now = row_after w.rid ∙ (ap (λ (m : Option ℕ). row_held t m (get s'.rows w.rid)) step.mine ∙ held_mine t (get s'.rows w.rid))
+
+        stay : (before : Option Row) → row_of p t w.rid ≡ Some before → (row_of q t w.rid ≡ Some before) ⊎ (row_of q t w.rid ≡ Some w.row)
+        stay before is = ⊎_elim
+            (λ (same : get s'.rows w.rid ≡ get s.rows w.rid). inl (here_now ∙ ap Some (same ∙ (held_by t (s.holder w.rid) (get s.rows w.rid) before (sym (row_before w.rid) ∙ is)).1)))
+            (λ (new_row : get s'.rows w.rid ≡ w.row). inr (here_now ∙ ap Some new_row))
+            step.kept
+
         get_at : (x : Place) (apart : x ≢ w.rid) → get s'.rows x ≡ get s.rows x
         get_at x apart = step.rows x apart
 

@@ -1,7 +1,6 @@
 -- What the end of a transaction finds, whose changes are taken back.
 use Rattle.std.proofs.Common.{◌≡◌, ◌==◌, ◌++◌, ◌∷◌, [], List, ℕ, Bool, true, false, cond, Option, Some, None, refl, sym, ap, ◌∙◌}
 use Rattle.std.proofs.Math.Logic.{∥∥₁_map}
-use Rattle.std.proofs.lemmas.Bool.{eqb-true}
 use Rattle.std.specs.FinMap.{get}
 use Rattle.std.specs.Prelude.{slice_get}
 use Rattle.records.specs.ChangeValue.{ChangeValue}
@@ -29,22 +28,10 @@ use Rattle.nsf_core.specs.Moves.{HasNoChange, txn_shown}
 use Rattle.nsf_core.specs.View.{AreOne, CoreValue, Serves, Shows}
 use Rattle.sessions.specs.Values.{is_active, SessionValue}
 use Rattle.register.proofs.Laws.{rows_left}
-use Rattle.register.specs.Agreement.{row_held}
 use Rattle.locked_core.specs.Names.{IsShared}
 use Rattle.shared.specs.Changed.{row_of}
 use Rattle.shared.specs.Served.{WasTakenBack}
-
-some_is : {A : Type 0} (a b : A) → Some a ≡ Some b → a ≡ b
-some_is a b e = cc
-
--- a row that is held is its transaction's
-held_by : (t : ℕ) (holder : Option ℕ) (there row : Option Row) → row_held t holder there ≡ Some row → (holder ≡ Some t) × (there ≡ row)
-held_by t None there row e = absurd cc
-held_by t (Some u) there row e = by (t == u) (eqb-true t u) e
-  where
-    by : (b : Bool) → (b ≡ true → t ≡ u) → cond b (Some there) None ≡ Some row → (Some u ≡ Some t) × (there ≡ row)
-    by true same h = (ap Some (sym (same refl)), some_is there row h)
-    by false same h = absurd cc
+use Rattle.shared.proofs.Lookups.{held_by}
 
 no_list : (cs : Changes) → as_list cs ≡ [] → cs ≡ Unchanged
 no_list Unchanged e = refl

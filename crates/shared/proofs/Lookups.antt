@@ -1,5 +1,5 @@
 -- Lookups in a session, in the sessions of all seats, and in what the core shows.
-use Rattle.std.proofs.Common.{◌≡◌, ℕ, ◌<◌, Bool, true, false, cond, eqb, eq-eqb, List, [], ◌∷◌, length, Option, Some, None, is_some, not, refl, sym, ap, ◌∙◌, subst, arith, zero, suc}
+use Rattle.std.proofs.Common.{◌≡◌, ◌==◌, ℕ, ◌<◌, Bool, true, false, cond, eqb, eq-eqb, List, [], ◌∷◌, length, Option, Some, None, is_some, not, refl, sym, ap, ◌∙◌, subst, arith, zero, suc}
 use Rattle.std.proofs.lemmas.Bool.{eqb-true}
 use Rattle.std.specs.Option.{option_map}
 use Rattle.std.specs.Prelude.{option_and_then, slice_get, slice_set}
@@ -83,6 +83,15 @@ unfinished_is_some p t = by (active_of t p.active)
 
 pub held_mine : (t : ℕ) (row : Option Row) → row_held t (Some t) row ≡ Some row
 held_mine t row = ap (λ b. cond b (Some row) None) (eq-eqb t t refl)
+
+-- a row that is held is its transaction's
+pub held_by : (t : ℕ) (holder : Option ℕ) (there row : Option Row) → row_held t holder there ≡ Some row → (holder ≡ Some t) × (there ≡ row)
+held_by t None there row e = absurd cc
+held_by t (Some u) there row e = by (t == u) (eqb-true t u) e
+  where
+    by : (b : Bool) → (b ≡ true → t ≡ u) → cond b (Some there) None ≡ Some row → (Some u ≡ Some t) × (there ≡ row)
+    by true same h = (ap Some (sym (same refl)), some_is there row h)
+    by false same h = absurd cc
 
 -- ---- whether a transaction owes a step
 

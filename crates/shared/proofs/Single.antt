@@ -1,5 +1,5 @@
 -- Facts that have one proof.
-use Rattle.std.proofs.Common.{ℕ, Option}
+use Rattle.std.proofs.Common.{◌≡◌, ℕ, Option}
 use Rattle.std.proofs.Props.{props}
 use Rattle.std.specs.Coded.{Coded, Coded-set, codes}
 use Rattle.model.specs.declared.write.Write.{Write}
@@ -15,6 +15,9 @@ writes_coded = hlevel codes
 
 rows_coded : Coded (Option (Option Row))
 rows_coded = hlevel codes
+
+pub rows_single : (a b : Option (Option Row)) → IsProp (a ≡ b)
+rows_single = Coded-set rows_coded
 
 pub under_way_single : (old : SessionValue) (txn : ℕ) (w : Write) (new : SessionValue) → IsProp (IsUnderWay old txn w new)
 under_way_single old txn w new = hlevel (Coded-set sessions_coded, Coded-set writes_coded, Coded-set rows_coded, props)

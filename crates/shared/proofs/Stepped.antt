@@ -17,7 +17,7 @@ use Rattle.core_model.specs.States.{Active, Made, NewMarked, OldMarked, OldSet, 
 use Rattle.core_model.specs.Steps.{after, carried_on, is_applied, is_indexed, Next, row_made, Start, started, txn_at, with_change, with_phase}
 use Rattle.register.specs.Agreement.{is_owed, newest_write}
 
--- the rows at all other places stay, and so do all holders of them; the place is the transaction's; and where no step is owed, the row is there
+-- the rows at all other places stay, and so do all holders of them; the place is the transaction's, and has the row that it had or the change's; and where no step is owed, the latter
 pub record IsStep (s new : State) (t : ℕ) (w : Write) : Type 0 where
   pub rows : (q : Place) → q ≢ w.rid → get new.rows q ≡ get s.rows q
   pub holder : (q : Place) → q ≢ w.rid → new.holder q ≡ s.holder q
@@ -25,6 +25,7 @@ pub record IsStep (s new : State) (t : ℕ) (w : Write) : Type 0 where
   pub txn : Active
   pub active : new.txns t ≡ Some txn
   pub row : is_owed txn.phase txn.rolling ≡ false → get new.rows w.rid ≡ w.row
+  pub kept : (get new.rows w.rid ≡ get s.rows w.rid) ⊎ (get new.rows w.rid ≡ w.row)
 
 -- ---- the first step
 
@@ -37,6 +38,7 @@ module _ (s : State) (t : ℕ) (c : ChangeValue) (going : (txn_at s t).rolling �
     txn = with_change (txn_at s t) c (row_made (new_pair (is_indexed s.life) c));
     active = txn_here s t _;
     row = λ none. get-set_at_same rid_exact s.rows c.rid _;
+    kept = inr (get-set_at_same rid_exact s.rows c.rid _);
   }
   first_with (Some p) = record {
     rows = λ q apart. refl;
@@ -45,6 +47,7 @@ module _ (s : State) (t : ℕ) (c : ChangeValue) (going : (txn_at s t).rolling �
     txn = with_change (txn_at s t) c OldMarked;
     active = txn_here s t _;
     row = λ none. absurd (owes (txn_at s t).rolling going none);
+    kept = inl refl;
   }
     where
       owes : (b : Bool) → b ≡ false → is_owed OldMarked b ≡ false → ⊥
@@ -54,7 +57,7 @@ module _ (s : State) (t : ℕ) (c : ChangeValue) (going : (txn_at s t).rolling �
   pub first : IsStep s (after s (Start t c)) t (write_of c)
   first =
       let f = first_with (old_pair (is_indexed s.life) c) in
-      record { rows = f.rows; holder = f.holder; mine = f.mine; txn = f.txn; active = f.active; row = f.row }
+      record { rows = f.rows; holder = f.holder; mine = f.mine; txn = f.txn; active = f.active; row = f.row; kept = f.kept }
 
 -- ---- the steps that follow
 
@@ -84,6 +87,7 @@ module _ (s : State) (holds : Invariant s) (t : ℕ) (active : s.txns t ≡ Some
     txn = with_phase x (row_made (new_pair (is_indexed s.life) c));
     active = txn_here s t _;
     row = λ none. get-set_at_same rid_exact s.rows c.rid _;
+    kept = inr (get-set_at_same rid_exact s.rows c.rid _);
   })
   next_with (older ▹ c) RowSet changes at names owes w newest = subst (IsStep s (carried_on s t x (older ▹ c) RowSet) t) (same_some refl newest) (record {
     rows = λ q apart. refl;
@@ -92,6 +96,7 @@ module _ (s : State) (holds : Invariant s) (t : ℕ) (active : s.txns t ≡ Some
     txn = with_phase x Made;
     active = txn_here s t _;
     row = λ none. row_there older c changes at names.0;
+    kept = inl refl;
   })
   next_with (older ▹ c) Made changes at names (inl e) w newest = absurd cc
   next_with (older ▹ c) Made changes at names (inr e) w newest = absurd cc
@@ -103,4 +108,4 @@ module _ (s : State) (holds : Invariant s) (t : ℕ) (active : s.txns t ≡ Some
   pub following : (x.phase ≡ OldMarked) ⊎ (x.phase ≡ RowSet) → (w : Write) → newest_write x.changes ≡ Some w → IsStep s (after s (Next t)) t w
   following owes w newest =
       let f = next_with x.changes x.phase refl refl (holds.fit.txns t x active).names owes w newest in
-      record { rows = f.rows; holder = f.holder; mine = f.mine; txn = f.txn; active = f.active; row = f.row }
+      record { rows = f.rows; holder = f.holder; mine = f.mine; txn = f.txn; active = f.active; row = f.row; kept = f.kept }

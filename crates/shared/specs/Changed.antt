@@ -1,5 +1,5 @@
 -- What a change of a transaction makes of its seat's session.
-use Rattle.std.specs.Prelude.{Bool, false, is_some, None, Option, Some, option_and_then, true, ℕ, ◌≡◌, ◌≢◌}
+use Rattle.std.specs.Prelude.{Bool, false, is_some, None, Option, Some, option_and_then, true, ℕ, ◌≡◌, ◌≢◌, ◌⊎◌}
 use Rattle.records.specs.Values.{Place}
 use Rattle.records.specs.declared.error.Error.{Error}
 use Rattle.records.specs.declared.row.Row.{Row}
@@ -16,13 +16,14 @@ row_of s txn q = row_at q (rows_of txn s.active)
 abbrev pub unfinished_of : SessionValue → (txn : ℕ) → Option Write
 unfinished_of s txn = option_and_then (λ a. a.unfinished) (active_of txn s.active)
 
--- Some steps of this change of a transaction are made. The rows at all other places, the other transactions, the commits and the creations are as before. If a step is left, the change is the transaction's unfinished one; and else its row is there, and the transaction may begin another change.
+-- Some steps of this change of a transaction are made. The rows at all other places, the other transactions, the commits and the creations are as before. If a step is left, the change is the transaction's unfinished one; and else its row is there, and the transaction may begin another change. A row that the transaction had at the place stays there, or the change's row is.
 pub record IsUnderWay (old : SessionValue) (txn : ℕ) (change : Write) (new : SessionValue) : Type 0 where
   pub others : ended new txn ≡ ended old txn
   pub rows : (q : Place) → q ≢ change.rid → row_of new txn q ≡ row_of old txn q
   pub unfinished : unfinished_of new txn ≢ None → unfinished_of new txn ≡ Some change
   pub row : unfinished_of new txn ≡ None → row_of new txn change.rid ≡ Some change.row
   pub ready : unfinished_of new txn ≡ None → is_ready new txn ≡ true
+  pub stays : (before : Option Row) → row_of old txn change.rid ≡ Some before → ∥ (row_of new txn change.rid ≡ Some before) ⊎ (row_of new txn change.rid ≡ Some change.row) ∥₁
 
 -- All its steps are made, or where one was refused some of them, and the change is left to finish.
 abbrev pub HasChanged : SessionValue → (txn : ℕ) → (change : Write) → (refusal : Option Error) → SessionValue → Type 0

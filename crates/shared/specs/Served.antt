@@ -5,11 +5,13 @@ use Rattle.records.specs.RecordValue.{RecordValue}
 use Rattle.records.specs.Values.{Place}
 use Rattle.records.specs.declared.row.Row.{Row}
 use Rattle.core_contracts.specs.Events.{Event, Reply}
+use Rattle.model.specs.declared.write.Write.{Write}
 use Rattle.core_laws.specs.Holds.{committed_rows}
 use Rattle.core_model.specs.Histories.{Opened}
 use Rattle.nsf_core.specs.Moves.{HasNoChange, txn_shown}
 use Rattle.nsf_core.specs.View.{CoreValue, Serves}
 use Rattle.sessions.specs.Values.{SessionValue}
+use Rattle.register.specs.Reading.{ReadsBack}
 use Rattle.locked_core.specs.Names.{IsShared}
 use Rattle.shared.specs.Changed.{IsGoingBack, row_of}
 
@@ -31,6 +33,11 @@ pub record WasServedTo (o : Opened) (seat : ℕ) (session : SessionValue) (e : E
   pub shared : IsShared o core pushed book
   pub here : slice_get book seat ≡ Some session
   pub serves : Serves core e reply new
+
+-- A change was begun so of a seat that had the one session, and now has the other: there its place has the row that the change asked for, or as long as the change is to be finished the row that the core had there.
+pub record WasChanged (o : Opened) (seat : ℕ) (old : SessionValue) (e : Event) (txn : ℕ) (change : Write) (new : SessionValue) : Type 0 where
+  pub begun : WasServedTo o seat old e Reply.Stepped
+  pub row : ReadsBack (get begun.core.heap.rows change.rid) txn change new
 
 -- The end of a transaction of the seat was served so, while the seat had this session of it: no change was left to take back, and each place that it held had its committed row.
 pub record WasTakenBack (o : Opened) (seat : ℕ) (session : SessionValue) (txn : ℕ) : Type 0 where

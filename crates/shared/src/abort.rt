@@ -33,6 +33,7 @@ impl<B: Group> Shared<B> {
         for _ in rt.forever() {
             match self.take_back(rt, seat, txn) {
                 Ok(last) => {
+                    self.wake_flusher();
                     if last {
                         return Ok(());
                     }

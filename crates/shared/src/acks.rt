@@ -8,16 +8,22 @@ use crate::shared::Shared;
 use crate::site::Group;
 use nsf_core::Ticket;
 use records::Error;
+use std::hint;
 use std::marker::PhantomData;
 use std::sync::Wait;
-use std::thread;
+use std::time::Duration;
+
+// A seat looks so often for the horizon before it sleeps, and no sleep is longer than so many microseconds.
+const LOOKS: u32 = 128;
+
+const LONGEST_SLEEP: u64 = 1_000;
 
 impl<B: Group> Shared<B> {
     /// Whether the record of the ticket is safe on the device, by the horizon as it is read now. It takes no memory and
     /// waits for nothing.
     pub fn is_acked(&self, seat: &mut Seat<B>, ticket: Ticket) -> bool
         ensures reached { IsTrue result ↔ (ticket.«record» ≤ seat.new.sight.horizon) }
-        ensures seen { seat.new ≡ record seat.old { sight = record seat.old.sight { horizon = seat.new.sight.horizon } } }
+        ensures seen { seat.new ≡ record seat.old { sight = record seat.old.sight { horizon = seat.new.sight.horizon; checked = false } } }
         ensures rises { seat.old.sight.horizon ≤ seat.new.sight.horizon }
     {
         self.board.horizon(&mut seat.view) >= ticket.record.get()
@@ -27,10 +33,10 @@ impl<B: Group> Shared<B> {
     fn try_ack(&self, seat: &mut Seat<B>, ticket: &Ticket) -> Option<Ack<B>>
         ensures ticket { IfSome result (λ ack. ack.ticket ≡ ticket.now) }
         ensures reached { IfSome result (λ ack. ticket.now.«record» ≤ ack.sight.horizon) }
-        ensures stays { IfSome result (λ ack. seat.new ≡ record seat.old { sight = record seat.old.sight { horizon = ack.sight.horizon; name = stays_as seat.old.sight.name } }) }
+        ensures stays { IfSome result (λ ack. seat.new ≡ record seat.old { sight = record seat.old.sight { horizon = ack.sight.horizon; checked = false; name = stays_as seat.old.sight.name } }) }
         ensures leaves { IfSome result (λ ack. ack.sight ≡ record seat.new.sight { name = leaves_as seat.old.sight.name; stops = false }) }
         ensures none { IfNone result (seat.new.sight.horizon < ticket.now.«record») }
-        ensures seen { IfNone result (seat.new ≡ record seat.old { sight = record seat.old.sight { horizon = seat.new.sight.horizon } }) }
+        ensures seen { IfNone result (seat.new ≡ record seat.old { sight = record seat.old.sight { horizon = seat.new.sight.horizon; checked = false } }) }
         ensures rises { seat.old.sight.horizon ≤ seat.new.sight.horizon }
     {
         if self.board.horizon(&mut seat.view) < ticket.record.get() {
@@ -47,7 +53,7 @@ impl<B: Group> Shared<B> {
     // Why the seat waits no longer, if so.
     fn ended(&self, seat: &mut Seat<B>) -> Option<Error>
         ensures why { IfSome result (λ e. HasReadWhy e seat.old seat.new) }
-        ensures none { IfNone result (seat.new ≡ seat.old) }
+        ensures none { IfNone result (seat.new ≡ record seat.old { sight = record seat.old.sight { checked = true } }) }
         ensures unfailed { IfNone result (seat.old.sight.failed ≡ false) }
         ensures unstopped { IfNone result (seat.old.sight.stopped ≡ false) }
     {
@@ -60,11 +66,12 @@ impl<B: Group> Shared<B> {
         None
     }
 
-    /// Waits until the record of the ticket is safe on the device.
+    /// Waits until the record of the ticket is safe on the device: it looks a few times, and then sleeps until the flusher has
+    /// published, or for a short while.
     ///
     /// `DeviceFailed` where the flusher says that its device failed, and else `Stopped` where the threads are asked to stop; neither
-    /// where the horizon that was read last reaches the record. After an error the seat has seen a horizon and the flag that says
-    /// why, after `Ok` a horizon, and no more.
+    /// where the horizon that was read last reaches the record, and each by the failed flag as it was read behind that horizon. After
+    /// an error the seat has seen a horizon and the flag that says why, after `Ok` a horizon, and no more.
     pub fn await_ack<R: Wait>(
         &self,
         rt: &R,
@@ -73,22 +80,35 @@ impl<B: Group> Shared<B> {
     ) -> Result<Ack<B>, Error>
         ensures ticket { IfOk result (λ ack. ack.ticket ≡ ticket) }
         ensures reached { IfOk result (λ ack. ticket.«record» ≤ ack.sight.horizon) }
-        ensures stays { IfOk result (λ ack. seat.new ≡ record seat.old { sight = record seat.old.sight { horizon = ack.sight.horizon; name = stays_as seat.old.sight.name } }) }
+        ensures stays { IfOk result (λ ack. seat.new ≡ record seat.old { sight = record seat.old.sight { horizon = ack.sight.horizon; checked = false; name = stays_as seat.old.sight.name } }) }
         ensures leaves { IfOk result (λ ack. ack.sight ≡ record seat.new.sight { name = leaves_as seat.old.sight.name; stops = false }) }
         ensures why { IfErr result (λ e. HasReadWhy e (record seat.old { sight = record seat.old.sight { horizon = seat.new.sight.horizon } }) seat.new) }
         ensures late { OnErr result (seat.new.sight.horizon < ticket.«record») }
         ensures rises { seat.old.sight.horizon ≤ seat.new.sight.horizon }
     {
+        let mut looks: u32 = 0;
         for _ in rt.forever() {
+            let rings = self.board.waits().published.rings();
             if let Some(ack) = self.try_ack(seat, &ticket) {
                 return Ok(ack);
             }
             if let Some(error) = self.ended(seat) {
                 return Err(error);
             }
-            thread::yield_now();
+            self.look_or_sleep(rt, looks, rings);
+            looks = looks.saturating_add(1);
         }
         unreachable!()
+    }
+
+    // Goes on at once where there were few looks for the horizon, and else sleeps until the flusher has published.
+    fn look_or_sleep<R: Wait>(&self, rt: &R, looks: u32, rings: u64) {
+        if looks < LOOKS {
+            hint::spin_loop();
+        } else {
+            let published = &self.board.waits().published;
+            published.sleep(rt, rings, Duration::from_micros(LONGEST_SLEEP));
+        }
     }
 
     /// How many attempts the builder has made in this run, as it has published. It takes no memory and waits for nothing.
@@ -99,7 +119,7 @@ impl<B: Group> Shared<B> {
         self.board.progress(&mut seat.view)
     }
 
-    /// Asks all threads to stop. It takes no memory and waits for nothing.
+    /// Asks all threads to stop, and wakes those that sleep. It takes no memory and waits for nothing.
     pub fn stop(&self, seat: &mut Seat<B>)
         ensures { seat.new ≡ record seat.old { sight = record seat.old.sight { stopped = true; stops = true } } }
     {

@@ -47,6 +47,8 @@ impl<B: Group> Shared<B> {
         locked.push_outbox(rt, &self.queue);
         let committed = locked.commit(&self.registry, &mut seat.part, txn);
         locked.push_outbox(rt, &self.queue);
+        drop(locked);
+        self.wake_flusher();
         committed
     }
 
@@ -62,6 +64,9 @@ impl<B: Group> Shared<B> {
         locked.push_outbox(rt, &self.queue);
         let created = locked.create_index(&self.registry, &mut seat.part);
         locked.push_outbox(rt, &self.queue);
+        drop(locked);
+        self.wake_flusher();
+        self.board.waits().resting.ring();
         created
     }
 

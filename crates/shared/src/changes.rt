@@ -5,8 +5,8 @@ ghost use Rattle.core_contracts.specs.Events.{Event, Refused, Reply};
 ghost use Rattle.model.specs.declared.write.Write.{Write};
 ghost use Rattle.nsf_core.specs.Replies.{reply_by};
 ghost use Rattle.sessions.specs.Values.{is_active, is_ready, is_unfinished};
-ghost use Rattle.shared.specs.Changed.{HasChanged, IsUnderWay, unfinished_of};
-ghost use Rattle.shared.specs.Served.{WasServedTo};
+ghost use Rattle.shared.specs.Changed.{HasChanged, IsUnderWay, row_of, unfinished_of};
+ghost use Rattle.shared.specs.Served.{WasChanged, WasServedTo};
 
 use crate::seat::Seat;
 use crate::shared::Shared;
@@ -26,7 +26,8 @@ impl<B: Group> Shared<B> {
     /// Inserts a row in a transaction of the seat.
     ///
     /// `NoSuchTxn` where the transaction isn't one of the seat's, and else the refusals of the core's `start_insert`. After
-    /// one of them the seat is as before. With a change comes the refusal of a later step, if one was refused.
+    /// one of them the seat is as before. With a change comes the refusal of a later step, if one was refused. The seat has the row
+    /// then, and holds its place.
     pub fn insert<R: Wait>(
         &self,
         rt: &R,
@@ -39,18 +40,21 @@ impl<B: Group> Shared<B> {
         ensures foreign { is_active seat.old.session txn ≡ false → result ≡ Err NoSuchTxn }
         ensures served { is_active seat.old.session txn ≡ true → ∥ WasServedTo B.site.opened seat.old.number seat.old.session (Event.Insert txn (record { key = key; body = body })) (reply_by (λ change. Reply.Rid change.rid) result) ∥₁ }
         ensures changed { IfOk result (λ change. HasChanged seat.old.session txn (record { rid = change.rid; row = Some (record { key = key; body = body }) }) change.rest seat.new.session) }
+        ensures row { IfOk result (λ change. row_of seat.new.session txn change.rid ≡ Some (Some (record { key = key; body = body }))) }
         ensures rest { IfOk result (λ change. IfSome change.rest (λ e. ∥ WasServedTo B.site.opened seat.new.number seat.new.session (Event.Step txn) (Refused e) ∥₁)) }
         ensures refused { OnErr result (seat.new ≡ seat.old) }
         ensures seat { seat.new ≡ record seat.old { session = seat.new.session } }
     {
         let rid = self.start_insert(rt, seat, txn, key, body)?;
         let rest = self.finish_change(rt, seat, txn);
+        self.wake_flusher();
         Ok(Change { rid, rest })
     }
 
     /// Deletes a row in a transaction of the seat.
     ///
-    /// The refusals are those of `insert`, with the core's `start_delete` in place of `start_insert`.
+    /// The refusals are those of `insert`, with the core's `start_delete` in place of `start_insert`. Where a later step was refused, the
+    /// seat holds the place with no row, or with the one that was there (`row`).
     pub fn delete<R: Wait>(
         &self,
         rt: &R,
@@ -63,18 +67,21 @@ impl<B: Group> Shared<B> {
         ensures served { is_active seat.old.session txn ≡ true → ∥ WasServedTo B.site.opened seat.old.number seat.old.session (Event.Delete txn rid) (reply_by (λ _. Reply.Stepped) result) ∥₁ }
         ensures place { IfOk result (λ change. change.rid ≡ rid) }
         ensures changed { IfOk result (λ change. HasChanged seat.old.session txn (record { rid = rid; row = None }) change.rest seat.new.session) }
+        ensures row { OnOk result ∥ WasChanged B.site.opened seat.old.number seat.old.session (Event.Delete txn rid) txn (record { rid = rid; row = None }) seat.new.session ∥₁ }
         ensures rest { IfOk result (λ change. IfSome change.rest (λ e. ∥ WasServedTo B.site.opened seat.new.number seat.new.session (Event.Step txn) (Refused e) ∥₁)) }
         ensures refused { OnErr result (seat.new ≡ seat.old) }
         ensures seat { seat.new ≡ record seat.old { session = seat.new.session } }
     {
         self.start_delete(rt, seat, txn, rid)?;
         let rest = self.finish_change(rt, seat, txn);
+        self.wake_flusher();
         Ok(Change { rid, rest })
     }
 
     /// Puts another row in place of a row, in a transaction of the seat.
     ///
-    /// The refusals are those of `insert`, with the core's `start_update` in place of `start_insert`.
+    /// The refusals are those of `insert`, with the core's `start_update` in place of `start_insert`. Where a later step was refused, the
+    /// seat holds the place with the new row, or with the one that was there (`row`).
     pub fn update<R: Wait>(
         &self,
         rt: &R,
@@ -89,12 +96,14 @@ impl<B: Group> Shared<B> {
         ensures served { is_active seat.old.session txn ≡ true → ∥ WasServedTo B.site.opened seat.old.number seat.old.session (Event.Update txn rid (record { key = key; body = body })) (reply_by (λ _. Reply.Stepped) result) ∥₁ }
         ensures place { IfOk result (λ change. change.rid ≡ rid) }
         ensures changed { IfOk result (λ change. HasChanged seat.old.session txn (record { rid = rid; row = Some (record { key = key; body = body }) }) change.rest seat.new.session) }
+        ensures row { OnOk result ∥ WasChanged B.site.opened seat.old.number seat.old.session (Event.Update txn rid (record { key = key; body = body })) txn (record { rid = rid; row = Some (record { key = key; body = body }) }) seat.new.session ∥₁ }
         ensures rest { IfOk result (λ change. IfSome change.rest (λ e. ∥ WasServedTo B.site.opened seat.new.number seat.new.session (Event.Step txn) (Refused e) ∥₁)) }
         ensures refused { OnErr result (seat.new ≡ seat.old) }
         ensures seat { seat.new ≡ record seat.old { session = seat.new.session } }
     {
         self.start_update(rt, seat, txn, rid, key, body)?;
         let rest = self.finish_change(rt, seat, txn);
+        self.wake_flusher();
         Ok(Change { rid, rest })
     }
 
@@ -114,7 +123,9 @@ impl<B: Group> Shared<B> {
         if !seat.part.is_active(txn) {
             return Err(Error::NoSuchTxn);
         }
-        match self.finish_change(rt, seat, txn) {
+        let rest = self.finish_change(rt, seat, txn);
+        self.wake_flusher();
+        match rest {
             Some(error) => Err(error),
             None => Ok(()),
         }
@@ -133,6 +144,7 @@ impl<B: Group> Shared<B> {
         ensures foreign { is_active seat.old.session txn ≡ false → result ≡ Err NoSuchTxn }
         ensures served { is_active seat.old.session txn ≡ true → ∥ WasServedTo B.site.opened seat.old.number seat.old.session (Event.Insert txn (record { key = key; body = body })) (reply_by Reply.Rid result) ∥₁ }
         ensures ok { IfOk result (λ rid. IsUnderWay seat.old.session txn (record { rid = rid; row = Some (record { key = key; body = body }) }) seat.new.session) }
+        ensures row { IfOk result (λ rid. row_of seat.new.session txn rid ≡ Some (Some (record { key = key; body = body }))) }
         ensures refused { OnErr result (seat.new ≡ seat.old) }
         ensures seat { seat.new ≡ record seat.old { session = seat.new.session } }
     {
@@ -155,6 +167,7 @@ impl<B: Group> Shared<B> {
         ensures foreign { is_active seat.old.session txn ≡ false → result ≡ Err NoSuchTxn }
         ensures served { is_active seat.old.session txn ≡ true → ∥ WasServedTo B.site.opened seat.old.number seat.old.session (Event.Delete txn rid) (reply_by (λ _. Reply.Stepped) result) ∥₁ }
         ensures ok { OnOk result (IsUnderWay seat.old.session txn (record { rid = rid; row = None }) seat.new.session) }
+        ensures row { OnOk result ∥ WasChanged B.site.opened seat.old.number seat.old.session (Event.Delete txn rid) txn (record { rid = rid; row = None }) seat.new.session ∥₁ }
         ensures refused { OnErr result (seat.new ≡ seat.old) }
         ensures seat { seat.new ≡ record seat.old { session = seat.new.session } }
     {
@@ -179,6 +192,7 @@ impl<B: Group> Shared<B> {
         ensures foreign { is_active seat.old.session txn ≡ false → result ≡ Err NoSuchTxn }
         ensures served { is_active seat.old.session txn ≡ true → ∥ WasServedTo B.site.opened seat.old.number seat.old.session (Event.Update txn rid (record { key = key; body = body })) (reply_by (λ _. Reply.Stepped) result) ∥₁ }
         ensures ok { OnOk result (IsUnderWay seat.old.session txn (record { rid = rid; row = Some (record { key = key; body = body }) }) seat.new.session) }
+        ensures row { OnOk result ∥ WasChanged B.site.opened seat.old.number seat.old.session (Event.Update txn rid (record { key = key; body = body })) txn (record { rid = rid; row = Some (record { key = key; body = body }) }) seat.new.session ∥₁ }
         ensures refused { OnErr result (seat.new ≡ seat.old) }
         ensures seat { seat.new ≡ record seat.old { session = seat.new.session } }
     {

@@ -15,11 +15,9 @@ mod shared;
 mod site;
 mod taken_back;
 mod views;
-mod work;
 
 pub use changes::Change;
 pub use opening::{Opening, Parts, open};
 pub use seat::{Ack, Seat};
 pub use shared::Shared;
 pub use site::Group;
-pub use work::{Work, with_shared};

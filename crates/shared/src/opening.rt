@@ -11,6 +11,7 @@ use crate::seat::Seat;
 use crate::shared::Shared;
 use crate::site::Group;
 use board::{Board, BuildView, FlushView, View};
+use flusher::FlushEnds;
 use locked_core::{Locked, SeatPart};
 use nsf_core::Core;
 use records::Error;
@@ -37,12 +38,11 @@ pub struct Opening {
     pub(crate) view: View,
 }
 
-/// What the threads are given: the seats, the end of the queue and the view of the flusher, and the builder's view.
+/// What the threads are given: the seats, what the flusher's part is made of, and the builder's view.
 #[derive(Drop)]
 pub struct Parts<B: Group> {
     pub seats: Vec<Seat<B>>,
-    pub popper: Popper,
-    pub flush: FlushView,
+    pub ends: FlushEnds,
     pub build: BuildView,
 }
 
@@ -83,8 +83,8 @@ impl Opening {
         requires made { IsOpening B.site.seats self }
         requires opened { IsJustOpened (value_of self.core) }
         ensures seats { IfOk result (λ r. AreNewSeats B.board B.site.seats r.1.seats.items) }
-        ensures popper { IfOk result (λ r. r.1.popper ≡ record { queue = B.site.queue; records = [] }) }
-        ensures flush { IfOk result (λ r. r.1.flush ≡ record { board = B.board; horizon = 0; failed = false }) }
+        ensures popper { IfOk result (λ r. r.1.ends.popper ≡ record { queue = B.site.queue; records = [] }) }
+        ensures flush { IfOk result (λ r. r.1.ends.published ≡ record { board = B.board; horizon = 0; failed = false }) }
         ensures build { IfOk result (λ r. r.1.build ≡ record { board = B.board; progress = 0 }) }
         ensures no_memory { IfErr result (λ e. e ≡ NoMemory) }
     {
@@ -113,8 +113,7 @@ impl Opening {
         };
         let parts = Parts {
             seats,
-            popper,
-            flush,
+            ends: FlushEnds::new(popper, flush),
             build,
         };
         Ok((shared, parts))

@@ -43,6 +43,17 @@ impl<B: Group> Shared<B> {
         &self.board
     }
 
+    /// Sets after how many attempts the builder leaves room for the seats by a short pause; with 0 it never does. It may be set at any
+    /// time.
+    pub fn pause_builder_every(&self, attempts: u64) {
+        self.board.waits().set_pause_every(attempts);
+    }
+
+    // Wakes the flusher, for which records may wait.
+    pub(crate) fn wake_flusher(&self) {
+        self.board.waits().pushed.ring();
+    }
+
     /// What lay under the lock, the queue, the registry of the sessions and the board, in one hand.
     pub fn into_parts(self) -> (Locked<B>, RecordQueue, Registry, Board<Global>)
         ensures queue { result.1 ≡ B.site.queue }

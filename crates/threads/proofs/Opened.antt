@@ -22,11 +22,12 @@ use Rattle.store_writer.specs.Writer.{IsWriter}
 use Rattle.gate_log.specs.Area.{Log}
 use Rattle.restart.specs.declared.parts.Parts.{Parts}
 use Rattle.restart.specs.Parted.{ArePartsOf, LeavesParts, LeavesPartsOf}
-use Rattle.restart.specs.Parts.{device_of}
+use Rattle.nsf_core.specs.Opening as held
+use Rattle.restart.specs.Parts.{core_of, device_of}
 use Rattle.restart.specs.Reopening.{IsEmptied, IsNotOpened, IsOpened, IsTurned, opening}
 use Rattle.restart.specs.Store.{Past, over, run_of}
 use Rattle.shared.specs.Openings.{IsJustOpened, opened_of}
-use Rattle.threads.specs.Openings.{IsNewWriter, Opens}
+use Rattle.threads.specs.Openings.{IsNewWriter, IsUnsound, Opens}
 
 -- nothing was served
 both_same : {s new : State} {k next : Standing} → ServesAll s k [] new next → (new ≡ s) × (next ≡ k)
@@ -46,14 +47,31 @@ module _ {D : Type 0} (history : D → History) (before : D) (engine : Parts D G
     synced = λ other. subst (λ (d : D). IsSynced (history d).disk) (sym same) is.synced;
   }
 
+-- what the core that was opened holds is what the store opened with
+held_is : {D : Type 0} (history : D → History) (before : D) (engine : Parts D Global) (is : IsOpened history before engine) (core : CoreValue) → core ≡ core_of engine → held.opened_of core ≡ over is.geometry is.given
+held_is history before engine is core same = ap held.opened_of (same ∙ is.core)
+
+-- the core was tested, and a core may begin with what it holds
+pub sound_opened : {D : Type 0} (history : D → History) (before : D) (engine : Parts D Global) (is : IsOpened history before engine) (core : CoreValue) → core ≡ core_of engine → CanOpen (held.opened_of core) → CanOpen (over is.geometry is.given)
+sound_opened history before engine is core same can = subst CanOpen (held_is history before engine is core same) can
+
+-- the core was tested, and no core may begin with what it holds
+pub unsound_opened : {D : Type 0} (history : D → History) (before : D) (engine : Parts D Global) (is : IsOpened history before engine) (core : CoreValue) → core ≡ core_of engine → (CanOpen (held.opened_of core) → ⊥)
+    → (failures : D → ℕ) (after : D) → after ≡ device_of engine → failures (device_of engine) ≡ failures before → IsUnsound history failures before after
+unsound_opened history before engine is core held_by cannot failures after same quiet = record {
+  opened = over is.geometry is.given;
+  opens = opens history before engine is;
+  unsound = λ can. cannot (subst CanOpen (sym (held_is history before engine is core held_by)) can);
+  device = subst (λ d. IsTurned history before d) (sym same) is.device;
+  synced = subst (λ d. IsSynced (history d).disk) (sym same) is.synced;
+  quiet = ap failures same ∙ quiet;
+}
+
 module _ {D : Type 0} (history : D → History) (before : D) (engine : Parts D Global) (is : IsOpened history before engine) (emptied : IsEmptied history before engine)
-    (may : (o : Opened) → Opens (history before).disk.content o → CanOpen o)
+    (can : CanOpen (over is.geometry is.given))
     (core : CoreValue) (w : Writer D Global) (parts : ArePartsOf engine core w) (left : LeavesPartsOf history engine core w) where
   abbrev o : Opened
   o = over is.geometry is.given
-
-  can : CanOpen o
-  can = may o (opens history before engine is)
 
   -- the run that has not begun
   abbrev past : Past Global

@@ -1,8 +1,5 @@
 -- What a crash leaves of a store while it is opened may be opened again.
 use Rattle.std.proofs.Common.{◌≡◌, refl, sym, subst, ⊎_elim}
-use Rattle.records.specs.GeometryValue.{GeometryValue}
-use Rattle.model.specs.Given.{Given}
-use Rattle.core_model.specs.Histories.{CanOpen}
 use Rattle.sector_device.specs.Disk.{Disk, Image, IsSynced}
 use Rattle.sector_device.specs.History.{History, LeavesOnly}
 use Rattle.sector_device.proofs.Moments.{at_end, weaker}
@@ -11,7 +8,7 @@ use Rattle.recovery.specs.Reopening.{IsLeft, IsWrittenBack}
 use Rattle.restart.specs.Reopening.{IsTurned}
 use Rattle.restart.specs.Store.{over}
 use Rattle.threads.specs.Openings.{IsOpenable, StaysOpenable}
-use Rattle.threads.proofs.Again.{AnswersOne}
+use Rattle.threads.proofs.Again.{AnswersOne, gives_soundly, sound_whole}
 
 -- no sector is unsynced
 pub synced_stays : (disk : Disk) → IsSynced disk → IsOpenable disk.content → StaysOpenable disk
@@ -20,13 +17,9 @@ synced_stays disk all opens image crash = subst IsOpenable (sym (crash_synced di
 module _ (one : AnswersOne) where
   -- what is written back opens with what it opened with
   written_openable : (before image : Image) → IsWrittenBack before image → IsOpenable before → IsOpenable image
-  written_openable before image back opens p now =
-      let sizes : back.geometry ≡ now.geometry = one.0 image back.geometry now.geometry back.given now.given back.gives now.gives in
-      let same : back.given ≡ now.given = one.1 image back.geometry now.geometry back.given now.given back.gives now.gives in
-      subst CanOpen (sym now.opened)
-      (subst (λ (x : Given). CanOpen (over now.geometry x)) same
-      (subst (λ (h : GeometryValue). CanOpen (over h back.given)) sizes
-      (opens (over back.geometry back.given) (record { geometry = back.geometry; given = back.given; gives = back.gave; opened = refl }))))
+  written_openable before image back openable =
+      ∣ gives_soundly image back.geometry back.given back.gives
+      (sound_whole one before (over back.geometry back.given) openable (record { geometry = back.geometry; given = back.given; gives = back.gave; opened = refl })) ∣₁
 
   module _ {D : Type 0} (history : D → History) (before after : D) (turned : IsTurned history before after) where
     pub openable_back : IsOpenable (history before).disk.content → IsOpenable (history after).disk.content

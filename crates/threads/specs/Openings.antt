@@ -14,8 +14,10 @@ use Rattle.store_writer.specs.Parts.{halves_of, has_failed, image_of, log_of, sy
 use Rattle.store_writer.specs.Writer.{IsWriter, opened_run}
 use Rattle.flusher.specs.Part.{FlushValue}
 use Rattle.locked_core.specs.Names.{Names}
-use Rattle.restart.specs.Reopening.{IsTurned}
+use Rattle.restart.specs.Reopening.{IsNotOpened, IsTurned}
 use Rattle.restart.specs.Store.{over}
+use Rattle.threads.specs.declared.refusal.OpenError.{OpenError}
+use Rattle.threads.specs.declared.refusal.OpenError.TheVariants.{Refused, Unsound}
 
 -- A store on a device with this content opens with this: with what the content gives, in a store of its geometry.
 pub record Opens (image : Image) (o : Opened) : Type 0 where
@@ -24,9 +26,14 @@ pub record Opens (image : Image) (o : Opened) : Type 0 where
   pub gives : Gives image geometry given
   pub opened : o ≡ over geometry given
 
--- whatever it opens with is something that a core may begin with
+-- A store on a device with this content opens, and what it opens with is sound: a core may begin with it.
+pub record OpensSoundly (image : Image) : Type 0 where
+  pub opened : Opened
+  pub opens : Opens image opened
+  pub sound : CanOpen opened
+
 abbrev pub IsOpenable : Image → Type 0
-IsOpenable image = (o : Opened) → Opens image o → CanOpen o
+IsOpenable image = ∥ OpensSoundly image ∥₁
 
 -- whatever a crash leaves of the disk may be opened
 abbrev pub StaysOpenable : Disk → Type 0
@@ -61,10 +68,27 @@ pub record StoreValue (D : Type 0) : Type 0 where
   pub board : TableId
   pub device : D
 
--- So many seats are open over what the device gave, which was written back as a restart does it; no call of the device failed.
+-- So many seats are open over what the device gave, which is sound, and was written back as a restart does it; no call of the device
+-- failed.
 pub record IsOpenedOver {D : Type 0} (history : D → History) (failures : D → ℕ) (before : D) (count : ℕ) (s : StoreValue D) : Type 0 where
   pub seats : s.site.seats ≡ count
   pub opened : Opens (history before).disk.content s.site.opened
+  pub sound : CanOpen s.site.opened
   pub device : IsTurned history before s.device
   pub synced : IsSynced (history s.device).disk
   pub quiet : failures s.device ≡ failures before
+
+-- The store opens, but no core may begin with what it opens with. It was written back as a restart does it; no call of the device
+-- failed, and all of the device is synced.
+pub record IsUnsound {D : Type 0} (history : D → History) (failures : D → ℕ) (before after : D) : Type 0 where
+  pub opened : Opened
+  pub opens : Opens (history before).disk.content opened
+  pub unsound : CanOpen opened → ⊥
+  pub device : IsTurned history before after
+  pub synced : IsSynced (history after).disk
+  pub quiet : failures after ≡ failures before
+
+-- why no store was opened for threads
+abbrev pub IsNotShared : {D : Type 0} → (D → History) → (D → ℕ) → D → D → OpenError → Type 0
+IsNotShared history failures before after (Refused e) = IsNotOpened history failures before after e
+IsNotShared history failures before after Unsound = IsUnsound history failures before after

@@ -7,9 +7,13 @@
 mod openable;
 mod opening;
 mod parts;
+mod refusal;
 mod store;
 
-pub use openable::{format_store, left_by_a_run, left_by_an_opening, left_by_threads};
+pub use openable::{
+    format_store, left_by_a_run, left_by_an_opening, left_by_threads, sound_or_not,
+};
 pub use opening::open_store;
 pub use parts::Parts;
+pub use refusal::OpenError;
 pub use store::OpenStore;

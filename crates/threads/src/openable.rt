@@ -12,7 +12,7 @@ ghost use Rattle.restart.specs.Store.{Past, Survives};
 ghost use Rattle.flusher.specs.Part.{GivesBeginning};
 ghost use Rattle.shared.specs.Seats.{SeatValue};
 ghost use Rattle.closing.specs.Closing.{GivesSome};
-ghost use Rattle.threads.specs.Openings.{IsOpenable, StaysOpenable};
+ghost use Rattle.threads.specs.Openings.{IsOpenable, Opens, StaysOpenable};
 
 use flip_image::Halves;
 use records::{Error, Geometry};
@@ -37,7 +37,6 @@ pub fn format_store<D: Device>(device: &mut D, geometry: Geometry) -> Result<(),
     ensures later { D.failures device.old ≤ D.failures device.new }
 {
     format_gives_nothing();
-    one_answer();
     nothing_opens();
     match Halves::format(device, geometry) {
         Ok(()) => Ok(()),
@@ -45,21 +44,26 @@ pub fn format_store<D: Device>(device: &mut D, geometry: Geometry) -> Result<(),
     }
 }
 
-/// A law: what a crash left of a run may be opened.
-pub fn left_by_a_run<A: Allocator>()
-    ensures { (past : Past A) (floor : ℕ) (image : Image) → Survives past floor image → IsOpenable image }
+/// A law: of a device that may be opened, whatever the store opens with is sound: so `open_store` doesn't answer `Unsound`. And one
+/// that opens with something sound may be opened.
+pub fn sound_or_not()
+    ensures sound { (image : Image) (o : Opened) → IsOpenable image → Opens image o → CanOpen o }
+    ensures openable { (image : Image) (o : Opened) → Opens image o → CanOpen o → IsOpenable image }
 {
     one_answer();
 }
+
+/// A law: what a crash left of a run may be opened.
+pub fn left_by_a_run<A: Allocator>()
+    ensures { (past : Past A) (floor : ℕ) (image : Image) → Survives past floor image → IsOpenable image }
+{}
 
 /// A law: what a crash left of a store that threads write may be opened again, while the flusher writes (`flushed`, of what `flusher`
 /// and `loops` leave) and at the end (`ended`, of what `finish` leaves, whatever it answers).
 pub fn left_by_threads()
     ensures flushed { (o : Opened) (g : GeometryValue) (handed : List RecordValue) (floor : ℕ) (image : Image) → CanOpen o → g.pages ≡ o.pages → g.entries ≡ o.places → GivesBeginning o g handed floor image → IsOpenable image }
     ensures ended { (o : Opened) (g : GeometryValue) (seats : List SeatValue) (popped : List RecordValue) (floor : ℕ) (image : Image) → g.pages ≡ o.pages → g.entries ≡ o.places → ∥ GivesSome o g seats popped floor image ∥₁ → IsOpenable image }
-{
-    one_answer();
-}
+{}
 
 /// A law: where whatever a crash leaves of a device may be opened, so may whatever one leaves at any moment of an `open_store` of it
 /// (`crashes`), and of the device behind the call (`behind`), whatever that answers: the device is what `opened` and `refused` of

@@ -1,12 +1,12 @@
 //! A store opened for many threads.
 ghost use Rattle.std.specs.Prelude.{◌≡◌, IfErr, IfOk};
 ghost use Rattle.records.specs.declared.error.Error.TheVariants.{NoMemory};
-ghost use Rattle.restart.specs.Reopening.{IsNotOpened};
 ghost use Rattle.shared.specs.Seats.{AreNewSeats};
 ghost use Rattle.store_writer.specs.Parts.{device_of};
-ghost use Rattle.threads.specs.Openings.{IsNewFlusher, IsOpenable, IsOpenedOver};
+ghost use Rattle.threads.specs.Openings.{IsNewFlusher, IsNotShared, IsOpenedOver};
 
 use crate::parts::Parts;
+use crate::refusal::OpenError;
 use crate::store::OpenStore;
 use flusher::FlushPart;
 use records::Error;
@@ -17,27 +17,30 @@ use std::alloc::Global;
 
 /// Opens the store on the device, as `restart` does, for so many threads with a seat each.
 ///
-/// What the device gives must be something that a core may begin with, as of a device that was formatted, and then written by
-/// this engine, or by threads over it, or by an opening that was cut off (`format_store`, `left_by_a_run`, `left_by_threads`,
-/// `left_by_an_opening`).
+/// Any store may be opened so. What it opens with is tested: where a core may not begin with it, the answer is `Unsound`, and
+/// nothing is lost. A device that was formatted, and then written by this engine, or by threads over it, or by an opening that was
+/// cut off, is never answered so (`format_store`, `left_by_a_run`, `left_by_threads`, `left_by_an_opening`, `sound_or_not`).
 ///
-/// The errors are those of `restart`, and `NoMemory`. The device is given back then, and gives what it gave; a crash at any moment
-/// of the call leaves what one before could, or what gives the same (`refused`). So it may be opened again.
+/// The other errors are those of `restart`, and `NoMemory`. With any error the device is given back, and gives what it gave; a crash
+/// at any moment of the call leaves what one before could, or what gives the same (`refused`). So it may be opened again.
 pub fn open_store<D: Device>(
     alloc: Global,
     device: D,
     seats: usize,
-) -> Result<OpenStore<D>, (Error, D)>
-    requires opens { IsOpenable (D.history device).disk.content }
+) -> Result<OpenStore<D>, (OpenError, D)>
     ensures opened { IfOk result (IsOpenedOver D.history D.failures device seats) }
-    ensures refused { IfErr result (λ r. IsNotOpened D.history D.failures device r.1 r.0) }
+    ensures refused { IfErr result (λ r. IsNotShared D.history D.failures device r.1 r.0) }
 {
-    let (core, writer) = match restart(alloc, device) {
-        Ok(engine) => match engine.into_parts() {
-            Ok(parts) => parts,
-            Err(engine) => return Err((Error::NoMemory, engine.into_device())),
-        },
-        Err(refused) => return Err(refused),
+    let engine = match restart(alloc, device) {
+        Ok(engine) => engine,
+        Err((error, device)) => return Err((OpenError::Refused(error), device)),
+    };
+    if !engine.core().can_open() {
+        return Err((OpenError::Unsound, engine.into_device()));
+    }
+    let (core, writer) = match engine.into_parts() {
+        Ok(parts) => parts,
+        Err(engine) => return Err((OpenError::Refused(Error::NoMemory), engine.into_device())),
     };
     match open(alloc, core, seats) {
         Ok(opening) => Ok(OpenStore {
@@ -45,7 +48,7 @@ pub fn open_store<D: Device>(
             opening,
             writer,
         }),
-        Err(error) => Err((error, writer.into_device())),
+        Err(error) => Err((OpenError::Refused(error), writer.into_device())),
     }
 }
 
@@ -71,13 +74,8 @@ impl<D: Device> OpenStore<D> {
         } = self;
         match opening.start::<B>() {
             Ok((shared, parts)) => {
-                let shared::Parts {
-                    seats,
-                    popper,
-                    flush,
-                    build,
-                } = parts;
-                let flush = FlushPart::new(alloc, popper, writer, flush);
+                let shared::Parts { seats, ends, build } = parts;
+                let flush = FlushPart::new(alloc, ends, writer);
                 Ok((
                     shared,
                     Parts {

@@ -148,7 +148,7 @@ returns-in-Err-clause-err g c =
     let book = book_is z.seats first l.book under.book.items seats under.seats refl same c.requires.seats c.compare_all.ensures.seen in
     let popped : popped_by old ≡ take (length (popped_by old)) l.pushed = subst (λ (x : FlushValue _). popped_by x ≡ take (length (popped_by x)) l.pushed) c.settle_all.ensures.same c.close.ensures.popped in
     let writes : WritesOn history failures z.opened old f = subst (λ (x : FlushValue _). WritesOn history failures z.opened x f) c.settle_all.ensures.same c.close.ensures.writes in
-    failed_at_end history failures z.opened seats l book under.shared (popped_by old) popped old f writes c.into_parts-rest.result.0 c.into_parts-rest.ensures.device c.in-Err.error c.in-Err.ensures.err
+    failed_at_end history failures z.opened seats l book under.shared (popped_by old) popped old f writes c.into_parts-rest.result.0 c.into_parts-rest.ensures.device c.in-Err.error c.told-why.result c.in-Err.ensures.err c.told-why.ensures.failed c.told-why.ensures.sound
 
 pub returns-in-Err-clause-later : goal.returns-in-Err-clause-later
 returns-in-Err-clause-later g c =

@@ -2,7 +2,7 @@ use Rattle.std.proofs.Common.{◌∙◌, ap, refl}
 use Rattle.flip_image.specs.Layout.{HalvesValue}
 use Rattle.flusher.proofs.Going.{counted_by_flush}
 use Rattle.flusher.proofs.Keeping.{flush_rises, flush_sound}
-use Rattle.closing.proofs.Going.{writes_by_call, writes_nothing, writes_then}
+use Rattle.closing.proofs.Going.{quiet_flush, writes_by_call, writes_nothing, writes_then}
 use Rattle.closing.proofs.writing.write_groups.Goals as goal
 
 pub loop-flush-init : goal.loop-flush-init
@@ -18,7 +18,7 @@ returns-in_err-flush-clause-writes g c =
     let is = c.flush.ensures in
     writes_then history failures o c.args.flush.now old new c.loop-flush.invariant.writes
     (writes_by_call history failures o old new is.publishes (ap (λ (h : HalvesValue). h.geometry) is.around.halves-are) (flush_rises failures old.writer new.writer c.flush.result is.flushed is.kept) is.images is.later
-    (counted_by_flush failures old.writer new.writer c.flush.result is.sound is.err) (flush_sound failures old.writer new.writer c.flush.result is.sound is.err))
+    (counted_by_flush failures old.writer new.writer c.flush.result is.sound is.err) (flush_sound failures old.writer new.writer c.flush.result is.sound is.err) (quiet_flush failures old.writer new.writer c.flush.result is.quiet is.err))
 
 pub loop-flush-preserved : goal.loop-flush-preserved
 loop-flush-preserved g c =
@@ -31,7 +31,7 @@ loop-flush-preserved g c =
       writes =
           writes_then history failures o c.args.flush.now old new c.loop-flush.invariant.writes
           (writes_by_call history failures o old new is.publishes (ap (λ (h : HalvesValue). h.geometry) is.around.halves-are) (flush_rises failures old.writer new.writer c.flush.result is.flushed is.kept) is.images is.later
-          (counted_by_flush failures old.writer new.writer c.flush.result is.sound is.err) (flush_sound failures old.writer new.writer c.flush.result is.sound is.err));
+          (counted_by_flush failures old.writer new.writer c.flush.result is.sound is.err) (flush_sound failures old.writer new.writer c.flush.result is.sound is.err) (quiet_flush failures old.writer new.writer c.flush.result is.quiet is.err));
       handed = is.publishes.handed ∙ c.loop-flush.invariant.handed;
     }
 
@@ -46,5 +46,5 @@ returns-in-LogFull-clause-writes g c =
     writes_then history failures o c.args.flush.now new c.write_image.new.flush
     (writes_then history failures o c.args.flush.now old new c.loop-flush.invariant.writes
     (writes_by_call history failures o old new is.publishes (ap (λ (h : HalvesValue). h.geometry) is.around.halves-are) (flush_rises failures old.writer new.writer c.flush.result is.flushed is.kept) is.images is.later
-    (counted_by_flush failures old.writer new.writer c.flush.result is.sound is.err) (flush_sound failures old.writer new.writer c.flush.result is.sound is.err)))
+    (counted_by_flush failures old.writer new.writer c.flush.result is.sound is.err) (flush_sound failures old.writer new.writer c.flush.result is.sound is.err) (quiet_flush failures old.writer new.writer c.flush.result is.quiet is.err)))
     c.write_image.ensures.writes

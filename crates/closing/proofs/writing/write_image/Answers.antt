@@ -5,7 +5,7 @@ use Rattle.store_writer.specs.Parts.{halves_of}
 use Rattle.flusher.specs.Part.{last_handed}
 use Rattle.flusher.proofs.Going.{counted_by_call, flip_geometry, step_geometry}
 use Rattle.flusher.proofs.Keeping.{flip_rises, still_sound}
-use Rattle.closing.proofs.Going.{writes_by_call, writes_nothing, writes_then}
+use Rattle.closing.proofs.Going.{quiet_call, writes_by_call, writes_nothing, writes_then}
 use Rattle.closing.proofs.Pieces.{all_synced, image_taken, number_is, whole_chunk}
 use Rattle.closing.proofs.writing.write_image.Goals as goal
 
@@ -23,7 +23,7 @@ returns-in_err-take_piece-clause-writes g c =
     let new = c.take_piece.new.self in
     let is = c.take_piece.ensures in
     writes_by_call g.D.Device.history g.D.Device.failures g.B.Site.site.opened old new is.publishes (step_geometry old.writer new.writer c.in_ok-chunk.chunk.number c.in_ok-chunk.chunk.piece c.take_piece.result is.stepped is.left) (omega (arith, is.kept)) is.images is.later
-    (counted_by_call g.D.Device.failures old.writer new.writer c.take_piece.result is.sound is.err) (still_sound g.D.Device.failures old.writer new.writer c.take_piece.result is.sound is.err)
+    (counted_by_call g.D.Device.failures old.writer new.writer c.take_piece.result is.sound is.err) (still_sound g.D.Device.failures old.writer new.writer c.take_piece.result is.sound is.err) (quiet_call g.D.Device.failures old.writer new.writer c.take_piece.result is.quiet is.err)
 
 pub returns-in_err-flip-clause-writes : goal.returns-in_err-flip-clause-writes
 returns-in_err-flip-clause-writes g c =
@@ -37,9 +37,9 @@ returns-in_err-flip-clause-writes g c =
     let is = c.flip.ensures in
     writes_then history failures o old mid new
     (writes_by_call history failures o old mid first.publishes (step_geometry old.writer mid.writer c.in_ok-chunk.chunk.number c.in_ok-chunk.chunk.piece c.take_piece.result first.stepped first.left) (omega (arith, first.kept)) first.images first.later
-    (counted_by_call failures old.writer mid.writer c.take_piece.result first.sound first.err) (still_sound failures old.writer mid.writer c.take_piece.result first.sound first.err))
+    (counted_by_call failures old.writer mid.writer c.take_piece.result first.sound first.err) (still_sound failures old.writer mid.writer c.take_piece.result first.sound first.err) (quiet_call failures old.writer mid.writer c.take_piece.result first.quiet first.err))
     (writes_by_call history failures o mid new is.publishes (flip_geometry mid.writer new.writer (last_handed o mid) c.flip.result is.flipped is.left) (flip_rises failures mid.writer new.writer (last_handed o mid) c.flip.result is.flipped is.kept) is.images is.later
-    (counted_by_call failures mid.writer new.writer c.flip.result is.sound is.err) (still_sound failures mid.writer new.writer c.flip.result is.sound is.err))
+    (counted_by_call failures mid.writer new.writer c.flip.result is.sound is.err) (still_sound failures mid.writer new.writer c.flip.result is.sound is.err) (quiet_call failures mid.writer new.writer c.flip.result is.quiet is.err))
 
 pub returns-clause-writes : goal.returns-clause-writes
 returns-clause-writes g c =
@@ -53,9 +53,9 @@ returns-clause-writes g c =
     let is = c.flip.ensures in
     writes_then history failures o old mid new
     (writes_by_call history failures o old mid first.publishes (step_geometry old.writer mid.writer c.in_ok-chunk.chunk.number c.in_ok-chunk.chunk.piece c.take_piece.result first.stepped first.left) (omega (arith, first.kept)) first.images first.later
-    (counted_by_call failures old.writer mid.writer c.take_piece.result first.sound first.err) (still_sound failures old.writer mid.writer c.take_piece.result first.sound first.err))
+    (counted_by_call failures old.writer mid.writer c.take_piece.result first.sound first.err) (still_sound failures old.writer mid.writer c.take_piece.result first.sound first.err) (quiet_call failures old.writer mid.writer c.take_piece.result first.quiet first.err))
     (writes_by_call history failures o mid new is.publishes (flip_geometry mid.writer new.writer (last_handed o mid) c.flip.result is.flipped is.left) (flip_rises failures mid.writer new.writer (last_handed o mid) c.flip.result is.flipped is.kept) is.images is.later
-    (counted_by_call failures mid.writer new.writer c.flip.result is.sound is.err) (still_sound failures mid.writer new.writer c.flip.result is.sound is.err))
+    (counted_by_call failures mid.writer new.writer c.flip.result is.sound is.err) (still_sound failures mid.writer new.writer c.flip.result is.sound is.err) (quiet_call failures mid.writer new.writer c.flip.result is.quiet is.err))
 
 pub returns-clause-synced : goal.returns-clause-synced
 returns-clause-synced g c =

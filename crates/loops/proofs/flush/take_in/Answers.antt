@@ -1,4 +1,4 @@
-use Rattle.flusher.proofs.Taking.{took_more, took_then}
+use Rattle.flusher.proofs.Taking.{took_more, took_none, took_then}
 use Rattle.loops.proofs.flush.take_in.Goals as goal
 
 pub returns-in_err-take : goal.returns-in_err-take
@@ -9,3 +9,6 @@ returns-then-not-wanted g c = took_more _ _ c.take.ensures.takes.0 c.take.ensure
 
 pub returns : goal.returns
 returns g c = took_then _ _ _ (took_more _ _ c.take.ensures.takes.0 c.take.ensures.takes.1) c.take_in.ensures.takes
+
+pub returns-then-waits : goal.returns-then-waits
+returns-then-waits g c = took_none _

@@ -1,13 +1,14 @@
 use Rattle.std.proofs.Common.{None, OnOk, map, subst, sym, true, ◌≡◌, ◌∙◌, ap}
 use Rattle.core_contracts.specs.Events.{Event, Reply}
+use Rattle.model.specs.declared.write.Write.{Write}
 use Rattle.nsf_core.specs.Replies.{reply_by}
 use Rattle.nsf_core.specs.Value.{value_of}
 use Rattle.registry.specs.Halves.{shown}
 use Rattle.sessions.specs.Values.{is_active, is_ready}
 use Rattle.shared.specs.Changed.{IsUnderWay}
 use Rattle.shared.specs.Seats.{SeatValue}
-use Rattle.shared.specs.Served.{WasServedTo}
-use Rattle.shared.proofs.Made.{delete_made}
+use Rattle.shared.specs.Served.{WasChanged, WasServedTo}
+use Rattle.shared.proofs.Made.{delete_made, was_changed}
 use Rattle.shared.proofs.Moments.{served_to}
 use Rattle.shared.proofs.shared.Shared.start_delete.Goals as goal
 
@@ -28,3 +29,13 @@ returns-clause-ok g c =
     subst (λ (s : SeatValue). OnOk c.delete-started.result (IsUnderWay s.session c.args.txn (record { rid = c.args.rid; row = None }) c.delete-started.new.seat.session)) c.seat.view_is
     (delete_made o (value_of was.core) (value_of c.delete-started.new.self.core) was.pusher.records (map shown was.book.items) was.shared part.number part.session c.delete-started.new.seat.session c.delete-started.ensures.before c.args.txn
     (λ own. subst (λ (s : SeatValue). is_active s.session c.args.txn ≡ true → is_ready s.session c.args.txn ≡ true) (sym c.seat.view_is) c.requires own) c.args.rid c.delete-started.result (λ none. (c.delete-started.ensures.foreign none).0) c.delete-started.ensures.served c.delete-started.ensures.ok)
+
+pub returns-clause-row : goal.returns-clause-row
+returns-clause-row g c =
+    let o = g.B.Site.site.opened in
+    let was = c.deref_mut-2.result.now in
+    let part = c.seat.inside.part in
+    let started = c.delete-started in
+    let change : Write = record { rid = c.args.rid; row = None } in
+    subst (λ (s : SeatValue). OnOk started.result ∥ WasChanged o s.number s.session (Event.Delete c.args.txn c.args.rid) c.args.txn change started.new.seat.session ∥₁) c.seat.view_is
+    (was_changed o (value_of was.core) (value_of started.new.self.core) was.pusher.records (map shown was.book.items) was.shared part.number part.session started.new.seat.session started.ensures.before c.args.txn (Event.Delete c.args.txn c.args.rid) change started.result (λ none. (started.ensures.foreign none).0) started.ensures.served started.ensures.row)

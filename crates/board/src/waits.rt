@@ -1,0 +1,100 @@
+//! What threads sleep on while there is nothing for them to do.
+//!
+//! No contract rests on any of it: a sleep ends by itself after a time that its caller names, and a thread that wakes up looks
+//! again at what it waits for.
+use std::sync::Wait;
+use std::sync::atomic::{AtomicU64, Ordering};
+use std::time::Duration;
+
+// After so many attempts the builder pauses, unless it is told otherwise.
+const PAUSE_EVERY: u64 = 32;
+
+/// Wakes the threads that sleep until it rings.
+#[derive(Drop)]
+pub struct Bell {
+    rings: AtomicU64,
+    sleepers: AtomicU64,
+}
+
+impl Bell {
+    const fn new() -> Bell {
+        Bell {
+            rings: AtomicU64::new(0),
+            sleepers: AtomicU64::new(0),
+        }
+    }
+
+    /// How often it has rung. It is read before a thread looks at what it waits for, and given to `sleep` behind that.
+    pub fn rings(&self) -> u64 {
+        self.rings.load(Ordering::SeqCst)
+    }
+
+    /// Rings, and wakes all that sleep on it.
+    pub fn ring(&self) {
+        self.rings.fetch_add(1, Ordering::SeqCst);
+        if self.sleepers.load(Ordering::SeqCst) > 0 {
+            self.rings.wake_all();
+        }
+    }
+
+    /// Sleeps until it rings, and no longer than the limit. It returns at once where it has rung since it was read.
+    pub fn sleep<R: Wait>(&self, rt: &R, rings: u64, limit: Duration) {
+        self.sleepers.fetch_add(1, Ordering::SeqCst);
+        self.rings
+            .park_timeout(rt, (rings & 0xffff_ffff) as u32, limit);
+        self.sleepers.fetch_sub(1, Ordering::SeqCst);
+    }
+}
+
+/// The bells of those who share a board, and how the builder leaves room for the others.
+#[derive(Drop)]
+pub struct Waits {
+    /// Rings where the horizon rose, where the device failed, and where all are to stop.
+    pub published: Bell,
+    /// Rings where records were made, and where all are to stop.
+    pub pushed: Bell,
+    /// Rings where there is something to build, and where all are to stop.
+    pub resting: Bell,
+    pause_every: AtomicU64,
+    ended_runs: AtomicU64,
+}
+
+impl Waits {
+    pub(crate) const fn new() -> Waits {
+        Waits {
+            published: Bell::new(),
+            pushed: Bell::new(),
+            resting: Bell::new(),
+            pause_every: AtomicU64::new(PAUSE_EVERY),
+            ended_runs: AtomicU64::new(0),
+        }
+    }
+
+    /// Rings all bells.
+    pub fn ring_all(&self) {
+        self.published.ring();
+        self.pushed.ring();
+        self.resting.ring();
+    }
+
+    /// After how many attempts the builder pauses; 0 where it never does.
+    pub fn pause_every(&self) -> u64 {
+        self.pause_every.load(Ordering::SeqCst)
+    }
+
+    /// Sets after how many attempts the builder pauses.
+    pub fn set_pause_every(&self, attempts: u64) {
+        self.pause_every.store(attempts, Ordering::SeqCst);
+    }
+
+    /// How many runs of the loops have ended. The loops of one run end where this is no longer what it was as they began.
+    pub fn ended_runs(&self) -> u64 {
+        self.ended_runs.load(Ordering::SeqCst)
+    }
+
+    /// Ends the run of the loops, and wakes all that sleep.
+    pub fn end_run(&self) {
+        self.ended_runs.fetch_add(1, Ordering::SeqCst);
+        self.ring_all();
+    }
+}

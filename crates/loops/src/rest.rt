@@ -1,0 +1,111 @@
+//! How the loops sleep while there is nothing for them to do. No contract rests on it.
+ghost use Rattle.std.specs.Prelude.{◌≡◌, None, false};
+
+use board::Bell;
+use shared::{Group, Shared};
+use std::sync::Wait;
+use std::thread;
+use std::time::Duration;
+
+// The shortest and the longest sleep of a loop that found nothing to do, in microseconds.
+const SHORTEST: u64 = 125;
+
+const LONGEST: u64 = 8_000;
+
+// So many rounds in which the flusher found nothing it looks again at once, and then sleeps.
+const LOOKS: u32 = 16;
+
+// How many microseconds the flusher sleeps where nothing waits, and where an image is copied; and the builder where it leaves room for
+// the others.
+const FLUSHER_SLEEP: u64 = 1_000;
+
+const COPY_PAUSE: u64 = 20;
+
+const BUILD_PAUSE: u64 = 30;
+
+/// The sleeps of a loop that finds nothing to do, each longer than the one before, up to a limit.
+#[derive(Clone, Copy)]
+pub(crate) struct Rest {
+    micros: u64,
+}
+
+impl Rest {
+    /// The next sleep is the shortest.
+    pub(crate) fn new() -> Rest {
+        Rest { micros: SHORTEST }
+    }
+
+    /// Sleeps until the bell rings, or the sleep is over.
+    pub(crate) fn sleep<R: Wait>(&mut self, rt: &R, bell: &Bell, rings: u64) {
+        bell.sleep(rt, rings, Duration::from_micros(self.micros));
+        self.micros = self.micros.saturating_mul(2).min(LONGEST);
+    }
+}
+
+/// What the flusher found in a round.
+#[derive(Clone, Copy)]
+pub(crate) enum Found {
+    /// A group was written, or records wait.
+    Records,
+    /// An image is under way.
+    Image,
+    /// Nothing.
+    Nothing,
+}
+
+/// The sleep of the flusher behind a round, and how many rounds found nothing, with it.
+pub(crate) fn rest_flusher<R: Wait>(
+    rt: &R,
+    bell: &Bell,
+    rings: u64,
+    found: Found,
+    quiet: u32,
+) -> u32 {
+    match found {
+        Found::Records => {
+            thread::yield_now();
+            0
+        }
+        Found::Image => {
+            bell.sleep(rt, rings, Duration::from_micros(COPY_PAUSE));
+            0
+        }
+        Found::Nothing => {
+            if quiet < LOOKS {
+                thread::yield_now();
+            } else {
+                bell.sleep(rt, rings, Duration::from_micros(FLUSHER_SLEEP));
+            }
+            quiet.saturating_add(1)
+        }
+    }
+}
+
+/// A pause of the builder, so that the seats get the lock, where it has made so many steps since the last one. Answers how many it has
+/// made since then.
+pub(crate) fn leave_room<B: Group, R: Wait>(
+    rt: &R,
+    shared: &Shared<B>,
+    rings: u64,
+    steps: u64,
+) -> u64 {
+    let waits = shared.board().waits();
+    let steps = steps.saturating_add(1);
+    if steps < waits.pause_every() || waits.pause_every() == 0 {
+        return steps;
+    }
+    waits
+        .resting
+        .sleep(rt, rings, Duration::from_micros(BUILD_PAUSE));
+    0
+}
+
+/// Whether the run has ended in which a loop was begun, if it was begun in one.
+pub(crate) fn has_ended<B: Group>(shared: &Shared<B>, run: Option<u64>) -> bool
+    ensures { run ≡ None → result ≡ false }
+{
+    match run {
+        Some(number) => shared.board().waits().ended_runs() != number,
+        None => false,
+    }
+}

@@ -1,0 +1,258 @@
+//! The loops of a store, each in a thread of its own, beside what its seats do.
+ghost use Rattle.std.specs.Prelude.{◌≡◌, false, true, IfErr, OnOk};
+ghost use Rattle.records.specs.declared.error.Error.TheVariants.{DeviceFailed};
+ghost use Rattle.store_writer.specs.Parts.{has_failed};
+ghost use Rattle.flusher.specs.Going.{GoesOn};
+ghost use Rattle.loops.specs.Building.{BuildsOn};
+ghost use Rattle.loops.specs.Through.{RunsThrough};
+
+use crate::build::build_until;
+use crate::clean::clean_until;
+use crate::flush::flush_until;
+use crate::gate::Gate;
+use board::{BuildView, View};
+use flusher::FlushPart;
+use nsf_core::Ticket;
+use records::Error;
+use sector_device::Device;
+use shared::{Group, Seat, Shared};
+use std::sync::Wait;
+use std::thread::{Threads, join};
+
+/// What is left of the loops, and what the clients returned.
+#[derive(Drop)]
+pub struct Ended<B: Group, D: Device, X> {
+    /// What the clients returned.
+    pub clients: X,
+    /// The seat that the loops had their views from.
+    pub seat: Seat<B>,
+    pub flush: FlushPart<B, D>,
+    pub build: BuildView,
+    /// How the flusher ended.
+    pub flushed: Result<(), Error>,
+    /// The ticket of the index, where it was completed meanwhile; else why it wasn't, which is `Stopped` where the clients ended first
+    /// or there was nothing to build.
+    pub built: Result<Ticket, Error>,
+}
+
+/// Runs flusher, cleaner and builder beside the clients, each in a thread of its own, until the clients have ended; then it ends the
+/// three, and waits for that. A build that is under way is carried on, and so is one that a client begins; where the index is complete,
+/// or there is none, the builder waits. With what comes back it may be called again.
+///
+/// Of the board the seat has seen no more than before, and its view may have another name (`seen`). Flusher and builder end as
+/// `flush_loop` and `build_loop` do, or with the clients.
+pub fn run_beside<
+    B: Group + Send + Sync,
+    D: Device + Send + Drop,
+    R: Threads + Wait + Sync,
+    G: Gate + Sync,
+    X: Send + Drop,
+    F: FnOnce() -> X + Send,
+>(
+    rt: &R,
+    shared: &Shared<B>,
+    mut seat: Seat<B>,
+    flush: FlushPart<B, D>,
+    build: BuildView,
+    gate: &G,
+    clients: F,
+) -> Ended<B, D, X>
+    requires flush { flush.published.board ≡ B.board }
+    requires build { build.board ≡ B.board }
+    requires clients { F.pre clients }
+    ensures clients { F.post clients result.clients }
+    ensures number { result.seat.number ≡ seat.number }
+    ensures session { result.seat.session ≡ seat.session }
+    ensures seen { result.seat.sight ≡ record seat.sight { name = result.seat.sight.name } }
+    ensures goes_on { GoesOn D.history D.failures B.site.opened flush result.flush }
+    ensures through { RunsThrough D.history D.failures B.site.opened flush result.flush }
+    ensures sound { OnOk result.flushed (has_failed result.flush.writer ≡ false) }
+    ensures failed { IfErr result.flushed (λ e. (e ≡ DeviceFailed) × (has_failed result.flush.writer ≡ true)) }
+    ensures builder { BuildsOn B.site.opened build result.built result.build }
+{
+    let run = shared.board().waits().ended_runs();
+    let flush_view = shared.another_view(&mut seat);
+    let clean_view = shared.another_view(&mut seat);
+    let build_view = shared.another_view(&mut seat);
+    let (flushing, building) = join(
+        rt,
+        move || flush_until_end(rt, shared, flush, flush_view, gate, run),
+        move ||
+            requires build { build.board ≡ B.board }
+            requires clean_view { clean_view.board ≡ B.board }
+            requires build_view { build_view.board ≡ B.board }
+            requires clients { F.pre clients }
+        {
+            clean_beside(
+                rt, shared, build, clean_view, build_view, gate, run, clients,
+            )
+        },
+    );
+    let Flushed {
+        flush,
+        ended: flushed,
+    } = flushing;
+    let Built {
+        build,
+        ended: built,
+        clients,
+    } = building;
+    Ended {
+        clients,
+        seat,
+        flush,
+        build,
+        flushed,
+        built,
+    }
+}
+
+// How the flusher ended.
+struct Flushed<B: Group, D: Device> {
+    flush: FlushPart<B, D>,
+    ended: Result<(), Error>,
+}
+
+fn flush_until_end<B: Group, D: Device, R: Wait, G: Gate>(
+    rt: &R,
+    shared: &Shared<B>,
+    mut flush: FlushPart<B, D>,
+    mut view: View,
+    gate: &G,
+    run: u64,
+) -> Flushed<B, D>
+    requires flush { flush.published.board ≡ B.board }
+    requires view { view.board ≡ B.board }
+    ensures goes_on { GoesOn D.history D.failures B.site.opened flush result.flush }
+    ensures through { RunsThrough D.history D.failures B.site.opened flush result.flush }
+    ensures sound { OnOk result.ended (has_failed result.flush.writer ≡ false) }
+    ensures failed { IfErr result.ended (λ e. (e ≡ DeviceFailed) × (has_failed result.flush.writer ≡ true)) }
+{
+    let ended = flush_until(rt, shared, &mut flush, &mut view, gate, Some(run));
+    Flushed { flush, ended }
+}
+
+// How builder and clients ended.
+struct Built<X> {
+    build: BuildView,
+    ended: Result<Ticket, Error>,
+    clients: X,
+}
+
+// Runs the cleaner beside the builder and the clients.
+fn clean_beside<
+    B: Group + Send + Sync,
+    R: Threads + Wait + Sync,
+    G: Gate + Sync,
+    X: Send,
+    F: FnOnce() -> X + Send,
+>(
+    rt: &R,
+    shared: &Shared<B>,
+    build: BuildView,
+    clean_view: View,
+    build_view: View,
+    gate: &G,
+    run: u64,
+    clients: F,
+) -> Built<X>
+    requires build { build.board ≡ B.board }
+    requires clean_view { clean_view.board ≡ B.board }
+    requires build_view { build_view.board ≡ B.board }
+    requires clients { F.pre clients }
+    ensures clients { F.post clients result.clients }
+    ensures builder { BuildsOn B.site.opened build result.ended result.build }
+{
+    let (_, building) = join(
+        rt,
+        move || clean_until_end(rt, shared, clean_view, gate, run),
+        move ||
+            requires build { build.board ≡ B.board }
+            requires view { build_view.board ≡ B.board }
+            requires clients { F.pre clients }
+        { build_beside(rt, shared, build, build_view, gate, run, clients) },
+    );
+    building
+}
+
+fn clean_until_end<B: Group, R: Wait, G: Gate>(
+    rt: &R,
+    shared: &Shared<B>,
+    mut view: View,
+    gate: &G,
+    run: u64,
+)
+    requires { view.board ≡ B.board }
+{
+    clean_until(rt, shared, &mut view, gate, Some(run));
+}
+
+// Runs the builder beside the clients, which end the run.
+fn build_beside<
+    B: Group + Send + Sync,
+    R: Threads + Wait + Sync,
+    G: Gate + Sync,
+    X: Send,
+    F: FnOnce() -> X + Send,
+>(
+    rt: &R,
+    shared: &Shared<B>,
+    build: BuildView,
+    view: View,
+    gate: &G,
+    run: u64,
+    clients: F,
+) -> Built<X>
+    requires build { build.board ≡ B.board }
+    requires view { view.board ≡ B.board }
+    requires clients { F.pre clients }
+    ensures clients { F.post clients result.clients }
+    ensures builder { BuildsOn B.site.opened build result.ended result.build }
+{
+    let (building, clients) = join(
+        rt,
+        move || build_until_end(rt, shared, build, view, gate, run),
+        move || -> X
+            requires { F.pre clients }
+            ensures { F.post clients result }
+        { call_and_end(shared, clients) },
+    );
+    let Building { build, ended } = building;
+    Built {
+        build,
+        ended,
+        clients,
+    }
+}
+
+// What the clients return. Behind that the run ends.
+fn call_and_end<B: Group, X, F: FnOnce() -> X>(shared: &Shared<B>, clients: F) -> X
+    requires { F.pre clients }
+    ensures { F.post clients result }
+{
+    let returned = clients();
+    shared.board().waits().end_run();
+    returned
+}
+
+// How the builder ended.
+struct Building {
+    build: BuildView,
+    ended: Result<Ticket, Error>,
+}
+
+fn build_until_end<B: Group, R: Wait, G: Gate>(
+    rt: &R,
+    shared: &Shared<B>,
+    mut build: BuildView,
+    mut view: View,
+    gate: &G,
+    run: u64,
+) -> Building
+    requires build { build.board ≡ B.board }
+    requires view { view.board ≡ B.board }
+    ensures { BuildsOn B.site.opened build result.ended result.build }
+{
+    let ended = build_until(rt, shared, &mut build, &mut view, gate, Some(run));
+    Building { build, ended }
+}

@@ -1,0 +1,13 @@
+//! Why a store was not opened.
+use records::Error;
+
+/// Why no store was opened for threads.
+#[derive(Clone, Copy, Debug, PartialEq, Eq, thiserror::Error)]
+pub enum OpenError {
+    /// The restart was refused, or there was no memory behind it.
+    #[error("{0}")]
+    Refused(#[from] Error),
+    /// The store opens, but is not sound: its index doesn't fit its rows. Nothing of it was lost, and `restart` opens it.
+    #[error("Unsound")]
+    Unsound,
+}
