@@ -1,12 +1,13 @@
 -- The words of the program, as its command line reads them: what the options ask for, and what is wrong with the words.
-use Rattle.std.specs.Prelude.{◌≡◌, ◌≢◌, ◌≤◌, ℕ, pos, List, [], Option, Some, IfSome, option_map, option_and_then, codes, map}
+use Rattle.std.specs.Prelude.{◌≡◌, ◌≢◌, ◌≤◌, ◌⊎◌, ℕ, true, pos, List, [], Option, Some, IfSome, option_map, option_and_then, codes, map}
 use Rattle.std.specs.Borrow.{Bor}
 use Rattle.std.specs.Str.Parse.{digits_value, without_leading_plus}
 use Rattle.clap.specs.Words.{App, IsAmong, Row, Rule, Text, fault_of, first_of, matches_of, new_app, new_rule, one_of, with_rule}
+use Rattle.clap.specs.Simple.{on_top}
 use Rattle.clap.specs.declared.builder.value_parser.ValueParser.{ValueParser}
 use Rattle.clap.specs.declared.builder.value_parser.ValueParser.TheVariants as parser
 use Rattle.clap.specs.declared.error.kind.ErrorKind.{ErrorKind}
-use Rattle.clap.specs.declared.error.kind.ErrorKind.TheVariants.{DisplayHelp}
+use Rattle.clap.specs.declared.error.kind.ErrorKind.TheVariants.{DisplayHelp, DisplayVersion}
 use Rattle.records.specs.declared.geometry.TheConstants.{ENTRIES_MAX, ENTRIES_MIN, LOG_SLOTS_MAX, LOG_SLOTS_MIN, PAGES_MAX}
 use Rattle.replay_values.specs.Arguments.{fate_of_name, with_defaults}
 use Rattle.replay_values.specs.declared.given.Arguments.{Arguments}
@@ -23,10 +24,14 @@ option_of name takes = record (new_rule name) { long = Some name; value_names = 
 abbrev pub numbers : ℕ → ℕ → ValueParser
 numbers low high = parser.Signed (pos low) (pos high)
 
+-- a program of this name, which has a version
+abbrev pub versioned_app : Text → App
+versioned_app name = on_top (λ s. record s { has_version = true }) (new_app name)
+
 -- the options of the program, the last of which takes one of the names
 abbrev pub command_line : Bor (List (Bor Text)) → App
 command_line names =
-    with_rule (with_rule (with_rule (with_rule (with_rule (with_rule (new_app (codes "nsf-replay"))
+    with_rule (with_rule (with_rule (with_rule (with_rule (with_rule (versioned_app (codes "nsf-replay"))
     (option_of (codes "pages") (numbers 1 PAGES_MAX)))
     (option_of (codes "entries") (numbers ENTRIES_MIN ENTRIES_MAX)))
     (option_of (codes "slots") (numbers LOG_SLOTS_MIN LOG_SLOTS_MAX)))
@@ -67,11 +72,13 @@ Ask words arguments =
 abbrev pub FailBy : List Text → ErrorKind → Type 0
 FailBy words kind = (app : App) × IsCommandLine app × IsAmong kind (fault_of app words)
 
+-- the words ask for help, or for the version
 abbrev pub AskForHelp : List Text → Type 0
-AskForHelp words = FailBy words DisplayHelp
+AskForHelp words = FailBy words DisplayHelp ⊎ FailBy words DisplayVersion
 
+-- the words have a fault
 abbrev pub HaveFault : List Text → Type 0
-HaveFault words = (kind : ErrorKind) × (kind ≢ DisplayHelp) × FailBy words kind
+HaveFault words = (kind : ErrorKind) × (kind ≢ DisplayHelp) × (kind ≢ DisplayVersion) × FailBy words kind
 
 -- each number is in its range
 pub record AreInRange (arguments : Arguments) : Type 0 where

@@ -1,7 +1,9 @@
-//! The arguments of the program `nsf-replay`, read from its words.
+//! The arguments of the programs `nsf-replay` and `nsf-threads`, read from their words.
 #![tactic(auto)]
 
-ghost use Rattle.std.specs.Prelude.{◌≡◌, ◌⊎◌, false, map, IfErr, IfOk, OnOk};
+mod threads;
+
+ghost use Rattle.std.specs.Prelude.{◌≡◌, ◌⊎◌, ◌≤◌, false, map, IfErr, IfOk, OnOk};
 ghost use Rattle.clap.specs.Words.{app_of, found_of, kind_of, rows_of, rule_of};
 ghost use Rattle.arguments.specs.CommandLine.{Ask, AreInRange, FailBy, IsCommandLine, fate_in, option_of};
 ghost use Rattle.arguments.specs.Words.{IsTold, Tells};
@@ -15,6 +17,10 @@ use sector_device::Fate;
 use std::alloc::{AllocError, Global};
 use std::convert::AsStr;
 use std::io::Write;
+pub use threads::{ThreadsArguments, read_threads};
+
+/// The version of the programs.
+pub const VERSION: &str = "0.1.0";
 
 /// The most sectors that a disk may be given.
 pub const SECTORS_MAX: u32 = 100_000;
@@ -72,6 +78,7 @@ fn command<'a>(alloc: Global) -> Result<Command<'a>, AllocError>
     let stop = value_parser!(u32).range(1..);
     let fate = ValueParser::from(FATES.as_slice());
     Command::new(alloc, "nsf-replay")
+        .version(VERSION)
         .about(ABOUT)
         .arg(option_named(alloc, "pages", "P", pages, PAGES_HELP))?
         .arg(option_named(alloc, "entries", "E", entries, ENTRIES_HELP))?
@@ -108,15 +115,23 @@ fn arguments_of<S: AsStr>(alloc: Global, words: &[S]) -> Result<Arguments, Error
     Ok(given.with_defaults())
 }
 
+// Prints what was asked for, and answers the program's status.
+fn print<O: Write>(error: &Error, output: &mut O) -> u8
+    ensures { result ≤ 1 }
+{
+    match write!(output, "{error}") {
+        Ok(()) => 0,
+        Err(_) => 1,
+    }
+}
+
 // Prints what clap says, and answers the program's status.
 fn tell<O: Write, E: Write>(error: &Error, output: &mut O, errors: &mut E) -> u8
     ensures { IsTold (kind_of error.now) result output.old output.new errors.old errors.new }
 {
     match error.kind() {
-        ErrorKind::DisplayHelp => match write!(output, "{error}") {
-            Ok(()) => 0,
-            Err(_) => 1,
-        },
+        ErrorKind::DisplayHelp => print(error, output),
+        ErrorKind::DisplayVersion => print(error, output),
         _ => {
             let _ = write!(errors, "{error}");
             2
@@ -125,8 +140,8 @@ fn tell<O: Write, E: Write>(error: &Error, output: &mut O, errors: &mut E) -> u8
 }
 
 /// The arguments that the words give, the first of which is the program's own name. Where they are bad, the error stream
-/// says why, and the status is 2. Where they ask for help, the output has it, and the status is 0, or 1 where it can't be
-/// written.
+/// says why, and the status is 2. Where they ask for help or for the version, the output has it, and the status is 0, or 1 where
+/// it can't be written.
 pub fn read<S: AsStr, O: Write, E: Write>(
     alloc: Global,
     words: &[S],

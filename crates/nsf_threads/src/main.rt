@@ -2,17 +2,24 @@
 //! found behind that.
 #![tactic(auto)]
 
+use demonstration::Progress;
+use std::io::IsTerminal;
 use std::process::ExitCode;
 use std::{env, io};
 
 fn main(rt: HostRuntime) -> io::Result<ExitCode> {
     let words: Vec<String> = env::args(&rt)?.collect(rt.alloc())?;
-    let status = workers::run(
+    let progress = Progress {
+        errors: rt.stderr(),
+        is_terminal: rt.stderr().is_terminal(),
+    };
+    let status = demonstration::run(
         &rt,
         rt.alloc(),
         words.as_slice(),
         &mut io::writer(&rt),
-        rt.stderr(),
+        progress,
+        &mut rt.stderr(),
     );
     Ok(ExitCode::from(status))
 }

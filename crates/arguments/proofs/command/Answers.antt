@@ -1,6 +1,6 @@
-use Rattle.std.proofs.Common.{◌≡◌, ◌∙◌, ap, ap₂, codes, rules}
+use Rattle.std.proofs.Common.{◌≡◌, ◌∙◌, ap, ap₂, codes, rules, true}
 use Rattle.std.proofs.lemmas.Result.{IfOk-weaker}
-use Rattle.clap.specs.Simple.{app_of_fields}
+use Rattle.clap.specs.Simple.{Shape, app_of_fields, on_top}
 use Rattle.clap.specs.Words.{rule_of, with_rule}
 use Rattle.clap.specs.declared.builder.value_parser.ValueParser.TheVariants as parser
 use Rattle.records.specs.declared.geometry.TheConstants.{ENTRIES_MAX, ENTRIES_MIN, LOG_SLOTS_MAX, LOG_SLOTS_MIN, PAGES_MAX}
@@ -21,7 +21,7 @@ returns c =
     let sectors_is : rule_of c.option_named-4.result ≡ option_of (codes "sectors") (numbers 0 SECTORS_MAX) = c.option_named-4.ensures.rule ∙ ap (option_of (codes "sectors")) sectors in
     let stop_is : rule_of c.option_named-5.result ≡ option_of (codes "stop") (numbers 1 4294967295) = c.option_named-5.ensures.rule ∙ ap (option_of (codes "stop")) stop in
     let fate_is : rule_of c.option_named-6.result ≡ option_of (codes "fate") (parser.Names c.as_slice.result) = c.option_named-6.ensures.rule ∙ ap (option_of (codes "fate")) c.from-fate.ensures in
-    let one = c.in_ok-arg.ensures.shape (search rules) ∙ ap₂ with_rule (ap app_of_fields c.about.ensures ∙ c.new-5.ensures.app) pages_is in
+    let one = c.in_ok-arg.ensures.shape (search rules) ∙ ap₂ with_rule (ap app_of_fields c.about.ensures ∙ ap app_of_fields c.version.ensures ∙ ap (on_top (λ (s : Shape). record s { has_version = true })) c.new-5.ensures.app) pages_is in
     let two = c.in_ok-arg-2.ensures.shape (search rules) ∙ ap₂ with_rule one entries_is in
     let three = c.in_ok-arg-3.ensures.shape (search rules) ∙ ap₂ with_rule two slots_is in
     let four = c.in_ok-arg-4.ensures.shape (search rules) ∙ ap₂ with_rule three sectors_is in

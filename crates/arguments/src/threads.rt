@@ -1,0 +1,80 @@
+//! The arguments of the program `nsf-threads`.
+use crate::{NoArguments, VERSION, tell};
+use clap::builder::ValueParser;
+use clap::error::ErrorKind;
+use clap::{Arg, ArgAction, Command, Error, value_parser};
+use std::alloc::Global;
+use std::convert::AsStr;
+use std::io::Write;
+
+// The most writers, and the most transactions of each.
+const WRITERS_MAX: u8 = 8;
+
+const CHANGES_MAX: u8 = 60;
+
+const ABOUT: &str =
+    "Lets writers, a builder, a cleaner and a flusher run side by side on a store of a simulated disk";
+
+const WRITERS_HELP: &str = "Threads that write, 1 to 8 [default: 4]";
+
+const CHANGES_HELP: &str = "Transactions of each, 1 to 60 [default: 8]";
+
+const WATCH_HELP: &str = "Shows on the error stream how far the builder is";
+
+/// What the arguments ask for: how many threads write, how many transactions each of them makes, and whether the builder's
+/// progress is to be shown.
+#[derive(Clone, Copy, Debug, PartialEq, Eq)]
+pub struct ThreadsArguments {
+    pub writers: u8,
+    pub changes: u8,
+    pub watch: bool,
+}
+
+// An option with a number from 1 on.
+fn number<'a>(alloc: Global, name: &'a str, value: &'a str, most: u8, help: &'a str) -> Arg<'a> {
+    let takes = value_parser!(u8).range(1..=i64::from(most));
+    Arg::new(alloc, name)
+        .long(name)
+        .value_name(value)
+        .value_parser(takes)
+        .help(help)
+}
+
+// The arguments that the words give, or what clap says of them.
+fn arguments_of<S: AsStr>(alloc: Global, words: &[S]) -> Result<ThreadsArguments, Error> {
+    let watch = Arg::new(alloc, "watch")
+        .long("watch")
+        .action(ArgAction::SetTrue)
+        .value_parser(ValueParser::bool())
+        .help(WATCH_HELP);
+    let matches = Command::new(alloc, "nsf-threads")
+        .version(VERSION)
+        .about(ABOUT)
+        .arg(number(alloc, "writers", "N", WRITERS_MAX, WRITERS_HELP))?
+        .arg(number(alloc, "changes", "M", CHANGES_MAX, CHANGES_HELP))?
+        .arg(watch)?
+        .bin_name("nsf-threads")?
+        .try_get_matches_from(words)?;
+    Ok(ThreadsArguments {
+        writers: matches.get_one::<u8>("writers").unwrap_or(4),
+        changes: matches.get_one::<u8>("changes").unwrap_or(8),
+        watch: matches.get_flag("watch"),
+    })
+}
+
+/// The arguments of `nsf-threads` that the words give, the first of which is the program's own name. Where they are bad, or ask
+/// for help or for the version, that is told as by `read`.
+pub fn read_threads<S: AsStr, O: Write, E: Write>(
+    alloc: Global,
+    words: &[S],
+    output: &mut O,
+    errors: &mut E,
+) -> Result<ThreadsArguments, NoArguments> {
+    match arguments_of(alloc, words) {
+        Ok(arguments) => Ok(arguments),
+        Err(error) => match error.kind() {
+            ErrorKind::OutOfMemory => Err(NoArguments::NoMemory),
+            _ => Err(NoArguments::Told(tell(&error, output, errors))),
+        },
+    }
+}

@@ -1,0 +1,65 @@
+//! A line that says how far the builder is.
+ghost use Rattle.std.specs.Prelude.{◌≡◌};
+
+use board::View;
+use model::Life;
+use shared::{Group, Shared};
+use std::io::Write;
+use std::rt::Clock;
+use std::sync::Wait;
+use std::time::Duration;
+use std::{io, thread};
+
+// How many milliseconds it is from one look at the builder to the next.
+const BETWEEN_LOOKS: u64 = 1;
+
+/// Where the builder's progress is shown, and whether that is a terminal, on which each count stands in place of the one before.
+#[derive(Drop)]
+pub struct Progress<E> {
+    pub errors: E,
+    pub is_terminal: bool,
+}
+
+impl<E: Write> Progress<E> {
+    // Shows a count.
+    fn show(&mut self, tried: u64) -> io::Result<()> {
+        if self.is_terminal {
+            write!(self.errors, "\rnsf: {tried} pairs tried")
+        } else {
+            writeln!(self.errors, "nsf: {tried} pairs tried")
+        }
+    }
+
+    // Ends the last line.
+    fn end(&mut self, shown: u64) -> io::Result<()> {
+        if self.is_terminal && shown > 0 {
+            writeln!(self.errors)?;
+        }
+        Ok(())
+    }
+}
+
+/// Shows how many pairs the builder has tried, each time that it has tried more, while it builds.
+pub(crate) fn watch<B: Group, R: Wait + Clock, E: Write + Drop>(
+    rt: &R,
+    shared: &Shared<B>,
+    mut view: View,
+    mut progress: Progress<E>,
+) -> io::Result<()>
+    requires { view.board ≡ B.board }
+{
+    let mut shown = 0;
+    for _ in rt.forever() {
+        let life = shared.life(rt);
+        let tried = shared.board().progress(&mut view);
+        if tried > shown {
+            progress.show(tried)?;
+            shown = tried;
+        }
+        match life {
+            Life::Building { .. } => thread::sleep(rt, Duration::from_millis(BETWEEN_LOOKS)),
+            _ => return progress.end(shown),
+        }
+    }
+    unreachable!()
+}

@@ -1,0 +1,437 @@
+//! The threads of the program.
+ghost use Rattle.std.specs.Prelude.{◌≡◌, ◌≤◌, ◌<◌, ◌++◌, ◌∷◌, [], ℕ, All, IfOk, OnOk, flat_map, map, slice_get, slice_index_or, vec_len};
+ghost use Rattle.store_writer.specs.Parts.{halves_of, synced_of};
+ghost use Rattle.flusher.specs.Part.{popped_by};
+ghost use Rattle.closing.specs.Closing.{GivesSome};
+ghost use Rattle.closing.specs.Gathered.{AreAllSeats};
+ghost use Rattle.sector_device.specs.Disk.{Image, IsCrashImage};
+ghost use Rattle.shared.specs.Seats.{AreNewSeats};
+ghost use Rattle.core_model.specs.Histories.{Opened};
+ghost use Rattle.threads.specs.Openings.{IsNewFlusher, Opens};
+ghost use Rattle.demonstration.specs.Kept.{KeepsAll};
+ghost use Rattle.demonstration.specs.Private.{AllTell, GoesOn};
+
+use crate::progress::{Progress, watch};
+use crate::rows::set_up;
+use crate::writer::{Acknowledged, Writer, write};
+use board::{BuildView, View};
+use closing::finish;
+use flusher::FlushPart;
+use loops::{Ended, Gate, run_beside};
+use records::Error;
+use sector_device::Device;
+use shared::{Ack, Group, Seat, Shared};
+use std::alloc::{AllocError, Global};
+use std::io::Write;
+use std::marker::Brand;
+use std::rt::Clock;
+use std::sync::Wait;
+use std::thread::{Threads, for_each_mut, join};
+use threads::{OpenError, OpenStore, Parts, open_store};
+
+// No more writers than this run side by side.
+const THREADS_MAX: usize = 64;
+
+/// The threads: a writer for each seat but the last, and the three loops. Each writer makes so many transactions. The builder's
+/// progress is shown where there is something to show it on.
+#[derive(Drop)]
+pub struct Team<'a, R, G, E> {
+    pub rt: &'a R,
+    pub alloc: Global,
+    pub gate: &'a G,
+    pub changes: u16,
+    pub progress: Option<Progress<E>>,
+}
+
+/// What was refused: to a writer, which is the first of those that were refused something; to the flusher, to the builder; and before
+/// the threads began, or at the end.
+#[derive(Clone, Copy, Debug, PartialEq, Eq)]
+pub struct Refusals {
+    pub writer: Option<Error>,
+    pub flusher: Option<Error>,
+    pub builder: Option<Error>,
+    pub end: Option<Error>,
+}
+
+impl Refusals {
+    fn none() -> Refusals {
+        Refusals {
+            writer: None,
+            flusher: None,
+            builder: None,
+            end: None,
+        }
+    }
+
+    /// The first of them that there is.
+    pub fn any(&self) -> Option<Error> {
+        self.writer.or(self.flusher).or(self.builder).or(self.end)
+    }
+}
+
+/// What the threads leave.
+#[derive(Drop)]
+pub struct Worked<D> {
+    pub device: D,
+    /// The rows that writers were told to be safe; none where there was no memory for what they left.
+    pub acknowledged: Vec<Acknowledged>,
+    pub refusals: Refusals,
+}
+
+// What the writers leave, in one hand.
+#[derive(Drop)]
+struct Gathered<B: Group> {
+    seats: Vec<Seat<B>>,
+    acks: Vec<Ack<B>>,
+    acknowledged: Vec<Acknowledged>,
+}
+
+fn writers_of<B: Group>(alloc: Global, seats: Vec<Seat<B>>) -> Result<Vec<Writer<B>>, AllocError>
+    ensures seats { IfOk result (λ writers. map (λ w. w.seat) writers.items ≡ seats.items) }
+    ensures none { IfOk result (λ writers. (k : ℕ) (w : _) → slice_get writers.items k ≡ Some w → w.acknowledged.items ≡ []) }
+{
+    let mut writers = Vec::with_capacity(alloc, seats.len())?;
+    let mut number: u16 = 0;
+    for seat in seats {
+        writers.push(Writer {
+            seat,
+            number,
+            acks: Vec::new(alloc),
+            acknowledged: Vec::new(alloc),
+            refused: None,
+        })?;
+        number = number.saturating_add(1);
+    }
+    Ok(writers)
+}
+
+// Runs all writers, each in a thread.
+fn write_all<B: Group + Send + Sync, R: Threads + Wait + Sync>(
+    rt: &R,
+    shared: &Shared<B>,
+    mut writers: Vec<Writer<B>>,
+    changes: u16,
+) -> Vec<Writer<B>>
+    ensures len { vec_len result ≡ vec_len writers }
+    ensures wrote { (k : ℕ) (w : _) → k < vec_len writers → GoesOn (slice_index_or writers.items k w).seat (slice_index_or writers.items k w).acks.items (slice_index_or writers.items k w).acknowledged.items (slice_index_or result.items k w).seat (slice_index_or result.items k w).acks.items (slice_index_or result.items k w).acknowledged.items }
+{
+    for_each_mut(
+        rt,
+        &mut writers,
+        THREADS_MAX,
+        &|_: usize, writer: &mut Writer<B>| write(rt, shared, writer, changes),
+    );
+    writers
+}
+
+// Shows the builder's progress, as long as it can be written.
+fn show_progress<B: Group, R: Wait + Clock, E: Write + Drop>(
+    rt: &R,
+    shared: &Shared<B>,
+    view: View,
+    progress: Progress<E>,
+)
+    requires { view.board ≡ B.board }
+{
+    let _ = watch(rt, shared, view, progress);
+}
+
+// Runs all writers, and shows the builder's progress beside them, if it is to be shown.
+fn write_and_watch<
+    B: Group + Send + Sync,
+    R: Threads + Wait + Clock + Sync,
+    E: Write + Send + Drop,
+>(
+    rt: &R,
+    shared: &Shared<B>,
+    writers: Vec<Writer<B>>,
+    changes: u16,
+    view: View,
+    progress: Option<Progress<E>>,
+) -> Vec<Writer<B>>
+    requires { view.board ≡ B.board }
+    ensures len { vec_len result ≡ vec_len writers }
+    ensures wrote { (k : ℕ) (w : _) → k < vec_len writers → GoesOn (slice_index_or writers.items k w).seat (slice_index_or writers.items k w).acks.items (slice_index_or writers.items k w).acknowledged.items (slice_index_or result.items k w).seat (slice_index_or result.items k w).acks.items (slice_index_or result.items k w).acknowledged.items }
+{
+    match progress {
+        None => write_all(rt, shared, writers, changes),
+        Some(progress) => {
+            let ((), written) = join(
+                rt,
+                move ||
+                    requires { view.board ≡ B.board }
+                { show_progress(rt, shared, view, progress) },
+                move || write_all(rt, shared, writers, changes),
+            );
+            written
+        }
+    }
+}
+
+// Puts acknowledgements behind others.
+fn add_acks<B: Group>(acks: &mut Vec<Ack<B>>, more: Vec<Ack<B>>) -> Result<(), AllocError>
+    ensures { OnOk result (acks.new.items ≡ acks.old.items ++ more.items) }
+{
+    for ack in more {
+        acks.push(ack)?;
+    }
+    Ok(())
+}
+
+// The first refusal that a writer had.
+fn first_refused<B: Group>(writers: &[Writer<B>]) -> Option<Error> {
+    for writer in writers {
+        if writer.refused.is_some() {
+            return writer.refused;
+        }
+    }
+    None
+}
+
+// The seats of all writers in order, with the last one behind them, and what the writers were told.
+fn gather<B: Group>(
+    alloc: Global,
+    writers: Vec<Writer<B>>,
+    last: Seat<B>,
+) -> Result<Gathered<B>, AllocError>
+    ensures seats { IfOk result (λ g. g.seats.items ≡ map (λ w. w.seat) writers.items ++ last ∷ []) }
+    ensures acks { IfOk result (λ g. g.acks.items ≡ flat_map (λ w. w.acks.items) writers.items) }
+    ensures acknowledged { IfOk result (λ g. g.acknowledged.items ≡ flat_map (λ w. w.acknowledged.items) writers.items) }
+{
+    let mut seats = Vec::with_capacity(alloc, writers.len())?;
+    let mut acks = Vec::new(alloc);
+    let mut acknowledged = Vec::new(alloc);
+    for writer in writers {
+        let Writer {
+            seat,
+            acks: more,
+            acknowledged: made,
+            ..
+        } = writer;
+        seats.push(seat)?;
+        add_acks(&mut acks, more)?;
+        acknowledged.extend_from_slice(&made)?;
+    }
+    seats.push(last)?;
+    Ok(Gathered {
+        seats,
+        acks,
+        acknowledged,
+    })
+}
+
+// What is left where the threads could not begin, or where there was no memory for what they left, with what was refused before.
+fn given_up<B: Group, D: Device>(
+    alloc: Global,
+    flush: FlushPart<B, D>,
+    before: Refusals,
+    error: Error,
+) -> Worked<D>
+    ensures { (o : Opened) → KeepsAll D.history o result.device result.acknowledged.items }
+{
+    let (device, _) = flush.into_parts();
+    let mut refusals = before;
+    refusals.end = Some(error);
+    Worked {
+        device,
+        acknowledged: Vec::new(alloc),
+        refusals,
+    }
+}
+
+// The device, once all that was made is written out, or why it isn't.
+fn close<B: Group, D: Device, R: Wait>(
+    rt: &R,
+    alloc: Global,
+    shared: Shared<B>,
+    seats: Vec<Seat<B>>,
+    flush: FlushPart<B, D>,
+    acks: Vec<Ack<B>>,
+) -> (D, Option<Error>)
+    requires seats { AreAllSeats B.site.seats seats.items }
+    requires flush { flush.published.board ≡ B.board }
+    ensures some { (image : Image) → IsCrashImage (D.history result.0).disk image → ∥ GivesSome B.site.opened (halves_of flush.writer).geometry seats.items (popped_by flush) (synced_of flush.writer) image ∥₁ }
+    ensures acked { All (λ a. a.ticket.«record» ≤ synced_of flush.writer) acks.items }
+{
+    match finish(rt, alloc, shared, seats, flush, acks) {
+        Ok(closed) => (closed.device, None),
+        Err((error, device)) => (device, Some(error)),
+    }
+}
+
+// Takes back what the writers leave, where these refusals came before.
+fn take_back<B: Group, D: Device + Drop, R: Wait>(
+    rt: &R,
+    alloc: Global,
+    shared: Shared<B>,
+    writers: Vec<Writer<B>>,
+    last: Seat<B>,
+    flush: FlushPart<B, D>,
+    before: Refusals,
+) -> Worked<D>
+    requires seats { AreAllSeats B.site.seats (map (λ w. w.seat) writers.items ++ last ∷ []) }
+    requires flush { flush.published.board ≡ B.board }
+    requires told { AllTell (λ w. w.seat) (λ w. w.acks.items) (λ w. w.acknowledged.items) writers.items }
+    ensures { KeepsAll D.history B.site.opened result.device result.acknowledged.items }
+{
+    let Ok(gathered) = gather(alloc, writers, last) else {
+        return given_up(alloc, flush, before, Error::NoMemory);
+    };
+    let Gathered {
+        seats,
+        acks,
+        acknowledged,
+    } = gathered;
+    let (device, end) = close(rt, alloc, shared, seats, flush, acks);
+    let mut refusals = before;
+    refusals.end = end;
+    Worked {
+        device,
+        acknowledged,
+        refusals,
+    }
+}
+
+// What is done once writers and loops have ended.
+fn end<B: Group, D: Device + Drop, R: Wait>(
+    rt: &R,
+    alloc: Global,
+    shared: Shared<B>,
+    ended: Ended<B, D, Vec<Writer<B>>>,
+) -> Worked<D>
+    requires seats { AreAllSeats B.site.seats (map (λ w. w.seat) ended.clients.items ++ ended.seat ∷ []) }
+    requires flush { ended.flush.published.board ≡ B.board }
+    requires told { AllTell (λ w. w.seat) (λ w. w.acks.items) (λ w. w.acknowledged.items) ended.clients.items }
+    ensures { KeepsAll D.history B.site.opened result.device result.acknowledged.items }
+{
+    let Ended {
+        clients,
+        seat,
+        flush,
+        flushed,
+        built,
+        ..
+    } = ended;
+    let refusals = Refusals {
+        writer: first_refused(&clients),
+        flusher: flushed.err(),
+        builder: match built {
+            Err(Error::Stopped) | Ok(_) => None,
+            Err(error) => Some(error),
+        },
+        end: None,
+    };
+    take_back(rt, alloc, shared, clients, seat, flush, refusals)
+}
+
+// Runs the writers and the three loops, each in a thread.
+fn run_all<
+    B: Group + Send + Sync,
+    D: Device + Send + Drop,
+    R: Threads + Wait + Clock + Sync,
+    G: Gate + Sync,
+    E: Write + Send + Drop,
+>(
+    team: Team<'_, R, G, E>,
+    shared: &Shared<B>,
+    writers: Vec<Writer<B>>,
+    mut last: Seat<B>,
+    flush: FlushPart<B, D>,
+    build: BuildView,
+) -> Ended<B, D, Vec<Writer<B>>>
+    requires flush { flush.published.board ≡ B.board }
+    requires build { build.board ≡ B.board }
+    ensures len { vec_len result.clients ≡ vec_len writers }
+    ensures wrote { (k : ℕ) (w : _) → k < vec_len writers → GoesOn (slice_index_or writers.items k w).seat (slice_index_or writers.items k w).acks.items (slice_index_or writers.items k w).acknowledged.items (slice_index_or result.clients.items k w).seat (slice_index_or result.clients.items k w).acks.items (slice_index_or result.clients.items k w).acknowledged.items }
+    ensures last { result.seat.number ≡ last.number }
+    ensures board { result.flush.published.board ≡ B.board }
+{
+    let Team {
+        rt,
+        gate,
+        changes,
+        progress,
+        ..
+    } = team;
+    let view = shared.another_view(&mut last);
+    run_beside(
+        rt,
+        shared,
+        last,
+        flush,
+        build,
+        gate,
+        move ||
+            requires { view.board ≡ B.board }
+        { write_and_watch(rt, shared, writers, changes, view, progress) },
+    )
+}
+
+// Sets the rows up, lets the threads work, and takes all back that they leave.
+fn work_together<
+    B: Group + Send + Sync,
+    D: Device + Send + Drop,
+    R: Threads + Wait + Clock + Sync,
+    G: Gate + Sync,
+    E: Write + Send + Drop,
+>(team: Team<'_, R, G, E>, shared: Shared<B>, parts: Parts<B, D>) -> Worked<D>
+    requires seats { AreNewSeats B.board B.site.seats parts.seats.items }
+    requires flush { IsNewFlusher B.board B.site.opened parts.flush }
+    requires build { parts.build.board ≡ B.board }
+    ensures { KeepsAll D.history B.site.opened result.device result.acknowledged.items }
+{
+    let rt = team.rt;
+    let alloc = team.alloc;
+    let Parts {
+        mut seats,
+        flush,
+        build,
+    } = parts;
+    let Some(mut last) = seats.pop() else {
+        return given_up(alloc, flush, Refusals::none(), Error::NoMemory);
+    };
+    if let Err(error) = set_up(rt, &shared, &mut last) {
+        return given_up(alloc, flush, Refusals::none(), error);
+    }
+    let Ok(writers) = writers_of(alloc, seats) else {
+        return given_up(alloc, flush, Refusals::none(), Error::NoMemory);
+    };
+    let ended = run_all(team, &shared, writers, last, flush, build);
+    end(rt, alloc, shared, ended)
+}
+
+// Gives the store its names, and lets the threads work.
+fn begin<
+    B: Group + Send + Sync,
+    D: Device + Send + Drop,
+    R: Threads + Wait + Clock + Sync,
+    G: Gate + Sync,
+    E: Write + Send + Drop,
+>(store: OpenStore<D>, team: Team<'_, R, G, E>) -> Result<Worked<D>, (OpenError, D)>
+    requires names { store.site ≡ B.site }
+    requires board { store.board ≡ B.board }
+    ensures { IfOk result (λ worked. KeepsAll D.history B.site.opened worked.device worked.acknowledged.items) }
+{
+    match store.start::<B>() {
+        Ok((shared, parts)) => Ok(work_together(team, shared, parts)),
+        Err((error, device)) => Err((OpenError::Refused(error), device)),
+    }
+}
+
+/// Opens the store on the device, with a seat for each writer and one more, lets the threads work, and takes back what they leave.
+///
+/// Whatever was refused, the commit of each row that is told as acknowledged is kept by a crash of the device (`kept`).
+pub fn work_on<
+    D: Device + Send + Drop,
+    R: Threads + Wait + Clock + Sync,
+    G: Gate + Sync,
+    E: Write + Send + Drop,
+>(device: D, writers: u8, team: Team<'_, R, G, E>) -> Result<Worked<D>, (OpenError, D)>
+    ensures kept { IfOk result (λ worked. (o : Opened) × Opens (D.history device).disk.content o × KeepsAll D.history o worked.device worked.acknowledged.items) }
+{
+    let seats = usize::from(writers) + 1;
+    match open_store(team.alloc, device, seats) {
+        Ok(store) => begin::<Brand, D, R, G, E>(store, team),
+        Err(refused) => Err(refused),
+    }
+}

@@ -1,0 +1,154 @@
+//! A thread that writes.
+ghost use Rattle.std.specs.Prelude.{◌≡◌, IfOk, IfSome, OnErr};
+ghost use Rattle.demonstration.specs.Private.{Adds, Commits, GoesOn, HasMade, KeepsCommits, Tells};
+
+use crate::rows::{abort, begin, commit, delete, insert};
+use nsf_core::Ticket;
+use records::{Error, Rid, Txn};
+use shared::{Ack, Group, Seat, Shared};
+use std::sync::Wait;
+
+/// A row that a writer put, by the writer's number and that of its transaction, and the ticket of the commit, which was acknowledged.
+#[derive(Clone, Copy, Debug, PartialEq, Eq)]
+pub struct Acknowledged {
+    pub writer: u16,
+    pub change: u16,
+    pub ticket: Ticket,
+}
+
+/// A writer: its seat and its number, what it was told to be safe, and why it ended early, if so.
+#[derive(Drop)]
+pub struct Writer<B: Group> {
+    pub seat: Seat<B>,
+    pub number: u16,
+    pub acks: Vec<Ack<B>>,
+    pub acknowledged: Vec<Acknowledged>,
+    pub refused: Option<Error>,
+}
+
+// Deletes the row at a place, if there is a place.
+fn delete_row<B: Group, R: Wait>(
+    rt: &R,
+    shared: &Shared<B>,
+    seat: &mut Seat<B>,
+    txn: Txn,
+    place: Option<Rid>,
+) -> Result<(), Error>
+    ensures { KeepsCommits seat.old seat.new }
+{
+    match place {
+        Some(rid) => delete(rt, shared, seat, txn, rid),
+        None => Ok(()),
+    }
+}
+
+// Commits a transaction, and waits until that is safe.
+fn commit_safely<B: Group, R: Wait>(
+    rt: &R,
+    shared: &Shared<B>,
+    seat: &mut Seat<B>,
+    txn: Txn,
+) -> Result<(Ticket, Ack<B>), Error>
+    ensures ok { IfOk result (λ r. Commits seat.old seat.new r.0 × (r.1.ticket ≡ r.0)) }
+    ensures err { OnErr result (Adds seat.old seat.new) }
+{
+    let ticket = commit(rt, shared, seat, txn)?;
+    let waited = &ticket;
+    let ack = shared.await_ack(rt, seat, *waited)?;
+    Ok((ticket, ack))
+}
+
+// Begins a transaction, and deletes the row before its own, if that is to be deleted.
+fn begin_without<B: Group, R: Wait>(
+    rt: &R,
+    shared: &Shared<B>,
+    seat: &mut Seat<B>,
+    place: Option<Rid>,
+) -> Result<Txn, Error>
+    ensures { KeepsCommits seat.old seat.new }
+{
+    let txn = begin(rt, shared, seat)?;
+    delete_row(rt, shared, seat, txn, place)?;
+    Ok(txn)
+}
+
+// What a transaction leaves: the place of its row, and its ticket and acknowledgement, if it was committed.
+type Changed<B> = (Rid, Option<(Ticket, Ack<B>)>);
+
+// One transaction: in each third of four the deletion of the row before it, and an insertion. Each fourth is taken back, and the
+// others are committed.
+fn change<B: Group, R: Wait>(
+    rt: &R,
+    shared: &Shared<B>,
+    seat: &mut Seat<B>,
+    writer: u16,
+    number: u16,
+    before: Option<Rid>,
+) -> Result<Changed<B>, Error>
+    ensures adds { Adds seat.old seat.new }
+    ensures made { IfOk result (λ r. IfSome r.1 (λ a. HasMade seat.new a.0 × (a.1.ticket ≡ a.0))) }
+{
+    let place = if number % 4 == 2 { before } else { None };
+    let txn = begin_without(rt, shared, seat, place)?;
+    let rid = insert(rt, shared, seat, txn, writer, number)?;
+    if number % 4 == 3 {
+        abort(rt, shared, seat, txn)?;
+        return Ok((rid, None));
+    }
+    let told = commit_safely(rt, shared, seat, txn)?;
+    Ok((rid, Some(told)))
+}
+
+// Notes an acknowledgement, if there is one, and what it is of.
+fn note<B: Group>(
+    writer: &mut Writer<B>,
+    change: u16,
+    told: Option<(Ticket, Ack<B>)>,
+) -> Result<(), Error>
+    requires { IfSome told (λ a. HasMade writer.old.seat a.0 × (a.1.ticket ≡ a.0)) }
+    ensures seat { writer.new.seat ≡ writer.old.seat }
+    ensures tells { Tells writer.old.seat writer.old.acks.items writer.old.acknowledged.items → Tells writer.new.seat writer.new.acks.items writer.new.acknowledged.items }
+{
+    let Some((ticket, ack)) = told else {
+        return Ok(());
+    };
+    let made = Acknowledged {
+        writer: writer.number,
+        change,
+        ticket,
+    };
+    writer.acks.push(ack)?;
+    writer.acknowledged.push(made)?;
+    Ok(())
+}
+
+// The transactions of a writer, in order.
+fn change_all<B: Group, R: Wait>(
+    rt: &R,
+    shared: &Shared<B>,
+    writer: &mut Writer<B>,
+    changes: u16,
+) -> Result<(), Error>
+    ensures number { writer.new.seat.number ≡ writer.old.seat.number }
+    ensures tells { Tells writer.old.seat writer.old.acks.items writer.old.acknowledged.items → Tells writer.new.seat writer.new.acks.items writer.new.acknowledged.items }
+{
+    let mut before = None;
+    for number in 0..changes {
+        let (rid, told) = change(rt, shared, &mut writer.seat, writer.number, number, before)?;
+        before = Some(rid);
+        note(writer, number, told)?;
+    }
+    Ok(())
+}
+
+/// Makes so many transactions, each with a key of this writer and of its own number, and waits until each commit is safe.
+pub(crate) fn write<B: Group, R: Wait>(
+    rt: &R,
+    shared: &Shared<B>,
+    writer: &mut Writer<B>,
+    changes: u16,
+)
+    ensures { GoesOn writer.old.seat writer.old.acks.items writer.old.acknowledged.items writer.new.seat writer.new.acks.items writer.new.acknowledged.items }
+{
+    writer.refused = change_all(rt, shared, writer, changes).err();
+}

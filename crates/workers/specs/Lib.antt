@@ -1,3 +1,0 @@
-pub mod Left
-pub mod Printed
-pub mod Private
