@@ -1,5 +1,2 @@
-mod Flushed
-mod Imaged
-mod Entries
 mod Made
 mod Started

@@ -16,7 +16,7 @@ use Rattle.script.specs.Grammar.{lines, IsScript, IsFirstFault}
 use Rattle.script.specs.declared.command.Command.{Command}
 use Rattle.session.specs.Disk.{disk_history, LosesPower}
 use Rattle.session.specs.Session.{disk_of, life_of, OpensOn, IsRefusedOn}
-use Rattle.session.specs.Dump.{dump_text}
+use Rattle.serving.specs.Dump.{dump_text}
 use Rattle.session.specs.Runs.{Prints, RunsCommands}
 use Rattle.arguments.specs.CommandLine.{Ask, AskForHelp, HaveFault}
 use Rattle.replay_values.specs.declared.answer.Answer.TheVariants as answer
@@ -43,7 +43,7 @@ pub record Starts (sectors : ℕ) (geometry : GeometryValue) (fails_at : ℕ) (s
   pub counted : which_of disk ≡ WritesAndSyncs
   pub made : made_of disk ≡ 0
   pub fails_at_is : fails_at_of disk ≡ fails_at
-  pub opened : OpensOn disk geometry fails_at session
+  pub opened : OpensOn disk fails_at session
 
 -- why no store was made and opened on a new disk of so many sectors
 abbrev pub IsNoStart : ℕ → GeometryValue → Error → Type 0
@@ -82,23 +82,23 @@ module _ {W : Type 0} (contents : W → Option (List ℕ)) where
   IsRefused e status before after = Prints contents (answer.Refused e) before after × (status ≡ 1)
 
   -- The store was opened again on this disk, and that was printed, and then what it holds. Or it was refused.
-  abbrev pub ShowsLeft : GeometryValue → FaultDisk (MemDisk Global) → ℕ → W → W → Type 0
-  ShowsLeft geometry disk status before after =
-      ((session : Session) × (between : W) × OpensOn disk geometry 0 session × Prints contents (answer.Restart (life_of session)) before between
-      × Appends (contents between) (contents after) (dump_text session) × (status ≡ 0))
+  abbrev pub ShowsLeft : FaultDisk (MemDisk Global) → ℕ → W → W → Type 0
+  ShowsLeft disk status before after =
+      ((session : Session) × (between : W) × OpensOn disk 0 session × Prints contents (answer.Restart (life_of session)) before between
+      × Appends (contents between) (contents after) (dump_text session.store) × (status ≡ 0))
       ⊎ ((e : Error) × (given_back : FaultDisk (MemDisk Global)) × IsRefusedOn disk given_back e × IsRefused e status before after)
 
   -- That the session was stopped was printed. Then the power was lost, with this fate for every unsynced sector.
-  abbrev pub IsStopped : GeometryValue → Fate → FaultDisk (MemDisk Global) → ℕ → W → W → Type 0
-  IsStopped geometry fate disk status before after =
+  abbrev pub IsStopped : Fate → FaultDisk (MemDisk Global) → ℕ → W → W → Type 0
+  IsStopped fate disk status before after =
       (left : FaultDisk (MemDisk Global)) × (between : W) × Prints contents answer.Stopped before between × LosesPower fate 0 disk left
-      × ShowsLeft geometry left status between after
+      × ShowsLeft left status between after
 
   -- what is printed behind the commands' own lines, by how they ended
   abbrev pub Ends : Arguments → Result (Unit {0}) End → ℕ → W → W → Type 0
   Ends arguments (Ok done) status before after = (status ≡ 0) × (after ≡ before)
   Ends arguments (Err (end.Refused e)) status before after = IsRefused e status before after
-  Ends arguments (Err (end.Stopped disk)) status before after = IsStopped (geometry_of arguments) arguments.fate disk status before after
+  Ends arguments (Err (end.Stopped disk)) status before after = IsStopped arguments.fate disk status before after
 
   -- The text's commands were run in turn over a new store, up to the last one, or to that at which the session ended.
   -- Or nothing was run, and why was printed.

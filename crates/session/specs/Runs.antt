@@ -11,14 +11,14 @@ use Rattle.restart.specs.declared.event.Reply.{Reply}
 use Rattle.script.specs.declared.command.Command.{Command}
 use Rattle.session.specs.Disk.{LosesPower}
 use Rattle.session.specs.Session.{disk_of, last_made, life_of, outcome_of, LeavesItsRun, ServesEvent, TakesImage, Flushes, calls_to_stop, Reopens}
-use Rattle.session.specs.Requests.{request_of}
+use Rattle.serving.specs.Requests.{request_of}
 use Rattle.replay_values.specs.Steps.{is_last_step}
 use Rattle.replay_values.specs.Texts.{line_of}
-use Rattle.session.specs.Dump.{dump_text}
+use Rattle.serving.specs.Dump.{dump_text}
 use Rattle.replay_values.specs.declared.answer.Answer.{Answer}
 use Rattle.replay_values.specs.declared.answer.Answer.TheVariants as answer
-use Rattle.session.specs.declared.request.Request.{Request}
-use Rattle.session.specs.declared.request.Request.TheVariants as request
+use Rattle.serving.specs.declared.request.Request.{Request}
+use Rattle.serving.specs.declared.request.Request.TheVariants as request
 use Rattle.session.specs.declared.session.Session.{Session}
 use Rattle.session.specs.declared.session.Stopped.{Stopped}
 use Rattle.session.specs.declared.session.End.{End}
@@ -50,7 +50,7 @@ module _ {W : Type 0} (contents : W → Option (List ℕ)) where
   abbrev pub Restarts : Fate → Session → Result Session End → W → W → Type 0
   Restarts fate old next before after =
       LeavesItsRun old × ((disk : FaultDisk (MemDisk Global)) × LosesPower fate (calls_to_stop old) (disk_of old) disk
-      × Reopens disk old.geometry (calls_to_stop old) next)
+      × Reopens disk (calls_to_stop old) next)
       × PrintsRestart next before after
 
   -- The steps had these answers, each of which was printed, and none of which was the last one.
@@ -79,7 +79,7 @@ module _ {W : Type 0} (contents : W → Option (List ℕ)) where
   Runs request.Image old next before after =
       (new : Session) × (reply : Reply Global) × TakesImage reply old new × GoesOn (outcome_of new reply) new next before after
   Runs (request.Crash fate) old next before after = Restarts fate old next before after
-  Runs request.Dump old next before after = (next ≡ Ok old) × Appends (contents before) (contents after) (dump_text old)
+  Runs request.Dump old next before after = (next ≡ Ok old) × Appends (contents before) (contents after) (dump_text old.store)
 
   -- What the command asks for was served; one that gives too many bytes was refused.
   abbrev pub RunsCommand : Command → Session → Result Session End → W → W → Type 0

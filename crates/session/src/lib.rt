@@ -3,8 +3,6 @@
 #![tactic(auto)]
 
 mod program;
-mod reply;
-mod request;
 mod session;
 
 pub use program::{run, run_input, run_script, run_words};

@@ -4,7 +4,6 @@ ghost use Rattle.script.specs.Grammar.{lines, IsScript};
 ghost use Rattle.session.specs.Runs.{Prints, GoesOn, Restarts, MakesSteps, Runs, RunsCommand, RunsCommands};
 ghost use Rattle.session.specs.Plays.{geometry_of, sectors_asked, Starts, IsNoStart, IsCutAt, StartsFor, IsFault, IsRefused, IsStopped, Ends, Plays, IsWholeInput, PlaysInput, RunsWords};
 
-use crate::request::Request;
 use crate::session::{Disk, End, Session, Stopped};
 use arguments::NoArguments;
 use flip_image::Halves;
@@ -13,6 +12,7 @@ use replay_values::{Answer, Arguments};
 use restart::Event;
 use script::Command;
 use sector_device::{Fate, FaultDisk, MemDisk, Which};
+use serving::Request;
 use std::alloc::Global;
 use std::convert::AsStr;
 use std::io;
@@ -156,7 +156,7 @@ fn start(alloc: Global, sectors: u64, geometry: Geometry, fails_at: u64) -> Resu
     let mut memory = MemDisk::new(alloc, sectors, CALLS)?;
     Halves::format(&mut memory, geometry)?;
     let disk = FaultDisk::new(memory, Which::WritesAndSyncs, fails_at);
-    match Session::open(alloc, disk, geometry, fails_at) {
+    match Session::open(alloc, disk, fails_at) {
         Ok(session) => Ok(session),
         Err((error, _)) => Err(error),
     }
@@ -198,17 +198,11 @@ fn start_for(alloc: Global, arguments: &Arguments, geometry: Geometry) -> Result
 }
 
 // What is printed after a stop: the device crashes, and the store is opened again.
-fn after_stop<W: Write>(
-    alloc: Global,
-    disk: Disk,
-    geometry: Geometry,
-    fate: Fate,
-    output: &mut W,
-) -> io::Result<u8>
-    ensures { IfOk result (λ status. IsStopped W.contents geometry fate disk status output.old output.new) }
+fn after_stop<W: Write>(alloc: Global, disk: Disk, fate: Fate, output: &mut W) -> io::Result<u8>
+    ensures { IfOk result (λ status. IsStopped W.contents fate disk status output.old output.new) }
 {
     print(output, &Answer::Stopped)?;
-    match Session::reopen(alloc, disk, geometry, fate) {
+    match Session::reopen(alloc, disk, fate) {
         Ok(session) => {
             print(output, &Answer::Restart(session.life()))?;
             session.dump(output)?;
@@ -229,17 +223,15 @@ fn refused<W: Write>(output: &mut W, error: Error) -> io::Result<u8>
 fn end<W: Write>(
     alloc: Global,
     arguments: &Arguments,
-    geometry: Geometry,
     last: Result<(), End>,
     output: &mut W,
 ) -> io::Result<u8>
-    requires { geometry ≡ geometry_of arguments.now }
     ensures { IfOk result (λ status. Ends W.contents arguments.now last status output.old output.new) }
 {
     match last {
         Ok(()) => Ok(0),
         Err(End::Refused(error)) => refused(output, error),
-        Err(End::Stopped(disk)) => after_stop(alloc, disk, geometry, arguments.fate, output),
+        Err(End::Stopped(disk)) => after_stop(alloc, disk, arguments.fate, output),
     }
 }
 
@@ -248,16 +240,15 @@ fn prepared(
     alloc: Global,
     arguments: &Arguments,
     text: &[u8],
-) -> Result<(Vec<Command>, Geometry, Session), Error>
+) -> Result<(Vec<Command>, Session), Error>
     ensures script { IfOk result (λ made. IsScript (lines text.now) made.0.items) }
-    ensures geometry { IfOk result (λ made. made.1 ≡ geometry_of arguments.now) }
-    ensures starts { IfOk result (λ made. StartsFor arguments.now made.2) }
+    ensures starts { IfOk result (λ made. StartsFor arguments.now made.1) }
     ensures fault { IfErr result (IsFault arguments.now text.now) }
 {
     let commands = script::read(alloc, text)?;
     let geometry = Geometry::new(arguments.pages, arguments.entries, arguments.slots)?;
     let session = start_for(alloc, arguments, geometry)?;
-    Ok((commands, geometry, session))
+    Ok((commands, session))
 }
 
 /// Runs the script over a new store, as the arguments ask, and prints the answers and how it ended. Answers the exit
@@ -271,9 +262,9 @@ pub fn run_script<W: Write>(
     ensures { IfOk result (λ status. Plays W.contents arguments.now text.now status output.old output.new) }
 {
     match prepared(alloc, arguments, text) {
-        Ok((commands, geometry, session)) => {
+        Ok((commands, session)) => {
             let last = run_commands(session, &commands, output)?;
-            end(alloc, arguments, geometry, last, output)
+            end(alloc, arguments, last, output)
         }
         Err(error) => refused(output, error),
     }
@@ -288,8 +279,31 @@ fn all_of<R: Read>(alloc: Global, input: &mut R) -> io::Result<Vec<u8>>
     Ok(bytes)
 }
 
+// Whether a line that is no comment holds a carriage return, which makes it a bad one.
+fn has_carriage_return(text: &[u8]) -> bool {
+    text.split(|byte| *byte == b'\n')
+        .any(|line| !line.starts_with(b"#") && line.contains(&b'\r'))
+}
+
+// Says on the error stream what a user can't see in the refusal of the script.
+fn note_carriage_return(text: &[u8], errors: &mut impl Write) {
+    if has_carriage_return(text) {
+        let _ = writeln!(
+            errors,
+            "nsf: the script has a carriage return at the end of a line, or in it"
+        );
+    }
+}
+
+// Says on the error stream that the output couldn't be written, if so.
+fn note_unwritten(ran: &io::Result<u8>, errors: &mut impl Write) {
+    if ran.is_err() {
+        let _ = writeln!(errors, "nsf: cannot write to standard output");
+    }
+}
+
 /// Runs the script that the input holds, as the arguments ask, and answers the exit status: that of `run_script`, or 1
-/// where there is no memory for the input. The error is the input's, and then the error stream says so, or the output's.
+/// where there is no memory for the input. The error is the input's or the output's, and then the error stream says so.
 pub fn run_input<R: Read, W: Write>(
     alloc: Global,
     arguments: &Arguments,
@@ -301,7 +315,12 @@ pub fn run_input<R: Read, W: Write>(
         PlaysInput W.contents arguments.now (R.remaining input.old) status output.old output.new) }
 {
     match all_of(alloc, input) {
-        Ok(text) => run_script(alloc, arguments, &text, output),
+        Ok(text) => {
+            note_carriage_return(&text, errors);
+            let ran = run_script(alloc, arguments, &text, output);
+            note_unwritten(&ran, errors);
+            ran
+        }
         Err(error) => match error.kind() {
             ErrorKind::OutOfMemory => refused(output, Error::NoMemory),
             _ => {

@@ -29,6 +29,6 @@ returns g c =
     let contents = g.W.Write.contents in
     let opened = c.in-Err.ensures in
     IfOk-weaker c.refused.result (λ (status : ℕ). IsRefused contents c.in-Err.error status c.print.new.output c.refused.new.output)
-    (λ (status : ℕ). IsStopped contents c.args.geometry c.args.fate c.args.disk status c.args.output.now c.refused.new.output)
+    (λ (status : ℕ). IsStopped contents c.args.fate c.args.disk status c.args.output.now c.refused.new.output)
     (λ status told. (opened.0, c.print.new.output, c.in_ok-print.ensures, opened.1, inr (c.in-Err.error, c.in-Err.field-0-1, opened.2, told)))
     c.refused.ensures

@@ -1,7 +1,6 @@
 use Rattle.std.proofs.Common.{ℕ, Result, Err, IfOk, sym, subst}
-use Rattle.records.specs.GeometryValue.{GeometryValue}
 use Rattle.session.specs.declared.session.End.{End}
-use Rattle.session.specs.Plays.{IsStopped, Ends}
+use Rattle.session.specs.Plays.{Ends}
 use Rattle.session.proofs.program.end.Goals as goal
 
 pub returns-in-Err-Stopped : goal.returns-in-Err-Stopped
@@ -9,5 +8,4 @@ returns-in-Err-Stopped g c =
     let contents = g.W.Write.contents in
     let arguments = c.args.arguments.now in
     subst (λ (last : Result (Unit {0}) End). IfOk c.after_stop.result (λ (status : ℕ). Ends contents arguments last status c.args.output.now c.after_stop.new.output)) (sym c.in-Err-Stopped.is)
-    (subst (λ (e : End). IfOk c.after_stop.result (λ (status : ℕ). Ends contents arguments (Err e) status c.args.output.now c.after_stop.new.output)) (sym c.in-Err-Stopped.field-0-is)
-    (subst (λ (x : GeometryValue). IfOk c.after_stop.result (λ (status : ℕ). IsStopped contents x arguments.fate c.in-Err-Stopped.disk status c.args.output.now c.after_stop.new.output)) c.requires c.after_stop.ensures))
+    (subst (λ (e : End). IfOk c.after_stop.result (λ (status : ℕ). Ends contents arguments (Err e) status c.args.output.now c.after_stop.new.output)) (sym c.in-Err-Stopped.field-0-is) c.after_stop.ensures)

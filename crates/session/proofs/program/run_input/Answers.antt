@@ -12,9 +12,9 @@ pub returns-in-Ok : goal.returns-in-Ok
 returns-in-Ok g c =
     let contents = g.W.Write.contents in
     let input = g.R.Read.remaining c.args.input.now in
-    let text = c.deref.result.now in
-    let whole : IsWholeInput input text = subst (λ (t : List ℕ). IsWholeInput input t) (sym c.deref.ensures.value) c.in-Ok.ensures in
-    IfOk-weaker c.run_script.result _ _ (λ status plays. (text, whole, plays)) c.run_script.ensures
+    let text = c.deref-in-Ok.result.now in
+    let whole : IsWholeInput input text = subst (λ (t : List ℕ). IsWholeInput input t) (sym c.deref-in-Ok.ensures.value) c.in-Ok.ensures in
+    IfOk-weaker c.run_script-ran.result _ _ (λ status plays. (text, whole, plays)) c.run_script-ran.ensures
 
 pub returns-in-OutOfMemory : goal.returns-in-OutOfMemory
 returns-in-OutOfMemory g c =

@@ -5,8 +5,8 @@ use Rattle.restart.specs.declared.event.Reply.{Reply}
 use Rattle.session.specs.Session.{ServesEvent, TakesImage, Flushes, last_made, outcome_of}
 use Rattle.session.specs.Runs.{GoesOn, Runs}
 use Rattle.replay_values.specs.declared.answer.Answer.{Answer}
-use Rattle.session.specs.declared.request.Request.{Request}
-use Rattle.session.specs.declared.request.Request.TheVariants as request
+use Rattle.serving.specs.declared.request.Request.{Request}
+use Rattle.serving.specs.declared.request.Request.TheVariants as request
 use Rattle.session.specs.declared.session.Session.{Session}
 use Rattle.session.specs.declared.session.Stopped.{Stopped}
 use Rattle.session.specs.declared.session.End.{End}

@@ -21,7 +21,7 @@ returns-in-Ok-clause-crashed c =
     let on = c.in-Ok.ensures in (
       c.crashed-disk.result,
       loses c.args.fate _ _ _ _ _ left c.into_device-disk.ensures.device c.crashed-disk.ensures,
-      record { opened = on.opened; recovers = on.recovers; horizon_is = on.horizon_is; geometry_is = on.geometry_is; fails_at_is = on.fails_at_is ∙ left },
+      record { store_is = on.store_is; fails_at_is = on.fails_at_is ∙ left },
     )
 
 pub returns-then-tells_stop-clause-crashed : goal.returns-then-tells_stop-clause-crashed
@@ -43,10 +43,10 @@ returns-else-tells_stop-clause-crashed c =
     )
 
 pub returns-in-Ok-clause-survives : goal.returns-in-Ok-clause-survives
-returns-in-Ok-clause-survives c = subst (λ (d : FaultDisk (MemDisk Global)). KeepsRun disk_history c.args.self.engine d) c.into_device-disk.ensures.device c.into_device-disk.ensures.survives
+returns-in-Ok-clause-survives c = subst (λ (d : FaultDisk (MemDisk Global)). KeepsRun disk_history c.args.self.store.engine d) c.into_device-disk.ensures.device c.into_device-disk.ensures.survives
 
 pub returns-then-tells_stop-clause-survives : goal.returns-then-tells_stop-clause-survives
-returns-then-tells_stop-clause-survives c = subst (λ (d : FaultDisk (MemDisk Global)). KeepsRun disk_history c.args.self.engine d) c.into_device-disk.ensures.device c.into_device-disk.ensures.survives
+returns-then-tells_stop-clause-survives c = subst (λ (d : FaultDisk (MemDisk Global)). KeepsRun disk_history c.args.self.store.engine d) c.into_device-disk.ensures.device c.into_device-disk.ensures.survives
 
 pub returns-else-tells_stop-clause-survives : goal.returns-else-tells_stop-clause-survives
-returns-else-tells_stop-clause-survives c = subst (λ (d : FaultDisk (MemDisk Global)). KeepsRun disk_history c.args.self.engine d) c.into_device-disk.ensures.device c.into_device-disk.ensures.survives
+returns-else-tells_stop-clause-survives c = subst (λ (d : FaultDisk (MemDisk Global)). KeepsRun disk_history c.args.self.store.engine d) c.into_device-disk.ensures.device c.into_device-disk.ensures.survives

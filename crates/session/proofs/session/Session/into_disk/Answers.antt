@@ -7,4 +7,4 @@ use Rattle.session.specs.Disk.{disk_history}
 use Rattle.session.proofs.session.Session.into_disk.Goals as goal
 
 pub returns-clause-survives : goal.returns-clause-survives
-returns-clause-survives c = subst (λ (d : FaultDisk (MemDisk Global)). KeepsRun disk_history c.args.self.engine d) c.into_device.ensures.device c.into_device.ensures.survives
+returns-clause-survives c = subst (λ (d : FaultDisk (MemDisk Global)). KeepsRun disk_history c.args.self.store.engine d) c.into_device.ensures.device c.into_device.ensures.survives

@@ -1,0 +1,70 @@
+//! Why there is no disk over a file.
+use std::alloc::AllocError;
+use std::fs::TryLockError;
+use std::{fmt, io};
+
+/// Why there is no disk over a file.
+#[derive(Debug, Drop)]
+pub enum OpenError {
+    /// The system refused a call.
+    Io(io::Error),
+    /// There is no memory for the mirror.
+    NoMemory,
+    /// Another process, or another disk of this one, has it open.
+    Busy,
+    /// It is there already.
+    Exists,
+    /// The file under which it would be made, `PATH.new`, is there already.
+    DraftExists,
+    /// It is no regular file.
+    NotAFile,
+    /// It is a link, or has more than one name.
+    Linked,
+    /// Its length, in bytes, is no number of sectors from 1 to 2^20.
+    BadLength(u64),
+}
+
+impl From<io::Error> for OpenError {
+    fn from(error: io::Error) -> OpenError {
+        OpenError::Io(error)
+    }
+}
+
+impl From<AllocError> for OpenError {
+    fn from(_error: AllocError) -> OpenError {
+        OpenError::NoMemory
+    }
+}
+
+impl From<TryLockError> for OpenError {
+    fn from(error: TryLockError) -> OpenError {
+        match error {
+            TryLockError::WouldBlock => OpenError::Busy,
+            TryLockError::Error(error) => OpenError::Io(error),
+        }
+    }
+}
+
+impl fmt::Display for OpenError {
+    fn fmt<W: fmt::Write>(&self, f: &mut fmt::Formatter<W>) -> fmt::Result {
+        match self {
+            OpenError::Io(error) => write!(f, "{error}"),
+            OpenError::NoMemory => f.write_str("out of memory"),
+            OpenError::Busy => f.write_str("another process has it open"),
+            OpenError::Exists => f.write_str("it is there already"),
+            OpenError::DraftExists => f.write_str(
+                "the file of this name with .new behind it, under which it would be made, is there already",
+            ),
+            OpenError::NotAFile => f.write_str("it is no regular file"),
+            OpenError::Linked => f.write_str("it is a link, or has more than one name"),
+            OpenError::BadLength(length) => {
+                write!(
+                    f,
+                    "its length of {length} bytes is no number of sectors from 1 to 1048576"
+                )
+            }
+        }
+    }
+}
+
+impl std::error::Error for OpenError {}

@@ -1,0 +1,163 @@
+//! A disk over what is below: reads are answered from a mirror in memory, and writes go through.
+ghost use Rattle.std.specs.Prelude.{◌≡◌, ◌+◌, ◌^◌, ◌-◌, ◌<◌, length, ◌≤◌, min, replicate, nat_le, IfOk, IsOk, OnOk, OnErr, false, true};
+ghost use Rattle.sector_device.specs.Disk.{sector, after_write, after_sync, IsSynced, IsFailedWrite};
+ghost use Rattle.sector_device.specs.History.{Elapses, CountsFailure, Rises};
+ghost use Rattle.sector_device.specs.Values.{zero_sector};
+ghost use Rattle.file_disk.specs.Mirror.{IsMirror};
+
+use crate::backing::Backing;
+use crate::past::Past;
+use sector_device::{Device, Failed, SECTOR_SIZE, zero_sector};
+use std::alloc::{AllocError, Allocator};
+
+/// A disk over what is below. Once a write or sync of that failed, nothing is written any more and each write and sync fails: what
+/// is below is not known then, until it is read again.
+#[derive(Drop)]
+pub struct FileDisk<F, A: Allocator> {
+    below: F,
+    // what the disk holds
+    content: Vec<[u8; SECTOR_SIZE], A>,
+    past: Past,
+    failures: u64,
+    has_failed: bool,
+    ghost mirrors: { IsMirror (length content.items) past.done content.items },
+}
+
+// Sectors of zeros.
+fn zeros<A: Allocator>(alloc: A, sectors: usize) -> Result<Vec<[u8; SECTOR_SIZE], A>, AllocError>
+    ensures { IfOk result (λ image. image.items ≡ replicate sectors zero_sector) }
+{
+    let mut image = Vec::with_capacity(alloc, sectors)?;
+    for _ in 0..sectors {
+        image.push(zero_sector())?;
+    }
+    Ok(image)
+}
+
+impl<F: Drop, A: Allocator> FileDisk<F, A> {
+    ghost use Rattle.file_disk.specs.FileDisk.{history_of, failures_of};
+
+    /// A disk of zeros over what is below, which is to hold zeros, all of them safe. The error is that memory was refused.
+    pub fn new(alloc: A, below: F, sectors: usize) -> Result<Self, AllocError>
+        ensures zeros { IfOk result (λ d. (history_of d).disk.content ≡ replicate sectors zero_sector) }
+        ensures synced { IfOk result (λ d. IsSynced (history_of d).disk) }
+        ensures failures { IfOk result (λ d. failures_of d ≡ 0) }
+    {
+        Ok(FileDisk {
+            below,
+            content: zeros(alloc, sectors)?,
+            past: Past::new(),
+            failures: 0,
+            has_failed: false,
+        })
+    }
+
+    /// What is below.
+    pub fn into_below(self) -> F {
+        self.below
+    }
+
+    /// Takes a sector over as what is below is to hold it.
+    pub(crate) fn put(&mut self, n: u64, bytes: &[u8; SECTOR_SIZE])
+        requires { n < length (history_of self.old).disk.content }
+        ensures disk { (history_of self.new).disk ≡ after_write (history_of self.old).disk n bytes.now }
+        ensures time { Elapses (history_of self.old) (history_of self.new) }
+        ensures failures { failures_of self.new ≡ failures_of self.old }
+    {
+        self.past.note(&[n], bytes);
+        self.content[n as usize] = *bytes;
+    }
+
+    /// Takes over that all is safe.
+    pub(crate) fn settle(&mut self)
+        ensures disk { (history_of self.new).disk ≡ after_sync (history_of self.old).disk }
+        ensures time { Elapses (history_of self.old) (history_of self.new) }
+        ensures failures { failures_of self.new ≡ failures_of self.old }
+    {
+        self.past.note(&[], &[]);
+    }
+
+    // Counts a failure, behind which nothing is written any more.
+    fn refuse(&mut self)
+        ensures disk { (history_of self.new).disk ≡ (history_of self.old).disk }
+        ensures time { Elapses (history_of self.old) (history_of self.new) }
+        ensures later { failures_of self.old ≤ failures_of self.new }
+        ensures rises { Rises (failures_of self.old) (failures_of self.new) }
+    {
+        self.has_failed = true;
+        self.failures = self.failures.saturating_add(1);
+    }
+
+    // Counts a failure, and leaves the sector unsynced, with what it holds.
+    fn spoil(&mut self, n: u64)
+        requires { n < length (history_of self.old).disk.content }
+        ensures disk { IsFailedWrite (history_of self.old).disk n (history_of self.new).disk }
+        ensures time { Elapses (history_of self.old) (history_of self.new) }
+        ensures later { failures_of self.old ≤ failures_of self.new }
+        ensures rises { Rises (failures_of self.old) (failures_of self.new) }
+    {
+        self.has_failed = true;
+        self.failures = self.failures.saturating_add(1);
+        let bytes = self.content[n as usize];
+        self.put(n, &bytes);
+    }
+}
+
+impl<F: Backing + Drop, A: Allocator> FileDisk<F, A> {
+    // Whether what is below took the sector.
+    fn put_below(&mut self, n: u64, bytes: &[u8; SECTOR_SIZE]) -> bool
+        ensures same { self.new.content ≡ self.old.content }
+        ensures past { self.new.past ≡ self.old.past }
+        ensures failures { self.new.failures ≡ self.old.failures }
+        ensures stays { self.old.has_failed ≡ true → result ≡ false }
+    {
+        !self.has_failed && self.below.put(n, bytes).is_ok()
+    }
+
+    // Whether what is below synced.
+    fn sync_below(&mut self) -> bool
+        ensures same { self.new.content ≡ self.old.content }
+        ensures past { self.new.past ≡ self.old.past }
+        ensures failures { self.new.failures ≡ self.old.failures }
+        ensures stays { self.old.has_failed ≡ true → result ≡ false }
+    {
+        !self.has_failed && self.below.sync().is_ok()
+    }
+}
+
+impl<F: Backing + Drop, A: Allocator> Device for FileDisk<F, A> {
+    ghost use Rattle.file_disk.specs.FileDisk.{history_of, failures_of};
+
+    ghost history = { history_of };
+
+    ghost failures = { failures_of };
+
+    fn sectors(&self) -> u64 {
+        self.content.len() as u64
+    }
+
+    /// It never fails.
+    fn read(&mut self, n: u64, buffer: &mut [u8; SECTOR_SIZE]) -> Result<(), Failed> {
+        *buffer = self.content[n as usize];
+        Ok(())
+    }
+
+    /// Where it fails, the sector holds what it held, unsynced, and what is below holds anything there.
+    fn write(&mut self, n: u64, bytes: &[u8; SECTOR_SIZE]) -> Result<(), Failed> {
+        if !self.put_below(n, bytes) {
+            self.spoil(n);
+            return Err(Failed);
+        }
+        self.put(n, bytes);
+        Ok(())
+    }
+
+    fn sync(&mut self) -> Result<(), Failed> {
+        if !self.sync_below() {
+            self.refuse();
+            return Err(Failed);
+        }
+        self.settle();
+        Ok(())
+    }
+}

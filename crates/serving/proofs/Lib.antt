@@ -1,0 +1,4 @@
+mod Entries
+mod Flushed
+mod Imaged
+mod Made

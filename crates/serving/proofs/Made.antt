@@ -1,0 +1,33 @@
+-- Steps of the builder or of the cleaner, one after another.
+use Rattle.std.proofs.Common.{◌≡◌, ◌⊎◌, ℕ, ◌+◌, ◌<◌, true, false, List, [], ◌∷◌, length, Option, refl, inl, inr, arith}
+use Rattle.sector_device.specs.History.{History}
+use Rattle.restart.specs.declared.event.Event.{Event}
+use Rattle.replay_values.specs.Steps.{is_last_step}
+use Rattle.replay_values.specs.declared.answer.Answer.{Answer}
+use Rattle.serving.specs.Requested.{Tells, MakesSteps}
+use Rattle.serving.specs.declared.store.Store.{Store}
+
+module _ {D W : Type 0} (history : D → History) (failures : D → ℕ) (contents : W → Option (List ℕ)) (event : Event) where
+  -- none was asked for
+  pub no_step : (s : Store D) (output : W) → MakesSteps history failures contents event 0 s s output output
+  no_step s output = ([], s, output, (refl, refl), inl (refl, refl, refl))
+
+  -- a step that is not the last one, before those that follow
+  pub one_step : (count : ℕ) (old mid new : Store D) (before between after : W) (told : Answer)
+      → Tells history failures contents event told old mid before between → is_last_step told ≡ false
+      → MakesSteps history failures contents event count mid new between after → MakesSteps history failures contents event (count + 1) old new before after
+  one_step count old mid new before between after told tells goes (answers, last, at, made, ends) =
+      (told ∷ answers, last, at, (mid, between, tells, goes, made), by_end ends)
+    where
+      by_end : ((length answers ≡ count) × (new ≡ last) × (after ≡ at))
+          ⊎ ((length answers < count) × (final : Answer) × Tells history failures contents event final last new at after × (is_last_step final ≡ true))
+          → ((length (told ∷ answers) ≡ count + 1) × (new ≡ last) × (after ≡ at))
+          ⊎ ((length (told ∷ answers) < count + 1) × (final : Answer) × Tells history failures contents event final last new at after × (is_last_step final ≡ true))
+      by_end (inl h) = inl (omega (arith, h.0), h.1, h.2)
+      by_end (inr h) = inr (omega (arith, h.0), h.1, h.2, h.3)
+
+  -- the last step
+  pub last_step : (count : ℕ) (old new : Store D) (before after : W) (told : Answer)
+      → 0 < count → Tells history failures contents event told old new before after → is_last_step told ≡ true
+      → MakesSteps history failures contents event count old new before after
+  last_step count old new before after told some tells ends = ([], old, before, (refl, refl), inr (some, told, tells, ends))

@@ -1,0 +1,11 @@
+use Rattle.std.proofs.Common.{inl, subst}
+use Rattle.std.specs.declared.alloc.Global.{Global}
+use Rattle.restart.specs.declared.event.Reply.{Reply}
+use Rattle.serving.specs.Store.{TakesImage}
+use Rattle.serving.proofs.store.Store.flush_behind_image.Goals as goal
+
+-- the image is current
+pub returns-in-Flipped : goal.returns-in-Flipped
+returns-in-Flipped g c =
+    let mid = c.take_image.new.self in
+    inl (_, mid, subst (λ (r : Reply Global). TakesImage g.D.Device.history g.D.Device.failures r c.args.self.now mid) c.in-Flipped.is c.take_image.ensures, c.serve.ensures)

@@ -1,0 +1,5 @@
+pub mod Store
+pub mod Requests
+pub mod Answers
+pub mod Dump
+pub mod Requested

@@ -1,0 +1,15 @@
+//! A store that is open under a script: whatever device it is on, it serves events one by one, flushes and takes images as one
+//! request, and prints what it holds.
+//!
+//! Proved: each request is a run of the engine's own steps, with just the replies that these had (`Serves`, `Flushes`,
+//! `TakesImage`), and a dump prints just the rows, the entries and the life that are there.
+#![tactic(auto)]
+
+mod answer;
+mod reply;
+mod request;
+mod store;
+
+pub use reply::answer_of;
+pub use request::Request;
+pub use store::Store;

@@ -1,0 +1,233 @@
+//! The store and its calls.
+ghost use Rattle.std.specs.Prelude.{◌≡◌, OnOk, MatchResult};
+ghost use Rattle.std.specs.Io.KnownBytes.{Appends};
+ghost use Rattle.btree_node.specs.Above.{IsLeastAbove};
+ghost use Rattle.serving.specs.Store.{asks_again, horizon_after, is_further, is_on_the_way};
+ghost use Rattle.replay_values.specs.Texts.{line_of};
+ghost use Rattle.serving.specs.Dump.{row_line, slot_lines, entry_lines, dump_text};
+
+use model::Life;
+use nsf_core::Core;
+use records::{Error, Mark, Pair, Rid, SLOTS_PER_PAGE};
+use replay_values::Answer;
+use restart::{Engine, Event, Reply, restart};
+use sector_device::Device;
+use std::alloc::Global;
+use std::io;
+use std::io::Write;
+
+/// A store that is open on a device, and how far its replies have told its records to be synced.
+#[derive(Drop)]
+pub struct Store<D: Device> {
+    engine: Engine<D, Global>,
+    // every record up to this number is synced
+    horizon: u64,
+}
+
+// Whether more records are synced up to this number than a flush before it has told, if there was one.
+fn is_further(told: Option<u64>, number: u64) -> bool
+    ensures { result ≡ is_further told number }
+{
+    match told {
+        Some(before) => before < number,
+        None => true,
+    }
+}
+
+// Whether a flush with this reply is followed by another: not all up to the last are synced yet, and more than the flush before it
+// has told.
+fn asks_again(last: u64, told: Option<u64>, reply: &Reply<Global>) -> bool
+    ensures { result ≡ asks_again last told reply.now }
+{
+    match reply {
+        Reply::Horizon(number) => *number < last && is_further(told, *number),
+        _ => false,
+    }
+}
+
+// How far the records are synced after this reply, where they were up to the horizon before it.
+fn horizon_after(horizon: u64, reply: &Reply<Global>) -> u64
+    ensures { result ≡ horizon_after horizon reply.now }
+{
+    match reply {
+        Reply::Horizon(number) | Reply::Flipped(number) => *number,
+        _ => horizon,
+    }
+}
+
+// Whether a copy with this reply is followed by another: the image isn't current yet.
+fn is_on_the_way(reply: &Reply<Global>) -> bool
+    ensures { result ≡ is_on_the_way reply.now }
+{
+    match reply {
+        Reply::Copied | Reply::Again => true,
+        _ => false,
+    }
+}
+
+// Prints an entry.
+fn dump_entry<W: Write>(pair: Pair, mark: Mark, output: &mut W) -> io::Result<()>
+    ensures { OnOk result (Appends (W.contents output.old) (W.contents output.new) (line_of (Answer.Entry pair mark))) }
+{
+    let answer = Answer::Entry { pair, mark };
+    writeln!(output, "{answer}")
+}
+
+impl<D: Device> Store<D> {
+    ghost use Rattle.nsf_core.specs.Value.{value_of};
+    ghost use Rattle.restart.specs.Parts.{core_of};
+    ghost use Rattle.serving.specs.Store.{OpensOn, IsRefusedOn, LeavesItsRun, device_of, last_made, Serves, TakesImage, FlushesBehindImage, FlushesOnce, Flushes, horizon_of, rows_of, entries_of, life_of};
+
+    /// Opens the store on the device. Where the restart is refused, the device comes back.
+    pub fn open(alloc: Global, device: D) -> Result<Self, (Error, D)>
+        ensures { MatchResult result
+            (OpensOn D.history device)
+            (λ r. IsRefusedOn D.history D.failures device r.1 r.0) }
+    {
+        let engine = restart(alloc, device)?;
+        let horizon = engine.core().last();
+        Ok(Store { engine, horizon })
+    }
+
+    /// The core: rows, transactions and index as they are now.
+    pub fn core(&self) -> &Core<Global>
+        ensures { value_of result.now ≡ core_of self.now.engine }
+    {
+        self.engine.core()
+    }
+
+    /// How far the index is.
+    pub fn life(&self) -> Life
+        ensures { result ≡ life_of self.now }
+    {
+        self.engine.core().life()
+    }
+
+    /// How far the replies have told the records to be synced.
+    pub fn horizon(&self) -> u64
+        ensures { result ≡ horizon_of self.now }
+    {
+        self.horizon
+    }
+
+    /// The device, with what was written to it. A crash of it leaves what a restart takes back to a prefix of what was served,
+    /// with everything that a reply has told to be safe.
+    pub fn into_device(self) -> D
+        ensures device { result ≡ device_of self }
+        ensures survives { LeavesItsRun D.history self result }
+    {
+        self.engine.into_device()
+    }
+
+    /// Serves one event.
+    pub fn serve(&mut self, event: Event) -> Reply<Global>
+        ensures { Serves D.history D.failures event result self.old self.new }
+    {
+        let reply = self.engine.serve(event);
+        self.horizon = horizon_after(self.horizon, &reply);
+        reply
+    }
+
+    /// Takes an image of the store, piece by piece, and makes it current, unless that is refused.
+    pub fn take_image(&mut self) -> Reply<Global>
+        ensures { TakesImage D.history D.failures result self.old self.new }
+    {
+        'copies: loop {
+            let reply = self.serve(Event::Copy);
+            if !is_on_the_way(&reply) {
+                return reply;
+            }
+        }
+    }
+
+    // Takes an image, and flushes once behind it.
+    fn flush_behind_image(&mut self) -> Reply<Global>
+        ensures { FlushesBehindImage D.history D.failures result self.old self.new }
+    {
+        match self.take_image() {
+            Reply::Flipped(_) => self.serve(Event::Flush),
+            refused => refused,
+        }
+    }
+
+    // Flushes once, behind an image where the log is full.
+    fn flush_once(&mut self) -> Reply<Global>
+        ensures { FlushesOnce D.history D.failures result self.old self.new }
+    {
+        match self.serve(Event::Flush) {
+            Reply::LogFull => self.flush_behind_image(),
+            reply => reply,
+        }
+    }
+
+    /// Flushes until every record made is synced, or a flush or a copy is refused. Where the log is full, an image is taken and
+    /// made current, and it goes on.
+    pub fn flush(&mut self) -> Reply<Global>
+        ensures { Flushes D.history D.failures (last_made self.old) result self.old self.new }
+    {
+        let last = self.engine.core().last();
+        let mut told = None;
+        'flushes: loop {
+            let reply = self.flush_once();
+            if !asks_again(last, told, &reply) {
+                return reply;
+            }
+            told = Some(self.horizon);
+        }
+    }
+
+    // Prints the row at the place, if there is one.
+    fn dump_row<W: Write>(&self, rid: Rid, output: &mut W) -> io::Result<()>
+        ensures { OnOk result (Appends (W.contents output.old) (W.contents output.new) (row_line (rows_of self.now) rid)) }
+    {
+        match self.engine.core().get(rid) {
+            Some(row) => {
+                let answer = Answer::RowAt { rid, row };
+                writeln!(output, "{answer}")
+            }
+            None => Ok(()),
+        }
+    }
+
+    // Prints the rows of a page, in the order of their slots.
+    fn dump_page<W: Write>(&self, page: u32, output: &mut W) -> io::Result<()>
+        ensures { OnOk result (Appends (W.contents output.old) (W.contents output.new) (slot_lines (rows_of self.now) page SLOTS_PER_PAGE)) }
+    {
+        for slot in 0..SLOTS_PER_PAGE {
+            self.dump_row(Rid { page, slot }, output)?;
+        }
+        Ok(())
+    }
+
+    // The entry of the least pair above this one, or the least of all.
+    fn entry_above(&self, last: Option<Pair>) -> Option<(Pair, Mark)>
+        ensures { IsLeastAbove (entries_of self.now) last result }
+    {
+        self.engine.core().above(last.as_ref())
+    }
+
+    // Prints the entries of the index, in the order of their pairs.
+    fn dump_entries<W: Write>(&self, output: &mut W) -> io::Result<()>
+        ensures { OnOk result (Appends (W.contents output.old) (W.contents output.new) (entry_lines (entries_of self.now))) }
+    {
+        let mut last = None;
+        while let Some(entry) = self.entry_above(last) {
+            dump_entry(entry.0, entry.1, output)?;
+            last = Some(entry.0);
+        }
+        Ok(())
+    }
+
+    /// Prints each row, in the order of their places, then each entry of the index, in the order of their pairs, and how
+    /// far the index is.
+    pub fn dump<W: Write>(&self, output: &mut W) -> io::Result<()>
+        ensures { OnOk result (Appends (W.contents output.old) (W.contents output.new) (dump_text self.now)) }
+    {
+        for page in 0..self.engine.core().pages() {
+            self.dump_page(page, output)?;
+        }
+        self.dump_entries(output)?;
+        let answer = Answer::Life(self.life());
+        writeln!(output, "{answer}")
+    }
+}

@@ -1,0 +1,198 @@
+//! What the words of the program ask for.
+use clap::error::ErrorKind;
+use clap::{Arg, ArgAction, ArgMatches, Command, Error, value_parser};
+use records::{ENTRIES_MAX, ENTRIES_MIN, LOG_SLOTS_MAX, LOG_SLOTS_MIN, PAGES_MAX};
+use std::alloc::{AllocError, Global};
+use std::convert::AsStr;
+
+/// What is to be done with the file.
+#[derive(Clone, Copy, Debug, PartialEq, Eq)]
+pub enum Verb {
+    /// A store of this geometry is made in it.
+    New {
+        pages: u32,
+        entries: u32,
+        slots: u32,
+    },
+    /// The commands of the input are served.
+    Run,
+    /// It is read, and what is wrong with it is said.
+    Check,
+    /// Its rows and entries are printed.
+    Dump,
+    /// What it is and how far it has come is printed.
+    Stat,
+    /// The index is built to its end.
+    Build {
+        shows_progress: bool,
+    },
+}
+
+/// What is asked for.
+#[derive(Drop)]
+pub struct Asked {
+    /// The file's path.
+    pub path: String,
+    pub verb: Verb,
+}
+
+const ABOUT: &str =
+    "Keeps a table with an index in a file. The index is built while the table is written
+
+Exit status: 0 where it was done, refused commands included; 1 where the file or the store was refused, told on the error stream, or a line was no command, told in its place; 2 for bad words";
+
+const NEW_ABOUT: &str = "Makes a store in a new file";
+
+const RUN_ABOUT: &str =
+    "Serves the commands of the input, each of which is answered before the next is read";
+
+const CHECK_ABOUT: &str = "Reads the file alone, and says `sound`, or what is wrong with it";
+
+const DUMP_ABOUT: &str = "Prints each row, each entry of the index, and how far that is";
+
+const STAT_ABOUT: &str = "Prints what the store is and how far it has come";
+
+const BUILD_ABOUT: &str = "Builds the index to its end";
+
+const PAGES_HELP: &str = "Pages of the table, 1 to 256 [default: 16]";
+
+const ENTRIES_HELP: &str = "Places for entries of the index, 64 to 65536 [default: 4096]";
+
+const SLOTS_HELP: &str = "Slots of each log, 4 to 256 [default: 16]";
+
+const PROGRESS_HELP: &str =
+    "Shows on the error stream how many pairs were attempted, also where that is no terminal";
+
+// Each of these hands on one call alone, so that what follows has no more to read than it needs.
+
+fn with_arg<'a>(command: Command<'a>, arg: Arg<'a>) -> Result<Command<'a>, AllocError> {
+    command.arg(arg)
+}
+
+fn with_verb<'a>(command: Command<'a>, verb: Command<'a>) -> Result<Command<'a>, AllocError> {
+    command.subcommand(verb)
+}
+
+fn file_arg<'a>(alloc: Global) -> Arg<'a> {
+    Arg::new(alloc, "FILE")
+        .required(true)
+        .help("The store's file")
+}
+
+fn progress_arg<'a>(alloc: Global) -> Arg<'a> {
+    Arg::new(alloc, "progress")
+        .long("progress")
+        .action(ArgAction::SetTrue)
+        .help(PROGRESS_HELP)
+}
+
+fn number_arg<'a>(alloc: Global, name: &'a str, least: u32, most: u32, help: &'a str) -> Arg<'a> {
+    let range = value_parser!(u32).range(i64::from(least)..=i64::from(most));
+    Arg::new(alloc, name)
+        .long(name)
+        .value_name("N")
+        .value_parser(range)
+        .help(help)
+}
+
+fn bare_verb<'a>(alloc: Global, name: &'a str, about: &'a str) -> Command<'a> {
+    Command::new(alloc, name).about(about)
+}
+
+fn program<'a>(alloc: Global) -> Result<Command<'a>, AllocError> {
+    Command::new(alloc, "nsf-store")
+        .about(ABOUT)
+        .version("0.1.0")
+        .subcommand_required(true)
+        .bin_name("nsf-store")
+}
+
+fn verb_with_file<'a>(
+    alloc: Global,
+    name: &'a str,
+    about: &'a str,
+) -> Result<Command<'a>, AllocError> {
+    with_arg(bare_verb(alloc, name, about), file_arg(alloc))
+}
+
+fn new_verb<'a>(alloc: Global) -> Result<Command<'a>, AllocError> {
+    let verb = verb_with_file(alloc, "new", NEW_ABOUT)?;
+    let pages = number_arg(alloc, "pages", 1, PAGES_MAX, PAGES_HELP);
+    let verb = with_arg(verb, pages)?;
+    let entries = number_arg(alloc, "entries", ENTRIES_MIN, ENTRIES_MAX, ENTRIES_HELP);
+    let verb = with_arg(verb, entries)?;
+    let slots = number_arg(alloc, "slots", LOG_SLOTS_MIN, LOG_SLOTS_MAX, SLOTS_HELP);
+    with_arg(verb, slots)
+}
+
+fn build_verb<'a>(alloc: Global) -> Result<Command<'a>, AllocError> {
+    with_arg(
+        verb_with_file(alloc, "build", BUILD_ABOUT)?,
+        progress_arg(alloc),
+    )
+}
+
+fn command<'a>(alloc: Global) -> Result<Command<'a>, AllocError> {
+    let all = with_verb(program(alloc)?, new_verb(alloc)?)?;
+    let all = with_verb(all, verb_with_file(alloc, "run", RUN_ABOUT)?)?;
+    let all = with_verb(all, verb_with_file(alloc, "check", CHECK_ABOUT)?)?;
+    let all = with_verb(all, verb_with_file(alloc, "dump", DUMP_ABOUT)?)?;
+    let all = with_verb(all, verb_with_file(alloc, "stat", STAT_ABOUT)?)?;
+    with_verb(all, build_verb(alloc)?)
+}
+
+fn number_in(matches: &ArgMatches<'_>, name: &str, default: u32) -> u32 {
+    matches.get_one::<u32>(name).unwrap_or(default)
+}
+
+fn new_of(matches: &ArgMatches<'_>) -> Verb {
+    Verb::New {
+        pages: number_in(matches, "pages", 16),
+        entries: number_in(matches, "entries", 4_096),
+        slots: number_in(matches, "slots", 16),
+    }
+}
+
+fn build_of(matches: &ArgMatches<'_>) -> Verb {
+    Verb::Build {
+        shows_progress: matches.get_flag("progress"),
+    }
+}
+
+// The verb of this name; each but the last has a name of its own.
+fn verb_of(name: &str, matches: &ArgMatches<'_>) -> Verb {
+    match name {
+        "new" => new_of(matches),
+        "run" => Verb::Run,
+        "check" => Verb::Check,
+        "dump" => Verb::Dump,
+        "stat" => Verb::Stat,
+        _ => build_of(matches),
+    }
+}
+
+// What was found in the words.
+fn asked_of(alloc: Global, matches: &ArgMatches<'_>) -> Result<Asked, AllocError> {
+    let Some((name, given)) = matches.subcommand() else {
+        return Err(AllocError);
+    };
+    let path = given.get_str("FILE").unwrap_or("");
+    Ok(Asked {
+        path: String::from_str(alloc, path)?,
+        verb: verb_of(name, given),
+    })
+}
+
+/// What the words ask for, the first of which is the program's own name; or what is said in place of it.
+pub fn read<S: AsStr>(alloc: Global, words: &[S]) -> Result<Asked, Error> {
+    let matches = command(alloc)?.try_get_matches_from(words)?;
+    Ok(asked_of(alloc, &matches)?)
+}
+
+/// Whether this is asked for, and so no fault.
+pub fn is_wanted(error: &Error) -> bool {
+    match error.kind() {
+        ErrorKind::DisplayHelp | ErrorKind::DisplayVersion => true,
+        _ => false,
+    }
+}

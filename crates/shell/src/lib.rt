@@ -1,0 +1,13 @@
+//! The program `nsf-store` over what it reads and writes: a store in a file, and the verbs that make, serve and show it.
+//!
+//! Only tested: what the verbs print, how they end, and what they say of a file that is no store. The steps below have the promises of
+//! `serving` and `file_disk`.
+#![tactic(auto)]
+
+mod asked;
+mod program;
+mod refused;
+mod serve;
+mod show;
+
+pub use program::run;

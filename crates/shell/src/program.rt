@@ -1,0 +1,307 @@
+//! The verbs of the program.
+use crate::asked::{Verb, is_wanted, read};
+use crate::refused::Refused;
+use crate::serve::serve_lines;
+use crate::show::{Stored, write_stat};
+use file_disk::{Detached, FileDisk, HostFile};
+use flip_image::Halves;
+use model::Life;
+use nsf_core::BuildReply;
+use records::Geometry;
+use restart::{Event, Reply};
+use sector_device::Device;
+use serving::Store;
+use std::alloc::Global;
+use std::convert::AsStr;
+use std::fs::File;
+use std::io;
+use std::io::{BufRead, Write};
+use std::rt::Files;
+use store_reader::read_store;
+
+// How many steps of the builder lie between two flushes.
+const STEPS: u32 = 64;
+
+// A store on the disk, opened.
+fn open<D: Device + Drop>(alloc: Global, disk: D) -> Result<Store<D>, Refused> {
+    match Store::open(alloc, disk) {
+        Ok(store) => Ok(store),
+        Err((error, _)) => Err(Refused::Store(error)),
+    }
+}
+
+// The store in the file, to be served.
+fn open_file<R: Files<File = File>>(
+    rt: &R,
+    alloc: Global,
+    path: &str,
+) -> Result<Store<FileDisk<HostFile, Global>>, Refused> {
+    open(alloc, file_disk::open(rt, alloc, path)?)
+}
+
+// What the file says, and a copy of its store in memory.
+fn read_file<R: Files<File = File>>(
+    rt: &R,
+    alloc: Global,
+    path: &str,
+) -> Result<(Stored, Store<FileDisk<Detached, Global>>), Refused> {
+    let mut disk = file_disk::read(rt, alloc, path)?;
+    let found = read_store(alloc, &mut disk)?;
+    let open_slots = found.log.open_slots();
+    let restored = found.restored;
+    let stored = Stored {
+        geometry: restored.geometry,
+        open_slots,
+        last: restored.last,
+    };
+    Ok((stored, open(alloc, disk)?))
+}
+
+// Makes the disk a store, and gives its file its name.
+fn finish<R: Files<File = File> + AllocGlobal>(
+    rt: &R,
+    path: &str,
+    geometry: Geometry,
+    mut disk: FileDisk<HostFile, Global>,
+) -> Result<(), Refused> {
+    Halves::format(&mut disk, geometry)?;
+    file_disk::publish(rt, path)?;
+    Ok(())
+}
+
+// Makes a store of this geometry in a new file. Where that is refused, no file is left.
+fn make<R: Files<File = File> + AllocGlobal>(
+    rt: &R,
+    path: &str,
+    geometry: Geometry,
+) -> Result<(), Refused> {
+    let disk = file_disk::create(rt, rt.alloc(), path, geometry.sectors())?;
+    let made = finish(rt, path, geometry, disk);
+    if made.is_err() {
+        let _ = file_disk::discard(rt, path);
+    }
+    made
+}
+
+// What a step of the builder came to.
+#[derive(Clone, Copy, Debug, PartialEq, Eq)]
+enum Step {
+    /// The index is complete.
+    Complete,
+    /// A pair was attempted.
+    Attempted,
+    /// A page was taken, or a checkpoint made.
+    Other,
+}
+
+// Flushes, and answers the refusal, if there was one.
+fn flush<D: Device>(store: &mut Store<D>) -> Result<(), Refused> {
+    match store.flush() {
+        Reply::Refused(error) => Err(Refused::Store(error)),
+        _ => Ok(()),
+    }
+}
+
+// Makes a step of the builder.
+fn build_step<D: Device>(store: &mut Store<D>) -> Result<Step, Refused> {
+    match store.serve(Event::Build) {
+        Reply::Built(BuildReply::Done(_)) | Reply::Built(BuildReply::Idle) => Ok(Step::Complete),
+        Reply::Built(BuildReply::Placed(_)) | Reply::Built(BuildReply::Rejected(_)) => {
+            Ok(Step::Attempted)
+        }
+        Reply::Refused(error) => Err(Refused::Store(error)),
+        _ => Ok(Step::Other),
+    }
+}
+
+// Makes some steps of the builder, and tells whether the index is complete, and how many pairs were attempted.
+fn build_some<D: Device>(store: &mut Store<D>) -> Result<(bool, u64), Refused> {
+    let mut attempts: u64 = 0;
+    for _ in 0..STEPS {
+        match build_step(store)? {
+            Step::Complete => return Ok((true, attempts)),
+            Step::Attempted => attempts = attempts.saturating_add(1),
+            Step::Other => {}
+        }
+    }
+    Ok((false, attempts))
+}
+
+// Why the index of this store isn't built, if so.
+fn hindrance<D: Device>(store: &Store<D>) -> Option<Refused> {
+    if store.life() == Life::Absent {
+        return Some(Refused::NoIndex);
+    }
+    if !store.core().can_open() {
+        return Some(Refused::Unsound);
+    }
+    None
+}
+
+// Shows how many pairs were attempted, over the line before, where that can be.
+fn show<E: Write>(attempts: u64, errors: &mut E) {
+    let _ = write!(errors, "\rpairs attempted: {attempts}");
+}
+
+// Builds the index to its end, flushing as it goes, and shows the count of attempts where that is wanted.
+fn build_on<D: Device, E: Write>(
+    store: &mut Store<D>,
+    shows_progress: bool,
+    errors: &mut E,
+) -> Result<u64, Refused> {
+    if let Some(refused) = hindrance(store) {
+        return Err(refused);
+    }
+    let mut attempts: u64 = 0;
+    for _ in 0..u64::MAX {
+        let (is_complete, more) = build_some(store)?;
+        attempts = attempts.saturating_add(more);
+        flush(store)?;
+        if shows_progress {
+            show(attempts, errors);
+        }
+        if is_complete {
+            break;
+        }
+    }
+    Ok(attempts)
+}
+
+// The same, with what was shown on a line of its own.
+fn build<D: Device, E: Write>(
+    store: &mut Store<D>,
+    shows_progress: bool,
+    errors: &mut E,
+) -> Result<u64, Refused> {
+    let built = build_on(store, shows_progress, errors);
+    if shows_progress {
+        let _ = writeln!(errors);
+    }
+    built
+}
+
+// Builds the index in the file to its end.
+fn build_file<R: Files<File = File>, W: Write, E: Write>(
+    rt: &R,
+    alloc: Global,
+    path: &str,
+    shows_progress: bool,
+    output: &mut W,
+    errors: &mut E,
+) -> Result<(), Refused> {
+    let mut store = open_file(rt, alloc, path)?;
+    let attempts = build(&mut store, shows_progress, errors)?;
+    writeln!(output, "complete, {attempts} pairs attempted")?;
+    Ok(())
+}
+
+// Says whether the file holds a store, whose index fits its rows.
+fn check_file<R: Files<File = File>, W: Write>(
+    rt: &R,
+    alloc: Global,
+    path: &str,
+    output: &mut W,
+) -> Result<(), Refused> {
+    let (_, store) = read_file(rt, alloc, path)?;
+    if !store.core().can_open() {
+        return Err(Refused::Unsound);
+    }
+    writeln!(output, "sound")?;
+    Ok(())
+}
+
+// Prints what the store in the file holds.
+fn dump_file<R: Files<File = File>, W: Write>(
+    rt: &R,
+    alloc: Global,
+    path: &str,
+    output: &mut W,
+) -> Result<(), Refused> {
+    let (_, store) = read_file(rt, alloc, path)?;
+    Ok(store.dump(output)?)
+}
+
+// Prints what the store in the file is, and how far it has come.
+fn stat_file<R: Files<File = File>, W: Write>(
+    rt: &R,
+    alloc: Global,
+    path: &str,
+    output: &mut W,
+) -> Result<(), Refused> {
+    let (stored, store) = read_file(rt, alloc, path)?;
+    Ok(write_stat(&stored, store.core(), output)?)
+}
+
+// Serves the input, and tells whether each line was one of a script. Behind the last line what is not flushed yet is flushed.
+fn run_file<R: Files<File = File>, I: BufRead, W: Write>(
+    rt: &R,
+    alloc: Global,
+    path: &str,
+    input: &mut I,
+    output: &mut W,
+) -> Result<bool, Refused> {
+    let mut store = open_file(rt, alloc, path)?;
+    let served = serve_lines(alloc, &mut store, input, output);
+    flush(&mut store)?;
+    Ok(served?)
+}
+
+// Does what is asked for, and tells whether nothing was refused.
+fn act<R: Files<File = File> + AllocGlobal, I: BufRead, W: Write, E: Write>(
+    rt: &R,
+    path: &str,
+    verb: Verb,
+    input: &mut I,
+    output: &mut W,
+    errors: &mut E,
+) -> Result<bool, Refused> {
+    let alloc = rt.alloc();
+    match verb {
+        Verb::New {
+            pages,
+            entries,
+            slots,
+        } => make(rt, path, Geometry::new(pages, entries, slots)?)?,
+        Verb::Run => return run_file(rt, alloc, path, input, output),
+        Verb::Check => check_file(rt, alloc, path, output)?,
+        Verb::Dump => dump_file(rt, alloc, path, output)?,
+        Verb::Stat => stat_file(rt, alloc, path, output)?,
+        Verb::Build { shows_progress } => {
+            build_file(rt, alloc, path, shows_progress, output, errors)?;
+        }
+    }
+    Ok(true)
+}
+
+/// Runs the program on these words, the first of which is its own name, and answers its exit status: 0 where what they ask for was
+/// done, refused commands included; 1 where the file or the store was refused, of which the error stream says why, or a line of the
+/// input was no command; 2 for bad words.
+pub fn run<R: Files<File = File> + AllocGlobal, S: AsStr, I: BufRead, W: Write, E: Write>(
+    rt: &R,
+    words: &[S],
+    input: &mut I,
+    output: &mut W,
+    errors: &mut E,
+) -> u8 {
+    let asked = match read(rt.alloc(), words) {
+        Ok(asked) => asked,
+        Err(error) if is_wanted(&error) => {
+            return match write!(output, "{error}") {
+                Ok(()) => 0,
+                Err(_) => 1,
+            };
+        }
+        Err(error) => {
+            let _ = write!(errors, "{error}");
+            return 2;
+        }
+    };
+    match act(rt, asked.path.as_str(), asked.verb, input, output, errors) {
+        Ok(true) => 0,
+        Ok(false) => 1,
+        Err(refused) => {
+            let _ = writeln!(errors, "nsf-store: {}: {refused}", asked.path);
+            1
+        }
+    }
+}

@@ -1,0 +1,68 @@
+//! Why a verb was refused.
+use file_disk::OpenError;
+use records::Error;
+use std::alloc::AllocError;
+use std::{fmt, io};
+
+/// Why a verb was refused.
+#[derive(Debug, Drop)]
+pub enum Refused {
+    /// The file can't be made or opened.
+    File(OpenError),
+    /// What the file holds can't be opened as a store, or the store refused.
+    Store(Error),
+    /// There is no index to build.
+    NoIndex,
+    /// The store opens, but its index doesn't fit its rows.
+    Unsound,
+    /// The input can't be read, or the output can't be written.
+    Stream(io::Error),
+}
+
+impl From<OpenError> for Refused {
+    fn from(error: OpenError) -> Refused {
+        Refused::File(error)
+    }
+}
+
+impl From<Error> for Refused {
+    fn from(error: Error) -> Refused {
+        Refused::Store(error)
+    }
+}
+
+impl From<io::Error> for Refused {
+    fn from(error: io::Error) -> Refused {
+        Refused::Stream(error)
+    }
+}
+
+impl From<AllocError> for Refused {
+    fn from(_error: AllocError) -> Refused {
+        Refused::Store(Error::NoMemory)
+    }
+}
+
+// What a store's refusal says of its file.
+fn write_error<W: fmt::Write>(error: Error, f: &mut fmt::Formatter<W>) -> fmt::Result {
+    match error {
+        Error::NotFormatted => f.write_str("it holds no store of this format"),
+        Error::DeviceTooSmall => f.write_str("it is shorter than the store that it begins with"),
+        Error::Damaged { sector } => write!(f, "it is damaged at sector {sector}"),
+        Error::DeviceFailed => f.write_str("it can't be written"),
+        Error::NoMemory => f.write_str("out of memory"),
+        error => write!(f, "refused {error}"),
+    }
+}
+
+impl fmt::Display for Refused {
+    fn fmt<W: fmt::Write>(&self, f: &mut fmt::Formatter<W>) -> fmt::Result {
+        match self {
+            Refused::File(error) => write!(f, "{error}"),
+            Refused::Store(error) => write_error(*error, f),
+            Refused::Unsound => f.write_str("it opens, but its index isn't that of its rows"),
+            Refused::NoIndex => f.write_str("it has no index; `create` in `run` begins one"),
+            Refused::Stream(error) => write!(f, "input or output failed: {error}"),
+        }
+    }
+}
