@@ -9,8 +9,6 @@ mod half;
 mod knowledge;
 mod rule;
 mod table;
-#[cfg(test)]
-mod tests;
 
 pub use half::Half;
 pub use table::Registry;

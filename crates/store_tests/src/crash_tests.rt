@@ -1,11 +1,9 @@
-// A store is stopped at each call of its device in turn, and crashes.
-use crate::disks::formatted_for_long;
-use crate::phases::{Contents, FIXED, NOTHING, Phase, WORKED, given_by, held_by, is_given};
-use crate::requests::Answer;
-use crate::store::{Memory, memory_of, reply_to};
-use crate::tables::{Asks, asked_of};
-use restart::{Engine, Event, restart};
-use sector_device::{Device, Fate, FaultDisk, MemDisk, Which};
+// A store is stopped at each call of its device in turn, and crashes; and so are the restarts behind it.
+use crate::contents::{Contents, held_by};
+use crate::requests::requests;
+use crate::store::{Answer, Memory, Store, ample, ask, close, formatted, open, sound};
+use restart::Event;
+use sector_device::{Fate, FaultDisk, MemDisk, Which};
 use std::alloc::Global;
 use std::process::Abort;
 use std::test::Fail;
@@ -13,39 +11,44 @@ use std::test::Fail;
 // More than the calls that a run makes.
 const CALLS: u64 = 1_000;
 
-// Serves so many requests of a kind.
-fn serve_kind<D: Device>(engine: &mut Engine<D, &Memory>, (count, ask): Asks) -> Result<(), Fail> {
-    for by in 0..count {
-        let (event, _) = asked_of(ask, by)?;
-        reply_to(engine, &event);
-    }
-    Ok(())
-}
-
-// Serves a phase, with a flush at its end, and answers how it was answered.
-fn serve_phase<D: Device>(engine: &mut Engine<D, &Memory>, table: &[Asks]) -> Result<Answer, Fail> {
-    for asks in table {
-        serve_kind(engine, *asks)?;
-    }
-    Ok(reply_to(engine, &Event::Flush))
-}
-
-// Serves the phases. The greatest number that a flush has told to be safe.
-fn serve_all<D: Device>(
-    engine: &mut Engine<D, &Memory>,
-    phases: &[Phase<'_>],
-) -> Result<u64, Fail> {
-    let mut safe: u64 = 0;
-    for (table, _) in phases {
-        if let Answer::Horizon(number) = serve_phase(engine, table)? {
-            safe = safe.max(number);
-        }
-    }
-    Ok(safe)
-}
+// A row is deleted behind the scan of a build, and an image is taken before the build ends.
+const SCRIPT: &str = "begin\ninsert 1 =a =\ninsert 1 =b =\ncommit 1\ncreate\nflush\nbuild\nbegin\n\
+    delete 2 0.1\nstep 2\ncommit 2\nflush\nbuild 2\nimage\nimage\nimage\nimage\nbuild\nflush\n";
 
 // The calls of a device that may fail, and what becomes then of the sectors that are not synced.
-type Case<'a> = (Which, &'a [Fate]);
+type Case = (Which, Fate);
+
+// The number up to which all is told to be safe, if an answer tells that.
+fn told_safe(answer: Answer) -> Option<u64> {
+    match answer {
+        Answer::Horizon(number) | Answer::Flipped(number) => Some(number),
+        _ => None,
+    }
+}
+
+// What the store holds at first, and whenever all is told to be safe.
+fn given_by(alloc: Global, events: &[Event]) -> Result<Vec<Contents>, Fail> {
+    let memory = ample(alloc);
+    let Ok(mut store) = open(&memory, sound(formatted(alloc, 1, 4)?)) else {
+        return Err("a store")?;
+    };
+    let mut given = vec![in alloc; held_by(&store)]?;
+    for event in events {
+        if told_safe(ask(&mut store, event)).is_some() {
+            given.push(held_by(&store))?;
+        }
+    }
+    Ok(given)
+}
+
+// The number up to which all was told to be safe.
+fn run_all(store: &mut Store<'_>, events: &[Event]) -> u64 {
+    let mut safe: u64 = 0;
+    for event in events {
+        safe = told_safe(ask(store, event)).unwrap_or(safe);
+    }
+    safe
+}
 
 // What a run that was stopped had told to be safe, what a crash left of it, and whether the device has failed, and a restart was
 // stopped too.
@@ -62,14 +65,14 @@ struct Stopped {
 fn held_at_last(
     memory: &Memory,
     mut disk: MemDisk<Global>,
-    (which, fates): Case,
+    (which, fate): Case,
     call: u64,
 ) -> Result<(Contents, bool), Fail> {
     let mut again = false;
     for call in [call, call, 0] {
-        disk.crash(fates);
-        match restart(memory, FaultDisk::new(disk, which, call)) {
-            Ok(engine) => return Ok((held_by(engine.core()), again)),
+        disk.crash(&[fate]);
+        match open(memory, FaultDisk::new(disk, which, call)) {
+            Ok(store) => return Ok((held_by(&store), again)),
             Err((_, stopped)) => disk = stopped.into_inner(),
         }
         again = true;
@@ -80,15 +83,15 @@ fn held_at_last(
 // The device fails at this of those calls, and then the restarts behind it at that of theirs.
 fn stop_at(
     alloc: Global,
-    phases: &[Phase<'_>],
+    events: &[Event],
     case: Case,
     call: u64,
     restart_call: u64,
 ) -> Result<Stopped, Fail> {
-    let memory = memory_of(alloc)?;
-    let disk = FaultDisk::new(formatted_for_long(alloc, 1)?, case.0, call);
-    let (safe, disk) = match restart(&memory, disk) {
-        Ok(mut engine) => (serve_all(&mut engine, phases)?, engine.into_device()),
+    let memory = ample(alloc);
+    let disk = FaultDisk::new(formatted(alloc, 1, 4)?, case.0, call);
+    let (safe, disk) = match open(&memory, disk) {
+        Ok(mut store) => (run_all(&mut store, events), close(store)),
         Err((_, disk)) => (0, disk),
     };
     let failed = call <= disk.made();
@@ -101,23 +104,21 @@ fn stop_at(
     })
 }
 
-// Stops a run at this call, and the restarts behind it at each of their calls in turn, or at each so many. What they leave is the same.
+// Stops a run at this call, and the restarts behind it at one in so many of their calls. What they leave is the same.
 fn stop_restarts(
     rt: &impl Abort,
     alloc: Global,
-    phases: &[Phase<'_>],
-    case: Case,
+    events: &[Event],
+    (case, every): (Case, u64),
     call: u64,
-    every: u64,
 ) -> Result<Stopped, Fail> {
+    let whole = stop_at(alloc, events, case, call, 0)?;
     let first = call.checked_rem(every).unwrap_or(0).saturating_add(1);
-    let whole = stop_at(alloc, phases, case, call, 0)?;
     for more in 0..CALLS {
         let restart_call = first.saturating_add(more.saturating_mul(every));
-        let stopped = stop_at(alloc, phases, case, call, restart_call)?;
-        assert_eq!(rt;
-            stopped.left,
-            whole.left,
+        let stopped = stop_at(alloc, events, case, call, restart_call)?;
+        assert!(rt;
+            stopped.left == whole.left,
             "calls {call} and {restart_call}, {case:?}"
         );
         if !stopped.again {
@@ -127,68 +128,70 @@ fn stop_restarts(
     Err("fewer calls of a restart")?
 }
 
-// Stops a run at each of those calls in turn. What is left is what one of the phases says, with all that was told to be safe, and
-// never less than a stop before left.
+// Stops a run at each of those calls in turn. What is left is what the store held as all was told to be safe, with all that was
+// told to be so, and never less than a stop before left.
 fn stop_at_each(
     rt: &impl Abort,
     alloc: Global,
-    phases: &[Phase<'_>],
-    case: Case,
-    every: u64,
-) -> Result<Contents, Fail> {
-    let mut before = NOTHING;
+    events: &[Event],
+    given: &[Contents],
+    case: (Case, u64),
+) -> Result<(), Fail> {
+    let mut last: u64 = 0;
     for call in 1..CALLS {
-        let Stopped {
-            safe,
-            left,
-            failed,
-            ..
-        } = stop_restarts(rt, alloc, phases, case, call, every)?;
-        assert!(rt; is_given(phases, left)?, "call {call}, {case:?}: {left:?}");
+        let stopped = stop_restarts(rt, alloc, events, case, call)?;
+        let left = stopped.left;
+        assert!(rt; given.contains(&left), "call {call}, {case:?}: {left:?}");
         assert!(rt;
-            safe <= left.last && before.last <= left.last,
+            stopped.safe <= left.last && last <= left.last,
             "call {call}, {case:?}"
         );
-        before = left;
-        if !failed {
-            return Ok(before);
+        last = left.last;
+        if !stopped.failed {
+            assert!(rt; given.last() == Some(&left), "{case:?}: {left:?}");
+            return Ok(());
         }
     }
     Err("fewer calls")?
 }
 
-// Each call fails, and once more each one that changes what is kept, with each other fate of what is not synced.
-const EACH_CALL: [Case<'static>; 5] = [
-    (Which::All, &[Fate::Old]),
-    (Which::WritesAndSyncs, &[Fate::New]),
-    (Which::WritesAndSyncs, &[Fate::Zero]),
-    (Which::WritesAndSyncs, &[Fate::Gate]),
-    (Which::WritesAndSyncs, &[Fate::Junk]),
-];
-
-// Stops a run at each of its calls, and the restarts behind it at each so many of theirs.
-fn stop(
-    rt: &impl Abort,
-    alloc: Global,
-    phases: &[Phase<'_>],
-    cases: &[Case<'_>],
-    every: u64,
-) -> Result<(), Fail> {
-    let given = given_by(phases)?;
+// Stops a run of the script so.
+fn stop(rt: &impl Abort, alloc: Global, cases: &[(Case, u64)]) -> Result<(), Fail> {
+    let events = requests(alloc, SCRIPT)?;
+    let given = given_by(alloc, &events)?;
+    assert!(rt; given.len() == 5);
     for case in cases {
-        let left = stop_at_each(rt, alloc, phases, *case, every)?;
-        assert_eq!(rt; left, given);
+        stop_at_each(rt, alloc, &events, &given, *case)?;
     }
     Ok(())
 }
 
+// The calls that change what is kept fail in turn, with each fate of what is not synced, and behind each of them each such call
+// of a restart.
+
 #[test]
-fn each_stop_leaves_a_phase(rt: HostRuntime) -> Result<(), Fail> {
-    stop(&rt, rt.alloc(), &WORKED, &EACH_CALL, 16)
+fn each_stop_that_loses_all(rt: HostRuntime) -> Result<(), Fail> {
+    let old = (Which::WritesAndSyncs, Fate::Old);
+    let zero = (Which::WritesAndSyncs, Fate::Zero);
+    stop(&rt, rt.alloc(), &[(old, 1), (zero, 1)])
 }
 
-// Behind each stop the restarts are stopped at each of their calls in turn, as far as the case says which.
 #[test]
-fn each_restart_is_stopped(rt: HostRuntime) -> Result<(), Fail> {
-    stop(&rt, rt.alloc(), &FIXED, &EACH_CALL, 1)
+fn each_stop_that_keeps_all(rt: HostRuntime) -> Result<(), Fail> {
+    let new = (Which::WritesAndSyncs, Fate::New);
+    stop(&rt, rt.alloc(), &[(new, 1)])
+}
+
+#[test]
+fn each_stop_that_spoils(rt: HostRuntime) -> Result<(), Fail> {
+    let gate = (Which::WritesAndSyncs, Fate::Gate);
+    let junk = (Which::WritesAndSyncs, Fate::Junk);
+    stop(&rt, rt.alloc(), &[(gate, 1), (junk, 1)])
+}
+
+// Each call fails in turn, and behind it one in 16 of a restart.
+#[test]
+fn each_failure(rt: HostRuntime) -> Result<(), Fail> {
+    let all = (Which::All, Fate::Old);
+    stop(&rt, rt.alloc(), &[(all, 16)])
 }

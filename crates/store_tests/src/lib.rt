@@ -1,25 +1,21 @@
-//! Tests of the crates that open a store and serve it: `store_reader` and `restart`.
+//! Tests of the crate that opens a store and serves it, `restart`.
 #![tactic(auto)]
 
 #[cfg(test)]
+mod build_tests;
+#[cfg(test)]
+mod byte_tests;
+#[cfg(test)]
+mod contents;
+#[cfg(test)]
 mod crash_tests;
 #[cfg(test)]
-mod disks;
+mod damage_tests;
 #[cfg(test)]
-mod engine_tests;
+mod image_tests;
 #[cfg(test)]
 mod memory_tests;
-#[cfg(test)]
-mod phases;
-#[cfg(test)]
-mod reader_tests;
-#[cfg(test)]
-mod rehearsal;
 #[cfg(test)]
 mod requests;
 #[cfg(test)]
 mod store;
-#[cfg(test)]
-mod tables;
-#[cfg(test)]
-mod values;

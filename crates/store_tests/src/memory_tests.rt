@@ -1,164 +1,116 @@
-// Memory is refused to a store, to each allocation in turn.
-use crate::disks::{FIRST, formatted_for_long};
-use crate::phases::{
-    CLEANED, Contents, DELETED, Phase, Run, TAKEN_BACK, UPDATED, WORKED, given_by, held_by,
-};
-use crate::requests::Answer;
-use crate::store::{CHUNK, Memory, memory_of, open, serve, serve_one};
-use crate::tables::Ask::{By, Copied, Flipped, Flushed};
-use crate::tables::Change::Begin;
-use restart::{Engine, Event};
-use sector_device::{Device, Fate};
-use std::alloc::{AllocError, Global};
+// Memory is refused to a store, each allocation in turn. What was refused for want of memory is asked again, and every other
+// reply is that of a store to which nothing was refused.
+use crate::contents::{Contents, held_by};
+use crate::requests::requests;
+use crate::store::{Answer, Disk, Memory, Store, ask, close, formatted, open, sound};
+use records::Error;
+use refused_memory::Refusing;
+use restart::Event;
+use sector_device::Fate;
+use std::alloc::Global;
 use std::process::Abort;
 use std::test::Fail;
 
-// No allocation takes less.
-const LEAST: usize = 8;
+// How often a run is played at most.
+const PLAYS: u64 = 2_000;
 
-// How often the run is played at most.
-const PLAYS: usize = 20_000;
-
-fn fill(memory: &Memory, bytes: usize) -> Result<(), AllocError> {
-    let _block: Vec<u8, &Memory> = Vec::with_capacity(memory, bytes)?;
-    Ok(())
-}
-
-// An arena with this many bytes left in its second chunk, and no more until its limit is lifted. What is given back to
-// it is not given out again, so an allocation is the first to be refused where just less is left than it and those
-// before it take.
-fn limited(alloc: Global, left: usize) -> Result<Memory, AllocError> {
-    let memory = memory_of(alloc)?;
-    fill(&memory, memory.chunk_capacity().saturating_add(1))?;
-    fill(&memory, memory.chunk_capacity().saturating_sub(left))?;
-    memory.set_allocation_limit(Some(0));
-    Ok(memory)
-}
-
-// Serves the phases, with a flush at the end of each, and compares the answers.
-fn serve_all<D: Device>(
-    rt: &impl Abort,
-    memory: &Memory,
-    engine: &mut Engine<D, &Memory>,
-    phases: &[Phase<'_>],
-    refused: &mut Option<usize>,
-) -> Result<(), Fail> {
-    for (table, held) in phases {
-        serve(rt, memory, engine, table, refused)?;
-        serve(rt, memory, engine, &[(1, Flushed(held.0))], refused)?;
+// Opens the store, if need be a second time. Without a refusal of memory there is no want of it.
+fn open_again<'a>(rt: &impl Abort, memory: &'a Memory, disk: Disk) -> Result<Store<'a>, Fail> {
+    let before = memory.refused();
+    let disk = match open(memory, disk) {
+        Ok(store) => return Ok(store),
+        Err((error, disk)) => {
+            assert!(rt; error == Error::NoMemory && before < memory.refused());
+            disk
+        }
+    };
+    match open(memory, disk) {
+        Ok(store) => Ok(store),
+        Err(_) => Err("a store")?,
     }
-    Ok(())
 }
 
-// Serves some more to a store that gives this, over so many pages: a whole image is copied.
-fn serve_after<D: Device>(
-    rt: &impl Abort,
-    memory: &Memory,
-    engine: &mut Engine<D, &Memory>,
-    (pages, given): (u8, Contents),
-    refused: &mut Option<usize>,
-) -> Result<(), Fail> {
-    let first = (Event::Get { rid: FIRST }, Answer::Row(given.rows.0));
-    serve_one(rt, memory, engine, &first, refused);
-    let life = (Event::Life, Answer::Life(given.life));
-    serve_one(rt, memory, engine, &life, refused);
-    let image = [
-        (1, By(1, Begin)),
-        (1, Flushed(given.last)),
-        (pages.saturating_add(2), Copied),
-        (1, Flipped(given.last)),
-    ];
-    serve(rt, memory, engine, &image, refused)
+// The answer, if need be to a second request.
+fn ask_again(rt: &impl Abort, memory: &Memory, store: &mut Store<'_>, event: &Event) -> Answer {
+    let before = memory.refused();
+    match ask(store, event) {
+        Answer::Refused(Error::NoMemory) => {
+            assert!(rt; before < memory.refused(), "{event:?}");
+            ask(store, event)
+        }
+        answer => answer,
+    }
 }
 
-// Serves the phases over a store just formatted, and some more to the store that is left by a crash. What was left of the
-// memory as it was refused, if it was.
+// The answers to the requests, what a crash leaves then, and how many allocations were refused.
 fn play(
     rt: &impl Abort,
     alloc: Global,
-    memory: &Memory,
-    run: Run<'_>,
-) -> Result<Option<usize>, Fail> {
-    let mut refused = None;
-    let disk = formatted_for_long(alloc, u32::from(run.pages))?;
-    let Ok(mut engine) = open(memory, disk, &mut refused) else {
-        return Err("a store")?;
-    };
-    serve_all(rt, memory, &mut engine, run.phases, &mut refused)?;
-    let mut disk = engine.into_device();
-    disk.crash(&[Fate::Junk]);
-    let Ok(mut engine) = open(memory, disk, &mut refused) else {
-        return Err("a store after the crash")?;
-    };
-    let given = given_by(run.phases)?;
-    assert_eq!(rt; held_by(engine.core()), given);
-    let more = (run.pages, given);
-    serve_after(rt, memory, &mut engine, more, &mut refused)?;
-    Ok(refused)
-}
-
-// Plays the run with this many bytes. How many were taken as memory was refused, if it was.
-fn refused_at(
-    rt: &impl Abort,
-    alloc: Global,
-    left: usize,
-    run: Run<'_>,
-) -> Result<Option<usize>, Fail> {
-    let memory = limited(alloc, left)?;
-    let refused = play(rt, alloc, &memory, run)?;
-    Ok(refused.map(|more| left.saturating_sub(more)))
-}
-
-// Refuses each allocation in turn: between two numbers of bytes at which different ones are refused, every number is
-// tried at which another one may be. How many were refused.
-fn refuse_each(rt: &impl Abort, alloc: Global, run: Run<'_>) -> Result<usize, Fail> {
-    let none = refused_at(rt, alloc, 0, run)?;
-    let all = refused_at(rt, alloc, CHUNK, run)?;
-    assert!(rt; none == Some(0) && all.is_none());
-    let mut between = vec![in alloc; (0, none, CHUNK, all)]?;
-    let mut refusals: usize = 1;
-    for _ in 0..PLAYS {
-        let Some(next) = between.pop() else {
-            return Ok(refusals);
-        };
-        let (low, at_low, high, at_high) = next;
-        if at_low == at_high {
-            continue;
-        }
-        if high.saturating_sub(low) <= LEAST {
-            refusals = refusals.saturating_add(1);
-            continue;
-        }
-        let mid = low.midpoint(high);
-        let at_mid = refused_at(rt, alloc, mid, run)?;
-        between.push((low, at_low, mid, at_mid))?;
-        between.push((mid, at_mid, high, at_high))?;
+    events: &[Event],
+    before: u64,
+) -> Result<(Vec<Answer>, Contents, u64), Fail> {
+    let memory = Refusing::new(alloc, before);
+    let mut answers = Vec::new(alloc);
+    let mut store = open_again(rt, &memory, sound(formatted(alloc, 2, 12)?))?;
+    for event in events {
+        answers.push(ask_again(rt, &memory, &mut store, event))?;
     }
-    Err("too many plays")?
+    let mut disk = close(store).into_inner();
+    disk.crash(&[Fate::Junk]);
+    let left = held_by(&open_again(rt, &memory, sound(disk))?);
+    Ok((answers, left, memory.refused()))
 }
+
+// Refuses each allocation in turn, and at last none. How many were refused.
+fn refuse_each(rt: &impl Abort, alloc: Global, script: &str) -> Result<u64, Fail> {
+    let events = requests(alloc, script)?;
+    let (wanted, whole, _) = play(rt, alloc, &events, u64::MAX)?;
+    for before in 0..PLAYS {
+        let (answers, left, refused) = play(rt, alloc, &events, before)?;
+        assert!(rt; answers == wanted && left == whole, "allocation {before}");
+        if refused == 0 {
+            return Ok(before);
+        }
+    }
+    Err("fewer allocations")?
+}
+
+// A row is deleted behind the scan of a build.
+const DELETED: &str = "begin\ninsert 1 =a =\ninsert 1 =b =\ncommit 1\ncreate\nbuild\nbegin\n\
+    delete 2 0.1\nstep 2\ncommit 2\nflush\nbuild 3\nfind =a\nget 0.0\ndump\nflush\n\
+    image\nimage\nimage\nimage\nimage\n";
+
+// An insertion is taken back whose pair the builder has scanned.
+const TAKEN_BACK: &str = "create\nbegin\ninsert 1 =k =\nbuild\nundo 1\nundo 1\nundo 1\nend 1\n\
+    build 2\nflush\n";
+
+// An update is taken back while the index is built.
+const UPDATED: &str = "begin\ninsert 1 =p =1\ncommit 1\ncreate\nbegin\nupdate 2 0.0 =q =2\n\
+    begin\ndelete 3 0.0\nstep 2\nundo 2\nundo 2\nundo 2\nundo 2\nend 2\nend 3\nflush\n";
 
 #[test]
 fn each_allocation_is_refused(rt: HostRuntime) -> Result<(), Fail> {
-    let runs: [(&[Phase<'_>], usize); 4] = [
-        (&WORKED, 60),
-        (&DELETED, 10),
-        (&TAKEN_BACK, 10),
-        (&UPDATED, 10),
-    ];
-    for (phases, least) in runs {
-        let refusals = refuse_each(&rt, rt.alloc(), Run { pages: 1, phases })?;
+    for (script, least) in [(DELETED, 25), (TAKEN_BACK, 15), (UPDATED, 15)] {
+        let refusals = refuse_each(&rt, rt.alloc(), script)?;
         assert!(rt; least < refusals, "{refusals} refusals");
     }
     Ok(())
 }
 
+// Over two pages: a row is deleted behind the scan, its entry is taken out at the checkpoint, and another deletion comes to
+// no end.
 #[test]
 fn each_allocation_over_two_pages(rt: HostRuntime) -> Result<(), Fail> {
-    let run = Run {
-        pages: 2,
-        phases: &CLEANED,
-    };
-    let refusals = refuse_each(&rt, rt.alloc(), run)?;
-    assert!(rt; 10 < refusals, "{refusals} refusals");
+    let mut script = String::new(rt.alloc());
+    script.push_str("begin\n")?;
+    for key in 0..64u8 {
+        script.push_str(&format!(in rt.alloc(); "insert 1 :{key:02x} =\n")?)?;
+    }
+    script.push_str(
+        "commit 1\ncreate\nbuild 2\nbegin\ndelete 2 1.0\nstep 2\ncommit 2\nclean 2\nflush\n\
+        build 65\nclean 64\nbegin\ndelete 3 0.0\nclean 2\nflush\n",
+    )?;
+    let refusals = refuse_each(&rt, rt.alloc(), &script)?;
+    assert!(rt; 30 < refusals, "{refusals} refusals");
     Ok(())
 }

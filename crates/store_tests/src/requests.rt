@@ -1,95 +1,80 @@
-// Requests and answers for the tests.
-use crate::values::record_number;
-use model::Life;
-use nsf_core::{BuildReply, CleanReply, Ticket};
-use records::{Error, Rid, Row, Txn};
-use restart::{Event, Reply};
-use std::alloc::Allocator;
+// Requests, as the commands of a script ask for them.
+use records::{Body, Error, Key, Rid, Txn};
+use restart::Event;
+use script::{ByteText, Command, read};
+use std::alloc::Global;
 use std::test::Fail;
 
-/// An answer. Of the places that were found, how many there are, and the first of them.
-#[derive(Clone, Copy, Debug, PartialEq)]
-pub(crate) enum Answer {
-    Txn(Txn),
-    Rid(Rid),
-    Stepped,
-    Undone,
-    Empty,
-    Ended,
-    Ticket(Ticket),
-    Built(BuildReply),
-    Cleaned(CleanReply),
-    Horizon(u64),
-    LogFull,
-    Copied,
-    Flipped(u64),
-    Again,
-    Row(Option<Row>),
-    Found(usize, Option<Rid>),
-    Life(Life),
-    Skipped,
-    Refused(Error),
+// The row with this key and body is inserted.
+fn insertion(txn: Txn, key: &ByteText, body: &ByteText) -> Result<Event, Error> {
+    let key = Key::new(key.as_slice())?;
+    let body = Body::new(body.as_slice())?;
+    Ok(Event::Insert { txn, key, body })
 }
 
-/// What is answered by this reply.
-pub(crate) fn answer_of<A: Allocator>(reply: &Reply<A>) -> Answer {
-    match reply {
-        Reply::Txn(txn) => Answer::Txn(*txn),
-        Reply::Rid(rid) => Answer::Rid(*rid),
-        Reply::Stepped => Answer::Stepped,
-        Reply::Undone => Answer::Undone,
-        Reply::Empty => Answer::Empty,
-        Reply::Ended => Answer::Ended,
-        Reply::Ticket(ticket) => Answer::Ticket(*ticket),
-        Reply::Built(built) => Answer::Built(*built),
-        Reply::Cleaned(cleaned) => Answer::Cleaned(*cleaned),
-        Reply::Horizon(number) => Answer::Horizon(*number),
-        Reply::LogFull => Answer::LogFull,
-        Reply::Copied => Answer::Copied,
-        Reply::Flipped(number) => Answer::Flipped(*number),
-        Reply::Again => Answer::Again,
-        Reply::Row(row) => Answer::Row(*row),
-        Reply::Found(rids) => Answer::Found(rids.len(), rids.first().copied()),
-        Reply::Life(life) => Answer::Life(*life),
-        Reply::Skipped => Answer::Skipped,
-        Reply::Refused(error) => Answer::Refused(*error),
-    }
-}
-
-/// A request, and its answer.
-pub(crate) type Asked = (Event, Answer);
-
-/// What is told of the record of a creation, or of the end of a build.
-pub(crate) fn ticket(number: u64) -> Result<Ticket, Fail> {
-    let record = record_number(number)?;
-    Ok(Ticket {
-        record,
-        commit: None,
-    })
-}
-
-/// What is told of the record of a commit, so many of which there are with it.
-pub(crate) fn commit_ticket(number: u64, commits: u64) -> Result<Ticket, Fail> {
-    let record = record_number(number)?;
-    Ok(Ticket {
-        record,
-        commit: Some(commits),
-    })
-}
-
-pub(crate) fn insertion(txn: Txn, row: Row) -> Event {
-    Event::Insert {
-        txn,
-        key: row.key,
-        body: row.body,
-    }
-}
-
-pub(crate) fn update(txn: Txn, rid: Rid, row: Row) -> Event {
-    Event::Update {
+// The row with this key and body is put in the place of another.
+fn update(txn: Txn, rid: Rid, key: &ByteText, body: &ByteText) -> Result<Event, Error> {
+    let key = Key::new(key.as_slice())?;
+    let body = Body::new(body.as_slice())?;
+    Ok(Event::Update {
         txn,
         rid,
-        key: row.key,
-        body: row.body,
+        key,
+        body,
+    })
+}
+
+fn search(key: &ByteText) -> Result<Event, Error> {
+    let key = Key::new(key.as_slice())?;
+    Ok(Event::Find { key })
+}
+
+// What a command asks for.
+fn request_of(command: &Command) -> Result<Event, Error> {
+    match command {
+        Command::Begin => Ok(Event::Begin),
+        Command::Insert { txn, key, body } => insertion(*txn, key, body),
+        Command::Delete { txn, rid } => Ok(Event::Delete {
+            txn: *txn,
+            rid: *rid,
+        }),
+        Command::Update {
+            txn,
+            rid,
+            key,
+            body,
+        } => update(*txn, *rid, key, body),
+        Command::Step { txn } => Ok(Event::Step { txn: *txn }),
+        Command::Undo { txn } => Ok(Event::Undo { txn: *txn }),
+        Command::End { txn } => Ok(Event::End { txn: *txn }),
+        Command::Commit { txn } => Ok(Event::Commit { txn: *txn }),
+        Command::Create => Ok(Event::Create),
+        Command::Build { .. } => Ok(Event::Build),
+        Command::Clean { .. } => Ok(Event::Clean),
+        Command::Flush => Ok(Event::Flush),
+        Command::Image => Ok(Event::Copy),
+        Command::Get { rid } => Ok(Event::Get { rid: *rid }),
+        Command::Find { key } => search(key),
+        Command::Crash { .. } | Command::Dump => Ok(Event::Life),
     }
+}
+
+// How often a command asks for it.
+fn count_of(command: &Command) -> u32 {
+    match command {
+        Command::Build { count } | Command::Clean { count } => *count,
+        _ => 1,
+    }
+}
+
+/// The requests of a script: `image` is one copy, and `dump` asks how far the index is.
+pub(crate) fn requests(alloc: Global, script: &str) -> Result<Vec<Event>, Fail> {
+    let mut events = Vec::new(alloc);
+    for command in read(alloc, script.as_bytes())?.iter() {
+        let event = request_of(command)?;
+        for _ in 0..count_of(command) {
+            events.push(event)?;
+        }
+    }
+    Ok(events)
 }

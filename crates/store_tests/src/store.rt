@@ -1,108 +1,109 @@
-// A store in memory that may be refused. What was refused for want of memory is asked again once there is memory, and then
-// every answer is that of a store to which nothing was refused.
-use crate::requests::{Answer, Asked, answer_of};
-use crate::tables::{Asks, asked_of};
-use bumpalo::Bump;
-use records::Error;
-use restart::{Engine, Event, restart};
-use sector_device::Device;
-use std::alloc::{AllocError, Allocator, Global};
-use std::process::Abort;
+// A store in memory, and its calls. None says anything before it runs.
+use flip_image::Halves;
+use model::Life;
+use nsf_core::{BuildReply, CleanReply, Ticket};
+use records::{Error, Geometry, Rid, Row, Txn};
+use refused_memory::Refusing;
+use restart::{Engine, Event, Reply, restart};
+use sector_device::{FaultDisk, MemDisk, Which};
+use std::alloc::{Allocator, Global};
 use std::test::Fail;
 
-/// An arena, whose memory ends at its limit, if it has one.
-pub(crate) type Memory = Bump<Global>;
+/// Memory of which one allocation may be refused.
+pub(crate) type Memory = Refusing<Global>;
 
-/// The least size of an arena's first chunk. The second is larger.
-pub(crate) const CHUNK: usize = 2_097_152;
+/// A disk of which one call may fail.
+pub(crate) type Disk = FaultDisk<MemDisk<Global>>;
 
-/// An arena with no limit.
-pub(crate) fn memory_of(alloc: Global) -> Result<Memory, AllocError> {
-    Bump::try_with_capacity(alloc, CHUNK)
+pub(crate) type Store<'a> = Engine<Disk, &'a Memory>;
+
+/// Memory of which none is refused.
+pub(crate) fn ample(alloc: Global) -> Memory {
+    Refusing::new(alloc, u64::MAX)
 }
 
-// Notes what was left at a refusal, and lifts the limit.
-fn lift(memory: &Memory, refused: &mut Option<usize>) {
-    *refused = Some(memory.chunk_capacity());
-    memory.set_allocation_limit(None);
+// More than the calls that a test makes from one crash to the next.
+const CALLS: usize = 4_096;
+
+/// A disk of which no call fails.
+pub(crate) fn sound(disk: MemDisk<Global>) -> Disk {
+    FaultDisk::new(disk, Which::All, 0)
 }
 
-/// The answer to a request.
-pub(crate) fn reply_to<D: Device, A: Allocator + Copy>(
-    engine: &mut Engine<D, A>,
-    event: &Event,
-) -> Answer {
-    answer_of(&engine.serve(*event))
+/// A disk with a store that was just formatted, of so many pages and slots.
+pub(crate) fn formatted(alloc: Global, pages: u32, slots: u32) -> Result<MemDisk<Global>, Fail> {
+    let geometry = Geometry::new(pages, pages.saturating_mul(64), slots)?;
+    let mut disk = MemDisk::new(alloc, geometry.sectors(), CALLS)?;
+    Halves::format(&mut disk, geometry)?;
+    Ok(disk)
 }
 
-/// Opens the store, if need be a second time, with more memory.
-pub(crate) fn open<'a, D: Device>(
-    memory: &'a Memory,
-    device: D,
-    refused: &mut Option<usize>,
-) -> Result<Engine<D, &'a Memory>, (Error, D)> {
-    match restart(memory, device) {
-        Err((Error::NoMemory, device)) => {
-            lift(memory, refused);
-            restart(memory, device)
-        }
-        opened => opened,
+/// Opens the store.
+pub(crate) fn open<'a>(memory: &'a Memory, disk: Disk) -> Result<Store<'a>, (Error, Disk)> {
+    restart(memory, disk)
+}
+
+/// An answer. Of the places that were found, how many there are, and the first of them.
+#[derive(Clone, Copy, Debug, PartialEq)]
+pub(crate) enum Answer {
+    Txn(Txn),
+    Rid(Rid),
+    Stepped,
+    Undone,
+    Empty,
+    Ended,
+    Ticket(Ticket),
+    Built(BuildReply),
+    Cleaned(CleanReply),
+    Horizon(u64),
+    LogFull,
+    Copied,
+    Flipped(u64),
+    Again,
+    Row(Option<Row>),
+    Found(usize, Option<Rid>),
+    Life(Life),
+    Skipped,
+    Refused(Error),
+}
+
+/// What is answered by this reply.
+pub(crate) fn answer_of<A: Allocator>(reply: &Reply<A>) -> Answer {
+    match reply {
+        Reply::Txn(txn) => Answer::Txn(*txn),
+        Reply::Rid(rid) => Answer::Rid(*rid),
+        Reply::Stepped => Answer::Stepped,
+        Reply::Undone => Answer::Undone,
+        Reply::Empty => Answer::Empty,
+        Reply::Ended => Answer::Ended,
+        Reply::Ticket(ticket) => Answer::Ticket(*ticket),
+        Reply::Built(built) => Answer::Built(*built),
+        Reply::Cleaned(cleaned) => Answer::Cleaned(*cleaned),
+        Reply::Horizon(number) => Answer::Horizon(*number),
+        Reply::LogFull => Answer::LogFull,
+        Reply::Copied => Answer::Copied,
+        Reply::Flipped(number) => Answer::Flipped(*number),
+        Reply::Again => Answer::Again,
+        Reply::Row(row) => Answer::Row(*row),
+        Reply::Found(rids) => Answer::Found(rids.len(), rids.first().copied()),
+        Reply::Life(life) => Answer::Life(*life),
+        Reply::Skipped => Answer::Skipped,
+        Reply::Refused(error) => Answer::Refused(*error),
     }
 }
 
-// The answer, if need be to a second request, with more memory.
-fn answer<D: Device>(
-    memory: &Memory,
-    engine: &mut Engine<D, &Memory>,
-    event: &Event,
-    refused: &mut Option<usize>,
-) -> Answer {
-    match reply_to(engine, event) {
-        Answer::Refused(Error::NoMemory) => {
-            lift(memory, refused);
-            reply_to(engine, event)
-        }
-        answer => answer,
+/// Runs one request.
+pub(crate) fn ask(store: &mut Store<'_>, event: &Event) -> Answer {
+    match store.run(&[*event]) {
+        Ok(replies) => match replies.first() {
+            Some(reply) => answer_of(reply),
+            None => Answer::Skipped,
+        },
+        Err(error) => Answer::Refused(error),
     }
 }
 
-/// Serves a request, and compares the answer.
-pub(crate) fn serve_one<D: Device>(
-    rt: &impl Abort,
-    memory: &Memory,
-    engine: &mut Engine<D, &Memory>,
-    (event, wanted): &Asked,
-    refused: &mut Option<usize>,
-) {
-    let found = answer(memory, engine, event, refused);
-    assert_eq!(rt; found, *wanted, "{event:?}");
-}
-
-// Serves so many requests of a kind.
-fn serve_kind<D: Device>(
-    rt: &impl Abort,
-    memory: &Memory,
-    engine: &mut Engine<D, &Memory>,
-    (count, ask): Asks,
-    refused: &mut Option<usize>,
-) -> Result<(), Fail> {
-    for by in 0..count {
-        let asked = asked_of(ask, by)?;
-        serve_one(rt, memory, engine, &asked, refused);
-    }
-    Ok(())
-}
-
-/// Serves the requests of a table, and compares the answers.
-pub(crate) fn serve<D: Device>(
-    rt: &impl Abort,
-    memory: &Memory,
-    engine: &mut Engine<D, &Memory>,
-    table: &[Asks],
-    refused: &mut Option<usize>,
-) -> Result<(), Fail> {
-    for asks in table {
-        serve_kind(rt, memory, engine, *asks, refused)?;
-    }
-    Ok(())
+/// Gives up all but the disk.
+pub(crate) fn close(store: Store<'_>) -> Disk {
+    store.into_device()
 }

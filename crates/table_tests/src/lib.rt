@@ -1,7 +1,10 @@
-//! Tests of the table: its rows in pages (`heap_pages`), and the active transactions (`txn_table`).
+//! Tests of the parts of the core: the rows in their pages (`heap_pages`), the active transactions (`txn_table`), the builder's
+//! scan (`sorted_scan`), the tree of the entries (`btree_node`), and the entries with their marks (`marked_index`).
 #![tactic(auto)]
 
 #[cfg(test)]
-mod heap;
+mod memory_tests;
 #[cfg(test)]
-mod transactions;
+mod tree_tests;
+#[cfg(test)]
+mod values;

@@ -9,8 +9,6 @@ mod joined;
 mod knowledge;
 mod queue;
 mod rule;
-#[cfg(test)]
-mod tests;
 
 pub use joined::JoinedQueue;
 pub use queue::{Popper, Pusher, RecordQueue};

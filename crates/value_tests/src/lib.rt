@@ -1,15 +1,7 @@
-//! Tests of the crates `records`, `model`, `image_parts`, `core_steps` and `script`.
+//! Tests of the crates `records` and `image_parts`: values byte by byte, as the format document has them, and texts.
 #![tactic(auto)]
 
-#[cfg(test)]
-mod model_tests;
 #[cfg(test)]
 mod part_tests;
 #[cfg(test)]
 mod record_tests;
-#[cfg(test)]
-mod script_tests;
-#[cfg(test)]
-mod step_tests;
-#[cfg(test)]
-mod values;

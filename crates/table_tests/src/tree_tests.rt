@@ -1,0 +1,131 @@
+// The tree of the entries: how high it is, and what a refused plan leaves.
+use crate::values::{Memory, pair_of};
+use btree_node::{BTree, ENTRIES_MAX};
+use records::{Error, Mark, Pair};
+use refused_memory::Refusing;
+use std::process::Abort;
+use std::test::Fail;
+
+type Tree<'a> = BTree<&'a Memory>;
+
+// Whether the insertion of a pair that is absent can be planned.
+fn can_plan(rt: &impl Abort, tree: &Tree<'_>, pair: &Pair) -> Result<(), Error> {
+    assert!(rt; tree.len() < ENTRIES_MAX && tree.get(pair).0.is_none());
+    tree.plan_insert(pair)?;
+    Ok(())
+}
+
+// Puts a pair in that is absent.
+fn put(rt: &impl Abort, tree: &mut Tree<'_>, number: u32) -> Result<(), Error> {
+    let pair = pair_of(number)?;
+    assert!(rt; tree.len() < ENTRIES_MAX && tree.get(&pair).0.is_none());
+    let plan = tree.plan_insert(&pair)?;
+    tree.insert(plan, Mark::Live);
+    Ok(())
+}
+
+// Takes a pair out that is present.
+fn take(rt: &impl Abort, tree: &mut Tree<'_>, number: u32) -> Result<(), Error> {
+    let pair = pair_of(number)?;
+    assert!(rt; tree.get(&pair).0.is_some());
+    tree.remove(&pair);
+    Ok(())
+}
+
+// How many levels a tree of so many entries has, up to 33 that came in rising order.
+fn levels_of(pairs: u32) -> u32 {
+    match pairs {
+        0 => 0,
+        1..=32 => 1,
+        _ => 2,
+    }
+}
+
+#[test]
+fn the_thirty_third_pair_makes_a_second_level(rt: HostRuntime) -> Result<(), Fail> {
+    let memory = Refusing::new(rt.alloc(), u64::MAX);
+    let mut tree = BTree::new(&memory);
+    for number in 1..=33u32 {
+        put(&rt, &mut tree, number)?;
+        assert!(rt; tree.height() == levels_of(number), "with {number} pairs");
+    }
+    for left in (0..=32u32).rev() {
+        take(&rt, &mut tree, left + 1)?;
+        let is_low = tree.height() == levels_of(left);
+        assert!(rt; is_low || left == 32, "with {left} pairs");
+    }
+    Ok(())
+}
+
+#[test]
+fn many_pairs_give_few_levels(rt: HostRuntime) -> Result<(), Fail> {
+    for highest in [0, 65_535] {
+        let memory = Refusing::new(rt.alloc(), u64::MAX);
+        let mut tree = BTree::new(&memory);
+        for number in 0..65_536u32 {
+            put(&rt, &mut tree, number.abs_diff(highest))?;
+        }
+        assert!(rt; tree.len() == 65_536 && tree.height() <= 4);
+    }
+    Ok(())
+}
+
+// Whether a walk meets just the pairs of these numbers, which all are live.
+fn walks(tree: &Tree<'_>, numbers: &[u32]) -> Result<bool, Error> {
+    let mut last = None;
+    for number in numbers {
+        let Some((pair, mark)) = tree.above(last.as_ref()) else {
+            return Ok(false);
+        };
+        if pair != pair_of(*number)? || mark != Mark::Live {
+            return Ok(false);
+        }
+        last = Some(pair);
+    }
+    Ok(tree.above(last.as_ref()).is_none())
+}
+
+// Plans an insertion with each of its allocations refused in turn, and at last none. How many there were. The tree stays as it
+// was.
+fn refuse_each(
+    rt: &impl Abort,
+    memory: &Memory,
+    tree: &Tree<'_>,
+    number: u32,
+    numbers: &[u32],
+) -> Result<u64, Fail> {
+    let pair = pair_of(number)?;
+    for before in 0..9 {
+        let was = memory.refused();
+        memory.refuse_after(before);
+        let planned = can_plan(rt, tree, &pair);
+        if memory.refused() == was {
+            assert!(rt; planned == Ok(()));
+            memory.refuse_after(u64::MAX);
+            return Ok(before);
+        }
+        assert!(rt; planned == Err(Error::NoMemory) && walks(tree, numbers)?);
+    }
+    Err("fewer allocations of an insertion")?
+}
+
+#[test]
+fn a_refused_plan_leaves_the_tree_as_it_was(rt: HostRuntime) -> Result<(), Fail> {
+    let memory = Refusing::new(rt.alloc(), u64::MAX);
+    let mut tree = BTree::new(&memory);
+    let mut numbers = Vec::new(rt.alloc());
+    let mut refused: u64 = 0;
+    let mut number: u32 = 0;
+    for _ in 0..2_000 {
+        number = (number % 2_000 + 709) % 2_000;
+        let more = refuse_each(&rt, &memory, &tree, number, &numbers)?;
+        refused = refused.saturating_add(more);
+        put(&rt, &mut tree, number)?;
+        let Err(at) = numbers.binary_search(&number) else {
+            return Err("a number that is there")?;
+        };
+        numbers.insert(at, number)?;
+    }
+    assert!(rt; tree.len() == 2_000 && walks(&tree, &numbers)? && 100 < refused);
+    Ok(())
+}

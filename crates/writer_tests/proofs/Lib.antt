@@ -1,4 +1,0 @@
-mod Found
-mod Steps
-mod Chunks
-mod Opened
