@@ -199,6 +199,15 @@ impl<A: Allocator + Clone> BTree<A> {
         }
     }
 
+    /// Takes every entry out, and frees every node. It takes no memory and succeeds.
+    pub fn clear(&mut self)
+        ensures empty { contents self.new ≡ map.empty }
+        ensures height { height_of self.new ≡ 0 }
+    {
+        self.root = None;
+        self.len = 0;
+    }
+
     /// Takes the entry of a pair out. It takes no memory and succeeds.
     pub fn remove(&mut self, pair: &Pair)
         requires present { IsSome (map.get (contents self.old) pair.now) }

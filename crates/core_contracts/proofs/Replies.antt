@@ -135,3 +135,6 @@ module _ (s : State) (k : Standing) (i : IsWellFormed s) (h : HasStanding s k) w
   due_enabled (Event.Get r) reply step known proper first d last = subst (IsEnabledAny s) (sym d.1) tt
   due_enabled (Event.Find key) reply step known proper first d last = subst (IsEnabledAny s) (sym d.3) tt
   due_enabled Event.Life reply step known proper first d last = subst (IsEnabledAny s) (sym d.1) tt
+  due_enabled Event.Drop reply step known proper first d last =
+      let f : (s.life ≡ Absent → ⊥) × IsFirst ((IsAnyActive s, Error.TxnsActive) ∷ []) None = not_refused first in
+      by_step _ step d.1 (λ l. (f.0, quiet s (not_refused f.1).0)) last

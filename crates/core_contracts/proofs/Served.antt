@@ -276,7 +276,7 @@ module _ (s : State) (k : Standing) (h : HasStanding s k) where
           (λ u y e. rw n (undone_le s k.begun h.begun t (txn_at s t) active (txn_at s t).changes (txn_at s t).phase u y e))
   due_stands (Event.End t) reply step known d = at_due _ _ reply step d.0 d.1 (standing_kept _ _ (record { pages = refl; bound = refl; given = refl; missed = refl; taken = refl; life = refl }) refl refl (gone_le s k.begun h.begun t))
   due_stands (Event.Commit t) reply step known d = at_due _ _ reply step d.0 d.1 (standing_kept _ _ (record { pages = refl; bound = refl; given = refl; missed = refl; taken = refl; life = refl }) refl refl (gone_le s k.begun h.begun t))
-  due_stands Event.Create reply step known d = at_due MachineStep.Create (Reply.Created (k.made + 1)) reply step d.0 d.1 (record {
+  due_stands Event.Create reply step known d = at_due MachineStep.Create (Reply.Ticketed (k.made + 1)) reply step d.0 d.1 (record {
     begun = h.begun;
     in_a_row = omega arith;
     taken = λ n l. absurd (omega (arith, l));
@@ -288,6 +288,13 @@ module _ (s : State) (k : Standing) (h : HasStanding s k) where
   due_stands (Event.Get r) reply step known d = at_rest _ reply step d.0 d.1 as_before
   due_stands (Event.Find key) reply step known d = at_rest _ reply step d.2 d.3 as_before
   due_stands Event.Life reply step known d = at_rest _ reply step d.0 d.1 as_before
+  due_stands Event.Drop reply step known d = at_due MachineStep.Drop (Reply.Ticketed (k.made + 1)) reply step d.0 d.1 (record {
+    begun = h.begun;
+    in_a_row = omega arith;
+    taken = λ n l. absurd (omega (arith, l));
+    once = none_taken _ (λ p. refl) (λ p. refl);
+    tried = λ l. absurd (omega (arith, l));
+  })
 
 -- ---- the counts
 present_len : (m : Pledges) (t n : ℕ) → is_some (get m t) ≡ true → len (insert m t n) ≡ len m
@@ -384,6 +391,7 @@ module _ (s : State) (k : Standing) (i : IsWellFormed s) (h : HasStanding s k) w
   due_counts (Event.Get r) reply step known first d = counts_by _ _ reply step d.0 d.1 h.counts
   due_counts (Event.Find key) reply step known first d = counts_by _ _ reply step d.2 d.3 h.counts
   due_counts Event.Life reply step known first d = counts_by _ _ reply step d.0 d.1 h.counts
+  due_counts Event.Drop reply step known first d = counts_by _ _ reply step d.0 d.1 (same_counts _ _ refl refl (omega arith) refl)
 
 -- ---- the history
 abbrev pub items_any : (ℕ → List Write) → ℕ → Option MachineStep → List Item
@@ -433,6 +441,7 @@ due_tells s k writes Event.Clean reply step d = rw (d.2, d.3) (cleaned_tells wri
 due_tells s k writes (Event.Get r) reply step d = tells_by writes k.made (Event.Get r) _ reply step _ d.0 d.1 (record { items = refl; asked = refl })
 due_tells s k writes (Event.Find key) reply step d = tells_by writes k.made (Event.Find key) _ reply step _ d.2 d.3 (record { items = refl; asked = refl })
 due_tells s k writes Event.Life reply step d = tells_by writes k.made Event.Life _ reply step _ d.0 d.1 (record { items = refl; asked = refl })
+due_tells s k writes Event.Drop reply step d = tells_by writes k.made Event.Drop _ reply step _ d.0 d.1 (record { items = refl; asked = refl })
 
 -- ---- the numbers of records
 next_made : (t : ℕ) (cs : Changes) (phase : Phase) (indexed : Bool) → IsShaped indexed cs phase → (phase ≡ OldMarked) ⊎ (phase ≡ RowSet) → (n : ℕ) → n + 1 ≡ next_number n (next_action t cs phase)
@@ -520,6 +529,7 @@ module _ (s : State) (k : Standing) (i : IsWellFormed s) where
   due_made (Event.Get r) reply step known proper d = made_by _ reply step _ d.0 d.1 refl
   due_made (Event.Find key) reply step known proper d = made_by _ reply step _ d.2 d.3 refl
   due_made Event.Life reply step known proper d = made_by _ reply step _ d.0 d.1 refl
+  due_made Event.Drop reply step known proper d = made_by _ reply step _ d.0 d.1 refl
 
 -- the number of the last record stays within the limit
 number_within : (s : State) (k : Standing) (step : Option MachineStep) → IsFirst (refusals_of s k step) None → k.made ≤ LAST_NUMBER → number_after s k.made step ≤ LAST_NUMBER
@@ -764,6 +774,7 @@ module _ (s : State) (k : Standing) (writes : ℕ → List Write) where
   due_ticket (Event.Get r) reply step d = ticket_by (Event.Get r) _ reply d.0 (no_ticket _ _ (omega arith))
   due_ticket (Event.Find key) reply step d = ticket_by (Event.Find key) _ reply d.2 (no_ticket _ _ (omega arith))
   due_ticket Event.Life reply step d = ticket_by Event.Life _ reply d.0 (no_ticket _ _ (omega arith))
+  due_ticket Event.Drop reply step d = ticket_by Event.Drop _ reply d.0 (one_ticket Deed.Dropped k.made (k.made + 1) (k.made + 1) refl refl)
 
 ticketed : (s : State) (k : Standing) (e : Event) (reply : Reply) (step : Option MachineStep) (writes : ℕ → List Write) → IsAllowed s k e reply step → IsTicketed (items_at writes reply e) k.made (standing_after k reply).made
 ticketed s k e reply step writes (unknown a) = no_ticket _ _ (omega arith)

@@ -95,9 +95,9 @@ no_changes h = omega (arith, h)
 next_pair : IsNextPair s8 pair
 next_pair = record { given = a9.given; rising = a9.rising; all_taken = a9.all_taken; none_left = a9.none_left }
 
-allowed_0 : IsAllowed (opened opening) k0 Event.Create (Reply.Created 1) (Some MachineStep.Create)
+allowed_0 : IsAllowed (opened opening) k0 Event.Create (Reply.Ticketed 1) (Some MachineStep.Create)
 unfolding update
-allowed_0 = accepted (λ h. h) tt (inr (λ e. true≢false (sym e), inr (λ h. active_there (sym h.2), refl))) (Reply.Created 1) (Some MachineStep.Create) (refl, refl) (nothing_refused 0 (omega arith))
+allowed_0 = accepted (λ h. h) tt (inr (λ e. true≢false (sym e), inr (λ h. active_there (sym h.2), refl))) (Reply.Ticketed 1) (Some MachineStep.Create) (refl, refl) (nothing_refused 0 (omega arith))
 
 allowed_1 : IsAllowed (s1) k1 Event.Begin (Txn 1) (Some (MachineStep.Begin 1))
 unfolding update
@@ -163,4 +163,4 @@ from_1 : ServesAll s1 k1 ((Event.Begin, Txn 1) ∷ (Event.Insert 1 row, Reply.Ri
 from_1 = served {s = s1} {new = last} {k = k1} {next = standing} Event.Begin (Txn 1) (Some (MachineStep.Begin 1)) ((Event.Insert 1 row, Reply.Rid place) ∷ (Event.Build, Built (Scanned 0)) ∷ (Event.Undo 1, Undone) ∷ (Event.Undo 1, Undone) ∷ (Event.Undo 1, Empty) ∷ (Event.End 1, Ended) ∷ (Event.Build, Built (Rejected pair)) ∷ (Event.Build, Built (Done 6)) ∷ []) allowed_1 from_2
 
 pub served_script : ServesAll (opened opening) (standing_at 0) script last standing
-served_script = served {s = opened opening} {new = last} {k = k0} {next = standing} Event.Create (Reply.Created 1) (Some MachineStep.Create) ((Event.Begin, Txn 1) ∷ (Event.Insert 1 row, Reply.Rid place) ∷ (Event.Build, Built (Scanned 0)) ∷ (Event.Undo 1, Undone) ∷ (Event.Undo 1, Undone) ∷ (Event.Undo 1, Empty) ∷ (Event.End 1, Ended) ∷ (Event.Build, Built (Rejected pair)) ∷ (Event.Build, Built (Done 6)) ∷ []) allowed_0 from_1
+served_script = served {s = opened opening} {new = last} {k = k0} {next = standing} Event.Create (Reply.Ticketed 1) (Some MachineStep.Create) ((Event.Begin, Txn 1) ∷ (Event.Insert 1 row, Reply.Rid place) ∷ (Event.Build, Built (Scanned 0)) ∷ (Event.Undo 1, Undone) ∷ (Event.Undo 1, Undone) ∷ (Event.Undo 1, Empty) ∷ (Event.End 1, Ended) ∷ (Event.Build, Built (Rejected pair)) ∷ (Event.Build, Built (Done 6)) ∷ []) allowed_0 from_1

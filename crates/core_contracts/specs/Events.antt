@@ -21,6 +21,7 @@ pub data Event : Type 0 where
   Get : Place → Event
   Find : (key : List ℕ) → Event
   Life : Event
+  Drop : Event
 
 pub data BuildReply : Type 0 where
   Scanned : (page : ℕ) → BuildReply
@@ -43,7 +44,7 @@ pub data Reply : Type 0 where
   Empty : Reply
   Ended : Reply
   Committed : (record_number : ℕ) → (commit : ℕ) → Reply  -- the ticket of a commit, with its number since the restart
-  Created : (record_number : ℕ) → Reply  -- the ticket of a creation
+  Ticketed : (record_number : ℕ) → Reply  -- the ticket of a creation, or of a dropping
   Built : BuildReply → Reply
   Cleaner : CleanReply → Reply
   RowIs : Option Row → Reply
@@ -58,9 +59,9 @@ pub record Standing : Type 0 where
   pub begun : ℕ  -- the transactions begun since the restart
   pub active : ℕ  -- those of them that have not ended
   pub commits : ℕ  -- the commits since the restart
-  pub attempts : ℕ  -- the builder's attempts since its last checkpoint, the creation or the restart
+  pub attempts : ℕ  -- the builder's attempts since its last checkpoint, the creation, the dropping or the restart
   pub all_attempts : ℕ  -- the builder's attempts since the restart
-  pub scanned : ℕ  -- the pages that it took in a row since its last attempt, the creation or the restart
+  pub scanned : ℕ  -- the pages that it took in a row since its last attempt, the creation, the dropping or the restart
 
 abbrev pub after_build : Standing → BuildReply → Standing
 after_build k (Scanned page) = record k { scanned = k.scanned + 1 }
@@ -82,7 +83,7 @@ standing_after k Stepped = record k { made = k.made + 1 }
 standing_after k Undone = record k { made = k.made + 1 }
 standing_after k Ended = record k { made = k.made + 1; active = k.active - 1 }
 standing_after k (Reply.Committed n c) = record k { made = k.made + 1; active = k.active - 1; commits = k.commits + 1 }
-standing_after k (Reply.Created n) = record k { made = k.made + 1; attempts = 0; scanned = 0 }
+standing_after k (Reply.Ticketed n) = record k { made = k.made + 1; attempts = 0; scanned = 0 }
 standing_after k (Built b) = after_build k b
 standing_after k (Cleaner c) = after_clean k c
 standing_after k Empty = k

@@ -86,6 +86,7 @@ refusals s k (Event.Insert t row) = (HasNoMoreChanges s t, Error.TooManyChanges)
 refusals s k (Event.Delete t rid) = (HasNoMoreChanges s t, Error.TooManyChanges) ∷ (IsHeldByOther s t rid, Error.RowBusy) ∷ (get s.rows rid ≡ None, Error.NoSuchRow) ∷ []
 refusals s k (Event.Update t rid row) = (HasNoMoreChanges s t, Error.TooManyChanges) ∷ (IsHeldByOther s t rid, Error.RowBusy) ∷ (get s.rows rid ≡ None, Error.NoSuchRow) ∷ []
 refusals s k Event.Create = (is_indexed s.life ≡ true, Error.IndexExists) ∷ (IsAnyActive s, Error.TxnsActive) ∷ []
+refusals s k Event.Drop = (s.life ≡ Absent, Error.NoIndex) ∷ (IsAnyActive s, Error.TxnsActive) ∷ []
 refusals s k Event.Build = (s.life ≡ Absent, Error.NoIndex) ∷ []
 refusals s k Event.Clean = (s.life ≡ Absent, Error.NoIndex) ∷ []
 refusals s k (Event.Find key) = (s.life ≡ Absent, Error.NoIndex) ∷ (IsBuilding s.life, Error.NotBuilt) ∷ []
@@ -172,12 +173,13 @@ IsDue s k (Event.Step t) reply step = (reply ≡ Stepped) × (step ≡ Some (Nex
 IsDue s k (Event.Undo t) reply step = ((((txn_at s t).changes ≡ Unchanged) × (reply ≡ Empty)) ⊎ (((txn_at s t).changes ≢ Unchanged) × (reply ≡ Undone))) × (step ≡ Some (MachineStep.Undo t))
 IsDue s k (Event.End t) reply step = (reply ≡ Ended) × (step ≡ Some (MachineStep.End t))
 IsDue s k (Event.Commit t) reply step = (reply ≡ Reply.Committed (k.made + 1) (k.commits + 1)) × (step ≡ Some (MachineStep.Commit t))
-IsDue s k Event.Create reply step = (reply ≡ Reply.Created (k.made + 1)) × (step ≡ Some MachineStep.Create)
+IsDue s k Event.Create reply step = (reply ≡ Reply.Ticketed (k.made + 1)) × (step ≡ Some MachineStep.Create)
 IsDue s k Event.Build reply step = (b : BuildReply) × IsBuildDue s k b × (reply ≡ Built b) × (step ≡ build_step b)
 IsDue s k Event.Clean reply step = (c : CleanReply) × IsCleanDue s c × (reply ≡ Cleaner c) × (step ≡ Some (clean_step c))
 IsDue s k (Event.Get r) reply step = (reply ≡ RowIs (get s.rows r)) × (step ≡ None)
 IsDue s k (Event.Find key) reply step = (rids : List Place) × AreFound s key rids × (reply ≡ Found rids) × (step ≡ None)
 IsDue s k Event.Life reply step = (reply ≡ LifeIs s.life) × (step ≡ None)
+IsDue s k Event.Drop reply step = (reply ≡ Reply.Ticketed (k.made + 1)) × (step ≡ Some MachineStep.Drop)
 
 -- ---- all of it
 

@@ -45,6 +45,7 @@ asked_by writes place Event.Clean = writes
 asked_by writes place (Event.Get r) = writes
 asked_by writes place (Event.Find key) = writes
 asked_by writes place Event.Life = writes
+asked_by writes place Event.Drop = writes
 
 -- and after an event with this reply: one that was skipped or refused asks for nothing
 abbrev pub asked_after : (ℕ → List Write) → Reply → Event → ℕ → List Write
@@ -55,7 +56,7 @@ asked_after writes Undone e = asked_by writes None e
 asked_after writes Empty e = asked_by writes None e
 asked_after writes Ended e = asked_by writes None e
 asked_after writes (Reply.Committed n c) e = asked_by writes None e
-asked_after writes (Reply.Created n) e = asked_by writes None e
+asked_after writes (Reply.Ticketed n) e = asked_by writes None e
 asked_after writes (Built b) e = asked_by writes None e
 asked_after writes (Cleaner c) e = asked_by writes None e
 asked_after writes (RowIs row) e = asked_by writes None e
@@ -80,6 +81,13 @@ commit_of writes Event.Clean = []
 commit_of writes (Event.Get r) = []
 commit_of writes (Event.Find key) = []
 commit_of writes Event.Life = []
+commit_of writes Event.Drop = []
+
+-- whether an event that gets a ticket creates the index or drops it
+abbrev pub turn_of : Event → List Deed
+turn_of Event.Create = Deed.Created ∷ []
+turn_of Event.Drop = Deed.Dropped ∷ []
+turn_of _ = []
 
 abbrev pub items_of_build : BuildReply → List Item
 items_of_build (Scanned page) = []
@@ -89,7 +97,7 @@ items_of_build (BuildReply.Marked p n) = record { number = n; deed = Deed.Checkp
 items_of_build (Done n) = record { number = n; deed = Deed.Completed } ∷ []
 items_of_build Idle = []
 
--- what a reply adds to the history: a commit, a creation, a checkpoint or the end of a build, with the number of its record
+-- what a reply adds to the history: a commit, a creation, a checkpoint, the end of a build or a dropping, with the number of its record
 abbrev pub items_at : (ℕ → List Write) → Reply → Event → List Item
 items_at writes (Txn t) e = []
 items_at writes (Rid r) e = []
@@ -98,7 +106,7 @@ items_at writes Undone e = []
 items_at writes Empty e = []
 items_at writes Ended e = []
 items_at writes (Reply.Committed n c) e = map (λ deed. record { number = n; deed = deed }) (commit_of writes e)
-items_at writes (Reply.Created n) e = record { number = n; deed = Deed.Created } ∷ []
+items_at writes (Reply.Ticketed n) e = map (λ deed. record { number = n; deed = deed }) (turn_of e)
 items_at writes (Built b) e = items_of_build b
 items_at writes (Cleaner c) e = []
 items_at writes (RowIs row) e = []

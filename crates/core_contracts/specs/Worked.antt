@@ -7,7 +7,7 @@ use Rattle.core_model.specs.Example.{pair, place, row}
 
 abbrev pub script : List (Event × Reply)
 script =
-    (Event.Create, Reply.Created 1)
+    (Event.Create, Reply.Ticketed 1)
     ∷ (Event.Begin, Txn 1)
     ∷ (Event.Insert 1 row, Reply.Rid place)
     ∷ (Event.Build, Built (Scanned 0))

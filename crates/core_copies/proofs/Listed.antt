@@ -17,7 +17,7 @@ use Rattle.core_model.specs.Histories.{Opened, opened}
 use Rattle.core_model.specs.Invariants.{IsHolderOf, IsWellFormed}
 use Rattle.core_model.specs.Records.{action_of, begun_action, first_action, next_action, place_action, set_by_any, undo_action}
 use Rattle.core_model.specs.States.{Active, Made, NewMarked, OldMarked, OldSet, Phase, Pledges, RowSet, State}
-use Rattle.core_model.specs.Steps.{Attempt, Begin, Checkpoint, Clean, Commit, Create, End, Finish, IsEnabled, Keep, MachineStep, Next, Start, Take, Undo, Wrap, after, carried_on, freed, is_indexed, left, started, txn_at, undone, undone_first, update}
+use Rattle.core_model.specs.Steps.{Attempt, Begin, Checkpoint, Clean, Commit, Create, Drop, End, Finish, IsEnabled, Keep, MachineStep, Next, Start, Take, Undo, Wrap, after, carried_on, freed, is_indexed, left, started, txn_at, undone, undone_first, update}
 use Rattle.core_copies.specs.Lists.{HasLists}
 
 some_none : {X : Type 0} (x : X) → (◌≡◌ {A = Option X} (Some x) None) → ⊥
@@ -160,3 +160,4 @@ lists_go_on s Finish cells fit enabled h = record { listed = h.listed; holds = h
 lists_go_on s (Clean p) cells fit enabled h = record { listed = h.listed; holds = h.holds }
 lists_go_on s (Keep p) cells fit enabled h = record { listed = h.listed; holds = h.holds }
 lists_go_on s Wrap cells fit enabled h = record { listed = h.listed; holds = h.holds }
+lists_go_on s Drop cells fit enabled h = record { listed = h.listed; holds = h.holds }

@@ -163,6 +163,7 @@ module _ (s : State) (k : Standing) (h : HasStanding s k) where
       let same : f.0 ≡ g.0 = sorted_one f.0 g.0 f.1.in_order g.1.in_order (λ q c. (g.1.live q).1 ((f.1.live q).0 c)) (λ q c. (f.1.live q).1 ((g.1.live q).0 c)) in
       (f.2 ∙ ap Reply.Found same ∙ sym g.2, f.3 ∙ sym g.3)
   due_one Event.Life r r' t t' f g = (f.0 ∙ sym g.0, f.1 ∙ sym g.1)
+  due_one Event.Drop r r' t t' f g = (f.0 ∙ sym g.0, f.1 ∙ sym g.1)
 
   module _ (e : Event) where
     -- the last refusals of the step that is due
@@ -256,6 +257,7 @@ module _ (s : State) (k : Standing) (h : HasStanding s k) where
     due_granted (Event.Get p) r t d = subst IsGranted (sym d.0) tt
     due_granted (Event.Find key) r t d = subst IsGranted (sym d.2) tt
     due_granted Event.Life r t d = subst IsGranted (sym d.0) tt
+    due_granted Event.Drop r t d = subst IsGranted (sym d.0) tt
 
     granted : (r r' : Reply) (t t' : Option MachineStep) (a : IsAllowed s k e r t) (b : IsAllowed s k e r' t') → (IsWant a → ⊥) → IsWant b → IsGranted r
     granted r r' t t' (unknown a) (no_memory x y f r0 t0 d g w) n is = absurd (x a)

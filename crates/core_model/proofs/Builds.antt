@@ -1,8 +1,9 @@
 -- Each step of the builder and of the cleaner keeps the invariant.
 use Rattle.std.proofs.Common.{Bool, None, Option, Some, ap, false, inl, inr, nat_eq, not, refl, subst, sym, true, true≢false, ℕ, ◌&&◌, ◌<◌, ◌||◌, ◌∙◌, ◌≡◌, ◌≢◌, ◌⊎◌}
 use Rattle.std.specs.Cmp.Lexicographic.{nat_list_cmp_total}
-use Rattle.std.specs.FinMap.{get, nat_cmp-IsAntisymmetric, slice_cmp-IsAntisymmetric}
+use Rattle.std.specs.FinMap.{get, get-empty, nat_cmp-IsAntisymmetric, slice_cmp-IsAntisymmetric}
 use Rattle.records.specs.Maps.{get-set_at_other, get-set_at_same, pair_exact, set_at}
+use Rattle.records.specs.Orders.{pair_cmp}
 use Rattle.records.specs.Values.{Place}
 use Rattle.records.specs.declared.pair.Mark.{Mark}
 use Rattle.records.specs.declared.pair.Mark.TheVariants.{Live, Marked}
@@ -19,7 +20,7 @@ use Rattle.core_model.proofs.Orders.{above_trans, by_test, level, not_above}
 use Rattle.core_model.specs.Changes.{pair_of}
 use Rattle.core_model.specs.Invariants.{IsAhead, IsBacked, IsCoherent, IsHeld, IsPhaseOf, IsVisibleOrAhead, TxnHolds}
 use Rattle.core_model.specs.States.{Active, State}
-use Rattle.core_model.specs.Steps.{CanAttempt, CanClean, CanFinish, IsBuilding, IsPassed, above, attempted, created, is_indexed, is_pair_of, page_taken}
+use Rattle.core_model.specs.Steps.{CanAttempt, CanClean, CanFinish, IsBuilding, IsPassed, above, attempted, created, dropped, is_indexed, is_pair_of, page_taken}
 
 -- the index is created, where it was absent and no transaction is active
 module _ (s : State) (i : IsCoherent s) (absent : s.life ≡ Absent) (quiet : (t : ℕ) → s.txns t ≡ None) where
@@ -44,6 +45,30 @@ module _ (s : State) (i : IsCoherent s) (absent : s.life ≡ Absent) (quiet : (t
     where
       building_is : {h : Option Pair} → Building None ≡ Building h → None ≡ h
       building_is e = cc
+
+-- the index is dropped, where no transaction is active
+module _ (s : State) (i : IsCoherent s) (quiet : (t : ℕ) → s.txns t ≡ None) where
+  dropped_held : (r : Place) (t : ℕ) → s.holder r ≡ Some t → IsHeld (dropped s) r t
+  dropped_held r t e = absurd (not_none (i.held r t e).active (quiet t))
+
+  dropped_txns : (t : ℕ) (x : Active) → s.txns t ≡ Some x → TxnHolds (dropped s) t x
+  dropped_txns t x e = absurd (not_none e (quiet t))
+
+  pub drop_keeps : IsCoherent (dropped s)
+  drop_keeps = record {
+    free = i.free;
+    held = dropped_held;
+    inside = i.inside;
+    txns = dropped_txns;
+    sound = λ p e. absurd (not_none e (get-empty pair_cmp p));
+    visible = λ r row e idle. inr (get-empty pair_cmp (pair_of r row), tt);
+    empty = λ e p. get-empty pair_cmp p;
+    backed = λ h e p g a. absurd (true≢false (sym g));
+    behind = λ h e p a. absurd (no_build e);
+  }
+    where
+      no_build : {h : Option Pair} → Absent ≡ Building h → ⊥
+      no_build e = cc
 
 pub or_true : (a b : Bool) → (a || b) ≡ true → (a ≡ true) ⊎ (b ≡ true)
 or_true true b e = inl refl

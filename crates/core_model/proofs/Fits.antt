@@ -19,7 +19,7 @@ use Rattle.core_model.proofs.Pledged.{pledged_step}
 use Rattle.core_model.specs.Changes.{Changes, Unchanged, as_list, new_pair, old_pair, ◌▹◌}
 use Rattle.core_model.specs.Invariants.{HasShape, IsFit, IsHolderOf, IsNumbered, IsShaped, IsWellFormed}
 use Rattle.core_model.specs.States.{Active, Made, NewMarked, OldMarked, OldSet, Phase, RowSet, State}
-use Rattle.core_model.specs.Steps.{Attempt, Begin, Checkpoint, Clean, Commit, Create, End, Finish, IsEnabled, Keep, Next, Start, MachineStep, Take, Undo, Wrap, after, carried_on, freed, is_indexed, new_txn, row_made, row_undone, started, txn_at, undoing, undone, undone_first, update, with_change, with_phase, with_txn, without_newest}
+use Rattle.core_model.specs.Steps.{Attempt, Begin, Checkpoint, Clean, Commit, Create, Drop, End, Finish, IsEnabled, Keep, Next, Start, MachineStep, Take, Undo, Wrap, after, carried_on, freed, is_indexed, new_txn, row_made, row_undone, started, txn_at, undoing, undone, undone_first, update, with_change, with_phase, with_txn, without_newest}
 
 -- ---- the transactions
 row_shape : (indexed : Bool) (c : ChangeValue) (o : Option Pair) → new_pair indexed c ≡ o → HasShape indexed c (row_made o)
@@ -143,6 +143,7 @@ txns_step s Finish w a = indexed_same s w _ (ap is_indexed a.building.1)
 txns_step s (Clean p) w a = w.txns
 txns_step s (Keep p) w a = w.txns
 txns_step s Wrap w a = w.txns
+txns_step s Drop w a = λ t x e. absurd (not_none e (a.1 t))
 
 -- ---- the rows
 abbrev RowsInside : ℕ → Table → Type 0
@@ -195,6 +196,7 @@ rows_step s Finish w a = w.rows
 rows_step s (Clean p) w a = w.rows
 rows_step s (Keep p) w a = w.rows
 rows_step s Wrap w a = w.rows
+rows_step s Drop w a = w.rows
 
 -- ---- the rows that are held
 abbrev HeldInside : ℕ → (Place → Option ℕ) → Type 0
@@ -254,6 +256,7 @@ held_step s Finish w a = w.held
 held_step s (Clean p) w a = w.held
 held_step s (Keep p) w a = w.held
 held_step s Wrap w a = w.held
+held_step s Drop w a = w.held
 
 -- ---- all of it
 pub fit_step : (s : State) (e : MachineStep) → IsWellFormed s → IsEnabled s e → IsWellFormed (after s e)

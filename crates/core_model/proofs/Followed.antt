@@ -35,7 +35,7 @@ use Rattle.core_model.specs.Invariants.{Invariant, IsNumbered, IsShaped, IsWellF
 use Rattle.core_model.specs.Logs.{HasMade, IsLogOf, RecoversPrefix, item_at, items_from, items_over, next_number, one_record, records_from, records_over}
 use Rattle.core_model.specs.Records.{HasCells, IsListOf, action_of, begun_action, first_action, next_action, place_action, set_by_any, undo_action}
 use Rattle.core_model.specs.States.{Active, Made, NewMarked, OldMarked, OldSet, Phase, RowSet, State}
-use Rattle.core_model.specs.Steps.{Attempt, Begin, Checkpoint, Clean, Commit, Create, End, Finish, IsBuilding, IsEnabled, IsPassed, Keep, Next, Start, MachineStep, Take, Undo, Wrap, after, is_indexed, txn_at}
+use Rattle.core_model.specs.Steps.{Attempt, Begin, Checkpoint, Clean, Commit, Create, Drop, End, Finish, IsBuilding, IsEnabled, IsPassed, Keep, Next, Start, MachineStep, Take, Undo, Wrap, after, is_indexed, txn_at}
 
 -- ---- a map has no more entries than one that has all its keys
 some_len : {Y : Type 0} (n : FinMap nat_cmp Y) (k : ℕ) → get n k ≢ None → 1 ≤ len n
@@ -182,6 +182,7 @@ module _ (s : State) (i : IsWellFormed s) (cells : Cells) (k : HasCells s cells)
   may_follow few (Clean p) a = (i.inside.entries p (λ none. not_none a.marked none), there (passed_there s.life p a.passed))
   may_follow few (Keep p) a = tt
   may_follow few Wrap a = tt
+  may_follow few Drop a = λ e. a.0 (sym k.life ∙ e)
 
 pub step_record : (s : State) (e : MachineStep) (cells : Cells) (last : ℕ) (action : Action) → IsWellFormed s → IsEnabled s e → HasCells s cells → len s.pledges ≤ TXNS_MAX → action_of s e ≡ Some action
     → CanFollow s.pages last cells (record { number = last + 1; action = action })

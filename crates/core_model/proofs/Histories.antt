@@ -26,7 +26,7 @@ use Rattle.core_model.specs.Changes.{Changes, Unchanged, as_list, new_pair, old_
 use Rattle.core_model.specs.Histories.{AreItemsOf, CanOpen, FitsStore, IsCovered, IsWhole, Opened, deeds_of, highest_of, history, no_writes, opened, write_of, writes_after}
 use Rattle.core_model.specs.Invariants.{Invariant, IsAhead, IsCoherent, IsUnfinished, IsWellFormed, Runs, no_step, one_step}
 use Rattle.core_model.specs.States.{Active, Made, NewMarked, OldMarked, OldSet, Phase, RowSet, State}
-use Rattle.core_model.specs.Steps.{Attempt, Begin, Checkpoint, Clean, Commit, Create, End, Finish, IsEnabled, Keep, Next, Start, MachineStep, Take, Undo, Wrap, above, after, carried_on, is_indexed, new_txn, row_made, row_undone, started, txn_at, undoing, undone, undone_first, update, with_change, with_phase, without_newest}
+use Rattle.core_model.specs.Steps.{Attempt, Begin, Checkpoint, Clean, Commit, Create, Drop, End, Finish, IsEnabled, Keep, Next, Start, MachineStep, Take, Undo, Wrap, above, after, carried_on, is_indexed, new_txn, row_made, row_undone, started, txn_at, undoing, undone, undone_first, update, with_change, with_phase, without_newest}
 
 -- the table and the life after these deeds
 abbrev pub table_over : Table → List Deed → Table
@@ -223,6 +223,7 @@ table_step s writes told Finish a = refl
 table_step s writes told (Clean p) a = refl
 table_step s writes told (Keep p) a = refl
 table_step s writes told Wrap a = refl
+table_step s writes told Drop a = refl
 
 pub told_step : (s : State) (writes : ℕ → List Write) → IsTold s.txns writes → (e : MachineStep) → IsEnabled s e → IsTold (after s e).txns (writes_after writes e)
 told_step s writes told (Begin t) a = told_now s.txns writes writes told t (λ u n. refl) new_txn (λ f. told.idle t a)
@@ -239,6 +240,7 @@ told_step s writes told Finish a = told
 told_step s writes told (Clean p) a = told
 told_step s writes told (Keep p) a = told
 told_step s writes told Wrap a = told
+told_step s writes told Drop a = told
 
 life_started : (s : State) (t : ℕ) (x : Active) (c : ChangeValue) (o : Option Pair) → (started s t x c o).life ≡ s.life
 life_started s t x c None = refl
@@ -279,6 +281,7 @@ life_step s writes Finish a = refl
 life_step s writes (Clean p) a = refl
 life_step s writes (Keep p) a = refl
 life_step s writes Wrap a = refl
+life_step s writes Drop a = refl
 
 pub table_over-append : (table : Table) (ds es : List Deed) → table_over table (ds ++ es) ≡ table_over (table_over table ds) es
 table_over-append table [] es = refl

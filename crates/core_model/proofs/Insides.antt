@@ -1,21 +1,22 @@
 -- Entries, the builder's places and the pairs that pages gave stay in the store's pages.
 use Rattle.std.proofs.Common.{Bool, None, Option, Some, ap, inl, inr, nat_eq, refl, subst, sym, true, true≢false, ℕ, ◌&&◌, ◌<◌, ◌||◌, ◌∙◌, ◌≡◌, ◌≢◌}
-use Rattle.std.specs.FinMap.{get}
+use Rattle.std.specs.FinMap.{get, get-empty}
 use Rattle.records.specs.ChangeValue.{ChangeValue}
 use Rattle.records.specs.Maps.{get-set_at_other, get-set_at_same, pair_exact, set_at}
+use Rattle.records.specs.Orders.{pair_cmp}
 use Rattle.records.specs.Spelling.{new_row, old_row}
 use Rattle.records.specs.declared.pair.Mark.{Mark}
 use Rattle.records.specs.declared.pair.Mark.TheVariants.{Live, Marked}
 use Rattle.records.specs.declared.pair.Pair.{Pair}
 use Rattle.model.specs.Table.{Index, IsPairOf}
-use Rattle.model.specs.declared.life.Life.TheVariants.{Building, Complete}
+use Rattle.model.specs.declared.life.Life.TheVariants.{Absent, Building, Complete}
 use Rattle.core_model.proofs.Builds.{and_right, or_true, pair_by_test}
 use Rattle.core_model.proofs.Cells.{pair_decided}
 use Rattle.core_model.proofs.Latest.{Gone, gone_is, not_none}
 use Rattle.core_model.specs.Changes.{Changes, Unchanged, new_pair, old_pair, ◌▹◌}
 use Rattle.core_model.specs.Invariants.{IsHolderOf, IsStateInside, IsWellFormed}
 use Rattle.core_model.specs.States.{Active, Made, NewMarked, OldMarked, OldSet, Phase, RowSet, State}
-use Rattle.core_model.specs.Steps.{Attempt, Begin, Checkpoint, Clean, Commit, Create, End, Finish, IsEnabled, Keep, Next, Start, MachineStep, Take, Undo, Wrap, after, carried_on, is_indexed, is_pair_of, moved_by, started, txn_at, undone, undone_first, undone_row, with_entry}
+use Rattle.core_model.specs.Steps.{Attempt, Begin, Checkpoint, Clean, Commit, Create, Drop, End, Finish, IsEnabled, Keep, Next, Start, MachineStep, Take, Undo, Wrap, after, carried_on, is_indexed, is_pair_of, moved_by, started, txn_at, undone, undone_first, undone_row, with_entry}
 
 -- each entry is of these pages
 abbrev EntriesInside : ℕ → Index → Type 0
@@ -101,6 +102,9 @@ highest_is e = cc
 not_complete : {o : Option Pair} → Complete ≡ Building o → ⊥
 not_complete e = absurd (cc)
 
+not_absent : {o : Option Pair} → Absent ≡ Building o → ⊥
+not_absent e = absurd (cc)
+
 moved_inside : (s : State) (e : MachineStep) → IsWellFormed s → IsStateInside s → IsEnabled s e → IsStateInside (moved_by s e)
 moved_inside s (Begin t) i h a = record { entries = h.entries; bound = h.bound; highest = h.highest; given = h.given }
 moved_inside s (Start t c) i h a = started_inside s i h t (txn_at s t) c a.inside _ refl
@@ -126,6 +130,12 @@ moved_inside s Finish i h a = record { entries = h.entries; bound = h.bound; hig
 moved_inside s (Clean p) i h a = record { entries = set_inside s.pages s.entries p None (λ n. absurd (n refl)) h.entries; bound = h.bound; highest = h.highest; given = h.given }
 moved_inside s (Keep p) i h a = record { entries = h.entries; bound = h.bound; highest = h.highest; given = h.given }
 moved_inside s Wrap i h a = record { entries = h.entries; bound = h.bound; highest = h.highest; given = h.given }
+moved_inside s Drop i h a = record {
+  entries = λ p n. absurd (n (get-empty pair_cmp p));
+  bound = λ p e. absurd (not_none e refl);
+  highest = λ p e. absurd (not_absent e);
+  given = λ p e. absurd (true≢false (sym e));
+}
 
 pub inside_step : (s : State) (e : MachineStep) → IsWellFormed s → IsStateInside s → IsEnabled s e → IsStateInside (after s e)
 inside_step s e i h a = let m : IsStateInside (moved_by s e) = moved_inside s e i h a in record { entries = m.entries; bound = m.bound; highest = m.highest; given = m.given }

@@ -33,7 +33,7 @@ use Rattle.core_model.specs.Logs.{RecoversPrefix, item_at, items_from, items_ove
 use Rattle.core_model.specs.Records.{HasCells, IsListOf, action_of, set_by_any}
 use Rattle.core_model.proofs.Undone.{IsListing, entries_back, entries_undone, restarted, rows_back, rows_undone}
 use Rattle.core_model.specs.States.{Active, Made, NewMarked, OldMarked, OldSet, Phase, RowSet, State}
-use Rattle.core_model.specs.Steps.{Attempt, Begin, Checkpoint, Clean, Commit, Create, End, Finish, IsEnabled, Keep, Next, Start, MachineStep, Take, Undo, Wrap, after, carried_on, is_indexed, started, txn_at, undone, undone_first, update}
+use Rattle.core_model.specs.Steps.{Attempt, Begin, Checkpoint, Clean, Commit, Create, Drop, End, Finish, IsEnabled, Keep, Next, Start, MachineStep, Take, Undo, Wrap, after, carried_on, is_indexed, started, txn_at, undone, undone_first, update}
 
 -- ---- a list of changes, as a transaction has it
 abbrev behind : Changes → List ChangeValue → Changes
@@ -206,6 +206,7 @@ store_step s Finish = record { pages = refl; places = refl }
 store_step s (Clean p) = record { pages = refl; places = refl }
 store_step s (Keep p) = record { pages = refl; places = refl }
 store_step s Wrap = record { pages = refl; places = refl }
+store_step s Drop = record { pages = refl; places = refl }
 
 pub same_store : (s s' : State) (es : List MachineStep) → Runs s es s' → SameStore s s'
 same_store s s' es no_step = record { pages = refl; places = refl }
@@ -260,6 +261,7 @@ no_deeds s writes Finish h = absurd (not_none refl h)
 no_deeds s writes (Clean p) h = refl
 no_deeds s writes (Keep p) h = refl
 no_deeds s writes Wrap h = refl
+no_deeds s writes Drop h = absurd (not_none refl h)
 
 pub up_here : (last n : ℕ) → last + 1 ≤ n → (ds : List Deed) → up_to n (map (item_at last) ds) ≡ map (item_at last) ds
 up_here last n le [] = refl

@@ -1,11 +1,11 @@
 -- Entries and reserved places stay within the geometry.
 use Rattle.std.proofs.Common.{Bool, None, Option, Some, ap, arith, cond, false, inl, inr, is_some, refl, subst, sym, true, ℕ, ◌+◌, ◌-◌, ◌<◌, ◌∙◌, ◌≡◌, ◌≢◌, ◌≤◌, ◌⊎◌}
 use Rattle.std.specs.Cmp.{nat_cmp_total}
-use Rattle.std.specs.FinMap.{entries, get, insert, len, len-insert, len-remove, nat_cmp-IsAntisymmetric, remove}
+use Rattle.std.specs.FinMap.{entries, get, insert, len, len-empty, len-insert, len-remove, nat_cmp-IsAntisymmetric, remove}
 use Rattle.std.specs.Ordering.{nat_cmp}
 use Rattle.records.specs.ChangeValue.{ChangeValue}
 use Rattle.records.specs.Maps.{get-set_at_other, get-set_at_same, pair_exact, set_at}
-use Rattle.records.specs.Orders.{pair_cmp_total}
+use Rattle.records.specs.Orders.{pair_cmp, pair_cmp_total}
 use Rattle.records.specs.Spelling.{new_row, old_row}
 use Rattle.records.specs.Values.{Place}
 use Rattle.records.specs.declared.pair.Mark.{Mark}
@@ -23,7 +23,7 @@ use Rattle.core_model.proofs.Sums.{left_apart, reserved_apart, reserved_insert, 
 use Rattle.core_model.specs.Changes.{Changes, Unchanged, gone, new_pair, old_pair, ◌▹◌}
 use Rattle.core_model.specs.Invariants.{HasPlaces, IsHolderOf, lacking, lacks}
 use Rattle.core_model.specs.States.{Active, Made, NewMarked, OldMarked, OldSet, Phase, RowSet, State}
-use Rattle.core_model.specs.Steps.{Attempt, Begin, CanAttempt, CanClean, Checkpoint, Clean, Commit, Create, End, Finish, HasFreePlaces, IsEnabled, Keep, Next, Start, MachineStep, Take, Undo, Wrap, after, all_reserved, attempted, carried_on, is_indexed, left, new_txn, places_of, reserved, row_made, row_undone, started, txn_at, undoing, undone, undone_first, update, with_change, with_entry, with_phase, with_places, with_txn, without_newest}
+use Rattle.core_model.specs.Steps.{Attempt, Begin, CanAttempt, CanClean, Checkpoint, Clean, Commit, Create, Drop, End, Finish, HasFreePlaces, IsEnabled, Keep, Next, Start, MachineStep, Take, Undo, Wrap, after, all_reserved, attempted, carried_on, is_indexed, left, new_txn, places_of, reserved, row_made, row_undone, started, txn_at, undoing, undone, undone_first, update, with_change, with_entry, with_phase, with_places, with_txn, without_newest}
 
 -- ---- an entry is set
 
@@ -416,3 +416,10 @@ places_step s Finish i p a = same_places s (after s Finish) p refl refl refl (λ
 places_step s (Clean q) i p a = clean_places s i p q a
 places_step s (Keep q) i p a = same_places s (after s (Keep q)) p refl refl refl (λ t x e. (e, refl))
 places_step s Wrap i p a = same_places s (after s Wrap) p refl refl refl (λ t x e. (e, refl))
+places_step s Drop i p a = record {
+  fits =
+      let none : len (after s Drop).entries ≡ 0 = len-empty pair_cmp Mark in
+      let fits : len s.entries + all_reserved s.pledges ≤ s.places = p.fits in
+      rw none (omega (arith, fits));
+  enough = λ t x e. absurd (not_none e (a.1 t));
+}

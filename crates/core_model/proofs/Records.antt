@@ -31,7 +31,7 @@ use Rattle.core_model.proofs.Orders.{update_apart, update_here}
 use Rattle.core_model.specs.Changes.{Changes, Unchanged, gone, as_list, new_pair, old_pair, pair_at, ◌▹◌}
 use Rattle.core_model.specs.Invariants.{HasPair, IsShaped, IsWellFormed}
 use Rattle.core_model.specs.States.{Active, Made, NewMarked, OldMarked, OldSet, Phase, RowSet, State}
-use Rattle.core_model.specs.Steps.{Attempt, Begin, Checkpoint, Clean, Commit, Create, End, Finish, IsEnabled, Keep, Next, Start, MachineStep, Take, Undo, Wrap, after, carried_on, is_indexed, left, moved_by, new_txn, row_made, row_undone, started, txn_at, undoing, undone, undone_first, update, with_change, with_entry, with_txn, without_newest}
+use Rattle.core_model.specs.Steps.{Attempt, Begin, Checkpoint, Clean, Commit, Create, Drop, End, Finish, IsEnabled, Keep, Next, Start, MachineStep, Take, Undo, Wrap, after, carried_on, is_indexed, left, moved_by, new_txn, row_made, row_undone, started, txn_at, undoing, undone, undone_first, update, with_change, with_entry, with_txn, without_newest}
 
 -- ---- the lists of the log
 module _ (older : Changes) (c : ChangeValue) (k : c.position ≡ length (as_list older)) where
@@ -204,6 +204,7 @@ moved_cells s Finish cells i a k = record { rows = k.rows; entries = k.entries; 
 moved_cells s (Clean p) cells i a k = record { rows = k.rows; entries = ap (λ m. set_at m p None) k.entries; pending = k.pending; life = k.life }
 moved_cells s (Keep p) cells i a k = record { rows = k.rows; entries = k.entries; pending = k.pending; life = k.life }
 moved_cells s Wrap cells i a k = record { rows = k.rows; entries = k.entries; pending = k.pending; life = k.life }
+moved_cells s Drop cells i a k = record { rows = k.rows; entries = refl; pending = k.pending; life = refl }
 
 pub step_follows : (s : State) (e : MachineStep) (cells : Cells) → IsWellFormed s → IsEnabled s e → HasCells s cells → HasCells (after s e) (set_by_any cells (action_of s e))
 step_follows s e cells i a k =
@@ -268,6 +269,7 @@ action_rows s Finish i a = refl
 action_rows s (Clean p) i a = refl
 action_rows s (Keep p) i a = tt
 action_rows s Wrap i a = tt
+action_rows s Drop i a = refl
 
 pub record_rows : (s : State) (e : MachineStep) (a : Action) → IsWellFormed s → IsEnabled s e → action_of s e ≡ Some a → IsTrue (has_rows a)
 record_rows s e a i k is = subst HasRows is (action_rows s e i k)

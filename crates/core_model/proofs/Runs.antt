@@ -1,12 +1,12 @@
 -- Every run of the core keeps the invariant, whatever the order of its steps.
 use Rattle.std.proofs.Common.{List, None, Some, refl, subst}
 use Rattle.model.specs.declared.life.Life.TheVariants.{Building}
-use Rattle.core_model.proofs.Builds.{attempt_keeps, checkpoint_keeps, clean_keeps, create_keeps, finish_keeps, place_keeps, take_keeps}
+use Rattle.core_model.proofs.Builds.{attempt_keeps, checkpoint_keeps, clean_keeps, create_keeps, drop_keeps, finish_keeps, place_keeps, take_keeps}
 use Rattle.core_model.proofs.Fits.{fit_step}
 use Rattle.core_model.proofs.Txns.{begin_keeps, commit_keeps, end_keeps, next_keeps, start_keeps, undo_keeps}
 use Rattle.core_model.specs.Invariants.{Invariant, IsCoherent, IsHeld, Runs, TxnHolds, no_step, one_step}
 use Rattle.core_model.specs.States.{Pledges, State}
-use Rattle.core_model.specs.Steps.{Attempt, Begin, Checkpoint, Clean, Commit, Create, End, Finish, IsEnabled, Keep, Next, Start, MachineStep, Take, Undo, Wrap, after, moved_by, pledges_after, txn_at}
+use Rattle.core_model.specs.Steps.{Attempt, Begin, Checkpoint, Clean, Commit, Create, Drop, End, Finish, IsEnabled, Keep, Next, Start, MachineStep, Take, Undo, Wrap, after, moved_by, pledges_after, txn_at}
 
 -- the reserved places have no part in the rest
 pub other_pledges : (s : State) (k : Pledges) → IsCoherent s → IsCoherent (record s { pledges = k })
@@ -37,6 +37,7 @@ moved_coherent s Finish i a = finish_keeps s i a
 moved_coherent s (Clean p) i a = clean_keeps s i p a
 moved_coherent s (Keep p) i a = place_keeps s i (Some p)
 moved_coherent s Wrap i a = place_keeps s i None
+moved_coherent s Drop i a = drop_keeps s i a.1
 
 coherent_step : (s : State) (e : MachineStep) → IsCoherent s → IsEnabled s e → IsCoherent (after s e)
 coherent_step s e i a = other_pledges (moved_by s e) (pledges_after s e (moved_by s e).entries) (moved_coherent s e i a)

@@ -10,7 +10,7 @@ use Rattle.records.specs.declared.pair.Pair.{Pair}
 use Rattle.records.specs.declared.row.Row.{Row}
 use Rattle.model.specs.Cells.{Cells}
 use Rattle.model.specs.Given.{Given}
-use Rattle.model.specs.History.{Checkpointed, Committed, Completed, Created, Deed, Item}
+use Rattle.model.specs.History.{Checkpointed, Committed, Completed, Created, Deed, Dropped, Item}
 use Rattle.model.specs.Recovery.{recovered_rows}
 use Rattle.model.specs.Table.{IsPairOf, Table}
 use Rattle.model.specs.declared.life.Life.{Life}
@@ -20,9 +20,9 @@ use Rattle.core_model.specs.Changes.{pair_of}
 use Rattle.core_model.specs.Invariants.{IsUnfinished}
 use Rattle.core_model.specs.Records.{HasCells}
 use Rattle.core_model.specs.States.{State}
-use Rattle.core_model.specs.Steps.{Attempt, Begin, Checkpoint, Clean, Commit, Create, End, Finish, Keep, Next, Start, MachineStep, Take, Undo, Wrap, above, all_reserved, update}
+use Rattle.core_model.specs.Steps.{Attempt, Begin, Checkpoint, Clean, Commit, Create, Drop, End, Finish, Keep, Next, Start, MachineStep, Take, Undo, Wrap, above, all_reserved, update}
 
--- ---- the history of a run, read off the changes that were asked for, the commits, the creation and the end of the build
+-- ---- the history of a run, read off the changes that were asked for, the commits, the creation, the end of the build and the dropping
 
 abbrev pub no_writes : ℕ → List Write
 no_writes t = []
@@ -46,6 +46,7 @@ writes_after writes Finish = writes
 writes_after writes (Clean p) = writes
 writes_after writes (Keep p) = writes
 writes_after writes Wrap = writes
+writes_after writes Drop = writes
 
 abbrev pub deeds_of : (ℕ → List Write) → MachineStep → List Deed
 deeds_of writes (Begin t) = []
@@ -62,6 +63,7 @@ deeds_of writes Finish = Completed ∷ []
 deeds_of writes (Clean p) = []
 deeds_of writes (Keep p) = []
 deeds_of writes Wrap = []
+deeds_of writes Drop = Dropped ∷ []
 
 abbrev pub history : (ℕ → List Write) → List MachineStep → List Deed
 history writes [] = []

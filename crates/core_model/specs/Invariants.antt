@@ -12,7 +12,7 @@ use Rattle.model.specs.declared.life.Life.{Life}
 use Rattle.model.specs.declared.life.Life.TheVariants.{Absent, Building, Complete}
 use Rattle.core_model.specs.Changes.{Changes, Unchanged, latest, as_list, new_pair, old_pair, pair_of, ◌▹◌}
 use Rattle.core_model.specs.States.{Active, Made, NewMarked, OldMarked, OldSet, Phase, RowSet, State}
-use Rattle.core_model.specs.Steps.{IsEnabled, MachineStep, above, after, all_reserved, is_applied, is_indexed, reserved}
+use Rattle.core_model.specs.Steps.{Drop, IsEnabled, MachineStep, above, after, all_reserved, is_applied, is_indexed, reserved}
 
 -- ---- rows, entries, builder
 
@@ -169,6 +169,11 @@ pub record IsWellFormed (s : State) : Type 0 where
 pub record Invariant (s : State) : Type 0 where
   pub fit : IsWellFormed s
   pub coherent : IsCoherent s
+
+-- the index is not dropped by these steps
+abbrev pub IsOneBuild : List MachineStep → Type 0
+IsOneBuild [] = Unit {0}
+IsOneBuild (e ∷ es) = (e ≢ Drop) × IsOneBuild es
 
 -- a run of the core
 pub data Runs : State → List MachineStep → State → Type 0 where

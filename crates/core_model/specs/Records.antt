@@ -15,7 +15,7 @@ use Rattle.model.specs.Cells.{Cells, set_by}
 use Rattle.model.specs.Table.{applied}
 use Rattle.core_model.specs.Changes.{Changes, Unchanged, as_list, new_pair, old_pair, ◌▹◌}
 use Rattle.core_model.specs.States.{Active, Made, NewMarked, OldMarked, OldSet, Phase, RowSet, State}
-use Rattle.core_model.specs.Steps.{Attempt, Begin, Checkpoint, Clean, Commit, Create, End, Finish, Keep, Next, Start, MachineStep, Take, Undo, Wrap, is_indexed, txn_at}
+use Rattle.core_model.specs.Steps.{Attempt, Begin, Checkpoint, Clean, Commit, Create, Drop, End, Finish, Keep, Next, Start, MachineStep, Take, Undo, Wrap, is_indexed, txn_at}
 
 -- The list that a log has of a transaction: its changes. One that has no change may have no list.
 abbrev pub IsListOf : Option (List ChangeValue) → Option Active → Type 0
@@ -86,3 +86,4 @@ action_of s Finish = Some (OfIndex BuildDone)
 action_of s (Clean p) = Some (OfIndex (IndexAction.Clean p))
 action_of s (Keep p) = None
 action_of s Wrap = None
+action_of s Drop = Some (OfIndex IndexAction.Drop)

@@ -1,8 +1,8 @@
 -- The steps of the core: what each does, and when it is enabled.
 use Rattle.std.specs.Cmp.Lexicographic.{slice_cmp}
-use Rattle.std.specs.FinMap.{entries, get, insert, len, remove, values}
+use Rattle.std.specs.FinMap.{empty, entries, get, insert, len, remove, values}
 use Rattle.std.specs.Ordering.{eq_by_cmp, is_lt, nat_cmp}
-use Rattle.std.specs.Prelude.{Bool, None, Option, Some, cond, false, length, nat_eq, not, sum, true, unwrap_or, ℕ, ◌&&◌, ◌+◌, ◌-◌, ◌<◌, ◌||◌, ◌≡◌, ◌≤◌, ◌⊎◌}
+use Rattle.std.specs.Prelude.{Bool, None, Option, Some, cond, false, length, nat_eq, not, sum, true, unwrap_or, ℕ, ◌&&◌, ◌+◌, ◌-◌, ◌<◌, ◌||◌, ◌≡◌, ◌≢◌, ◌≤◌, ◌⊎◌}
 use Rattle.std.specs.declared.cmp.Ordering.{Ordering}
 use Rattle.records.specs.ChangeValue.{ChangeValue}
 use Rattle.records.specs.Maps.{set_at}
@@ -141,6 +141,10 @@ left s t committed = record s { txns = update nat_cmp s.txns t None; holder = λ
 abbrev pub created : State → State
 created s = record s { life = Building None; bound = None; given = λ p. false; missed = λ p. false; taken = λ n. false }
 
+-- no entry is left, and nothing of the builder and the cleaner
+abbrev pub dropped : State → State
+dropped s = record s { entries = empty; life = Absent; bound = None; given = λ p. false; missed = λ p. false; taken = λ n. false; cleaned = None }
+
 abbrev pub page_taken : State → ℕ → State
 page_taken s n = record s {
   given = λ p. s.given p || (nat_eq p.rid.page n && is_pair_of (get s.rows p.rid) p);
@@ -168,6 +172,7 @@ pub data MachineStep : Type 0 where
   Clean : Pair → MachineStep
   Keep : Pair → MachineStep
   Wrap : MachineStep
+  Drop : MachineStep
 
 -- what a step makes of the cells, the transactions, the builder and the cleaner
 abbrev pub moved_by : State → MachineStep → State
@@ -185,6 +190,7 @@ moved_by s Finish = record s { life = Complete }
 moved_by s (Clean p) = record s { entries = set_at s.entries p None; cleaned = Some p }
 moved_by s (Keep p) = record s { cleaned = Some p }
 moved_by s Wrap = record s { cleaned = None }
+moved_by s Drop = dropped s
 
 -- ---- reserved entry places
 
@@ -280,3 +286,4 @@ IsEnabled s Finish = CanFinish s
 IsEnabled s (Clean p) = CanClean s p
 IsEnabled s (Keep p) = Unit {0}
 IsEnabled s Wrap = Unit {0}
+IsEnabled s Drop = (s.life ≢ Absent) × ((t : ℕ) → s.txns t ≡ None)

@@ -8,7 +8,7 @@ use Rattle.records.specs.declared.pair.Pair.{Pair}
 use Rattle.records.specs.declared.record.Action.{Action}
 use Rattle.records.specs.declared.record.Action.TheVariants.{OfIndex, OfTxn}
 use Rattle.records.specs.declared.record.IndexAction.{IndexAction}
-use Rattle.records.specs.declared.record.IndexAction.TheVariants.{BuildCheckpoint, BuildDone, BuildPlace, Clean, Create}
+use Rattle.records.specs.declared.record.IndexAction.TheVariants.{BuildCheckpoint, BuildDone, BuildPlace, Clean, Create, Drop}
 use Rattle.records.specs.declared.record.Part.{Part}
 use Rattle.records.specs.declared.record.Part.TheVariants.{NewEntry, OldEntry, Slot}
 use Rattle.records.specs.declared.record.TxnAction.{TxnAction}
@@ -58,22 +58,24 @@ abbrev coded_txn : Coded TxnAction
 coded_txn = code_by ((Part × (ChangeValue × Option Bool)) ⊎ Bool) (coded⊎ (coded× coded_part (coded× coded_change (coded_option coded_bool))) coded_bool) txn_in txn_out txn_back
 
 -- what is done with a pair, or without one
-abbrev index_in : IndexAction → (Pair × Option Bool) ⊎ Bool
-index_in Create = inr true
+abbrev index_in : IndexAction → (Pair × Option Bool) ⊎ Option Bool
+index_in Create = inr (Some true)
 index_in (BuildPlace pair) = inl (pair, None)
 index_in (BuildCheckpoint pair) = inl (pair, Some true)
-index_in BuildDone = inr false
+index_in BuildDone = inr (Some false)
 index_in (Clean pair) = inl (pair, Some false)
+index_in Drop = inr None
 
 abbrev of_pair : Pair → Option Bool → IndexAction
 of_pair pair None = BuildPlace pair
 of_pair pair (Some true) = BuildCheckpoint pair
 of_pair pair (Some false) = Clean pair
 
-abbrev index_out : (Pair × Option Bool) ⊎ Bool → IndexAction
+abbrev index_out : (Pair × Option Bool) ⊎ Option Bool → IndexAction
 index_out (inl both) = of_pair both.0 both.1
-index_out (inr true) = Create
-index_out (inr false) = BuildDone
+index_out (inr (Some true)) = Create
+index_out (inr (Some false)) = BuildDone
+index_out (inr None) = Drop
 
 abbrev index_back : (a : IndexAction) → index_out (index_in a) ≡ a
 index_back Create = refl
@@ -81,9 +83,10 @@ index_back (BuildPlace pair) = refl
 index_back (BuildCheckpoint pair) = refl
 index_back BuildDone = refl
 index_back (Clean pair) = refl
+index_back Drop = refl
 
 abbrev coded_index : Coded IndexAction
-coded_index = code_by ((Pair × Option Bool) ⊎ Bool) (coded⊎ (coded× coded_pair (coded_option coded_bool)) coded_bool) index_in index_out index_back
+coded_index = code_by ((Pair × Option Bool) ⊎ Option Bool) (coded⊎ (coded× coded_pair (coded_option coded_bool)) (coded_option coded_bool)) index_in index_out index_back
 
 abbrev action_in : Action → (ℕ × TxnAction) ⊎ IndexAction
 action_in (OfTxn txn action) = inl (txn, action)

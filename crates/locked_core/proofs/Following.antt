@@ -15,7 +15,7 @@ use Rattle.records.specs.declared.record.Part.TheVariants.{Slot, OldEntry, NewEn
 use Rattle.records.specs.declared.record.TxnAction.{TxnAction}
 use Rattle.records.specs.declared.record.TxnAction.TheVariants.{Forward, Undo, Commit, End}
 use Rattle.records.specs.declared.record.IndexAction.{IndexAction}
-use Rattle.records.specs.declared.record.IndexAction.TheVariants.{Create, BuildPlace, BuildCheckpoint, BuildDone, Clean}
+use Rattle.records.specs.declared.record.IndexAction.TheVariants.{Create, BuildPlace, BuildCheckpoint, BuildDone, Clean, Drop}
 use Rattle.records.specs.declared.record.Action.{Action}
 use Rattle.records.specs.declared.record.Action.TheVariants.{OfTxn, OfIndex}
 use Rattle.model.specs.declared.life.Life.{Life}
@@ -98,6 +98,7 @@ index_whole pages life (BuildPlace pair) t = (below_whole pair.rid.page pages (�
 index_whole pages life (BuildCheckpoint pair) t = (below_whole pair.rid.page pages (∥∥₁_map t (λ x. x.0)), building_whole life (∥∥₁_map t (λ x. x.1)))
 index_whole pages life BuildDone t = building_whole life t
 index_whole pages life (Clean pair) t = (below_whole pair.rid.page pages (∥∥₁_map t (λ x. x.0)), not_whole (∥∥₁_map t (λ x. x.1)))
+index_whole pages life Drop t = not_whole t
 
 -- ---- all of them
 

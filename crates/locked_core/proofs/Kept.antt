@@ -23,9 +23,10 @@ use Rattle.nsf_core.specs.Undoing.{undone_reply}
 use Rattle.nsf_core.specs.declared.parts.Ticket.{Ticket}
 use Rattle.nsf_core.specs.declared.reply.Undone.{Undone}
 use Rattle.registry.specs.Halves.{HalfValue, IsBook, IsNew, shown}
-use Rattle.sessions.specs.Steps.{begun, changed, committed, ended, rolling_back, with_creation}
+use Rattle.sessions.specs.declared.turn.Turn.{Turn}
+use Rattle.sessions.specs.Steps.{begun, changed, committed, ended, rolling_back, with_turn}
 use Rattle.sessions.specs.Values.{empty_session, is_active, is_ready, SessionValue}
-use Rattle.register.proofs.Laws.{begin_agreed, commit_agreed, create_agreed, delete_agreed, end_agreed, insert_agreed, opened_agreed, others_agreed, pushed_agreed, ready_seen, refused_agreed, tables_shown, undo_agreed, update_agreed}
+use Rattle.register.proofs.Laws.{begin_agreed, commit_agreed, create_agreed, delete_agreed, drop_agreed, end_agreed, insert_agreed, opened_agreed, others_agreed, pushed_agreed, ready_seen, refused_agreed, tables_shown, undo_agreed, update_agreed}
 use Rattle.register.specs.Agreement.{IsOfNoSeat, IsRegister}
 use Rattle.register.specs.Register.{AreEmpty}
 use Rattle.locked_core.proofs.Book.{set_itself, some_is}
@@ -91,10 +92,15 @@ module _ (o : Opened) (core new : CoreValue) (pushed : List RecordValue) (book :
   commit_kept txn = txn_kept txn (Event.Commit txn) reply_of_ticket (λ ticket. committed p txn ticket)
       (λ own ticket is. commit_agreed o shared.opens pushed core book shared.register k p there txn own ticket new is)
 
-  pub create_kept : (result : Result Ticket Error) → Serves core Event.Create (reply_by reply_of_ticket result) new → IfOk result (λ ticket. q ≡ with_creation p ticket.«record») → OnErr result (q ≡ p) → IsShared o new pushed (slice_set book k q)
+  pub create_kept : (result : Result Ticket Error) → Serves core Event.Create (reply_by reply_of_ticket result) new → IfOk result (λ ticket. q ≡ with_turn p (Turn.Created ticket.«record»)) → OnErr result (q ≡ p) → IsShared o new pushed (slice_set book k q)
   create_kept (Ok ticket) is ok err =
       stepped (subst (λ x. IsRegister o pushed new (slice_set book k x)) (sym ok) (create_agreed o shared.opens pushed core book shared.register k p there ticket new is))
   create_kept (Err e) is ok err = refused Event.Create e is err
+
+  pub drop_kept : (result : Result Ticket Error) → Serves core Event.Drop (reply_by reply_of_ticket result) new → IfOk result (λ ticket. q ≡ with_turn p (Turn.Dropped ticket.«record»)) → OnErr result (q ≡ p) → IsShared o new pushed (slice_set book k q)
+  drop_kept (Ok ticket) is ok err =
+      stepped (subst (λ x. IsRegister o pushed new (slice_set book k x)) (sym ok) (drop_agreed o shared.opens pushed core book shared.register k p there ticket new is))
+  drop_kept (Err e) is ok err = refused Event.Drop e is err
 
   pub begin_kept : (result : Result ℕ Error) → Serves core Event.Begin (reply_by Reply.Txn result) new → IfOk result (λ txn. q ≡ begun p txn) → OnErr result (q ≡ p) → IsShared o new pushed (slice_set book k q)
   begin_kept (Ok txn) is ok err =

@@ -30,7 +30,7 @@ no_names = record {
   opened = record { given = record { table = map.empty; entries = map.empty; life = Absent; last = 0 }; pages = 0; places = 0 };
 }
 
--- What the core and the sessions under the lock keep: the sessions have what the core has of the active transactions, and its commits and creations, in one list of all seats in the order of their numbers; and for each record number from that of the opening on, the records up to it give the table of the opening with the commits up to it set over it.
+-- What the core and the sessions under the lock keep: the sessions have what the core has of the active transactions, and its commits and what was done to the index, each in one list of all seats in the order of their numbers; and for each record number from that of the opening on, the records up to it give the table of the opening with the commits up to it set over it.
 pub record IsShared (opened : Opened) (core : CoreValue) (pushed : List RecordValue) (book : List SessionValue) : Type 0 where
   pub opens : CanOpen opened
   pub register : IsRegister opened pushed core book

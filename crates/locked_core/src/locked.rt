@@ -26,7 +26,8 @@ ghost use Rattle.records.specs.declared.row.Row.{Row as RowValue};
 ghost use Rattle.model.specs.declared.write.Write.{Write};
 ghost use Rattle.register.specs.Reading.{ReadsBack, ShowsRow, unfinished_of};
 ghost use Rattle.register.specs.Register.{AreEmpty};
-ghost use Rattle.sessions.specs.Steps.{begun, changed, committed, ended, rolling_back, stepped, with_creation};
+ghost use Rattle.sessions.specs.Steps.{begun, changed, committed, ended, rolling_back, stepped, with_turn};
+ghost use Rattle.sessions.specs.declared.turn.Turn.TheVariants.{Created, Dropped};
 ghost use Rattle.sessions.specs.Values.{SessionValue, is_active, is_ready, is_unfinished};
 ghost use Rattle.locked_core.specs.Following.{FitPlaces, FollowOpening};
 ghost use Rattle.locked_core.specs.Names.{IsShared};
@@ -288,7 +289,7 @@ impl<B: Site> Locked<B> {
         requires { registry.now ≡ B.site.table }
         ensures before { slice_get (locked_of self.old).book seat.old.number ≡ Some seat.old.session }
         ensures served { Serves (locked_of self.old).core Event.Create (reply_by reply_of_ticket result) (locked_of self.new).core }
-        ensures ok { IfOk result (λ ticket. seat.new.session ≡ with_creation seat.old.session ticket.«record») }
+        ensures ok { IfOk result (λ ticket. seat.new.session ≡ with_turn seat.old.session (Created ticket.«record»)) }
         ensures recorded { IfOk result (λ ticket. (locked_of self.new).core.outbox ≡ (locked_of self.old).core.outbox ++ record { number = ticket.«record»; action = OfIndex IndexAction.Create } ∷ []) }
         ensures refused { OnErr result (seat.new.session ≡ seat.old.session) }
         ensures number { seat.new.number ≡ seat.old.number }
@@ -299,6 +300,31 @@ impl<B: Site> Locked<B> {
         let created = seat.session.create_index(&mut self.core);
         registry.change(&mut seat.half, &mut self.book[seat.number], &seat.session);
         created
+    }
+
+    /// Drops the index, be it complete or not, and keeps the number of its record with the seat. The record that is made is the
+    /// dropping, with the ticket's number.
+    ///
+    /// The refusals are those of the core's `drop_index`. After a refusal all is as before.
+    pub fn drop_index(
+        &mut self,
+        registry: &Registry,
+        seat: &mut SeatPart<B>,
+    ) -> Result<Ticket, Error>
+        requires { registry.now ≡ B.site.table }
+        ensures before { slice_get (locked_of self.old).book seat.old.number ≡ Some seat.old.session }
+        ensures served { Serves (locked_of self.old).core Event.Drop (reply_by reply_of_ticket result) (locked_of self.new).core }
+        ensures ok { IfOk result (λ ticket. seat.new.session ≡ with_turn seat.old.session (Dropped ticket.«record»)) }
+        ensures recorded { IfOk result (λ ticket. (locked_of self.new).core.outbox ≡ (locked_of self.old).core.outbox ++ record { number = ticket.«record»; action = OfIndex IndexAction.Drop } ∷ []) }
+        ensures refused { OnErr result (seat.new.session ≡ seat.old.session) }
+        ensures number { seat.new.number ≡ seat.old.number }
+        ensures book { (locked_of self.new).book ≡ slice_set (locked_of self.old).book seat.old.number seat.new.session }
+        ensures pushed { (locked_of self.new).pushed ≡ (locked_of self.old).pushed }
+    {
+        each_number();
+        let dropped = seat.session.drop_index(&mut self.core);
+        registry.change(&mut seat.half, &mut self.book[seat.number], &seat.session);
+        dropped
     }
 
     /// Makes the step that a transaction of the seat owes.

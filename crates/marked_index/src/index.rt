@@ -262,6 +262,15 @@ impl<A: Allocator + Clone> MarkedIndex<A> {
         takes_out
     }
 
+    /// Takes every entry out; the places that are pledged stay so.
+    ///
+    /// It takes no memory.
+    pub fn clear(&mut self)
+        ensures { self.new ≡ record self.old { entries = map.empty } }
+    {
+        self.tree.clear();
+    }
+
     /// Whether there is room for the places of one more change, so that `pledge` won't refuse.
     pub fn can_pledge(&self) -> bool
         ensures { IsTrue result ↔

@@ -15,7 +15,7 @@ use Rattle.records.specs.declared.pair.Pair.{Pair}
 use Rattle.records.specs.declared.record.Part.TheVariants.{Slot, OldEntry, NewEntry}
 use Rattle.records.specs.declared.record.TxnAction.{TxnAction}
 use Rattle.records.specs.declared.record.TxnAction.TheVariants.{Forward, Undo, Commit, End}
-use Rattle.records.specs.declared.record.IndexAction.TheVariants.{Create, BuildPlace, BuildCheckpoint, BuildDone, Clean}
+use Rattle.records.specs.declared.record.IndexAction.TheVariants.{Create, BuildPlace, BuildCheckpoint, BuildDone, Clean, Drop}
 use Rattle.records.specs.declared.record.Action.{Action}
 use Rattle.records.specs.declared.record.Action.TheVariants.{OfTxn, OfIndex}
 use Rattle.model.specs.Pairs.{pair_at, with_entry}
@@ -91,6 +91,7 @@ one_entry (OfIndex (BuildPlace p)) q = one_set pair_exact p (Some Live) q
 one_entry (OfIndex (BuildCheckpoint p)) q = stays q
 one_entry (OfIndex BuildDone) q = stays q
 one_entry (OfIndex (Clean p)) q = one_set pair_exact p None q
+one_entry (OfIndex Drop) q = inl (λ m n. refl)
 
 rows_are : (cells : Cells) (records : List RecordValue) → (cells_after cells records).rows ≡ after rows_by one_row cells.rows records
 unfolding after

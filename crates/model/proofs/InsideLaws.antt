@@ -18,7 +18,7 @@ use Rattle.records.specs.declared.record.Part.TheVariants.{Slot, OldEntry, NewEn
 use Rattle.records.specs.declared.record.TxnAction.{TxnAction}
 use Rattle.records.specs.declared.record.TxnAction.TheVariants.{Forward, Undo, Commit, End}
 use Rattle.records.specs.declared.record.IndexAction.{IndexAction}
-use Rattle.records.specs.declared.record.IndexAction.TheVariants.{Create, BuildPlace, BuildCheckpoint, BuildDone, Clean}
+use Rattle.records.specs.declared.record.IndexAction.TheVariants.{Create, BuildPlace, BuildCheckpoint, BuildDone, Clean, Drop}
 use Rattle.records.specs.declared.record.Action.{Action}
 use Rattle.records.specs.declared.record.Action.TheVariants.{OfTxn, OfIndex}
 use Rattle.model.specs.declared.life.Life.{Life}
@@ -91,6 +91,7 @@ module _ (pages : ℕ) where
   entries_index cells (BuildCheckpoint pair) can is = is
   entries_index cells BuildDone can is = is
   entries_index cells (Clean pair) can is = set_inside cells.entries pair None can.0 is
+  entries_index cells Drop can is = λ p e. absurd (e (map.get-empty pair_cmp p))
 
   life_index : (life : Life) (action : IndexAction) → CanFollowIndex pages life action → IsLifeWithin pages life → IsLifeWithin pages (life_by_index life action)
   life_index life Create can is p e = absurd cc
@@ -98,6 +99,7 @@ module _ (pages : ℕ) where
   life_index life (BuildCheckpoint pair) can is p e = let same : pair ≡ p = cc in subst (λ (x : Pair). x.rid.page < pages) same can.0
   life_index life BuildDone can is p e = absurd cc
   life_index life (Clean pair) can is p e = is p e
+  life_index life Drop can is p e = absurd cc
 
   pub step_inside : (cells : Cells) (action : Action) → CanFollowBy pages cells action → AreInside pages cells → AreInside pages (set_by cells action)
   step_inside cells (OfTxn txn action) can is =

@@ -11,7 +11,7 @@ use Rattle.records.specs.declared.record.Part.TheVariants.{Slot, OldEntry, NewEn
 use Rattle.records.specs.declared.record.TxnAction.{TxnAction}
 use Rattle.records.specs.declared.record.TxnAction.TheVariants.{Forward, Undo, Commit, End}
 use Rattle.records.specs.declared.record.IndexAction.{IndexAction}
-use Rattle.records.specs.declared.record.IndexAction.TheVariants.{Create, BuildPlace, BuildCheckpoint, BuildDone, Clean}
+use Rattle.records.specs.declared.record.IndexAction.TheVariants.{Create, BuildPlace, BuildCheckpoint, BuildDone, Clean, Drop}
 use Rattle.records.specs.declared.record.Action.{Action}
 use Rattle.records.specs.declared.record.Action.TheVariants.{OfTxn, OfIndex}
 use Rattle.model.specs.declared.life.Life.{Life}
@@ -54,6 +54,7 @@ CanFollowIndex pages life (BuildPlace pair) = (pair.rid.page < pages) × IsBuild
 CanFollowIndex pages life (BuildCheckpoint pair) = (pair.rid.page < pages) × IsBuilding life
 CanFollowIndex pages life BuildDone = IsBuilding life
 CanFollowIndex pages life (Clean pair) = (pair.rid.page < pages) × (life ≢ Absent)
+CanFollowIndex pages life Drop = life ≢ Absent
 
 abbrev pub CanFollowBy : ℕ → Cells → Action → Type 0
 CanFollowBy pages cells (OfTxn txn action) = CanFollowTxn pages cells txn action

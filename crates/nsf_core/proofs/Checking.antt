@@ -1,10 +1,10 @@
 -- What the state refuses, and what only want of memory may.
 use Rattle.std.proofs.Common.{inl, inr, sym, ℕ, ◌∙◌, ◌≡◌, ◌≢◌}
 use Rattle.records.specs.declared.error.Error.{Error}
-use Rattle.records.specs.declared.error.Error.TheVariants.{Exhausted, IndexExists, IndexFull, NoMemory, NoSuchRow, NoSuchTxn, RowBusy, TooManyChanges, TxnsActive}
+use Rattle.records.specs.declared.error.Error.TheVariants.{Exhausted, NoIndex, IndexExists, IndexFull, NoMemory, NoSuchRow, NoSuchTxn, RowBusy, TooManyChanges, TxnsActive}
 use Rattle.records.specs.Values.{Place}
 use Rattle.nsf_core.specs.View.{CoreValue}
-use Rattle.nsf_core.specs.Private.{IsUncreatable, HasNoRecord, IsUnable, IsUnchangeable, IsUnroomy, is_busy, is_full, is_missing, is_unable, is_unknown, is_unroomy}
+use Rattle.nsf_core.specs.Private.{IsUncreatable, IsUndroppable, HasNoRecord, IsUnable, IsUnchangeable, IsUnroomy, is_busy, is_full, is_missing, is_unable, is_unknown, is_unroomy}
 
 module _ (v : CoreValue) (e : Error) where
   pub unable_by_state : (t : ℕ) → IsUnable v t e → e ≢ NoMemory
@@ -28,3 +28,7 @@ module _ (v : CoreValue) (e : Error) where
   pub uncreatable_by_state : IsUncreatable v e → e ≢ NoMemory
   uncreatable_by_state (inl why) lack = let other : IndexExists ≡ NoMemory = sym why.0 ∙ lack in absurd cc
   uncreatable_by_state (inr why) lack = let other : TxnsActive ≡ NoMemory = sym why.0 ∙ lack in absurd cc
+
+  pub undroppable_by_state : IsUndroppable v e → e ≢ NoMemory
+  undroppable_by_state (inl why) lack = let other : NoIndex ≡ NoMemory = sym why.0 ∙ lack in absurd cc
+  undroppable_by_state (inr why) lack = let other : TxnsActive ≡ NoMemory = sym why.0 ∙ lack in absurd cc

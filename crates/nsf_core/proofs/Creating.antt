@@ -21,7 +21,7 @@ use Rattle.nsf_core.proofs.Due.{made, no_number, refusal, ticket_answers, wants_
 use Rattle.nsf_core.proofs.Moved.{same_number}
 
 -- a table with a transaction has its state
-some_state : (es : List (ℕ × TxnState)) → es ≢ [] → (t : ℕ) × (x : TxnState) × (table.state_of t es ≡ Some x)
+pub some_state : (es : List (ℕ × TxnState)) → es ≢ [] → (t : ℕ) × (x : TxnState) × (table.state_of t es ≡ Some x)
 some_state [] n = absurd (n refl)
 some_state (e ∷ es) n = (e.0, e.1, ap (λ b. cond b (Some e.1) (table.state_of e.0 es)) (same_number e.0 e.0 refl))
 
@@ -53,10 +53,10 @@ module _ (v : CoreValue) (s : State) (k : Standing) (st : IsState v s k) where
     first = inr (not_there none, inr (λ any. not_none any.2 (nobody any.0), refl))
 
     abbrev reply : Reply
-    reply = Reply.Created (v.last + 1)
+    reply = Reply.Ticketed (v.last + 1)
 
     due : IsDue s k Event.Create reply (Some MachineStep.Create)
-    due = (ap (λ n. Reply.Created (n + 1)) (sym h.made), refl)
+    due = (ap (λ n. Reply.Ticketed (n + 1)) (sym h.made), refl)
 
     pub create_refused : (error : Error) → IsUnrecorded v error → Answers v s k Event.Create (Refused error) v
     create_refused error (inl why) = subst (λ e. Answers v s k Event.Create (Refused e) v) (sym why.0) (no_number v s k h Event.Create (λ x. x) tt first reply MachineStep.Create due (λ x. x) (λ e. not_none refl e) why.1)
@@ -106,6 +106,6 @@ module _ (v : CoreValue) (none : is_indexed v.life ≡ false) (quiet : v.txns.ac
 pub creation_serves : (v : CoreValue) → is_indexed v.life ≡ false → v.txns.active ≡ [] → (result : Result Ticket Error) (v' : CoreValue) → OnOk result (v' ≡ index_created v) → OnOk result (HasRun (begun None v.heap.pages) (begun_run None v.heap.pages)) → OnOk result (HasNextNumber v)
     → IfOk result (λ t. t.record ≡ v.last + 1) → IfOk result (λ t. t.commit ≡ None) → IfErr result (IsUnrecorded v) → OnErr result (v' ≡ v) → Serves v Event.Create (reply_by reply_of_ticket result) v'
 creation_serves v none quiet (Ok ticket) v' is run left number no_commit why same s k st =
-    ticket_answers v s k Event.Create Reply.Created ticket v' number no_commit
-    (subst (Answers v s k Event.Create (Reply.Created (v.last + 1))) (sym is) (create_made v s k st none quiet run left))
+    ticket_answers v s k Event.Create Reply.Ticketed ticket v' number no_commit
+    (subst (Answers v s k Event.Create (Reply.Ticketed (v.last + 1))) (sym is) (create_made v s k st none quiet run left))
 creation_serves v none quiet (Err error) v' is run left number no_commit why same s k st = subst (Answers v s k Event.Create (Refused error)) (sym same) (create_refused v s k st none quiet error why)

@@ -12,6 +12,7 @@ mod Next
 mod Building
 mod Cleaning
 mod Creating
+mod Dropping
 mod Loading
 mod Walked
 mod Finding

@@ -22,12 +22,13 @@ module _ (s : State) (k : Standing) (error : Error) where
   ]
   due_apart (Event.End t) reply step d is = let other : Ended ≡ Refused error = sym d.0 ∙ is in absurd cc
   due_apart (Event.Commit t) reply step d is = let other : Reply.Committed (k.made + 1) (k.commits + 1) ≡ Refused error = sym d.0 ∙ is in absurd cc
-  due_apart Event.Create reply step d is = let other : Reply.Created (k.made + 1) ≡ Refused error = sym d.0 ∙ is in absurd cc
+  due_apart Event.Create reply step d is = let other : Reply.Ticketed (k.made + 1) ≡ Refused error = sym d.0 ∙ is in absurd cc
   due_apart Event.Build reply step d is = let other : Built d.0 ≡ Refused error = sym d.2 ∙ is in absurd cc
   due_apart Event.Clean reply step d is = let other : Cleaner d.0 ≡ Refused error = sym d.2 ∙ is in absurd cc
   due_apart (Event.Get r) reply step d is = let other : RowIs (get s.rows r) ≡ Refused error = sym d.0 ∙ is in absurd cc
   due_apart (Event.Find key) reply step d is = let other : Found d.0 ≡ Refused error = sym d.2 ∙ is in absurd cc
   due_apart Event.Life reply step d is = let other : LifeIs s.life ≡ Refused error = sym d.0 ∙ is in absurd cc
+  due_apart Event.Drop reply step d is = let other : Reply.Ticketed (k.made + 1) ≡ Refused error = sym d.0 ∙ is in absurd cc
 
   no_step : (e : Event) (reply : Reply) (step : Option MachineStep) → reply ≡ Refused error → IsAllowed s k e reply step → step ≡ None
   no_step e _ _ is (unknown a) = refl

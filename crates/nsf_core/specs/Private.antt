@@ -1,4 +1,5 @@
 -- Words for the private steps of the core. No public clause cites them.
+use Rattle.std.specs.FinMap as map
 use Rattle.std.specs.FinMap.{get, len}
 use Rattle.std.specs.Prelude.{◌≤◌, ◌-◌, List, None, Option, Some, [], length, true, ℕ, ◌++◌, ◌+◌, ◌<◌, ◌∷◌, ◌≡◌, ◌≢◌, ◌⊎◌, false, Contains, min, ◌^◌, ◌↔◌}
 use Rattle.std.specs.declared.cmp.Ordering.TheVariants.{Less}
@@ -10,7 +11,7 @@ use Rattle.records.specs.Values.{Place}
 use Rattle.records.specs.declared.change.Rows.{Rows}
 use Rattle.records.specs.declared.change.TheConstants.{CHANGES_MAX}
 use Rattle.records.specs.declared.error.Error.{Error}
-use Rattle.records.specs.declared.error.Error.TheVariants.{Exhausted, IndexFull, NoSuchRow, NoSuchTxn, RowBusy, TooManyChanges, IndexExists, TxnsActive, NoMemory}
+use Rattle.records.specs.declared.error.Error.TheVariants.{Exhausted, IndexFull, NoIndex, NoSuchRow, NoSuchTxn, RowBusy, TooManyChanges, IndexExists, TxnsActive, NoMemory}
 use Rattle.records.specs.declared.row.Row.{Row}
 use Rattle.records.specs.declared.number.TheConstants.{LAST_NUMBER}
 use Rattle.records.specs.declared.limits.TheConstants.{PLACES_PER_CHANGE}
@@ -32,7 +33,7 @@ use Rattle.txn_table.specs.Table as table
 use Rattle.core_steps.specs.declared.step.Cell.{Cell}
 use Rattle.core_steps.specs.declared.step.Step.{Step}
 use Rattle.core_steps.specs.declared.step.Cell.TheVariants as cell
-use Rattle.model.specs.declared.life.Life.TheVariants.{Building, Complete}
+use Rattle.model.specs.declared.life.Life.TheVariants.{Absent, Building, Complete}
 use Rattle.model.specs.Pairs.{is_indexed, new_pair}
 use Rattle.model.specs.declared.key_action.KeyAction.{KeyAction}
 use Rattle.sorted_scan.specs.Scans.{begun, HasRun}
@@ -195,6 +196,14 @@ IsUncreatable v e = ((e ≡ IndexExists) × (is_indexed v.life ≡ true)) ⊎ ((
 -- the index is being built, and nothing of it is there yet
 abbrev pub index_created : CoreValue → CoreValue
 index_created v = with_record (record v { life = Building None; scan = begun None v.heap.pages; tried = 0 }) (OfIndex index_action.Create)
+
+-- why the index can't be dropped, but for want of a number or of memory
+abbrev pub IsUndroppable : CoreValue → Error → Type 0
+IsUndroppable v e = ((e ≡ NoIndex) × (v.life ≡ Absent)) ⊎ ((e ≡ TxnsActive) × (v.life ≢ Absent) × (v.txns.active ≢ []))
+
+-- there is no index any more, and nothing of it is left
+abbrev pub index_dropped : CoreValue → CoreValue
+index_dropped v = with_record (record v { index = record v.index { entries = map.empty }; life = Absent; scan = begun None v.heap.pages; cleaned = None; tried = 0 }) (OfIndex index_action.Drop)
 
 -- a number is left for a record
 abbrev pub HasNextNumber : CoreValue → Type 0

@@ -16,6 +16,6 @@ ticket_by other number (Some commit) = Reply.Committed number commit
 abbrev pub ticketed : (ℕ → Reply) → Ticket → Reply
 ticketed other ticket = ticket_by other ticket.record ticket.commit
 
--- and without, here, of a creation
+-- and without, here, of a creation or of a dropping
 abbrev pub reply_of_ticket : Ticket → Reply
-reply_of_ticket ticket = ticketed Reply.Created ticket
+reply_of_ticket ticket = ticketed Reply.Ticketed ticket

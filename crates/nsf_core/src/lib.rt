@@ -5,6 +5,7 @@
 mod build;
 mod clean;
 mod create;
+mod drop;
 mod find;
 mod laws;
 mod load;

@@ -247,6 +247,14 @@ impl<A: Allocator + Copy> Core<A> {
         self.parts.check_create()
     }
 
+    /// Why `drop_index` would be refused, but for want of memory: `NoIndex`, then `TxnsActive`, and `Exhausted`.
+    pub fn check_drop(&self) -> Result<(), Error>
+        ensures refused { IfErr result (IsRefused (value_of self.now) Event.Drop) }
+        ensures fine { OnOk result (IsFine (value_of self.now) Event.Drop) }
+    {
+        self.parts.check_drop()
+    }
+
     /// How many pages there are for rows. Each row is at a place of them.
     pub fn pages(&self) -> u32
         ensures number { result ≡ (value_of self.now).heap.pages }
@@ -397,6 +405,17 @@ impl<A: Allocator + Copy> Core<A> {
         ensures { Serves (value_of self.old) Event.Create (reply_by reply_of_ticket result) (value_of self.new) }
     {
         self.parts.create_index()
+    }
+
+    /// Drops the index, be it complete or not: no entry is left, and nothing of its builder and its cleaner. It may be
+    /// created again.
+    ///
+    /// `NoIndex`, then `TxnsActive` where a transaction is active, `Exhausted` where no number is left for a record, and
+    /// `NoMemory`. After a refusal the core is as before.
+    pub fn drop_index(&mut self) -> Result<Ticket, Error>
+        ensures { Serves (value_of self.old) Event.Drop (reply_by reply_of_ticket result) (value_of self.new) }
+    {
+        self.parts.drop_index()
     }
 
     /// Makes a step of the builder, the first of these that applies. Where the index is complete:

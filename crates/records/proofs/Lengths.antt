@@ -12,7 +12,7 @@ use Rattle.records.specs.declared.change.Rows.TheVariants.{Inserted, Deleted, Up
 use Rattle.records.specs.declared.record.TxnAction.{TxnAction}
 use Rattle.records.specs.declared.record.TxnAction.TheVariants.{Forward, Undo, Commit, End}
 use Rattle.records.specs.declared.record.IndexAction.{IndexAction}
-use Rattle.records.specs.declared.record.IndexAction.TheVariants.{Create, BuildPlace, BuildCheckpoint, BuildDone, Clean}
+use Rattle.records.specs.declared.record.IndexAction.TheVariants.{Create, BuildPlace, BuildCheckpoint, BuildDone, Clean, Drop}
 use Rattle.records.specs.declared.record.Action.{Action}
 use Rattle.records.specs.declared.record.Action.TheVariants.{OfTxn, OfIndex}
 use Rattle.records.specs.Spelling.{short, rid, row, change, pair, flag, u16, u32, u64, old_row, new_row, txn_fields, index_fields, txn_of, fields_of, spelling, RowFits, RowsFit, PairFits, TxnActionFits, IndexActionFits, ActionFits, Fits}
@@ -47,6 +47,7 @@ index_most (BuildPlace p) fits = omega (arith, pair_most p fits)
 index_most (BuildCheckpoint p) fits = omega (arith, pair_most p fits)
 index_most BuildDone fits = omega arith
 index_most (Clean p) fits = omega (arith, pair_most p fits)
+index_most Drop fits = omega arith
 
 fields_most : (a : Action) → ActionFits a → length (fields_of a) ≤ 9 + 2 * (3 + KEY_MAX + BODY_MAX)
 fields_most (OfTxn txn action) fits = txn_most action fits.1
@@ -64,6 +65,7 @@ some_index (BuildPlace p) = omega arith
 some_index (BuildCheckpoint p) = omega arith
 some_index BuildDone = omega arith
 some_index (Clean p) = omega arith
+some_index Drop = omega arith
 
 some_fields : (a : Action) → 1 ≤ length (fields_of a)
 some_fields (OfTxn txn action) = some_txn action

@@ -17,7 +17,7 @@ use Rattle.records.specs.declared.record.Part.TheVariants.{Slot, OldEntry, NewEn
 use Rattle.records.specs.declared.record.TxnAction.{TxnAction}
 use Rattle.records.specs.declared.record.TxnAction.TheVariants.{Forward, Undo, Commit, End}
 use Rattle.records.specs.declared.record.IndexAction.{IndexAction}
-use Rattle.records.specs.declared.record.IndexAction.TheVariants.{Create, BuildPlace, BuildCheckpoint, BuildDone, Clean}
+use Rattle.records.specs.declared.record.IndexAction.TheVariants.{Create, BuildPlace, BuildCheckpoint, BuildDone, Clean, Drop}
 use Rattle.records.specs.declared.record.Action.{Action}
 use Rattle.records.specs.declared.record.Action.TheVariants.{OfTxn, OfIndex}
 use Rattle.records.specs.Spelling.{rid, row, change, pair, u64, old_row, new_row, RowsFit, ChangeFits, PairFits, TxnActionFits, IndexActionFits, ActionFits, flag, forward_kind, undo_kind, txn_fields, index_fields, txn_of, fields_of, spelling, Fits}
@@ -224,8 +224,9 @@ index_action_takes kind bytes a rest fits =
     by_kind kind 10 (λ is e. at 10 (of_pair_takes placed 10 (λ p. refl) (λ p h. h) bytes a rest fits e) is) (
     by_kind kind 11 (λ is e. at 11 (of_pair_takes reached 11 (λ p. refl) (λ p h. h) bytes a rest fits e) is) (
     by_kind kind 12 (λ is e. at 12 (alone_takes bytes BuildDone a rest 12 (record { taken = record { parts = refl; rest_fits = fits }; fits = tt }) e) is) (
-    by_kind kind 13 (λ is e. at 13 (of_pair_takes cleaned 13 (λ p. refl) (λ p h. h) bytes a rest fits e) is)
-    (λ e. absurd cc)))))
+    by_kind kind 13 (λ is e. at 13 (of_pair_takes cleaned 13 (λ p. refl) (λ p h. h) bytes a rest fits e) is) (
+    by_kind kind 14 (λ is e. at 14 (alone_takes bytes Drop a rest 14 (record { taken = record { parts = refl; rest_fits = fits }; fits = tt }) e) is)
+    (λ e. absurd cc))))))
 
 abbrev index_action_from : List ℕ → Option (IndexAction × List ℕ)
 index_action_from bytes = byte_at bytes >>= λ kind. index_action_at kind.0 kind.1
@@ -237,6 +238,7 @@ index_action_again (BuildPlace p) rest fits = rw (pair_again p rest fits) refl
 index_action_again (BuildCheckpoint p) rest fits = rw (pair_again p rest fits) refl
 index_action_again BuildDone rest fits = refl
 index_action_again (Clean p) rest fits = rw (pair_again p rest fits) refl
+index_action_again Drop rest fits = refl
 
 -- ---- actions
 

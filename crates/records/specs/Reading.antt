@@ -17,7 +17,7 @@ use Rattle.records.specs.declared.record.Part.TheVariants.{Slot, OldEntry, NewEn
 use Rattle.records.specs.declared.record.TxnAction.{TxnAction}
 use Rattle.records.specs.declared.record.TxnAction.TheVariants.{Forward, Undo, Commit, End}
 use Rattle.records.specs.declared.record.IndexAction.{IndexAction}
-use Rattle.records.specs.declared.record.IndexAction.TheVariants.{Create, BuildPlace, BuildCheckpoint, BuildDone, Clean}
+use Rattle.records.specs.declared.record.IndexAction.TheVariants.{Create, BuildPlace, BuildCheckpoint, BuildDone, Clean, Drop}
 use Rattle.records.specs.declared.record.Action.{Action}
 use Rattle.records.specs.declared.record.Action.TheVariants.{OfTxn, OfIndex}
 
@@ -124,7 +124,7 @@ txn_action_at kind bytes =
     else if kind == 8 then Some (End, bytes)
     else None
 
--- the fields of an action of the builder or the cleaner
+-- the fields of an action on the index
 unfoldable pub index_action_at : ℕ → List ℕ → Option (IndexAction × List ℕ)
 index_action_at kind bytes =
     if kind == 9 then Some (Create, bytes)
@@ -132,6 +132,7 @@ index_action_at kind bytes =
     else if kind == 11 then (pair_at bytes >>= λ p. Some (BuildCheckpoint p.0, p.1))
     else if kind == 12 then Some (BuildDone, bytes)
     else if kind == 13 then (pair_at bytes >>= λ p. Some (Clean p.0, p.1))
+    else if kind == 14 then Some (Drop, bytes)
     else None
 
 unfoldable pub action_at : ℕ → List ℕ → Option (Action × List ℕ)

@@ -17,7 +17,7 @@ use Rattle.records.specs.declared.record.Part.TheVariants.{Slot, OldEntry, NewEn
 use Rattle.records.specs.declared.record.TxnAction.{TxnAction}
 use Rattle.records.specs.declared.record.TxnAction.TheVariants.{Forward, Undo, Commit, End}
 use Rattle.records.specs.declared.record.IndexAction.{IndexAction}
-use Rattle.records.specs.declared.record.IndexAction.TheVariants.{Create, BuildPlace, BuildCheckpoint, BuildDone, Clean}
+use Rattle.records.specs.declared.record.IndexAction.TheVariants.{Create, BuildPlace, BuildCheckpoint, BuildDone, Clean, Drop}
 use Rattle.records.specs.declared.record.Action.{Action}
 use Rattle.records.specs.declared.record.Action.TheVariants.{OfTxn, OfIndex}
 
@@ -90,6 +90,7 @@ index_fields (BuildPlace p) = 10 ∷ pair p
 index_fields (BuildCheckpoint p) = 11 ∷ pair p
 index_fields BuildDone = 12 ∷ []
 index_fields (Clean p) = 13 ∷ pair p
+index_fields Drop = 14 ∷ []
 
 abbrev pub fields_of : Action → List ℕ
 fields_of (OfTxn txn action) = txn_fields action
@@ -141,6 +142,7 @@ IndexActionFits (BuildPlace p) = PairFits p
 IndexActionFits (BuildCheckpoint p) = PairFits p
 IndexActionFits BuildDone = Unit {0}
 IndexActionFits (Clean p) = PairFits p
+IndexActionFits Drop = Unit {0}
 
 abbrev pub ActionFits : Action → Type 0
 ActionFits (OfTxn txn action) = IsTxn txn × TxnActionFits action

@@ -268,6 +268,7 @@ fn index_action_of(kind: u8, bytes: &[u8]) -> Option<(IndexAction, &[u8])>
             };
             Some((IndexAction::Clean { pair }, rest))
         }
+        14 => Some((IndexAction::Drop, bytes)),
         _ => None,
     }
 }

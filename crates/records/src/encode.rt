@@ -164,6 +164,7 @@ fn put_index_action<A: Allocator>(
         IndexAction::BuildCheckpoint { pair } => put_pair_of_kind(out, 11, pair),
         IndexAction::BuildDone => put_byte(out, 12),
         IndexAction::Clean { pair } => put_pair_of_kind(out, 13, pair),
+        IndexAction::Drop => put_byte(out, 14),
     }
 }
 

@@ -78,7 +78,7 @@ pub enum TxnAction {
     End,
 }
 
-/// What the builder or the cleaner did.
+/// What the builder or the cleaner did, or the creation or the dropping of the index.
 #[derive(Clone, Copy, Debug, PartialEq, Eq)]
 pub enum IndexAction {
     Create,
@@ -86,6 +86,7 @@ pub enum IndexAction {
     BuildCheckpoint { pair: Pair },
     BuildDone,
     Clean { pair: Pair },
+    Drop,
 }
 
 /// What a record says was done.

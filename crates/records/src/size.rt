@@ -77,7 +77,7 @@ fn index_action_size(action: &IndexAction) -> usize
     ensures fits { IndexActionFits action.now }
 {
     match action {
-        IndexAction::Create | IndexAction::BuildDone => 1,
+        IndexAction::Create | IndexAction::BuildDone | IndexAction::Drop => 1,
         IndexAction::BuildPlace { pair }
         | IndexAction::BuildCheckpoint { pair }
         | IndexAction::Clean { pair } => 1 + pair_size(pair),

@@ -62,6 +62,7 @@ due_same s k Event.Clean reply step d other = ap (commits_after k) d.2 ∙ clean
 due_same s k (Event.Get r) reply step d other = ap (commits_after k) d.0
 due_same s k (Event.Find key) reply step d other = ap (commits_after k) d.2
 due_same s k Event.Life reply step d other = ap (commits_after k) d.0
+due_same s k Event.Drop reply step d other = ap (commits_after k) d.0
 
 allowed_same : (s : State) (k : Standing) (e : Event) (reply : Reply) (step : Option MachineStep) → IsAllowed s k e reply step → IsNoCommit e → commits_after k reply ≡ k.commits
 allowed_same s k e reply step (unknown a) other = refl
@@ -73,17 +74,17 @@ allowed_same s k e reply step (accepted a b f r t d g) other = due_same s k e re
 
 -- ---- what answers tell
 
-pub ticket_answers : (number : ℕ) (commit : Option ℕ) → IsAnswer (ticket_by Reply.Created number commit)
+pub ticket_answers : (number : ℕ) (commit : Option ℕ) → IsAnswer (ticket_by Reply.Ticketed number commit)
 ticket_answers number None = tt
 ticket_answers number (Some c) = tt
 
-is_commit : (number : ℕ) (commit : Option ℕ) (n c : ℕ) → ticket_by Reply.Created number commit ≡ Reply.Committed n c → (number ≡ n) × (commit ≡ Some c)
+is_commit : (number : ℕ) (commit : Option ℕ) (n c : ℕ) → ticket_by Reply.Ticketed number commit ≡ Reply.Committed n c → (number ≡ n) × (commit ≡ Some c)
 is_commit number None n c e = absurd cc
 is_commit number (Some d) n c e = let same : d ≡ c = cc in (cc, ap Some same)
 
-is_creation : (number : ℕ) (commit : Option ℕ) (n : ℕ) → ticket_by Reply.Created number commit ≡ Reply.Created n → (number ≡ n) × (commit ≡ None)
-is_creation number None n e = (cc, λ i. None)
-is_creation number (Some d) n e = absurd cc
+is_turn : (number : ℕ) (commit : Option ℕ) (n : ℕ) → ticket_by Reply.Ticketed number commit ≡ Reply.Ticketed n → (number ≡ n) × (commit ≡ None)
+is_turn number None n e = (cc, λ i. None)
+is_turn number (Some d) n e = absurd cc
 
 pub is_txn : (t n : ℕ) → Reply.Txn t ≡ Reply.Txn n → t ≡ n
 is_txn t n e = cc
@@ -128,7 +129,15 @@ module _ (o : Opened) (pushed : List RecordValue) (core : CoreValue) (kept : IsK
       let answer = ticket_answers ticket.«record» ticket.commit in
       let a = answers Event.Create (reply_of_ticket ticket) new is in
       let d = due s k Event.Create (reply_of_ticket ticket) a.step a.allowed answer in
-      let numbers = is_creation ticket.«record» ticket.commit (k.made + 1) d.0 in
+      let numbers = is_turn ticket.«record» ticket.commit (k.made + 1) d.0 in
+      (numbers.0 ∙ ap (λ n. n + 1) kept.replied.stands.shown.made, numbers.1)
+
+  pub drop : (ticket : Ticket) (new : CoreValue) → Serves core Event.Drop (reply_of_ticket ticket) new → (ticket.«record» ≡ core.last + 1) × (ticket.commit ≡ None)
+  drop ticket new is =
+      let answer = ticket_answers ticket.«record» ticket.commit in
+      let a = answers Event.Drop (reply_of_ticket ticket) new is in
+      let d = due s k Event.Drop (reply_of_ticket ticket) a.step a.allowed answer in
+      let numbers = is_turn ticket.«record» ticket.commit (k.made + 1) d.0 in
       (numbers.0 ∙ ap (λ n. n + 1) kept.replied.stands.shown.made, numbers.1)
 
   -- the records that they make
@@ -143,8 +152,15 @@ module _ (o : Opened) (pushed : List RecordValue) (core : CoreValue) (kept : IsK
   create_record ticket new is =
       let a = answers Event.Create (reply_of_ticket ticket) new is in
       let d = due s k Event.Create (reply_of_ticket ticket) a.step a.allowed (ticket_answers ticket.«record» ticket.commit) in
-      let numbers = is_creation ticket.«record» ticket.commit (k.made + 1) d.0 in
+      let numbers = is_turn ticket.«record» ticket.commit (k.made + 1) d.0 in
       a.outbox ∙ (ap (λ step. core.outbox ++ records_by s k.made step) d.1 ∙ ap (λ n. core.outbox ++ record { number = n; action = OfIndex IndexAction.Create } ∷ []) (sym numbers.0))
+
+  pub drop_record : (ticket : Ticket) (new : CoreValue) → Serves core Event.Drop (reply_of_ticket ticket) new → new.outbox ≡ core.outbox ++ record { number = ticket.«record»; action = OfIndex IndexAction.Drop } ∷ []
+  drop_record ticket new is =
+      let a = answers Event.Drop (reply_of_ticket ticket) new is in
+      let d = due s k Event.Drop (reply_of_ticket ticket) a.step a.allowed (ticket_answers ticket.«record» ticket.commit) in
+      let numbers = is_turn ticket.«record» ticket.commit (k.made + 1) d.0 in
+      a.outbox ∙ (ap (λ step. core.outbox ++ records_by s k.made step) d.1 ∙ ap (λ n. core.outbox ++ record { number = n; action = OfIndex IndexAction.Drop } ∷ []) (sym numbers.0))
 
   pub others : (e : Event) (reply : Reply) (new : CoreValue) → IsNoCommit e → Serves core e reply new → new.commits ≡ core.commits
   others e reply new other serves = let a = serves s k kept.replied.stands in sym a.shown.commits ∙ (allowed_same s k e reply a.step a.allowed other ∙ kept.replied.stands.shown.commits)

@@ -12,7 +12,7 @@ use Rattle.records.specs.declared.change.Rows.TheVariants.{Deleted, Inserted, Up
 use Rattle.records.specs.declared.row.Row.{Row}
 use Rattle.model.proofs.HistoryLaws.{table_after-append}
 use Rattle.model.specs.Committed.{writes_of}
-use Rattle.model.specs.History.{Committed, Created, Item, table_after}
+use Rattle.model.specs.History.{Committed, Created, Dropped, Item, table_after}
 use Rattle.model.specs.Table.{applied}
 use Rattle.model.specs.declared.write.Write.{Write}
 use Rattle.core_model.proofs.Laws.{made_holds, txn_apart}
@@ -29,18 +29,19 @@ use Rattle.nsf_core.specs.View.{CoreValue, Serves}
 use Rattle.nsf_core.specs.declared.parts.Ticket.{Ticket}
 use Rattle.nsf_core.specs.declared.reply.Undone.{Undone}
 use Rattle.nsf_core.specs.declared.reply.Undone.TheVariants.{Empty, Step}
-use Rattle.sessions.specs.Steps.{begun, step_seen, changed, committed, with_creation, ended, stepped, still_unfinished, taken_back, rolling_back, unfinished_in, change_seen}
+use Rattle.sessions.specs.Steps.{begun, step_seen, changed, committed, with_turn, ended, stepped, still_unfinished, taken_back, rolling_back, unfinished_in, change_seen}
+use Rattle.sessions.specs.declared.turn.Turn.{Turn}
 use Rattle.sessions.specs.Values.{active_of, ActiveValue, rows_of, SessionValue, without}
 use Rattle.register.proofs.Lookups.{new_other, new_own, number_is, with_other, with_own, without_other, without_own}
 use Rattle.register.proofs.Moved.{begin_own, leave_apart, leave_others, leave_own, next_apart, next_others, next_own, start_apart, start_others, start_own, undo_apart, undo_others, undo_own}
-use Rattle.register.proofs.Numbers.{commit as commit_numbers, counted as commit_counts, create as create_numbers, due, IsAnswer, is_txn, others as same_commits, ticket_answers}
+use Rattle.register.proofs.Numbers.{commit as commit_numbers, counted as commit_counts, create as create_numbers, drop as drop_numbers, due, IsAnswer, is_txn, others as same_commits, ticket_answers}
 use Rattle.register.proofs.Owned.{owned_kept, owners_kept}
 use Rattle.register.proofs.Seen.{agree_none}
 use Rattle.register.proofs.Served.{answer, enabled, k, kept_after, last_later, mine, none_here, owned_beside, owners_beside, s, same_txns, seen, shown_by, so, txn_stepped, unfinished_is}
-use Rattle.register.proofs.Telling.{commit_tells, creation_tells, IsQuiet, quiet_beside, quiet_here, Tells}
+use Rattle.register.proofs.Telling.{commit_tells, turn_tells, IsQuiet, quiet_beside, quiet_here, Tells}
 use Rattle.register.proofs.Told.{items_more, over, table_told}
 use Rattle.register.proofs.Written.{committed_is, left_table}
-use Rattle.register.specs.History.{commits_told, creations_told}
+use Rattle.register.specs.History.{commits_told, turns_told}
 use Rattle.register.specs.Register.{IsNoCommit}
 use Rattle.register.specs.Agreement.{Agree, is_owed, IsRegister, IsOfNoSeat, newest_write, owed_write, row_held}
 
@@ -105,6 +106,7 @@ due_still s k Event.Clean reply step of d = subst (λ x. IsStill s (after_any s 
 due_still s k (Event.Get r) reply step of d = subst (λ x. IsStill s (after_any s x)) (sym d.1) (nothing_still s)
 due_still s k (Event.Find key) reply step of d = subst (λ x. IsStill s (after_any s x)) (sym d.3) (nothing_still s)
 due_still s k Event.Life reply step of d = subst (λ x. IsStill s (after_any s x)) (sym d.1) (nothing_still s)
+due_still s k Event.Drop reply step of d = absurd of
 
 allowed_still : (s : State) (k : Standing) (e : Event) (reply : Reply) (step : Option MachineStep) → IsOfNoSeat e → IsAllowed s k e reply step → IsStill s (after_any s step)
 allowed_still s k e reply step of (unknown a) = nothing_still s
@@ -129,6 +131,7 @@ not_due s k Event.Clean error step d = let is = d.2 in absurd cc
 not_due s k (Event.Get r) error step d = let is = d.0 in absurd cc
 not_due s k (Event.Find key) error step d = let is = d.2 in absurd cc
 not_due s k Event.Life error step d = let is = d.0 in absurd cc
+not_due s k Event.Drop error step d = let is = d.0 in absurd cc
 
 refused_none : (s : State) (k : Standing) (e : Event) (error : Error) (step : Option MachineStep) → IsAllowed s k e (Refused error) step → step ≡ None
 refused_none s k e error step (unknown a) = refl
@@ -162,6 +165,7 @@ due_quiet s k Event.Clean reply step of d = subst (IsQuiet Event.Clean) (sym d.2
 due_quiet s k (Event.Get r) reply step of d = subst (IsQuiet (Event.Get r)) (sym d.0) (λ w. (refl, refl))
 due_quiet s k (Event.Find key) reply step of d = subst (IsQuiet (Event.Find key)) (sym d.2) (λ w. (refl, refl))
 due_quiet s k Event.Life reply step of d = subst (IsQuiet Event.Life) (sym d.0) (λ w. (refl, refl))
+due_quiet s k Event.Drop reply step of d = absurd of
 
 allowed_quiet : (s : State) (k : Standing) (e : Event) (reply : Reply) (step : Option MachineStep) → IsOfNoSeat e → IsAllowed s k e reply step → IsQuiet e reply
 allowed_quiet s k e reply step of (unknown a) = λ w. (refl, refl)
@@ -186,6 +190,7 @@ no_commit Event.Clean of = tt
 no_commit (Event.Get r) of = tt
 no_commit (Event.Find key) of = tt
 no_commit Event.Life of = tt
+no_commit Event.Drop of = tt
 
 -- ---- calls
 
@@ -212,14 +217,14 @@ module _ (o : Opened) (can : CanOpen o) (pushed : List RecordValue) (core : Core
   pub owed_of : (txn : ℕ) (new : CoreValue) → Serves core (Event.Step txn) Reply.Stepped new → Owes (txn_at st txn)
   owed_of txn new sv = proper st std (Event.Step txn) Reply.Stepped (step_of (Event.Step txn) Reply.Stepped new sv) (allowed_of (Event.Step txn) Reply.Stepped new sv) tt
 
-  -- a call that tells of no commit and of no creation, with no session changed, or one but for those
+  -- a call that tells of no commit, and of nothing done to the index, with no session changed, or one but for those
   still_tells : (e : Event) (reply : Reply) (new : CoreValue) → Serves core e reply new → IsQuiet e reply → new.commits ≡ core.commits → Tells o (r.kept.calls ++ (e, reply) ∷ []) new book
   still_tells e reply new sv none counted = quiet_here o r.kept.calls core new book r.commits r.history e reply (last_later o can pushed core book r e reply new sv) none counted
 
   beside_tells : (e : Event) (reply : Reply) (new : CoreValue) → Serves core e reply new → IsNoCommit e → IsQuiet e reply → (seat : ℕ) (p : SessionValue) → slice_get book seat ≡ Some p
-      → (q : SessionValue) → q.commits ≡ p.commits → q.creations ≡ p.creations → Tells o (r.kept.calls ++ (e, reply) ∷ []) new (slice_set book seat q)
-  beside_tells e reply new sv other none seat p there q commits creations =
-      quiet_beside o r.kept.calls core new book r.commits r.history e reply (last_later o can pushed core book r e reply new sv) seat p there none (same_commits o pushed core r.kept e reply new other sv) q commits creations
+      → (q : SessionValue) → q.commits ≡ p.commits → q.turns ≡ p.turns → Tells o (r.kept.calls ++ (e, reply) ∷ []) new (slice_set book seat q)
+  beside_tells e reply new sv other none seat p there q commits turns =
+      quiet_beside o r.kept.calls core new book r.commits r.history e reply (last_later o can pushed core book r e reply new sv) seat p there none (same_commits o pushed core r.kept e reply new other sv) q commits turns
 
   pub others : (e : Event) (reply : Reply) (new : CoreValue) → IsOfNoSeat e → Serves core e reply new → IsRegister o pushed new book
   others e reply new of sv =
@@ -367,7 +372,7 @@ module _ (o : Opened) (can : CanOpen o) (pushed : List RecordValue) (core : Core
             let numbers = commit_numbers o pushed core r.kept txn ticket new sv in
             commit_tells o r.kept.calls core new book r.commits r.history (Event.Commit txn) (reply_of_ticket ticket) (last_later o can pushed core book r (Event.Commit txn) (reply_of_ticket ticket) new sv) seat p there txn ticket
             numbers (commit_counts o pushed core r.kept txn ticket new sv) (std.made + 1) (asked txn) (numbers.0 ∙ ap (λ n. n + 1) (sym r.kept.replied.stands.shown.made))
-            (ap commits_told (told_by (reply_of_ticket ticket) d.0)) (ap creations_told (told_by (reply_of_ticket ticket) d.0)) leaves
+            (ap commits_told (told_by (reply_of_ticket ticket) d.0)) (ap turns_told (told_by (reply_of_ticket ticket) d.0)) leaves
 
       pub commit : (ticket : Ticket) (new : CoreValue) → Serves core (Event.Commit txn) (reply_of_ticket ticket) new → IsRegister o pushed new (slice_set book seat (committed p txn ticket))
       commit ticket new sv =
@@ -378,18 +383,34 @@ module _ (o : Opened) (can : CanOpen o) (pushed : List RecordValue) (core : Core
           (λ u apart. without_other u txn p.active apart) (leave_apart st txn (after st (MachineStep.Commit txn)).committed) (leave_others st txn (after st (MachineStep.Commit txn)).committed)
           (commit_told ticket new sv)
 
-    pub create : (ticket : Ticket) (new : CoreValue) → Serves core Event.Create (reply_of_ticket ticket) new → IsRegister o pushed new (slice_set book seat (with_creation p ticket.«record»))
+    pub create : (ticket : Ticket) (new : CoreValue) → Serves core Event.Create (reply_of_ticket ticket) new → IsRegister o pushed new (slice_set book seat (with_turn p (Turn.Created ticket.«record»)))
     create ticket new sv =
         let answers = ticket_answers ticket.«record» ticket.commit in
         let d = due_of Event.Create (reply_of_ticket ticket) new sv answers in
-        same_txns o can pushed core book r Event.Create (reply_of_ticket ticket) new sv (Some MachineStep.Create) d.1 (slice_set book seat (with_creation p ticket.«record»))
-        (owned_beside (after st MachineStep.Create) book r.owner seat p (with_creation p ticket.«record») there refl (owned_kept st (after st MachineStep.Create) book r.owner (λ u. refl) (λ u q. refl) r.owned))
-        (owners_beside (after st MachineStep.Create) book r.owner seat (with_creation p ticket.«record») (owners_kept st (after st MachineStep.Create) book r.owner (λ u. refl) r.owners))
-        (creation_tells o r.kept.calls core new book r.commits r.history Event.Create (reply_of_ticket ticket) (last_later o can pushed core book r Event.Create (reply_of_ticket ticket) new sv) seat p there ticket.«record»
-        (same_commits o pushed core r.kept Event.Create (reply_of_ticket ticket) new tt sv) (ap commits_told (told_by (reply_of_ticket ticket) d.0)) (ap creations_told (told_by (reply_of_ticket ticket) d.0) ∙ ap (λ n. n ∷ []) (sym number)))
+        same_txns o can pushed core book r Event.Create (reply_of_ticket ticket) new sv (Some MachineStep.Create) d.1 (slice_set book seat (with_turn p (Turn.Created ticket.«record»)))
+        (owned_beside (after st MachineStep.Create) book r.owner seat p (with_turn p (Turn.Created ticket.«record»)) there refl (owned_kept st (after st MachineStep.Create) book r.owner (λ u. refl) (λ u q. refl) r.owned))
+        (owners_beside (after st MachineStep.Create) book r.owner seat (with_turn p (Turn.Created ticket.«record»)) (owners_kept st (after st MachineStep.Create) book r.owner (λ u. refl) r.owners))
+        (turn_tells o r.kept.calls core new book r.commits r.history Event.Create (reply_of_ticket ticket) (last_later o can pushed core book r Event.Create (reply_of_ticket ticket) new sv) seat p there (Turn.Created ticket.«record»)
+        (same_commits o pushed core r.kept Event.Create (reply_of_ticket ticket) new tt sv) (ap commits_told (told_by (reply_of_ticket ticket) d.0)) (ap turns_told (told_by (reply_of_ticket ticket) d.0) ∙ ap (λ n. Turn.Created n ∷ []) (sym number)))
       where
-        told_by : (reply : Reply) → reply ≡ Reply.Created (std.made + 1) → items_at (asked_over no_writes r.kept.calls) reply Event.Create ≡ record { number = std.made + 1; deed = Created } ∷ []
+        told_by : (reply : Reply) → reply ≡ Reply.Ticketed (std.made + 1) → items_at (asked_over no_writes r.kept.calls) reply Event.Create ≡ record { number = std.made + 1; deed = Created } ∷ []
         told_by reply is = ap (λ x. items_at (asked_over no_writes r.kept.calls) x Event.Create) is
 
         number : ticket.«record» ≡ std.made + 1
         number = (create_numbers o pushed core r.kept ticket new sv).0 ∙ ap (λ n. n + 1) (sym r.kept.replied.stands.shown.made)
+
+    pub drop : (ticket : Ticket) (new : CoreValue) → Serves core Event.Drop (reply_of_ticket ticket) new → IsRegister o pushed new (slice_set book seat (with_turn p (Turn.Dropped ticket.«record»)))
+    drop ticket new sv =
+        let answers = ticket_answers ticket.«record» ticket.commit in
+        let d = due_of Event.Drop (reply_of_ticket ticket) new sv answers in
+        same_txns o can pushed core book r Event.Drop (reply_of_ticket ticket) new sv (Some MachineStep.Drop) d.1 (slice_set book seat (with_turn p (Turn.Dropped ticket.«record»)))
+        (owned_beside (after st MachineStep.Drop) book r.owner seat p (with_turn p (Turn.Dropped ticket.«record»)) there refl (owned_kept st (after st MachineStep.Drop) book r.owner (λ u. refl) (λ u q. refl) r.owned))
+        (owners_beside (after st MachineStep.Drop) book r.owner seat (with_turn p (Turn.Dropped ticket.«record»)) (owners_kept st (after st MachineStep.Drop) book r.owner (λ u. refl) r.owners))
+        (turn_tells o r.kept.calls core new book r.commits r.history Event.Drop (reply_of_ticket ticket) (last_later o can pushed core book r Event.Drop (reply_of_ticket ticket) new sv) seat p there (Turn.Dropped ticket.«record»)
+        (same_commits o pushed core r.kept Event.Drop (reply_of_ticket ticket) new tt sv) (ap commits_told (told_by (reply_of_ticket ticket) d.0)) (ap turns_told (told_by (reply_of_ticket ticket) d.0) ∙ ap (λ n. Turn.Dropped n ∷ []) (sym number)))
+      where
+        told_by : (reply : Reply) → reply ≡ Reply.Ticketed (std.made + 1) → items_at (asked_over no_writes r.kept.calls) reply Event.Drop ≡ record { number = std.made + 1; deed = Dropped } ∷ []
+        told_by reply is = ap (λ x. items_at (asked_over no_writes r.kept.calls) x Event.Drop) is
+
+        number : ticket.«record» ≡ std.made + 1
+        number = (drop_numbers o pushed core r.kept ticket new sv).0 ∙ ap (λ n. n + 1) (sym r.kept.replied.stands.shown.made)

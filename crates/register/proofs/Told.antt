@@ -1,11 +1,11 @@
--- The commits and creations of a history, and those of the sessions.
+-- The commits and turns of a history, and those of the sessions.
 use Rattle.std.proofs.Common.{◌≡◌, ℕ, ◌+◌, ◌-◌, ◌<◌, ◌≤◌, Bool, true, false, cond, List, [], ◌∷◌, ◌++◌, filter, length, take, append-nil, append_assoc, inl, inr, refl, sym, ap, ◌∙◌, arith}
 use Rattle.std.proofs.lemmas.Bool.{cases_lt, le-leb, lt-leb}
 use Rattle.std.proofs.lemmas.List.{length-take-le, take_all}
 use Rattle.std.specs.Prelude.{nat_le}
 use Rattle.records.specs.RecordValue.{RecordValue}
 use Rattle.model.specs.Given.{given_after, IsBeginning}
-use Rattle.model.specs.History.{Checkpointed, Committed, Completed, Created, Deed, Item, table_after, table_with, up_to}
+use Rattle.model.specs.History.{Checkpointed, Committed, Completed, Created, Deed, Dropped, Item, table_after, table_with, up_to}
 use Rattle.model.specs.Table.{applied, Table}
 use Rattle.model.specs.declared.write.Write.{Write}
 use Rattle.core_model.specs.Histories.{CanOpen, no_writes, Opened}
@@ -15,7 +15,8 @@ use Rattle.core_laws.proofs.Laws.{holds, numbered, recovers}
 use Rattle.core_laws.specs.Calls.{HasReplied}
 use Rattle.nsf_core.specs.View.{CoreValue}
 use Rattle.sessions.specs.Values.{CommitValue}
-use Rattle.register.specs.History.{AreRisingTo, AreThose, commit_told, commits_told, commits_up_to, creation_told, creations_told, ShowsCommits, with_commits}
+use Rattle.sessions.specs.declared.turn.Turn.{Turn}
+use Rattle.register.specs.History.{AreRisingTo, AreThose, commit_told, commits_told, commits_up_to, turn_told, turns_told, ShowsCommits, with_commits}
 use Rattle.register.specs.Register.{Commits}
 
 -- ---- one call more
@@ -30,9 +31,9 @@ commits_append : (items later : List Item) → commits_told (items ++ later) ≡
 commits_append [] later = refl
 commits_append (item ∷ items) later = ap (λ l. commit_told item.number item.deed ++ l) (commits_append items later) ∙ sym (append_assoc (commit_told item.number item.deed) (commits_told items) (commits_told later))
 
-creations_append : (items later : List Item) → creations_told (items ++ later) ≡ creations_told items ++ creations_told later
-creations_append [] later = refl
-creations_append (item ∷ items) later = ap (λ l. creation_told item.number item.deed ++ l) (creations_append items later) ∙ sym (append_assoc (creation_told item.number item.deed) (creations_told items) (creations_told later))
+turns_append : (items later : List Item) → turns_told (items ++ later) ≡ turns_told items ++ turns_told later
+turns_append [] later = refl
+turns_append (item ∷ items) later = ap (λ l. turn_told item.number item.deed ++ l) (turns_append items later) ∙ sym (append_assoc (turn_told item.number item.deed) (turns_told items) (turns_told later))
 
 -- what a call adds
 pub commits_more : (calls : List (Event × Reply)) (e : Event) (reply : Reply) (more : List (ℕ × List Write)) → commits_told (items_at (asked_over no_writes calls) reply e) ≡ more
@@ -40,10 +41,10 @@ pub commits_more : (calls : List (Event × Reply)) (e : Event) (reply : Reply) (
 commits_more calls e reply more is =
     ap commits_told (items_more no_writes calls e reply) ∙ (commits_append (items_of no_writes calls) (items_at (asked_over no_writes calls) reply e) ∙ ap (λ l. commits_told (items_of no_writes calls) ++ l) is)
 
-pub creations_more : (calls : List (Event × Reply)) (e : Event) (reply : Reply) (more : List ℕ) → creations_told (items_at (asked_over no_writes calls) reply e) ≡ more
-    → creations_told (items_of no_writes (calls ++ (e, reply) ∷ [])) ≡ creations_told (items_of no_writes calls) ++ more
-creations_more calls e reply more is =
-    ap creations_told (items_more no_writes calls e reply) ∙ (creations_append (items_of no_writes calls) (items_at (asked_over no_writes calls) reply e) ∙ ap (λ l. creations_told (items_of no_writes calls) ++ l) is)
+pub turns_more : (calls : List (Event × Reply)) (e : Event) (reply : Reply) (more : List Turn) → turns_told (items_at (asked_over no_writes calls) reply e) ≡ more
+    → turns_told (items_of no_writes (calls ++ (e, reply) ∷ [])) ≡ turns_told (items_of no_writes calls) ++ more
+turns_more calls e reply more is =
+    ap turns_told (items_more no_writes calls e reply) ∙ (turns_append (items_of no_writes calls) (items_at (asked_over no_writes calls) reply e) ∙ ap (λ l. turns_told (items_of no_writes calls) ++ l) is)
 
 -- ---- the table of a history is that of its commits
 
@@ -60,6 +61,7 @@ table_told table (item ∷ items) = by item.deed (λ t. table_told t items)
     by Created rest = rest table
     by (Checkpointed pair) rest = rest table
     by Completed rest = rest table
+    by Dropped rest = rest table
 
 abbrev told_up_to : ℕ → List (ℕ × List Write) → List (ℕ × List Write)
 told_up_to number told = filter (λ c. nat_le c.0 number) told
@@ -81,6 +83,8 @@ commits_up number (item ∷ items) = by item.number item.deed (nat_le item.numbe
     by n (Checkpointed pair) false e rest = rest
     by n Completed true e rest = rest
     by n Completed false e rest = rest
+    by n Dropped true e rest = rest
+    by n Dropped false e rest = rest
 
 -- ---- those of the sessions
 

@@ -88,7 +88,7 @@ IsOfNoSeat (Event.Find key) = Unit {0}
 IsOfNoSeat Event.Life = Unit {0}
 IsOfNoSeat _ = ⊥
 
--- The core has replied to some calls since it was opened. Its active transactions are those of the sessions, each in one of them; and its commits and creations are those of the sessions.
+-- The core has replied to some calls since it was opened. Its active transactions are those of the sessions, each in one of them; and its commits, and what was done to the index, are those of the sessions.
 pub record IsRegister (o : Opened) (pushed : List RecordValue) (core : CoreValue) (book : List SessionValue) : Type 0 where
   pub kept : IsKept o pushed core
   pub owner : ℕ → ℕ

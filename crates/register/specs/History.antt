@@ -2,7 +2,7 @@
 use Rattle.std.specs.Prelude.{[], filter, length, List, map, nat_le, slice_get, Some, take, ℕ, ◌++◌, ◌-◌, ◌<◌, ◌∷◌, ◌≡◌, ◌≤◌}
 use Rattle.records.specs.RecordValue.{RecordValue}
 use Rattle.model.specs.Given.{given_after}
-use Rattle.model.specs.History.{Checkpointed, Committed, Completed, Created, Deed, Item}
+use Rattle.model.specs.History.{Checkpointed, Committed, Completed, Created, Deed, Dropped, Item}
 use Rattle.model.specs.Table.{applied, Table}
 use Rattle.model.specs.declared.write.Write.{Write}
 use Rattle.core_model.specs.Histories.{no_writes, Opened}
@@ -11,6 +11,7 @@ use Rattle.core_contracts.specs.Served.{items_of}
 use Rattle.core_laws.specs.Holds.{committed_rows}
 use Rattle.nsf_core.specs.View.{CoreValue}
 use Rattle.sessions.specs.Values.{SessionValue}
+use Rattle.sessions.specs.declared.turn.Turn.{Turn}
 use Rattle.register.specs.Register.{AreBySeats, Commits, made_by}
 
 -- ---- the table of commits
@@ -24,7 +25,7 @@ with_commits table (c ∷ cs) = with_commits (applied table c.1.writes) cs
 abbrev pub commits_up_to : ℕ → Commits → Commits
 commits_up_to number commits = filter (λ c. nat_le c.1.ticket.«record» number) commits
 
--- ---- the commits and the creations of a history
+-- ---- the commits of a history, and the creations and droppings of the index
 
 -- the number of the record of a commit, and what it writes
 abbrev pub commit_told : ℕ → Deed → List (ℕ × List Write)
@@ -32,21 +33,23 @@ commit_told number (Committed writes) = (number, writes) ∷ []
 commit_told number Created = []
 commit_told number (Checkpointed pair) = []
 commit_told number Completed = []
+commit_told number Dropped = []
 
 abbrev pub commits_told : List Item → List (ℕ × List Write)
 commits_told [] = []
 commits_told (item ∷ items) = commit_told item.number item.deed ++ commits_told items
 
-abbrev pub creation_told : ℕ → Deed → List ℕ
-creation_told number (Committed writes) = []
-creation_told number Created = number ∷ []
-creation_told number (Checkpointed pair) = []
-creation_told number Completed = []
+abbrev pub turn_told : ℕ → Deed → List Turn
+turn_told number (Committed writes) = []
+turn_told number Created = Turn.Created number ∷ []
+turn_told number (Checkpointed pair) = []
+turn_told number Completed = []
+turn_told number Dropped = Turn.Dropped number ∷ []
 
--- the numbers of the records of the creations
-abbrev pub creations_told : List Item → List ℕ
-creations_told [] = []
-creations_told (item ∷ items) = creation_told item.number item.deed ++ creations_told items
+-- what is done to the index, in order
+abbrev pub turns_told : List Item → List Turn
+turns_told [] = []
+turns_told (item ∷ items) = turn_told item.number item.deed ++ turns_told items
 
 -- ---- they are those of the sessions
 
@@ -62,18 +65,18 @@ abbrev pub AreRisingTo : (from to : ℕ) → Commits → Type 0
 AreRisingTo from to [] = from ≤ to
 AreRisingTo from to (c ∷ cs) = (from < c.1.ticket.«record») × AreRisingTo c.1.ticket.«record» to cs
 
--- The creations of all sessions are those with records of these numbers, in order; and a session has those of its seat.
-pub record AreAllCreations (book : List SessionValue) (numbers : List ℕ) : Type 0 where
-  pub creations : List (ℕ × ℕ)
-  pub told : map (λ (c : ℕ × ℕ). c.1) creations ≡ numbers
-  pub by_seats : AreBySeats (length book) creations
-  pub in_sessions : (seat : ℕ) (session : SessionValue) → slice_get book seat ≡ Some session → session.creations ≡ made_by seat creations
+-- What was done to the index is what all sessions have, each with the seat that did it; and a session has what its seat did.
+pub record AreAllTurns (book : List SessionValue) (all : List Turn) : Type 0 where
+  pub turns : List (ℕ × Turn)
+  pub told : map (λ (c : ℕ × Turn). c.1) turns ≡ all
+  pub by_seats : AreBySeats (length book) turns
+  pub in_sessions : (seat : ℕ) (session : SessionValue) → slice_get book seat ≡ Some session → session.turns ≡ made_by seat turns
 
--- The commits of all sessions, in the order of their numbers, are those of the history that these calls tell, up to the record of this number; and the creations of the sessions are its creations.
+-- The commits of all sessions, in the order of their numbers, are those of the history that these calls tell, up to the record of this number; and what the sessions did to the index is what it tells of that.
 pub record AreOfHistory (o : Opened) (calls : List (Event × Reply)) (last : ℕ) (book : List SessionValue) (commits : Commits) : Type 0 where
   pub those : AreThose o.given.table (commits_told (items_of no_writes calls)) commits
   pub rising : AreRisingTo o.given.last last commits
-  pub creations : AreAllCreations book (creations_told (items_of no_writes calls))
+  pub turns : AreAllTurns book (turns_told (items_of no_writes calls))
 
 -- ---- what whoever gets at the core finds
 

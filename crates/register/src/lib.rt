@@ -22,9 +22,10 @@ ghost use Rattle.nsf_core.specs.Undoing.{undone_reply};
 ghost use Rattle.nsf_core.specs.View.{CoreValue, Serves};
 ghost use Rattle.nsf_core.specs.declared.parts.Ticket.{Ticket};
 ghost use Rattle.nsf_core.specs.declared.reply.Undone.{Undone};
+ghost use Rattle.sessions.specs.declared.turn.Turn.TheVariants.{Created, Dropped};
 ghost use Rattle.sessions.specs.Values.{active_of, ActiveValue, is_active, is_ready, rows_of, SessionValue};
 ghost use Rattle.model.specs.declared.write.Write.{Write};
-ghost use Rattle.sessions.specs.Steps.{begun, changed, committed, ended, rolling_back, stepped, with_creation};
+ghost use Rattle.sessions.specs.Steps.{begun, changed, committed, ended, rolling_back, stepped, with_turn};
 ghost use Rattle.register.specs.Agreement.{IsOfNoSeat, IsRegister, row_at, row_held};
 ghost use Rattle.register.specs.History.{ShowsCommits};
 ghost use Rattle.txn_table.specs.Table.{holder_of};
@@ -45,8 +46,9 @@ pub fn each_step()
 }
 
 /// A law: the numbers that steps answer. A transaction has the number after those begun; a commit the number of the next
-/// record and that after the commits so far, which are one more then and by no other step; a creation the number of the next
-/// record, and it is no commit. The record of that number is the transaction's commit, or the creation.
+/// record and that after the commits so far, which are one more then and by no other step; a creation and a
+/// dropping of the index the number of the next record, and they are no commits. The record of that number is the transaction's
+/// commit, the creation, or the dropping.
 pub fn each_number()
     ensures begin { (o : Opened) (pushed : List RecordValue) (core : CoreValue) → IsKept o pushed core → (txn : ℕ) (new : CoreValue) → Serves core Event.Begin (Reply.Txn txn) new → txn ≡ core.txns.begun + 1 }
     ensures commit { (o : Opened) (pushed : List RecordValue) (core : CoreValue) → IsKept o pushed core → (txn : ℕ) (ticket : Ticket) (new : CoreValue) → Serves core (Event.Commit txn) (reply_of_ticket ticket) new
@@ -55,10 +57,14 @@ pub fn each_number()
         → (new.last ≡ core.last + 1) × (new.commits ≡ core.commits + 1) }
     ensures create { (o : Opened) (pushed : List RecordValue) (core : CoreValue) → IsKept o pushed core → (ticket : Ticket) (new : CoreValue) → Serves core Event.Create (reply_of_ticket ticket) new
         → (ticket.«record» ≡ core.last + 1) × (ticket.commit ≡ None) }
+    ensures drop { (o : Opened) (pushed : List RecordValue) (core : CoreValue) → IsKept o pushed core → (ticket : Ticket) (new : CoreValue) → Serves core Event.Drop (reply_of_ticket ticket) new
+        → (ticket.«record» ≡ core.last + 1) × (ticket.commit ≡ None) }
     ensures commit_record { (o : Opened) (pushed : List RecordValue) (core : CoreValue) → IsKept o pushed core → (txn : ℕ) (ticket : Ticket) (new : CoreValue) → Serves core (Event.Commit txn) (reply_of_ticket ticket) new
         → new.outbox ≡ core.outbox ++ record { number = ticket.«record»; action = OfTxn txn TxnAction.Commit } ∷ [] }
     ensures create_record { (o : Opened) (pushed : List RecordValue) (core : CoreValue) → IsKept o pushed core → (ticket : Ticket) (new : CoreValue) → Serves core Event.Create (reply_of_ticket ticket) new
         → new.outbox ≡ core.outbox ++ record { number = ticket.«record»; action = OfIndex IndexAction.Create } ∷ [] }
+    ensures drop_record { (o : Opened) (pushed : List RecordValue) (core : CoreValue) → IsKept o pushed core → (ticket : Ticket) (new : CoreValue) → Serves core Event.Drop (reply_of_ticket ticket) new
+        → new.outbox ≡ core.outbox ++ record { number = ticket.«record»; action = OfIndex IndexAction.Drop } ∷ [] }
     ensures others { (o : Opened) (pushed : List RecordValue) (core : CoreValue) → IsKept o pushed core → (e : Event) (reply : Reply) (new : CoreValue) → IsNoCommit e → Serves core e reply new → new.commits ≡ core.commits }
 {}
 
@@ -74,8 +80,8 @@ pub fn each_commit()
 
 /// A law: what the sessions of the seats have of the active transactions is what the core has, from the opening on, whatever
 /// call is served: each transaction is in the session of one seat, with just the places that it holds and the rows that are there
-/// now, the change of which it owes a step, and whether it is rolling back. And the commits and creations of the sessions are those that
-/// the calls tell of, with the numbers of their records. A call that is refused, and one of the builder, of
+/// now, the change of which it owes a step, and whether it is rolling back. And the commits of the sessions, and
+/// what they did to the index, are what the calls tell of, with the numbers of their records. A call that is refused, and one of the builder, of
 /// the cleaner or of a reader, leaves the sessions as they are; and so does a push of records.
 pub fn each_agreement()
     ensures opens { (o : Opened) (core : CoreValue) → BeginsWith o core → (book : List SessionValue) → AreEmpty book → IsRegister o [] core book }
@@ -87,7 +93,9 @@ pub fn each_agreement()
     ensures begin { (o : Opened) → CanOpen o → (pushed : List RecordValue) (core : CoreValue) (book : List SessionValue) → IsRegister o pushed core book → (seat : ℕ) (session : SessionValue) → slice_get book seat ≡ Some session
         → (txn : ℕ) (new : CoreValue) → Serves core Event.Begin (Reply.Txn txn) new → IsRegister o pushed new (slice_set book seat (begun session txn)) }
     ensures create { (o : Opened) → CanOpen o → (pushed : List RecordValue) (core : CoreValue) (book : List SessionValue) → IsRegister o pushed core book → (seat : ℕ) (session : SessionValue) → slice_get book seat ≡ Some session
-        → (ticket : Ticket) (new : CoreValue) → Serves core Event.Create (reply_of_ticket ticket) new → IsRegister o pushed new (slice_set book seat (with_creation session ticket.«record»)) }
+        → (ticket : Ticket) (new : CoreValue) → Serves core Event.Create (reply_of_ticket ticket) new → IsRegister o pushed new (slice_set book seat (with_turn session (Created ticket.«record»))) }
+    ensures drop { (o : Opened) → CanOpen o → (pushed : List RecordValue) (core : CoreValue) (book : List SessionValue) → IsRegister o pushed core book → (seat : ℕ) (session : SessionValue) → slice_get book seat ≡ Some session
+        → (ticket : Ticket) (new : CoreValue) → Serves core Event.Drop (reply_of_ticket ticket) new → IsRegister o pushed new (slice_set book seat (with_turn session (Dropped ticket.«record»))) }
 {}
 
 /// A law: so it is after each step of a transaction of a seat.

@@ -12,7 +12,7 @@ use Rattle.script.specs.declared.word.TheConstants.{STEPS_MAX}
 use Rattle.script.specs.declared.fate.Fate.{Fate}
 use Rattle.script.specs.declared.fate.Fate.TheVariants.{Old, New, Zero, Gate, Junk}
 use Rattle.script.specs.declared.command.Command.{Command}
-use Rattle.script.specs.declared.command.Command.TheVariants.{Begin, Insert, Delete, Update, Step, Undo, End, Commit, Create, Build, Clean, Flush, Image, Crash, Get, Find, Dump}
+use Rattle.script.specs.declared.command.Command.TheVariants.{Begin, Insert, Delete, Update, Step, Undo, End, Commit, Create, Drop, Build, Clean, Flush, Image, Crash, Get, Find, Dump}
 use Rattle.script.specs.Grammar.{rid_text, parted_by, words, is_left_out, IsTxn, IsCount, IsRid, fate_name, SpellSteps, Spell, IsLineOf, IsGood}
 use Rattle.script.specs.Reading.{◌>>=◌, only, first_two, first_three, first_four, number_at, txn_at, count_at, place_at, rid_at, text_at, fate_at, alone_at, insert_at, delete_at, update_at, only_txn_at, steps_at, crash_at, get_at, find_at, store_command_at, command_at}
 use Rattle.script.proofs.Steps.{bind_some, mapped, passed, passed_not, some_is, by_name}
@@ -241,6 +241,7 @@ store_command_takes : (verb : List ℕ) (args : List (List ℕ)) (c : Command) �
 unfolding store_command_at
 store_command_takes verb args c e =
     by_name verb (codes "create") (λ is h. alone_takes verb args Create c (ap one_word is) h)
+    (by_name verb (codes "drop") (λ is h. alone_takes verb args Drop c (ap one_word is) h)
     (by_name verb (codes "build") (λ is h. steps_take verb (codes "build") args Build c is (λ words count p. p) h)
     (by_name verb (codes "clean") (λ is h. steps_take verb (codes "clean") args Clean c is (λ words count p. p) h)
     (by_name verb (codes "flush") (λ is h. alone_takes verb args Flush c (ap one_word is) h)
@@ -248,7 +249,7 @@ store_command_takes verb args c e =
     (by_name verb (codes "crash") (crash_takes verb args c)
     (by_name verb (codes "get") (get_takes verb args c)
     (by_name verb (codes "find") (find_takes verb args c)
-    (by_name verb (codes "dump") (λ is h. alone_takes verb args Dump c (ap one_word is) h) (λ h. absurd cc)))))))))
+    (by_name verb (codes "dump") (λ is h. alone_takes verb args Dump c (ap one_word is) h) (λ h. absurd cc))))))))))
     e
 
 pub command_takes : (words : List (List ℕ)) (c : Command) → command_at words ≡ Some c → Spell words c
@@ -277,6 +278,7 @@ command_again words (Undo txn) h = ap command_at h.0 ∙ rw (txn_again txn h.1) 
 command_again words (End txn) h = ap command_at h.0 ∙ rw (txn_again txn h.1) refl
 command_again words (Commit txn) h = ap command_at h.0 ∙ rw (txn_again txn h.1) refl
 command_again words Create h = ap command_at h
+command_again words Drop h = ap command_at h
 command_again words (Build count) h = let s = steps_again (codes "build") words count h in ap command_at s.1 ∙ ap (λ (o : Option ℕ). option_map Build o) s.2
 command_again words (Clean count) h = let s = steps_again (codes "clean") words count h in ap command_at s.1 ∙ ap (λ (o : Option ℕ). option_map Clean o) s.2
 command_again words Flush h = ap command_at h

@@ -12,7 +12,7 @@ use Rattle.records.specs.Values.{Place}
 use Rattle.script.specs.declared.fate.Fate.{Fate}
 use Rattle.script.specs.declared.fate.Fate.TheVariants.{Old, New, Zero, Gate, Junk}
 use Rattle.script.specs.declared.command.Command.{Command}
-use Rattle.script.specs.declared.command.Command.TheVariants.{Begin, Insert, Delete, Update, Step, Undo, End, Commit, Create, Build, Clean, Flush, Image, Crash, Get, Find, Dump}
+use Rattle.script.specs.declared.command.Command.TheVariants.{Begin, Insert, Delete, Update, Step, Undo, End, Commit, Create, Drop, Build, Clean, Flush, Image, Crash, Get, Find, Dump}
 use Rattle.script.specs.Grammar.{words, IsRid, rid_text, fate_name, IsLineOf, CanBeGiven}
 use Rattle.script.proofs.Numbers.{no_such_byte}
 
@@ -94,6 +94,7 @@ line_of (End txn) h =
 line_of (Commit txn) h =
     (join_with_byte 32 (codes "commit" ∷ decimal txn ∷ []), (spaced (codes "commit") (decimal txn ∷ []) (by_test (codes "commit") refl, (number_has_no_space txn h.1, tt)), h))
 line_of Create h = (codes "create", refl)
+line_of Drop h = (codes "drop", refl)
 line_of (Build count) h =
     (join_with_byte 32 (codes "build" ∷ decimal count ∷ []), inr (spaced (codes "build") (decimal count ∷ []) (by_test (codes "build") refl, (number_has_no_space count (omega (arith, h.1)), tt)), h))
 line_of (Clean count) h =

@@ -12,7 +12,7 @@ use Rattle.script.specs.declared.word.TheConstants.{STEPS_MAX}
 use Rattle.script.specs.declared.fate.Fate.{Fate}
 use Rattle.script.specs.declared.fate.Fate.TheVariants.{Old, New, Zero, Gate, Junk}
 use Rattle.script.specs.declared.command.Command.{Command}
-use Rattle.script.specs.declared.command.Command.TheVariants.{Begin, Insert, Delete, Update, Step, Undo, End, Commit, Create, Build, Clean, Flush, Image, Crash, Get, Find, Dump}
+use Rattle.script.specs.declared.command.Command.TheVariants.{Begin, Insert, Delete, Update, Step, Undo, End, Commit, Create, Drop, Build, Clean, Flush, Image, Crash, Get, Find, Dump}
 
 -- the parts of a text between its separators: with none, the text itself
 abbrev pub parted_by : ℕ → List ℕ → List (List ℕ)
@@ -73,6 +73,7 @@ Spell words (Undo txn) = (words ≡ codes "undo" ∷ decimal txn ∷ []) × IsTx
 Spell words (End txn) = (words ≡ codes "end" ∷ decimal txn ∷ []) × IsTxn txn
 Spell words (Commit txn) = (words ≡ codes "commit" ∷ decimal txn ∷ []) × IsTxn txn
 Spell words Create = words ≡ codes "create" ∷ []
+Spell words Drop = words ≡ codes "drop" ∷ []
 Spell words (Build count) = SpellSteps (codes "build") words count
 Spell words (Clean count) = SpellSteps (codes "clean") words count
 Spell words Flush = words ≡ codes "flush" ∷ []
@@ -117,6 +118,7 @@ CanBeGiven (Undo txn) = IsTxn txn
 CanBeGiven (End txn) = IsTxn txn
 CanBeGiven (Commit txn) = IsTxn txn
 CanBeGiven Create = Unit {0}
+CanBeGiven Drop = Unit {0}
 CanBeGiven (Build count) = IsCount count
 CanBeGiven (Clean count) = IsCount count
 CanBeGiven Flush = Unit {0}

@@ -14,7 +14,7 @@ use Rattle.script.specs.declared.word.TheConstants.{STEPS_MAX}
 use Rattle.script.specs.declared.fate.Fate.{Fate}
 use Rattle.script.specs.declared.fate.Fate.TheVariants.{Old, New, Zero, Gate, Junk}
 use Rattle.script.specs.declared.command.Command.{Command}
-use Rattle.script.specs.declared.command.Command.TheVariants.{Begin, Insert, Delete, Update, Step, Undo, End, Commit, Create, Build, Clean, Flush, Image, Crash, Get, Find, Dump}
+use Rattle.script.specs.declared.command.Command.TheVariants.{Begin, Insert, Delete, Update, Step, Undo, End, Commit, Create, Drop, Build, Clean, Flush, Image, Crash, Get, Find, Dump}
 use Rattle.script.specs.Grammar.{parted_by, is_left_out, IsLineOf}
 
 infixl 10 ◌>>=◌
@@ -162,6 +162,7 @@ find_at args = do
 unfoldable pub store_command_at : List ℕ → List (List ℕ) → Option Command
 store_command_at verb args =
     if bytes_eq verb (codes "create") then alone_at Create args
+    else if bytes_eq verb (codes "drop") then alone_at Drop args
     else if bytes_eq verb (codes "build") then option_map Build (steps_at args)
     else if bytes_eq verb (codes "clean") then option_map Clean (steps_at args)
     else if bytes_eq verb (codes "flush") then alone_at Flush args

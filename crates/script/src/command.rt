@@ -45,6 +45,8 @@ pub enum Command {
     },
     /// Creates the index, which is then to be built: `create`.
     Create,
+    /// Drops the index: `drop`.
+    Drop,
     /// Makes as many steps of the builder: `build <count>`, or one step: `build`.
     Build {
         count: u32,

@@ -146,6 +146,8 @@ fn store_command_of(
 {
     if verb == b"create".as_slice() {
         Ok(alone(rest, Command::Create))
+    } else if verb == b"drop".as_slice() {
+        Ok(alone(rest, Command::Drop))
     } else if verb == b"build".as_slice() {
         Ok(steps_of(rest).map(|count| Command::Build { count }))
     } else if verb == b"clean".as_slice() {

@@ -42,6 +42,7 @@ request_of (command.Undo txn) = Ok (request.Event (event.Undo txn))
 request_of (command.End txn) = Ok (request.Event (event.End txn))
 request_of (command.Commit txn) = Ok (request.Event (event.Commit txn))
 request_of command.Create = Ok (request.Event event.Create)
+request_of command.Drop = Ok (request.Event event.Drop)
 request_of (command.Build count) = Ok (request.Build count)
 request_of (command.Clean count) = Ok (request.Clean count)
 request_of command.Flush = Ok request.Flush

@@ -51,6 +51,7 @@ impl Request {
             Command::End { txn } => Ok(Request::Event(Event::End { txn: *txn })),
             Command::Commit { txn } => Ok(Request::Event(Event::Commit { txn: *txn })),
             Command::Create => Ok(Request::Event(Event::Create)),
+            Command::Drop => Ok(Request::Event(Event::Drop)),
             Command::Build { count } => Ok(Request::Build(*count)),
             Command::Clean { count } => Ok(Request::Clean(*count)),
             Command::Flush => Ok(Request::Flush),

@@ -7,6 +7,7 @@ use Rattle.model.specs.declared.write.Write.{Write}
 use Rattle.nsf_core.specs.Asked.{owed, progress_of}
 use Rattle.nsf_core.specs.View.{CoreValue}
 use Rattle.nsf_core.specs.declared.parts.Ticket.{Ticket}
+use Rattle.sessions.specs.declared.turn.Turn.{Turn}
 use Rattle.sessions.specs.Values.{ActiveValue, SessionValue, new_active, rows_of, with_active, with_write, without}
 
 -- the row that is at a place of the core now
@@ -61,5 +62,5 @@ committed s txn ticket = record s {
   active = without txn s.active;
 }
 
-abbrev pub with_creation : SessionValue → ℕ → SessionValue
-with_creation s number = record s { creations = s.creations ++ number ∷ [] }
+abbrev pub with_turn : SessionValue → Turn → SessionValue
+with_turn s turn = record s { turns = s.turns ++ turn ∷ [] }

@@ -4,6 +4,7 @@ use Rattle.std.specs.Option.{option_map}
 use Rattle.records.specs.Values.{Place}
 use Rattle.model.specs.declared.write.Write.{Write}
 use Rattle.nsf_core.specs.declared.parts.Ticket.{Ticket}
+use Rattle.sessions.specs.declared.turn.Turn.{Turn}
 
 -- a commit: its ticket, and the row that it left at each place that its transaction held
 pub record CommitValue : Type 0 where
@@ -17,14 +18,14 @@ pub record ActiveValue : Type 0 where
   pub unfinished : Option Write
   pub rolling : Bool
 
--- the commits, the numbers of the records of creations, and the active transactions, each in the order in which they came
+-- the commits, the creations and droppings of the index, and the active transactions, each in the order in which they came
 pub record SessionValue : Type 0 where
   pub commits : List CommitValue
-  pub creations : List ℕ
+  pub turns : List Turn
   pub active : List ActiveValue
 
 abbrev pub empty_session : SessionValue
-empty_session = record { commits = []; creations = []; active = [] }
+empty_session = record { commits = []; turns = []; active = [] }
 
 -- a transaction as it begins
 abbrev pub new_active : ℕ → ActiveValue

@@ -4,7 +4,8 @@ ghost use Rattle.sessions.specs.Values.{SessionValue, empty_session, is_active, 
 
 use crate::active::{ActiveTxn, place_of};
 use crate::commit::Commit;
-use records::{RecordNumber, Txn};
+use crate::turn::Turn;
+use records::Txn;
 use std::alloc::Global;
 use std::marker::Model;
 
@@ -13,7 +14,7 @@ use std::marker::Model;
 pub struct Session {
     pub(crate) alloc: Global,
     pub(crate) commits: Vec<Commit>,
-    pub(crate) creations: Vec<RecordNumber>,
+    pub(crate) turns: Vec<Turn>,
     pub(crate) active: Vec<ActiveTxn>,
 }
 
@@ -24,7 +25,7 @@ impl Model for Session {
 
     ghost Value = { SessionValue };
 
-    ghost view = { λ s. record { commits = s.commits.items; creations = s.creations.items; active = map active_value s.active.items } };
+    ghost view = { λ s. record { commits = s.commits.items; turns = s.turns.items; active = map active_value s.active.items } };
 }
 
 impl Session {
@@ -35,7 +36,7 @@ impl Session {
         Session {
             alloc,
             commits: Vec::new(alloc),
-            creations: Vec::new(alloc),
+            turns: Vec::new(alloc),
             active: Vec::new(alloc),
         }
     }
@@ -47,17 +48,17 @@ impl Session {
         let Session {
             alloc: _,
             commits,
-            creations: _,
+            turns: _,
             active: _,
         } = self;
         commits
     }
 
-    /// The numbers of the records of the creations, in the order in which they were made.
-    pub fn creations(&self) -> &[RecordNumber]
-        ensures { result.now ≡ self.now.creations }
+    /// What it did to the index, in the order in which it was done: each creation and each dropping.
+    pub fn turns(&self) -> &[Turn]
+        ensures { result.now ≡ self.now.turns }
     {
-        &self.creations
+        &self.turns
     }
 
     /// Whether the transaction is one of the seat's.

@@ -8,13 +8,15 @@ ghost use Rattle.nsf_core.specs.Moves.{HasNoChange, IsReadyOrNone, OwesOrNone, t
 ghost use Rattle.nsf_core.specs.Replies.{reply_by, reply_of_ticket};
 ghost use Rattle.nsf_core.specs.Undoing.{undone_reply};
 ghost use Rattle.sessions.specs.Values.{is_active};
-ghost use Rattle.sessions.specs.Steps.{begun, changed, committed, with_creation, ended, stepped, rolling_back};
+ghost use Rattle.sessions.specs.Steps.{begun, changed, committed, with_turn, ended, stepped, rolling_back};
+ghost use Rattle.sessions.specs.declared.turn.Turn.TheVariants.{Created, Dropped};
 
 use crate::active::{
     ActiveTxn, note_change, note_step, note_undo, place_of, reserve_row, take_out,
 };
 use crate::commit::Commit;
 use crate::session::Session;
+use crate::turn::Turn;
 use model::Write;
 use nsf_core::{Core, Ticket, Undone};
 use records::{Body, Error, Key, Rid, Row, Txn};
@@ -210,13 +212,29 @@ impl Session {
     /// for the session's part. After a refusal both are as before.
     pub fn create_index(&mut self, core: &mut Core<Global>) -> Result<Ticket, Error>
         ensures served { Serves (value_of core.old) Event.Create (reply_by reply_of_ticket result) (value_of core.new) }
-        ensures ok { IfOk result (λ ticket. self.new ≡ with_creation self.old ticket.«record») }
+        ensures ok { IfOk result (λ ticket. self.new ≡ with_turn self.old (Created ticket.«record»)) }
         ensures unchanged { OnErr result (self.new ≡ self.old) }
     {
         core.check_create()?;
-        self.creations.reserve(1)?;
+        self.turns.reserve(1)?;
         let ticket = core.create_index()?;
-        self.creations.push_reserved(ticket.record);
+        self.turns.push_reserved(Turn::Created(ticket.record));
+        Ok(ticket)
+    }
+
+    /// Drops the index, be it complete or not, and keeps the number of the record that tells of it.
+    ///
+    /// The refusals are those of the core's `drop_index`, `NoMemory` the last of them; it comes also where there is none
+    /// for the session's part. After a refusal both are as before.
+    pub fn drop_index(&mut self, core: &mut Core<Global>) -> Result<Ticket, Error>
+        ensures served { Serves (value_of core.old) Event.Drop (reply_by reply_of_ticket result) (value_of core.new) }
+        ensures ok { IfOk result (λ ticket. self.new ≡ with_turn self.old (Dropped ticket.«record»)) }
+        ensures unchanged { OnErr result (self.new ≡ self.old) }
+    {
+        core.check_drop()?;
+        self.turns.reserve(1)?;
+        let ticket = core.drop_index()?;
+        self.turns.push_reserved(Turn::Dropped(ticket.record));
         Ok(ticket)
     }
 }

@@ -45,3 +45,15 @@ pub(crate) fn held_by(store: &Store<'_>) -> Contents {
         entries: (core.above(None), second(core), third(core)),
     }
 }
+
+/// How many entries a store has, marked ones too; 1,000 where there are more.
+pub(crate) fn entries_of(store: &Store<'_>) -> usize {
+    let mut last = None;
+    for count in 0..1_000 {
+        let Some((pair, _)) = store.core().above(last.as_ref()) else {
+            return count;
+        };
+        last = Some(pair);
+    }
+    1_000
+}

@@ -1,7 +1,8 @@
 // Images that are copied piece by piece.
-use crate::contents::held_by;
+use crate::contents::{entries_of, held_by};
 use crate::requests::requests;
 use crate::store::{Answer, Store, ample, answer_of, close, formatted, open, sound};
+use model::Life;
 use restart::Event;
 use sector_device::{Fate, MemDisk};
 use std::alloc::Global;
@@ -68,5 +69,45 @@ fn an_image_of_a_build(rt: HostRuntime) -> Result<(), Fail> {
     }
     script.push_str("create\nbuild 208\nimage\nimage\nimage\nimage\nimage\nimage\nimage\nimage\n")?;
     flip(&rt, rt.alloc(), &script, 4, (7, 409))?;
+    Ok(())
+}
+
+// An index of two rows is dropped when three pieces of an image are copied.
+#[test]
+fn an_index_dropped_while_copied(rt: HostRuntime) -> Result<(), Fail> {
+    let script = "begin\ninsert 1 =a =\ninsert 1 =b =\ncommit 1\ncreate\nbuild 4\n\
+        image\nimage\nimage\ndrop\nflush\nimage\n";
+    let disk = flip(&rt, rt.alloc(), script, 1, (3, 8))?;
+    let memory = ample(rt.alloc());
+    let Ok(store) = open(&memory, sound(disk)) else {
+        return Err("a store after the crash")?;
+    };
+    let left = held_by(&store);
+    assert!(rt; left.rows.0.is_some() && left.rows.1.is_some());
+    assert!(rt; left.life == Life::Absent && left.entries.0.is_none());
+    Ok(())
+}
+
+// An index of 200 rows is dropped when its first chunk is copied, and made anew: what was copied of the first is gone.
+#[test]
+fn an_index_made_anew_while_copied(rt: HostRuntime) -> Result<(), Fail> {
+    let mut script = String::new(rt.alloc());
+    for txn in 1..5 {
+        script.push_str("begin\n")?;
+        for _ in 0..50 {
+            script.push_str(&format!(in rt.alloc(); "insert {txn} =a =\n")?)?;
+        }
+        script.push_str(&format!(in rt.alloc(); "commit {txn}\n")?)?;
+    }
+    script.push_str(
+        "create\nbuild 208\nimage\nimage\nimage\nimage\nimage\nimage\n\
+        drop\ncreate\nbuild 68\nimage\nimage\n",
+    )?;
+    let disk = flip(&rt, rt.alloc(), &script, 4, (7, 475))?;
+    let memory = ample(rt.alloc());
+    let Ok(store) = open(&memory, sound(disk)) else {
+        return Err("a store after the crash")?;
+    };
+    assert!(rt; entries_of(&store) == 64);
     Ok(())
 }

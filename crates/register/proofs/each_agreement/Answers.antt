@@ -1,5 +1,5 @@
 use Rattle.register.proofs.Served.{opens, pushes}
-use Rattle.register.proofs.Steps.{begin, create, others, refusals}
+use Rattle.register.proofs.Steps.{begin, create, drop, others, refusals}
 use Rattle.register.proofs.each_agreement.Goals as goal
 
 pub returns-clause-opens : goal.returns-clause-opens
@@ -19,3 +19,6 @@ returns-clause-begin c = begin
 
 pub returns-clause-create : goal.returns-clause-create
 returns-clause-create c = create
+
+pub returns-clause-drop : goal.returns-clause-drop
+returns-clause-drop c = drop

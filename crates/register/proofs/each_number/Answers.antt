@@ -1,4 +1,4 @@
-use Rattle.register.proofs.Numbers.{begin, commit, commit_record, counted, create, create_record, others}
+use Rattle.register.proofs.Numbers.{begin, commit, commit_record, counted, create, create_record, drop, drop_record, others}
 use Rattle.register.proofs.each_number.Goals as goal
 
 pub returns-clause-begin : goal.returns-clause-begin
@@ -21,3 +21,9 @@ returns-clause-commit_record c = commit_record
 
 pub returns-clause-create_record : goal.returns-clause-create_record
 returns-clause-create_record c = create_record
+
+pub returns-clause-drop : goal.returns-clause-drop
+returns-clause-drop c = drop
+
+pub returns-clause-drop_record : goal.returns-clause-drop_record
+returns-clause-drop_record c = drop_record
