@@ -52,6 +52,21 @@ impl<F: Drop, A: Allocator> FileDisk<F, A> {
         })
     }
 
+    /// A disk over what is below that holds these sectors, all of them safe, as what is below is to. The error is that memory was
+    /// refused.
+    pub fn holding(alloc: A, below: F, sectors: &[[u8; SECTOR_SIZE]]) -> Result<Self, AllocError>
+        ensures content { IfOk result (λ d. (history_of d).disk.content ≡ sectors.now) }
+        ensures synced { IfOk result (λ d. IsSynced (history_of d).disk) }
+        ensures failures { IfOk result (λ d. failures_of d ≡ 0) }
+    {
+        let mut disk = FileDisk::new(alloc, below, sectors.len())?;
+        for n in 0..sectors.len() {
+            disk.put(n as u64, &sectors[n]);
+        }
+        disk.settle();
+        Ok(disk)
+    }
+
     /// What is below.
     pub fn into_below(self) -> F {
         self.below

@@ -304,6 +304,7 @@ module _ {D M : Type 0} (failures : D → ℕ) (g : GeometryValue) where
   one (event.End txn) r old new size_old size_new is granted = inr (in_core old new is.rest)
   one (event.Commit txn) r old new size_old size_new is granted = inr (in_core old new is.rest)
   one event.Create r old new size_old size_new is granted = inr (in_core old new is.rest)
+  one event.Drop r old new size_old size_new is granted = inr (in_core old new is.rest)
   one event.Build r old new size_old size_new is granted = inr (in_core old new is.rest)
   one event.Clean r old new size_old size_new is granted = inr (in_core old new is.rest)
   one event.Flush r old new size_old size_new is granted = inr (flushed r old new is)

@@ -5,7 +5,7 @@ use Rattle.std.proofs.lemmas.List.Elements.{All-cons}
 use Rattle.std.specs.List.{All}
 use Rattle.records.specs.declared.pair.Pair.{Pair}
 use Rattle.model.specs.Given.{Given, nothing}
-use Rattle.model.specs.History.{Checkpointed, Committed, Completed, Created, Deed, Item, life_after, life_with, up_to}
+use Rattle.model.specs.History.{Checkpointed, Committed, Completed, Created, Deed, Dropped, Item, life_after, life_with, up_to}
 use Rattle.model.specs.declared.life.Life.{Life}
 use Rattle.model.specs.declared.life.Life.TheVariants.{Building}
 use Rattle.restart.specs.Story.{IsCommit, IsLastCheckpoint, IsLeftOf, Story}
@@ -29,6 +29,7 @@ first life number (Committed writes) items pair same all = inl (same, All-cons (
 first life number Created items pair same all = absurd cc
 first life number (Checkpointed p) items pair same all = inr (record { number = number; before = []; behind = items; there = ap (λ (q : Pair). record { number = number; deed = Checkpointed q } ∷ items) (let e : p ≡ pair = cc in e); commits = all })
 first life number Completed items pair same all = absurd cc
+first life number Dropped items pair same all = absurd cc
 
 -- the life is what it was, and all are commits; or there is a last one
 found : (life : Life) (items : List Item) (pair : Pair) → life_after life items ≡ Building (Some pair) → ((life ≡ Building (Some pair)) × All (λ (item : Item). IsCommit item.deed) items) ⊎ IsLast items pair

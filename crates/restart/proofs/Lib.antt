@@ -12,6 +12,8 @@ mod Keeping
 mod Flushing
 mod Runs
 mod Around
+mod AllFlushed
+mod WholeImages
 mod CopiesAround
 mod Crashes
 mod Climbing

@@ -34,6 +34,7 @@ of_kind (event.Undo txn) r e told p q = λ none. cc
 of_kind (event.End txn) r e told p q = λ none. cc
 of_kind (event.Commit txn) r e told p q = λ none. cc
 of_kind event.Create r e told p q = λ none. cc
+of_kind event.Drop r e told p q = λ none. cc
 of_kind event.Build r e told p q = λ none. cc
 of_kind event.Clean r e told p q = λ none. cc
 of_kind event.Flush r e told p q = absurd cc

@@ -47,6 +47,7 @@ module _ {D M : Type 0} (failures : D → ℕ) (r : Reply M) (old new : Parts D 
   lawful_in_core (event.End txn) is = is
   lawful_in_core (event.Commit txn) is = is
   lawful_in_core event.Create is = is
+  lawful_in_core event.Drop is = is
   lawful_in_core event.Build is = is
   lawful_in_core event.Clean is = is
   lawful_in_core event.Flush is = absurd is
@@ -80,6 +81,7 @@ is_flush (event.Undo txn) none other = absurd cc
 is_flush (event.End txn) none other = absurd cc
 is_flush (event.Commit txn) none other = absurd cc
 is_flush event.Create none other = absurd cc
+is_flush event.Drop none other = absurd cc
 is_flush event.Build none other = absurd cc
 is_flush event.Clean none other = absurd cc
 is_flush event.Flush none other = refl

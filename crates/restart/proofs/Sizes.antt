@@ -4,7 +4,7 @@ use Rattle.records.specs.ChangeValue.{ChangeValue}
 use Rattle.records.specs.declared.pair.Pair.{Pair}
 use Rattle.core_model.specs.Changes.{Changes, Unchanged, new_pair, old_pair, ◌▹◌}
 use Rattle.core_model.specs.States.{Active, Made, NewMarked, OldMarked, OldSet, Phase, RowSet, State}
-use Rattle.core_model.specs.Steps.{Attempt, Begin, Checkpoint, Clean, Commit, Create, End, Finish, Keep, MachineStep, Next, Start, Take, Undo, Wrap, after, carried_on, is_indexed, started, txn_at, undone, undone_first}
+use Rattle.core_model.specs.Steps.{Attempt, Begin, Checkpoint, Clean, Commit, Create, Drop, End, Finish, Keep, MachineStep, Next, Start, Take, Undo, Wrap, after, carried_on, is_indexed, started, txn_at, undone, undone_first}
 use Rattle.core_contracts.specs.Replies.{after_any}
 
 -- of the same pages, with as many places for entries
@@ -51,6 +51,7 @@ by_step s Finish = record { pages = refl; places = refl }
 by_step s (Clean p) = record { pages = refl; places = refl }
 by_step s (Keep p) = record { pages = refl; places = refl }
 by_step s Wrap = record { pages = refl; places = refl }
+by_step s Drop = record { pages = refl; places = refl }
 
 pub of_one_size : (s : State) (step : Option MachineStep) → AreOfOneSize s (after_any s step)
 of_one_size s None = record { pages = refl; places = refl }

@@ -15,6 +15,7 @@ is_copy (event.Undo txn) = false
 is_copy (event.End txn) = false
 is_copy (event.Commit txn) = false
 is_copy event.Create = false
+is_copy event.Drop = false
 is_copy event.Build = false
 is_copy event.Clean = false
 is_copy event.Flush = false

@@ -1,6 +1,6 @@
 -- The groups that a copy writes while a whole image waits to be made current.
-use Rattle.std.specs.Prelude.{◌≡◌, ◌⊎◌, ℕ, None, true, Some}
-use Rattle.store_writer.specs.Image.{reach}
+use Rattle.std.specs.Prelude.{◌≡◌, ◌⊎◌, ◌-◌, ℕ, None, true, Some}
+use Rattle.store_writer.specs.Image.{BecomesImage, reach}
 use Rattle.store_writer.specs.Parts.{has_failed, halves_of, image_of, log_of, synced_of, waiting_of}
 use Rattle.store_writer.specs.Writer.{HasFlipped, IsFlushReply}
 use Rattle.store_writer.specs.declared.image.NewImage.{NewImage}
@@ -11,11 +11,12 @@ use Rattle.restart.specs.Parts.{KeepsStore, horizon_of, unwritten, writer_of}
 use Rattle.restart.specs.declared.copying.Copying.TheVariants.{Steps}
 use Rattle.restart.specs.declared.parts.Parts.{Parts}
 
--- Groups were written one after another, each of as many of the records that waited as fill one; the first only where the image
--- couldn't be made current yet.
+-- Groups were written one after another, each of as many of the records that waited as fill one, and only where the image couldn't be
+-- made current yet; what was copied of the image stays, with the group in its log too.
 pub data WritesGroups {D M : Type 0} (first : Writer D M) : Writer D M → Type 0 where
   no_more : WritesGroups first first
-  one_more : (mid last : Writer D M) (number : ℕ) → WritesGroups first mid → ¬ MayFlip mid → IsFlushReply (Flushed number) mid last → WritesGroups first last
+  one_more : (mid last : Writer D M) (number : ℕ) → WritesGroups first mid → ¬ MayFlip mid → IsFlushReply (Flushed number) mid last
+      → BecomesImage (halves_of mid).geometry.slots (synced_of mid) (number - synced_of mid) (image_of mid) (image_of last) → WritesGroups first last
 
 -- The image was made current without a group more: what it reached is synced, and its log is the log.
 pub record Flips {D M : Type 0} (last new : Writer D M) : Type 0 where

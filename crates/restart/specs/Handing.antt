@@ -1,11 +1,12 @@
 -- What handing records to the writer, and what the writer does with them, leaves of an engine. No public clause cites this.
-use Rattle.std.specs.Prelude.{◌≡◌, ◌≤◌, ◌<◌, ℕ, [], None, length}
+use Rattle.std.specs.Prelude.{◌≡◌, ◌≤◌, ◌<◌, ◌-◌, ℕ, [], None, length}
 use Rattle.core_model.specs.States.{State}
 use Rattle.core_contracts.specs.Events.{Standing}
 use Rattle.image_model.specs.Run.{Run, end_of}
 use Rattle.sector_device.specs.Disk.{Image}
 use Rattle.sector_device.specs.History.{History, LeavesOnly}
 use Rattle.store_writer.specs.Contents.{LeftBy}
+use Rattle.store_writer.specs.Image.{BecomesImage}
 use Rattle.store_writer.specs.Parts.{halves_of, log_of, has_failed, image_of}
 use Rattle.store_writer.specs.Writer.{IsFlushReply}
 use Rattle.store_writer.specs.declared.writer.FlushReply.TheVariants.{Flushed}
@@ -45,6 +46,7 @@ pub record FlushesFirst {D M : Type 0} (failures : D → ℕ) (old new : Parts D
   pub all : unhanded new ≡ []
   pub copying : new.copying ≡ Steps None
   pub could-not : ¬ MayFlip (writer_of old)
-  pub flushed : (number : ℕ) × IsFlushReply (Flushed number) (writer_of old) (writer_of new)
+  pub flushed : (number : ℕ) × (IsFlushReply (Flushed number) (writer_of old) (writer_of new)
+      × BecomesImage (halves_of (writer_of old)).geometry.slots (horizon_of old) (number - horizon_of old) (image_of (writer_of old)) (image_of (writer_of new)))
   pub halves : halves_of (writer_of new) ≡ halves_of (writer_of old)
   pub left : copies_left new ≤ copies_left old

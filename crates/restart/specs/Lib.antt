@@ -12,3 +12,4 @@ pub mod Building
 pub mod Reopening
 pub mod Story
 pub mod Groups
+pub mod Repeated

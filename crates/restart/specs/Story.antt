@@ -4,7 +4,7 @@ use Rattle.std.specs.Prelude.{◌≡◌, ◌≤◌, ℕ, List, [], ◌∷◌, �
 use Rattle.records.specs.GeometryValue.{GeometryValue}
 use Rattle.records.specs.declared.pair.Pair.{Pair}
 use Rattle.model.specs.Given.{Given, IsBeginning, nothing}
-use Rattle.model.specs.History.{Checkpointed, Committed, Completed, Created, Deed, Item, up_to}
+use Rattle.model.specs.History.{Checkpointed, Committed, Completed, Created, Deed, Dropped, Item, up_to}
 use Rattle.core_model.specs.Histories.{CanOpen}
 use Rattle.sector_device.specs.Disk.{Image, IsCrashImage}
 use Rattle.sector_device.specs.History.{History}
@@ -63,6 +63,7 @@ IsCommit (Committed writes) = Unit {0}
 IsCommit Created = ⊥
 IsCommit (Checkpointed pair) = ⊥
 IsCommit Completed = ⊥
+IsCommit Dropped = ⊥
 
 -- Of the items up to record `last` the last one that is of the index is the checkpoint of this pair.
 pub record IsLastCheckpoint (items : List Item) (last : ℕ) (pair : Pair) : Type 0 where

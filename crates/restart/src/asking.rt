@@ -36,6 +36,7 @@ impl<D: Device, A: Allocator + Copy> Parts<D, A> {
             Event::End { txn } => Some(self.end(txn)),
             Event::Commit { txn } => Some(self.commit(txn)),
             Event::Create => Some(self.create()),
+            Event::Drop => Some(self.drop_index()),
             Event::Build => Some(self.build()),
             Event::Clean => Some(self.clean()),
             Event::Flush => None,
@@ -158,6 +159,15 @@ impl<D: Device, A: Allocator + Copy> Parts<D, A> {
     {
         match self.core.create_index() {
             Ok(created) => Reply::Ticket(created),
+            Err(error) => Reply::Refused(error),
+        }
+    }
+
+    fn drop_index(&mut self) -> Reply<A>
+        ensures { ServesInCore events.Drop result self.old self.new }
+    {
+        match self.core.drop_index() {
+            Ok(dropped) => Reply::Ticket(dropped),
             Err(error) => Reply::Refused(error),
         }
     }

@@ -50,6 +50,8 @@ pub enum Event {
     },
     /// Creates the index, which is then to be built.
     Create,
+    /// Drops the index, be it complete or not.
+    Drop,
     /// Makes a step of the builder.
     Build,
     /// Makes a step of the cleaner.
@@ -88,6 +90,7 @@ impl Event {
             | Event::End { .. }
             | Event::Commit { .. }
             | Event::Create
+            | Event::Drop
             | Event::Build
             | Event::Clean
             | Event::Flush
@@ -111,7 +114,7 @@ pub enum Reply<A: Allocator> {
     Empty,
     /// The transaction is over, and nothing of it was committed.
     Ended,
-    /// The record of the commit, or of the creation.
+    /// The record of the commit, of the creation, or of the dropping.
     Ticket(Ticket),
     /// What the builder did.
     Built(BuildReply),

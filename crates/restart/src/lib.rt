@@ -9,6 +9,7 @@ mod event;
 mod lives;
 mod parts;
 mod reopen;
+mod repeat;
 mod sound;
 mod story;
 

@@ -4,6 +4,8 @@ mod Lookups
 mod Stepped
 mod Advances
 mod Single
+mod Ready
+mod SameSeat
 mod Made
 mod Backward
 mod Ends

@@ -84,6 +84,7 @@ impl<B: Group> Shared<B> {
         ensures leaves { IfOk result (λ ack. ack.sight ≡ record seat.new.sight { name = leaves_as seat.old.sight.name; stops = false }) }
         ensures why { IfErr result (λ e. HasReadWhy e (record seat.old { sight = record seat.old.sight { horizon = seat.new.sight.horizon } }) seat.new) }
         ensures late { OnErr result (seat.new.sight.horizon < ticket.«record») }
+        ensures seat { seat.new ≡ record seat.old { sight = seat.new.sight } }
         ensures rises { seat.old.sight.horizon ≤ seat.new.sight.horizon }
     {
         let mut looks: u32 = 0;

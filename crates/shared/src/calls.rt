@@ -4,7 +4,8 @@ ghost use Rattle.records.specs.declared.error.Error.TheVariants.{NoSuchTxn};
 ghost use Rattle.records.specs.declared.row.Row.{Row as RowValue};
 ghost use Rattle.core_contracts.specs.Events.{Event, Reply};
 ghost use Rattle.nsf_core.specs.Replies.{reply_by, reply_of_ticket};
-ghost use Rattle.sessions.specs.Steps.{begun, committed, with_creation};
+ghost use Rattle.sessions.specs.Steps.{begun, committed, with_turn};
+ghost use Rattle.sessions.specs.declared.turn.Turn.TheVariants.{Created, Dropped};
 ghost use Rattle.sessions.specs.Values.{is_active, is_ready};
 ghost use Rattle.shared.specs.Changed.{row_of};
 ghost use Rattle.shared.specs.Served.{WasServed, WasServedTo};
@@ -57,7 +58,7 @@ impl<B: Group> Shared<B> {
     /// The refusals are those of the core's `create_index`. After a refusal the seat is as before.
     pub fn create_index<R: Wait>(&self, rt: &R, seat: &mut Seat<B>) -> Result<Ticket, Error>
         ensures served { ∥ WasServedTo B.site.opened seat.old.number seat.old.session Event.Create (reply_by reply_of_ticket result) ∥₁ }
-        ensures ok { IfOk result (λ ticket. seat.new ≡ record seat.old { session = with_creation seat.old.session ticket.«record» }) }
+        ensures ok { IfOk result (λ ticket. seat.new ≡ record seat.old { session = with_turn seat.old.session (Created ticket.«record») }) }
         ensures refused { OnErr result (seat.new ≡ seat.old) }
     {
         let mut locked = self.locked.lock(rt);
@@ -68,6 +69,25 @@ impl<B: Group> Shared<B> {
         self.wake_flusher();
         self.board.waits().resting.ring();
         created
+    }
+
+    /// Drops the index, be it complete or not, and keeps the number of its record with the seat. Its entries are freed under the
+    /// lock.
+    ///
+    /// The refusals are those of the core's `drop_index`. After a refusal the seat is as before.
+    pub fn drop_index<R: Wait>(&self, rt: &R, seat: &mut Seat<B>) -> Result<Ticket, Error>
+        ensures served { ∥ WasServedTo B.site.opened seat.old.number seat.old.session Event.Drop (reply_by reply_of_ticket result) ∥₁ }
+        ensures ok { IfOk result (λ ticket. seat.new ≡ record seat.old { session = with_turn seat.old.session (Dropped ticket.«record») }) }
+        ensures refused { OnErr result (seat.new ≡ seat.old) }
+    {
+        let mut locked = self.locked.lock(rt);
+        locked.push_outbox(rt, &self.queue);
+        let dropped = locked.drop_index(&self.registry, &mut seat.part);
+        locked.push_outbox(rt, &self.queue);
+        drop(locked);
+        self.wake_flusher();
+        self.board.waits().resting.ring();
+        dropped
     }
 
     /// The row at the place, as it is now, also before its transaction's commit. If a transaction of the seat holds the place,

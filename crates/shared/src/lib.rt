@@ -14,6 +14,7 @@ mod seat;
 mod shared;
 mod site;
 mod taken_back;
+mod tested;
 mod views;
 
 pub use changes::Change;

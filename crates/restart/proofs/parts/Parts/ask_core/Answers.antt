@@ -31,6 +31,9 @@ returns-in-Commit-clause-some g c = as_asked c.args.event (event.Commit c.in-Com
 pub returns-in-Create-clause-some : goal.returns-in-Create-clause-some
 returns-in-Create-clause-some g c = as_asked c.args.event event.Create c.create.result c.args.self.now c.create.new.self c.in-Create.is c.create.ensures
 
+pub returns-in-Drop-clause-some : goal.returns-in-Drop-clause-some
+returns-in-Drop-clause-some g c = as_asked c.args.event event.Drop c.drop_index.result c.args.self.now c.drop_index.new.self c.in-Drop.is c.drop_index.ensures
+
 pub returns-in-Build-clause-some : goal.returns-in-Build-clause-some
 returns-in-Build-clause-some g c = as_asked c.args.event event.Build c.build.result c.args.self.now c.build.new.self c.in-Build.is c.build.ensures
 

@@ -1,4 +1,5 @@
 use Rattle.std.proofs.Common.{◌≡◌, ◌≤◌, ◌-◌, ◌∙◌, ⊎_elim, inl, inr, Ok, false, refl, sym, ap, arith, subst}
+use Rattle.store_writer.specs.Image.{BecomesImage}
 use Rattle.store_writer.specs.Parts as writer
 use Rattle.store_writer.specs.Writer.{IsFlipReply, IsFlushReply, IsLogFull, IsWriter, WritesLogsAlone}
 use Rattle.store_writer.specs.declared.writer.FlipReply.{FlipReply}
@@ -98,7 +99,14 @@ returns-in-Ok-Flushed-clause-flushed g c =
       all = c.requires.all;
       copying = c.requires.whole;
       could-not = may_not_flip history can.0 can.1 can.2 can.3 old can.4 c.requires.sound c.requires.all behind.1;
-      flushed = (c.in-Ok-Flushed.field-0-0, subst (λ w. IsFlushReply (Flushed c.in-Ok-Flushed.field-0-0) w (writer_of new)) same is);
+      flushed = (
+        c.in-Ok-Flushed.field-0-0,
+        (
+          subst (λ w. IsFlushReply (Flushed c.in-Ok-Flushed.field-0-0) w (writer_of new)) same is,
+          subst (λ w. BecomesImage (writer.halves_of w).geometry.slots (writer.synced_of w) (c.in-Ok-Flushed.field-0-0 - writer.synced_of w) (writer.image_of w) (writer.image_of (writer_of new))) same
+              (c.flush_group.ensures.image c.in-Ok-Flushed.field-0-0 (c.in-Ok-Flushed.is ∙ ap Ok c.in-Ok-Flushed.field-0-is)),
+        ),
+      );
       halves = is.3.halves-are ∙ ap (λ w. writer.halves_of w) same;
       left = few_behind old new c.requires.whole c.requires.whole (two_to_flip history can.0 can.1 can.2 can.3 old can.4 c.requires.sound c.requires.all behind.1 c.requires.whole);
     }

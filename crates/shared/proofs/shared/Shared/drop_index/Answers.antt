@@ -1,0 +1,17 @@
+use Rattle.std.proofs.Common.{map, subst}
+use Rattle.core_contracts.specs.Events.{Event}
+use Rattle.nsf_core.specs.Replies.{reply_by, reply_of_ticket}
+use Rattle.nsf_core.specs.Value.{value_of}
+use Rattle.registry.specs.Halves.{shown}
+use Rattle.shared.specs.Seats.{SeatValue}
+use Rattle.shared.specs.Served.{WasServedTo}
+use Rattle.shared.proofs.Moments.{served_to}
+use Rattle.shared.proofs.shared.Shared.drop_index.Goals as goal
+
+pub returns-clause-served : goal.returns-clause-served
+returns-clause-served g c =
+    let o = g.B.Site.site.opened in
+    let was = c.deref_mut-2.result.now in
+    let reply = reply_by reply_of_ticket c.drop_index-dropped.result in
+    subst (λ (s : SeatValue). ∥ WasServedTo o s.number s.session Event.Drop reply ∥₁) c.seat.view_is
+    (served_to o (value_of was.core) (value_of c.drop_index-dropped.new.self.core) was.pusher.records (map shown was.book.items) was.shared Event.Drop reply c.drop_index-dropped.ensures.served _ _ c.drop_index-dropped.ensures.before)
