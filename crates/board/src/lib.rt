@@ -15,8 +15,6 @@
 mod board;
 mod knowledge;
 mod rule;
-#[cfg(test)]
-mod tests;
 mod views;
 mod waits;
 

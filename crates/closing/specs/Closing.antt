@@ -26,7 +26,7 @@ table_with table (c ∷ cs) = table_with (applied table c.writes) cs
 abbrev pub up_to : ℕ → List CommitValue → List CommitValue
 up_to number commits = filter (λ c. nat_le c.ticket.«record» number) commits
 
--- The core is as these seats left it: the sessions of the seats have what it has of the active transactions, and its commits and creations; it holds the history that its calls tell; and no record of it waits. Those that the flusher had popped are the first that it made. Its committed table, and its rows once no transaction is active, are what was opened with the commits set over it.
+-- The core is as these seats left it: the sessions of the seats have what it has of the active transactions, its commits, and what was done to the index; it holds the history that its calls tell; and no record of it waits. Those that the flusher had popped are the first that it made. Its committed table, and its rows once no transaction is active, are what was opened with the commits set over it.
 pub record IsCoreOf (o : Opened) (seats : List SeatValue) (popped : List RecordValue) (core : CoreValue) (commits : List CommitValue) : Type 0 where
   pub pushed : List RecordValue
   pub shared : IsShared o core pushed (sessions_of seats)

@@ -13,7 +13,7 @@ ghost use Rattle.store_writer.specs.Parts.{device_of, halves_of, has_failed, ima
 ghost use Rattle.store_writer.specs.Places.{IsAtPiece, IsAtPlace};
 ghost use Rattle.flip_image.specs.Layout.{InHalf, other};
 ghost use Rattle.flip_image.specs.declared.half.TheConstants.{FLIP_SECTOR};
-ghost use Rattle.store_writer.specs.Writer.{CanFlip, HasFailed, IsAsBefore, IsBeforeFlush, IsChunk, IsFlipReply, IsFlushReply, IsLogFull, IsNotFlushed, IsStepReply, IsWriter, MustStartAgain, WritesLogsAlone, WritesOnly, opened_run};
+ghost use Rattle.store_writer.specs.Writer.{CanFlip, HasFailed, InOpenedSlots, IsAsBefore, IsBeforeFlush, IsChunk, IsFlipReply, IsFlushReply, IsLogFull, IsNotFlushed, IsStepReply, IsWriter, MustStartAgain, WritesLogsAlone, WritesOnly, opened_run};
 
 use crate::ends::FlushEnds;
 use board::{Board, FlushView};
@@ -184,6 +184,7 @@ impl<B: Site, D: Device> FlushPart<B, D> {
         ensures quiet { OnOk result (D.failures (device_of self.new.writer) ≡ D.failures (device_of self.old.writer)) }
         ensures later { D.failures (device_of self.old.writer) ≤ D.failures (device_of self.new.writer) }
         ensures around { WritesLogsAlone D.history self.old.writer self.new.writer }
+        ensures slot { WritesOnly D.history (InOpenedSlots self.old.writer) (device_of self.old.writer) (device_of self.new.writer) }
         ensures left { OnErr result (IsBeforeFlush self.old.writer self.new.writer) }
     {
         let flushed = self.writer.flush_group(self.alloc);

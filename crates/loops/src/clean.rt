@@ -6,15 +6,16 @@ ghost use Rattle.nsf_core.specs.Replies.{reply_by};
 ghost use Rattle.shared.specs.Served.{WasServed};
 
 use crate::gate::{Gate, Point};
-use crate::rest::{Rest, has_ended};
+use crate::rest::{Rest, has_ended, pause_cleaner};
 use board::View;
 use nsf_core::CleanReply;
 use records::Error;
 use shared::{Group, Shared};
 use std::sync::Wait;
 
-/// Makes steps of the cleaner, each under the lock anew, until the stop flag is read. What is refused it passes over. Behind a round
-/// through the index that removed nothing it sleeps, longer each time.
+/// Makes steps of the cleaner, each under the lock anew, until the stop flag is read. What is refused it passes over. After some
+/// steps that removed nothing it leaves room for the others by a pause, and behind a round through the index that removed nothing it
+/// sleeps, longer each time.
 pub fn clean_loop<B: Group, R: Wait, G: Gate>(rt: &R, shared: &Shared<B>, view: &mut View, gate: &G)
     requires { view.old.board ≡ B.board }
     ensures { view.new ≡ record view.old { stopped = true } }
@@ -36,6 +37,7 @@ pub(crate) fn clean_until<B: Group, R: Wait, G: Gate>(
 {
     let bell = &shared.board().waits().resting;
     let mut rest = Rest::new();
+    let mut steps = 0;
     for _ in rt.forever() {
         let rings = bell.rings();
         if has_ended(shared, run) {
@@ -48,7 +50,7 @@ pub(crate) fn clean_until<B: Group, R: Wait, G: Gate>(
         gate.at(Point::CleanStep);
         match clean_step(rt, shared) {
             Ok(CleanReply::Cleaned(_)) => rest = Rest::new(),
-            Ok(CleanReply::Kept(_)) => {}
+            Ok(CleanReply::Kept(_)) => steps = pause_cleaner(rt, bell, rings, steps),
             Ok(CleanReply::Wrapped) | Err(_) => rest.sleep(rt, bell, rings),
         }
     }

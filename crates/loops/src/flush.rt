@@ -40,7 +40,7 @@ pub(crate) enum Copying {
 
 /// Pops the records that wait, hands them in under the lock, writes them in groups, and publishes behind each group how far they are
 /// synced. Now and then it looks under the lock for records that the queue refused. Once half the slots of the log are open it takes
-/// an image, each chunk of it copied under the lock anew, with a pause behind it, and makes it current. Where nothing waits it sleeps
+/// an image, each chunk of it copied under the lock anew, with a pause behind each four, and makes it current. Where nothing waits it sleeps
 /// until records are made, or for a short while. After want of memory it tries again.
 ///
 /// It ends where the stop flag is read, or with `DeviceFailed` where the device failed, now or earlier, stop flag or not. What is
@@ -98,22 +98,31 @@ pub(crate) fn flush_until<B: Group, D: Device, R: Wait, G: Gate>(
         }
         rounds = rounds.wrapping_add(1);
         let synced = part.synced();
-        let _ = round(
+        let went = round(
             rt,
             shared,
             part,
             &mut copying,
             rounds % LOOK_EVERY == 0,
             gate,
-        );
-        quiet = rest_flusher(rt, bell, rings, found(part, synced, copying), quiet);
+        )
+        .is_ok();
+        let seen = found(part, synced, copying, went);
+        quiet = rest_flusher(rt, bell, rings, seen, quiet);
     }
     unreachable!()
 }
 
-// What was found in a round, before which so much was synced.
-fn found<B: Group, D: Device>(part: &FlushPart<B, D>, synced: u64, copying: Copying) -> Found {
-    if part.synced() != synced || part.synced() != part.last_handed() {
+// What was found in a round, before which so much was synced, and which went well or was cut short for want of memory. Where memory
+// is wanting for the records that wait, there is nothing to do for a while.
+fn found<B: Group, D: Device>(
+    part: &FlushPart<B, D>,
+    synced: u64,
+    copying: Copying,
+    went: bool,
+) -> Found {
+    let waits = part.synced() != part.last_handed();
+    if part.synced() != synced || (went && waits) {
         return Found::Records;
     }
     match copying {
@@ -122,7 +131,7 @@ fn found<B: Group, D: Device>(part: &FlushPart<B, D>, synced: u64, copying: Copy
     }
 }
 
-// One round: the records that wait are handed in, a group of them is written, and a step of an image is made where one is due.
+// One round: the records that wait are handed in, a group of them is written, and some steps of an image are made where they are due.
 fn round<B: Group, D: Device, R: Wait, G: Gate>(
     rt: &R,
     shared: &Shared<B>,
@@ -139,6 +148,44 @@ fn round<B: Group, D: Device, R: Wait, G: Gate>(
 {
     hand_in(rt, shared, part, looks);
     let is_full = write(shared, part, gate)?;
+    copy_some(rt, shared, part, copying, is_full, gate)
+}
+
+// Makes four steps of an image, where as many are due: it is whole then before the log is full, also of the largest store with the
+// longest log.
+fn copy_some<B: Group, D: Device, R: Wait, G: Gate>(
+    rt: &R,
+    shared: &Shared<B>,
+    part: &mut FlushPart<B, D>,
+    copying: &mut Copying,
+    is_full: bool,
+    gate: &G,
+) -> Result<(), Error>
+    requires part { part.old.published.board ≡ B.board }
+    requires copying { StandsBy copying.old part.old }
+    ensures goes_on { GoesOn D.history D.failures B.site.opened part.old part.new }
+    ensures through { RunsThrough D.history D.failures B.site.opened part.old part.new }
+    ensures copying { StandsBy copying.new part.new }
+{
+    copy_twice(rt, shared, part, copying, is_full, gate)?;
+    copy_twice(rt, shared, part, copying, is_full, gate)
+}
+
+fn copy_twice<B: Group, D: Device, R: Wait, G: Gate>(
+    rt: &R,
+    shared: &Shared<B>,
+    part: &mut FlushPart<B, D>,
+    copying: &mut Copying,
+    is_full: bool,
+    gate: &G,
+) -> Result<(), Error>
+    requires part { part.old.published.board ≡ B.board }
+    requires copying { StandsBy copying.old part.old }
+    ensures goes_on { GoesOn D.history D.failures B.site.opened part.old part.new }
+    ensures through { RunsThrough D.history D.failures B.site.opened part.old part.new }
+    ensures copying { StandsBy copying.new part.new }
+{
+    copy(rt, shared, part, copying, is_full, gate)?;
     copy(rt, shared, part, copying, is_full, gate)
 }
 

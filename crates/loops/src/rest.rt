@@ -15,13 +15,18 @@ const LONGEST: u64 = 8_000;
 // So many rounds in which the flusher found nothing it looks again at once, and then sleeps.
 const LOOKS: u32 = 16;
 
-// How many microseconds the flusher sleeps where nothing waits, and where an image is copied; and the builder where it leaves room for
-// the others.
+// How many microseconds the flusher sleeps where nothing waits, at first, and where an image is copied; and the builder where it leaves
+// room for the others.
 const FLUSHER_SLEEP: u64 = 1_000;
 
 const COPY_PAUSE: u64 = 20;
 
 const BUILD_PAUSE: u64 = 30;
+
+// After so many steps that removed nothing the cleaner pauses, for so many microseconds.
+const CLEAN_STEPS: u32 = 64;
+
+const CLEAN_PAUSE: u64 = 500;
 
 /// The sleeps of a loop that finds nothing to do, each longer than the one before, up to a limit.
 #[derive(Clone, Copy)]
@@ -74,7 +79,9 @@ pub(crate) fn rest_flusher<R: Wait>(
             if quiet < LOOKS {
                 thread::yield_now();
             } else {
-                bell.sleep(rt, rings, Duration::from_micros(FLUSHER_SLEEP));
+                let longer = u64::from(quiet - LOOKS).saturating_add(1);
+                let micros = FLUSHER_SLEEP.saturating_mul(longer).min(LONGEST);
+                bell.sleep(rt, rings, Duration::from_micros(micros));
             }
             quiet.saturating_add(1)
         }
@@ -97,6 +104,16 @@ pub(crate) fn leave_room<B: Group, R: Wait>(
     waits
         .resting
         .sleep(rt, rings, Duration::from_micros(BUILD_PAUSE));
+    0
+}
+
+/// A pause of the cleaner, where it has made so many steps since the last one. Answers how many it has made since then.
+pub(crate) fn pause_cleaner<R: Wait>(rt: &R, bell: &Bell, rings: u64, steps: u32) -> u32 {
+    let steps = steps.saturating_add(1);
+    if steps < CLEAN_STEPS {
+        return steps;
+    }
+    bell.sleep(rt, rings, Duration::from_micros(CLEAN_PAUSE));
     0
 }
 

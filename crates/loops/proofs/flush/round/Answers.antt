@@ -13,17 +13,17 @@ returns-clause-goes_on g c =
     let history = g.D.Device.history in
     let failures = g.D.Device.failures in
     let o = g.B.Site.site.opened in
-    goes_then history failures o _ _ _ (goes_then history failures o _ _ _ c.hand_in.ensures.goes_on c.write.ensures.goes_on) c.copy.ensures.goes_on
+    goes_then history failures o _ _ _ (goes_then history failures o _ _ _ c.hand_in.ensures.goes_on c.write.ensures.goes_on) c.copy_some.ensures.goes_on
 
 pub returns-clause-through : goal.returns-clause-through
 returns-clause-through g c =
     let history = g.D.Device.history in
     let failures = g.D.Device.failures in
     let o = g.B.Site.site.opened in
-    through_then history failures o _ _ _ (through_then history failures o _ _ _ c.hand_in.ensures.through c.write.ensures.through) c.copy.ensures.through
+    through_then history failures o _ _ _ (through_then history failures o _ _ _ c.hand_in.ensures.through c.write.ensures.through) c.copy_some.ensures.through
 
 pub returns-in_err-is_full-clause-copying : goal.returns-in_err-is_full-clause-copying
 returns-in_err-is_full-clause-copying g c = c.write.ensures.copying c.args.copying.now (c.hand_in.ensures.copying c.args.copying.now c.requires.copying)
 
-pub copy-requires-clause-copying : goal.copy-requires-clause-copying
-copy-requires-clause-copying g c = c.write.ensures.copying c.args.copying.now (c.hand_in.ensures.copying c.args.copying.now c.requires.copying)
+pub copy_some-requires-clause-copying : goal.copy_some-requires-clause-copying
+copy_some-requires-clause-copying g c = c.write.ensures.copying c.args.copying.now (c.hand_in.ensures.copying c.args.copying.now c.requires.copying)
