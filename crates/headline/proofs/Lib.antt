@@ -1,0 +1,6 @@
+mod Told
+mod Rising
+mod Days
+mod Stopped
+mod Holding
+mod Torn

@@ -1,0 +1,203 @@
+-- What a device keeps of a store's days, as one day more goes by.
+use Rattle.std.proofs.Common.{◌≡◌, ◌⊎◌, ⊎_elim, inl, inr, ℕ, Bool, true, false, ◌+◌, ◌<◌, ◌≤◌, List, [], ◌∷◌, ◌++◌, Ok, Err, IfOk, IfErr, OnErr, length, get_or, take, sym, refl, ap, subst, ◌∙◌, append-nil, arith}
+use Rattle.std.proofs.lemmas.Bool.{false≢true}
+use Rattle.std.proofs.lemmas.List.{take_all, take_more}
+use Rattle.std.specs.FinMap as map
+use Rattle.std.specs.declared.vec.Vec.{Vec}
+use Rattle.records.specs.GeometryValue.{GeometryValue}
+use Rattle.records.specs.declared.error.Error.{Error}
+use Rattle.records.specs.declared.error.Error.TheVariants.{NoMemory, DeviceFailed}
+use Rattle.model.specs.Given.{Given}
+use Rattle.model.specs.History.{life_after, table_after}
+use Rattle.model.specs.Table.{Table}
+use Rattle.model.specs.declared.life.Life.{Life}
+use Rattle.model.specs.declared.life.Life.TheVariants.{Absent}
+use Rattle.model.proofs.HistoryLaws.{life_after-append, table_after-append}
+use Rattle.core_model.specs.Histories.{CanOpen}
+use Rattle.sector_device.specs.Disk.{Image}
+use Rattle.sector_device.specs.History.{History, LeavesOnly}
+use Rattle.sector_device.proofs.Moments.{joined, weaker}
+use Rattle.sector_device.proofs.Sectors.{content_is_image}
+use Rattle.recovery.specs.Reopening.{IsLeft, IsWrittenBack}
+use Rattle.store_reader.specs.Contents.{Gives, IsUnreadable}
+use Rattle.restart.specs.declared.event.Event.{Event}
+use Rattle.restart.specs.declared.event.Reply.{Reply}
+use Rattle.restart.specs.declared.parts.Parts.{Parts}
+use Rattle.restart.specs.Parts.{device_of}
+use Rattle.restart.specs.Ran.{KeepsWholeRun, SurvivesAnyCrash}
+use Rattle.restart.specs.Reopening.{IsNotOpened, IsOpened, IsTurned, opening}
+use Rattle.restart.specs.Store.{IsAt, Past, RunsOn, Survives, SurvivesAt, acknowledged_by, and_then, over}
+use Rattle.headline.specs.declared.day.Day.{Day}
+use Rattle.headline.specs.Days.{Answer, AreDays, IsAnswered, IsDay}
+use Rattle.headline.specs.Kept.{GivesDays, KeepsDays}
+use Rattle.headline.specs.Stops.{HasStopped, IsFoundAs}
+use Rattle.headline.proofs.Days.{Rise, day_last, kept_of, kept_told, quiet_day, refused_day, served_day}
+
+-- what the laws of images say
+pub record Images : Type 0 where
+  pub geometry : (image : Image) (g h : GeometryValue) (x y : Given) → Gives image g x → Gives image h y → g ≡ h
+  pub given : (image : Image) (g h : GeometryValue) (x y : Given) → Gives image g x → Gives image h y → x ≡ y
+  pub readable : (image : Image) (g : GeometryValue) (given : Given) (e : Error) → Gives image g given → ¬ IsUnreadable image e
+
+abbrev pub GivesBack : Type 0
+GivesBack = (old image : Image) → IsWrittenBack old image → (g : GeometryValue) (given : Given) → Gives old g given → Gives image g given
+
+-- what all of the requests leave is what the last border leaves
+survives_all : {M : Type 0} (past : Past M) (events : List Event) (replies : List (Reply M)) (image : Image) → length replies ≡ length events → Survives (and_then past events replies) (acknowledged_by (and_then past events replies)) image
+    → SurvivesAt past events replies (length events) image
+survives_all past events replies image even it =
+    let j = length events in
+    subst (λ (rs : List (Reply _)). Survives (and_then past (take (j + 1) events) (take (j + 1) replies)) (acknowledged_by (and_then past (take j events) rs)) image) (sym (take_all j replies (omega (arith, even))))
+    (subst (λ (rs : List (Reply _)). Survives (and_then past (take (j + 1) events) rs) (acknowledged_by (and_then past (take j events) replies)) image) (sym (take_all (j + 1) replies (omega (arith, even))))
+    (subst (λ (es : List Event). Survives (and_then past es replies) (acknowledged_by (and_then past (take j events) replies)) image) (sym (take_all (j + 1) events (omega arith))) it))
+
+module _ {D M : Type 0} (history : D → History) (g : GeometryValue) (days : List (Day M)) (answers : List (Answer M)) (before : D) (keeps : KeepsDays history g days answers before) where
+  -- what the device gives now
+  pub now_gives : GivesDays g days answers (history before).disk.content
+  now_gives = keeps.each (history before).disk.content (content_is_image (history before).disk (history before).whole)
+
+  -- ---- while it is opened
+
+  pub between : GivesBack → (after : D) → IsTurned history before after → LeavesOnly (history before) (history after) (GivesDays g days answers)
+  between back after turned = weaker (history before) (history after) (IsLeft (history before).disk) (GivesDays g days answers) each turned.images
+    where
+      each : (image : Image) → IsLeft (history before).disk image → GivesDays g days answers image
+      each image = ⊎_elim
+          (λ crash. keeps.each image crash)
+          (λ written. record {
+            given = now_gives.given;
+            gives = back (history before).disk.content image written g now_gives.given now_gives.gives;
+            kept = now_gives.kept;
+            days-are = now_gives.days-are;
+            table = now_gives.table;
+            life = now_gives.life;
+            opens = now_gives.opens;
+          })
+
+  pub refused_so : Images → (failures : D → ℕ) (after : D) (e : Error) → IsNotOpened history failures before after e → (e ≡ NoMemory) ⊎ (e ≡ DeviceFailed)
+  refused_so images failures after e not = ⊎_elim
+      (λ refuses. ⊎_elim (λ memory. inl memory) (λ failed. inr failed.0) refuses)
+      (λ unreadable. absurd (images.readable (history before).disk.content g now_gives.given e now_gives.gives unreadable))
+      not.why
+
+  module _ (images : Images) (engine : Parts D M) (is : IsOpened history before engine) where
+    size : is.geometry ≡ g
+    size = images.geometry (history before).disk.content is.geometry g is.given now_gives.given is.gives now_gives.gives
+
+    same : is.given ≡ now_gives.given
+    same = images.given (history before).disk.content is.geometry g is.given now_gives.given is.gives now_gives.gives
+
+    pub can : CanOpen (over is.geometry is.given)
+    can = subst (λ (x : GeometryValue). CanOpen (over x is.given)) (sym size) (subst (λ (x : Given). CanOpen (over g x)) (sym same) now_gives.opens)
+
+    pub begins : IsAt history (opening g now_gives.given) engine
+    begins = subst (λ (x : Given). IsAt history (opening g x) engine) same (subst (λ (x : GeometryValue). IsAt history (opening x is.given) engine) size (is.begins can))
+
+    pub table_is : is.given.table ≡ table_after map.empty now_gives.kept
+    table_is = ap (λ (x : Given). x.table) same ∙ now_gives.table
+
+    pub life_is : is.given.life ≡ life_after Absent now_gives.kept
+    life_is = ap (λ (x : Given). x.life) same ∙ now_gives.life
+
+  -- ---- a day more
+
+  module _ (today : Day M) (answer : Answer M) where
+    abbrev Then : Image → Type 0
+    Then = GivesDays g (days ++ today ∷ []) (answers ++ answer ∷ [])
+
+    -- of which nothing was kept
+    quiet : IsDay today answer [] → (image : Image) → GivesDays g days answers image → Then image
+    quiet is image gives = record {
+      given = gives.given;
+      gives = gives.gives;
+      kept = gives.kept;
+      days-are = subst (AreDays (days ++ today ∷ []) (answers ++ answer ∷ [])) (append-nil gives.kept) (day_last days answers gives.kept today answer [] gives.days-are is);
+      table = gives.table;
+      life = gives.life;
+      opens = gives.opens;
+    }
+
+    -- the device stopped
+    stopped : (after found : D) → LeavesOnly (history before) (history after) Then → HasStopped (history after) (history found) → KeepsDays history g (days ++ today ∷ []) (answers ++ answer ∷ []) found
+    stopped after found leaves stop = record {
+      anew = stop.found-as.anew;
+      each = λ image crash. leaves.each stop.moment image (omega (arith, keeps.anew)) stop.until (stop.found-as.left image crash);
+    }
+
+  -- nothing was served
+  pub day_passed : (today : Day M) (e : Error) → IsAnswered {M = M} today.requests.items (Err e) → GivesBack → (after found : D) → IsTurned history before after → HasStopped (history after) (history found) → KeepsDays history g (days ++ today ∷ []) (answers ++ Err e ∷ []) found
+  day_passed today e is back after found turned stop =
+      stopped today (Err e) after found
+      (weaker (history before) (history after) (GivesDays g days answers) (GivesDays g (days ++ today ∷ []) (answers ++ Err e ∷ [])) (quiet today (Err e) (refused_day today e is)) (between back after turned)) stop
+
+  -- ---- a day that is served
+
+  module _ (images : Images) (back : GivesBack) (rise : Rise) (today : Day M) (engine : Parts D M) (is : IsOpened history before engine) where
+    module _ (replies : Vec (Reply M) M) (after : Parts D M) (at : IsAt history (and_then (opening g now_gives.given) today.requests.items replies.items) after) where
+      survived : (image : Image) (j : ℕ) → (today.within ≡ false → j ≡ length today.requests.items) → SurvivesAt (opening g now_gives.given) today.requests.items replies.items j image
+          → GivesDays g (days ++ today ∷ []) (answers ++ Ok replies ∷ []) image
+      survived image j all left =
+          let kept = kept_of history g now_gives.given today replies after rise at j image left in
+          let told = kept_told history g now_gives.given today replies after rise at j image left in
+          record {
+            given = left.given;
+            gives = left.gives;
+            kept = now_gives.kept ++ kept;
+            days-are = day_last days answers now_gives.kept today (Ok replies) kept now_gives.days-are (served_day history g now_gives.given today replies after rise at j image left all);
+            table =
+                left.beginning.table ∙ sym (ap (table_after now_gives.given.table) told)
+                ∙ ap (λ (t : Table). table_after t kept) now_gives.table ∙ sym (table_after-append map.empty now_gives.kept kept);
+            life =
+                left.beginning.life ∙ sym (ap (life_after now_gives.given.life) told)
+                ∙ ap (λ (l : Life). life_after l kept) now_gives.life ∙ sym (life_after-append Absent now_gives.kept kept);
+            opens = left.opens;
+          }
+
+      -- it stopped within the day
+      within : today.within ≡ true → SurvivesAnyCrash history today.requests.items replies.items engine after → (found : D) → HasStopped (history (device_of after)) (history found)
+          → KeepsDays history g (days ++ today ∷ []) (answers ++ Ok replies ∷ []) found
+      within so run found stop =
+          let opened : LeavesOnly (history before) (history (device_of engine)) (GivesDays g (days ++ today ∷ []) (answers ++ Ok replies ∷ [])) =
+          weaker (history before) (history (device_of engine)) (GivesDays g days answers) (GivesDays g (days ++ today ∷ []) (answers ++ Ok replies ∷ [])) (quiet today (Ok replies) (quiet_day today (Ok replies) so at.answered)) (between back (device_of engine) is.device) in
+          let served : LeavesOnly (history (device_of engine)) (history (device_of after)) (GivesDays g (days ++ today ∷ []) (answers ++ Ok replies ∷ [])) =
+          weaker (history (device_of engine)) (history (device_of after)) (λ image. (j : ℕ) × (j ≤ length today.requests.items) × SurvivesAt (opening g now_gives.given) today.requests.items replies.items j image) (GivesDays g (days ++ today ∷ []) (answers ++ Ok replies ∷ []))
+          (λ image it. survived image it.0 (λ behind. absurd (false≢true (sym behind ∙ so))) it.2) (run (opening g now_gives.given) (begins images engine is)) in
+          stopped today (Ok replies) (device_of after) found (joined (history before) (history (device_of engine)) (history (device_of after)) (GivesDays g (days ++ today ∷ []) (answers ++ Ok replies ∷ [])) opened served) stop
+
+      -- it stopped behind the last reply
+      behind : KeepsWholeRun history today.requests.items replies.items engine after → (found : D) → IsFoundAs (history (device_of after)).disk (history found)
+          → KeepsDays history g (days ++ today ∷ []) (answers ++ Ok replies ∷ []) found
+      behind whole found stop = record {
+        anew = stop.anew;
+        each = λ image crash.
+            survived image (length today.requests.items) (λ so. refl)
+            (survives_all (opening g now_gives.given) today.requests.items replies.items image at.answered (whole (opening g now_gives.given) (begins images engine is) image (stop.left image crash)));
+      }
+
+      ended : (b : Bool) → today.within ≡ b → SurvivesAnyCrash history today.requests.items replies.items engine after → KeepsWholeRun history today.requests.items replies.items engine after → (found : D)
+          → HasStopped (history (device_of after)) (history found) → (b ≡ false → IsFoundAs (history (device_of after)).disk (history found)) → KeepsDays history g (days ++ today ∷ []) (answers ++ Ok replies ∷ []) found
+      ended true so run whole found stop now = within so run found stop
+      ended false so run whole found stop now = behind whole found (now refl)
+
+    -- the answer of the run, and the engine behind it
+    pub day_served : (answer : Answer M) (after : Parts D M) (device found : D)
+        → IfOk answer (λ replies. SurvivesAnyCrash history today.requests.items replies.items engine after) → IfOk answer (λ replies. KeepsWholeRun history today.requests.items replies.items engine after)
+        → IfOk answer (λ replies. RunsOn history today.requests.items replies.items engine after)
+        → OnErr answer (after ≡ engine) → IfErr answer (λ e. e ≡ NoMemory) → device ≡ device_of after → HasStopped (history device) (history found) → (today.within ≡ false → IsFoundAs (history device).disk (history found))
+        → KeepsDays history g (days ++ today ∷ []) (answers ++ answer ∷ []) found
+    day_served (Ok replies) after device found crash whole ran unmoved memory out stop now =
+        ended replies after (ran (opening g now_gives.given) (begins images engine is)).at today.within refl crash whole found
+        (subst (λ (d : D). HasStopped (history d) (history found)) out stop)
+        (λ so. subst (λ (d : D). IsFoundAs (history d).disk (history found)) out (now so))
+    day_served (Err e) after device found crash whole ran unmoved memory out stop now =
+        day_passed today e (inl memory) back (device_of engine) found is.device
+        (subst (λ (d : D). HasStopped (history d) (history found)) (out ∙ ap device_of unmoved) stop)
+
+-- ---- the days so far
+
+pub day_more : {D M : Type 0} (history : D → History) (g : GeometryValue) (days : List (Day M)) (i : ℕ) (day : Day M) (answers new : List (Answer M)) (answer : Answer M) (found : D) → i < length days → day ≡ get_or days i day → new ≡ answers ++ answer ∷ []
+    → KeepsDays history g (take i days ++ day ∷ []) (answers ++ answer ∷ []) found → KeepsDays history g (take (i + 1) days) new found
+day_more history g days i day answers new answer found below is made keeps =
+    subst (λ (ds : List (Day _)). KeepsDays history g ds new found) (sym (take_more days i day below))
+    (subst (λ (d : Day _). KeepsDays history g (take i days ++ d ∷ []) new found) is
+    (subst (λ (rs : List (Answer _)). KeepsDays history g (take i days ++ day ∷ []) rs found) (sym made) keeps))

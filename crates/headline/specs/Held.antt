@@ -1,0 +1,34 @@
+-- What a store holds, behind its days.
+use Rattle.std.specs.FinMap as map
+use Rattle.std.specs.Ordering.{is_lt}
+use Rattle.std.specs.Prelude.{◌≡◌, Bool, false, if◌then◌else◌, List, None, Some}
+use Rattle.records.specs.Orders.{pair_cmp}
+use Rattle.records.specs.declared.pair.Mark.TheVariants.{Live}
+use Rattle.records.specs.declared.pair.Pair.{Pair}
+use Rattle.model.specs.History.{Item, life_after, table_after}
+use Rattle.model.specs.Table.{Index, IsPairOf, Table}
+use Rattle.model.specs.declared.life.Life.{Life}
+use Rattle.model.specs.declared.life.Life.TheVariants.{Absent, Building, Complete}
+use Rattle.nsf_core.specs.View.{CoreValue}
+use Rattle.headline.specs.declared.day.Day.{Day}
+use Rattle.headline.specs.Days.{Answer, AreDays}
+
+-- the index is built as far as this pair
+abbrev pub IsBuiltTo : Life → Pair → Type 0
+IsBuiltTo Absent pair = ⊥
+IsBuiltTo (Building None) pair = ⊥
+IsBuiltTo (Building (Some highest)) pair = is_lt (pair_cmp highest pair) ≡ false
+IsBuiltTo Complete pair = Unit {0}
+
+-- Each visible entry is the pair of a row; and as far as the index is built, the pair of each row is visible.
+pub record IsIndexOf (rows : Table) (life : Life) (entries : Index) : Type 0 where
+  pub sound : (pair : Pair) → map.get entries pair ≡ Some Live → IsPairOf rows pair
+  pub whole : (pair : Pair) → IsBuiltTo life pair → IsPairOf rows pair → map.get entries pair ≡ Some Live
+
+-- The rows are those of all commits that were kept, in order. The index's life is what was kept of it, or it was built to its end now.
+pub record Holds {M : Type 0} (days : List (Day M)) (answers : List (Answer M)) (built : Bool) (core : CoreValue) : Type 0 where
+  pub kept : List Item
+  pub days-are : AreDays days answers kept
+  pub rows : core.heap.rows ≡ table_after map.empty kept
+  pub life : core.life ≡ (if built then Complete else life_after Absent kept)
+  pub index : IsIndexOf core.heap.rows core.life core.index.entries

@@ -1,0 +1,5 @@
+pub mod Told
+pub mod Days
+pub mod Held
+pub mod Stops
+pub mod Kept

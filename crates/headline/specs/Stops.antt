@@ -1,0 +1,15 @@
+-- What a device is found as that stopped.
+use Rattle.std.specs.Prelude.{◌≡◌, ◌≤◌, ℕ}
+use Rattle.sector_device.specs.Disk.{Disk, Image, IsCrashImage}
+use Rattle.sector_device.specs.History.{History}
+
+-- Its moments count from now on; and a crash of it leaves nothing that one of this disk couldn't.
+pub record IsFoundAs (disk : Disk) (found : History) : Type 0 where
+  pub anew : found.moment ≡ 0
+  pub left : (image : Image) → IsCrashImage found.disk image → IsCrashImage disk image
+
+-- it stopped at one of its moments, and is found as it was then, or as a crash left it
+pub record HasStopped (old found : History) : Type 0 where
+  pub moment : ℕ
+  pub until : moment ≤ old.moment
+  pub found-as : IsFoundAs (old.disk_at moment) found

@@ -1,0 +1,36 @@
+//! Devices that stop.
+ghost use Rattle.headline.specs.Stops.{HasStopped, IsFoundAs};
+
+use sector_device::{Device, Fate, MemDisk};
+use std::alloc::Allocator;
+
+/// A device that may stop, as its power fails or the process that has it ends, and is found again.
+pub trait Mortal: Device + Drop {
+    /// It stops where it is, and is found as any crash of now may have left it. Its moments count anew.
+    fn stop_now(&mut self)
+        ensures { IsFoundAs (Self.history self.old).disk (Self.history self.new) };
+
+    /// It stopped at one of its moments, and is found likewise: what was done later never came to it.
+    fn stop(&mut self)
+        ensures { HasStopped (Self.history self.old) (Self.history self.new) };
+}
+
+/// What becomes in turn of the sectors of a disk in memory that are unsynced as it stops.
+const FATES: [Fate; 5] = [Fate::Zero, Fate::New, Fate::Junk, Fate::Old, Fate::Gate];
+
+/// A disk in memory stops where it is, and what it held unsynced is torn.
+impl<A: Allocator + Copy> Mortal for MemDisk<A> {
+    ghost use Rattle.sector_device.specs.MemDisk.{history_of};
+
+    fn stop_now(&mut self)
+        ensures { IsFoundAs (history_of self.old).disk (history_of self.new) }
+    {
+        self.crash(&FATES);
+    }
+
+    fn stop(&mut self)
+        ensures { HasStopped (history_of self.old) (history_of self.new) }
+    {
+        self.stop_now();
+    }
+}

@@ -1,0 +1,68 @@
+//! The end of threads, and what is opened behind it.
+ghost use Rattle.std.specs.Prelude.{◌≡◌, ◌⊎◌, ◌≤◌, All, IfErr, IfOk};
+ghost use Rattle.sector_device.specs.Disk.{Image, IsCrashImage};
+ghost use Rattle.records.specs.declared.error.Error.TheVariants.{DeviceFailed, NoMemory};
+ghost use Rattle.store_writer.specs.Parts.{halves_of, synced_of};
+ghost use Rattle.flusher.specs.Part.{popped_by};
+ghost use Rattle.closing.specs.Closing.{GivesSome};
+ghost use Rattle.closing.specs.Gathered.{AreAllSeats};
+ghost use Rattle.restart.specs.Parts.{core_of};
+ghost use Rattle.headline_threads.specs.Seats.{HoldsSeats};
+
+use closing::finish;
+use flusher::FlushPart;
+use headline::Mortal;
+use records::Error;
+use restart::{Engine, restart};
+use sector_device::Device;
+use shared::{Ack, Group, Seat, Shared};
+use std::alloc::Global;
+use std::sync::Wait;
+use store_reader::one_answer;
+
+// The device, with all that the seats made written out, or as much as could be.
+fn finish_device<B: Group, D: Device, R: Wait>(
+    rt: &R,
+    alloc: Global,
+    shared: Shared<B>,
+    seats: Vec<Seat<B>>,
+    flush: FlushPart<B, D>,
+    acks: Vec<Ack<B>>,
+) -> D
+    requires seats { AreAllSeats B.site.seats seats.items }
+    requires flush { flush.published.board ≡ B.board }
+    ensures some { (image : Image) → IsCrashImage (D.history result).disk image → ∥ GivesSome B.site.opened (halves_of flush.writer).geometry seats.items (popped_by flush) (synced_of flush.writer) image ∥₁ }
+    ensures acked { All (λ a. a.ticket.«record» ≤ synced_of flush.writer) acks.items }
+{
+    match finish(rt, alloc, shared, seats, flush, acks) {
+        Ok(closed) => closed.device,
+        Err((_, device)) => device,
+    }
+}
+
+/// Takes every seat back and writes out what they made, as `finish` does. Whatever that answers, the power then fails; and the store
+/// is opened again.
+///
+/// What it holds are the rows that the threads began with, with the first commits of all seats set over them, in the order of
+/// their numbers; and each that was acknowledged is among them (`holds`). `NoMemory` and `DeviceFailed` are those of the opening.
+pub fn finish_and_open<B: Group, D: Mortal, R: Wait>(
+    rt: &R,
+    alloc: Global,
+    shared: Shared<B>,
+    seats: Vec<Seat<B>>,
+    flush: FlushPart<B, D>,
+    acks: Vec<Ack<B>>,
+) -> Result<Engine<D, Global>, Error>
+    requires seats { AreAllSeats B.site.seats seats.items }
+    requires flush { flush.published.board ≡ B.board }
+    ensures holds { IfOk result (λ engine. ∥ HoldsSeats B.site.opened.given.table seats.items acks.items (core_of engine) ∥₁) }
+    ensures refused { IfErr result (λ e. (e ≡ NoMemory) ⊎ (e ≡ DeviceFailed)) }
+{
+    one_answer();
+    let mut device = finish_device(rt, alloc, shared, seats, flush, acks);
+    device.stop_now();
+    match restart(alloc, device) {
+        Ok(engine) => Ok(engine),
+        Err((error, _)) => Err(error),
+    }
+}
