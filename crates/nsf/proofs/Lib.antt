@@ -1,0 +1,3 @@
+mod Orders
+mod Refusals
+pub use Rattle.loops.proofs.Crosses

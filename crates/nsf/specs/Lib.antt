@@ -1,0 +1,22 @@
+pub mod Serving
+pub use Rattle.sector_device.specs.Disk
+pub use Rattle.sector_device.specs.History
+pub use Rattle.sector_device.specs.MemDisk
+pub use Rattle.records.specs.GeometryValue
+pub use Rattle.core_model.specs.Histories
+pub use Rattle.nsf_core.specs.Value
+pub use Rattle.restart.specs.Building
+pub use Rattle.restart.specs.Lawful
+pub use Rattle.restart.specs.Reopening
+pub use Rattle.restart.specs.Store
+pub use Rattle.shared.specs.Changed
+pub use Rattle.shared.specs.Seats
+pub use Rattle.shared.specs.Served
+pub use Rattle.shared.specs.Waits
+pub use Rattle.flusher.specs.Going
+pub use Rattle.flusher.specs.Part
+pub use Rattle.loops.specs.Building as Builds
+pub use Rattle.loops.specs.Through
+pub use Rattle.closing.specs.Closing
+pub use Rattle.closing.specs.Gathered
+pub use Rattle.threads.specs.Openings

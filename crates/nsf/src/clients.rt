@@ -1,0 +1,334 @@
+//! Clients of a store, each in a thread of its own.
+ghost use Rattle.std.specs.Prelude.{◌≡◌, ◌∷◌, ◌++◌, ◌+◌, ◌<◌, [], IfErr, IfOk, ℕ, map, slice_index_or, vec_len};
+ghost use Rattle.records.specs.declared.error.Error.TheVariants.{NoMemory};
+ghost use Rattle.core_model.specs.Histories.{Opened};
+ghost use Rattle.store_writer.specs.Parts.{device_of};
+ghost use Rattle.shared.specs.Seats.{AreNewSeats};
+ghost use Rattle.closing.specs.Gathered.{AreAllSeats};
+ghost use Rattle.threads.specs.Openings.{IsNewFlusher, IsNotShared, Opens};
+ghost use Rattle.threads.specs.declared.refusal.OpenError.TheVariants.{Refused};
+ghost use Rattle.nsf.specs.Serving.{HasRoom, KeepsSeat, LeavesCommits};
+
+use board::BuildView;
+use closing::finish;
+use flusher::FlushPart;
+use loops::{Ended, NoGate, run_beside};
+use nsf_core::Ticket;
+use records::Error;
+use sector_device::Device;
+use shared::{Group, Seat, Shared};
+use std::alloc::{AllocError, Global};
+use std::marker::Brand;
+use std::sync::Wait;
+use std::thread::{Threads, for_each_mut};
+use threads::{OpenError, OpenStore, Parts, open_store};
+
+/// Something that uses a store beside others, in a thread of its own with a seat of its own.
+pub trait Client {
+    /// What it does, once. It has the seat that it was given until it returns: so it is behind each call that takes the seat.
+    fn work<B: Group, R: Wait>(&mut self, rt: &R, shared: &Shared<B>, seat: &mut Seat<B>)
+        ensures { seat.new.number ≡ seat.old.number };
+}
+
+/// What clients leave.
+#[derive(Drop)]
+pub struct Served<C, D> {
+    /// The clients, in the order that they had.
+    pub clients: Vec<C>,
+    pub device: D,
+    /// The ticket of the index, where it was completed meanwhile; else why it wasn't, which is `Stopped` where the clients ended first
+    /// or there was nothing to build.
+    pub built: Result<Ticket, Error>,
+    /// Why not all was written to the device, if so: `DeviceFailed`, or `NoMemory`.
+    pub written: Result<(), Error>,
+}
+
+/// Opens the store on the device, as `open_store` does, and runs the clients, each in a thread of its own, while others build the
+/// index, clean it and write to the device. When all clients have ended, all that they did is written out.
+///
+/// Then a crash leaves what was opened with the commits of all seats set over it; where `written` tells a refusal, with those up to
+/// some record (`leaves`). A transaction that a client left active is taken back when the store is opened again.
+///
+/// The errors are those of `open_store`, and `NoMemory`. No client began then, and the device is given back; a crash at any moment of
+/// the call leaves what one before could, or what gives the same (`refused`).
+pub fn serve<C: Client + Send + Drop, D: Device + Send + Drop, R: Threads + Wait + Sync>(
+    rt: &R,
+    alloc: Global,
+    device: D,
+    clients: Vec<C>,
+) -> Result<Served<C, D>, (OpenError, D)>
+    ensures leaves { IfOk result (λ s. (o : Opened) × Opens (D.history device).disk.content o × LeavesCommits D.history o s.device s.written) }
+    ensures clients { IfOk result (λ s. vec_len s.clients ≡ vec_len clients) }
+    ensures refused { IfErr result (λ r. IsNotShared D.history D.failures device r.1 r.0) }
+{
+    let seats = clients.len().saturating_add(1);
+    match open_store(alloc, device, seats) {
+        Ok(store) => begin::<Brand, C, D, R>(rt, alloc, store, clients),
+        Err(refused) => Err(refused),
+    }
+}
+
+// Gives the store its names, and lets the clients work.
+fn begin<
+    B: Group + Send + Sync,
+    C: Client + Send + Drop,
+    D: Device + Send + Drop,
+    R: Threads + Wait + Sync,
+>(
+    rt: &R,
+    alloc: Global,
+    store: OpenStore<D>,
+    clients: Vec<C>,
+) -> Result<Served<C, D>, (OpenError, D)>
+    requires names { store.site ≡ B.site }
+    requires board { store.board ≡ B.board }
+    requires some { 0 < B.site.seats }
+    ensures leaves { IfOk result (λ s. LeavesCommits D.history B.site.opened s.device s.written) }
+    ensures clients { IfOk result (λ s. vec_len s.clients ≡ vec_len clients) }
+    ensures no_memory { IfErr result (λ r. (r.0 ≡ Refused NoMemory) × (r.1 ≡ store.device)) }
+{
+    match store.start::<B>() {
+        Ok((shared, parts)) => match seat_all(rt, alloc, shared, parts, clients) {
+            Ok(served) => Ok(served),
+            Err(device) => Err((OpenError::Refused(Error::NoMemory), device)),
+        },
+        Err((error, device)) => Err((OpenError::Refused(error), device)),
+    }
+}
+
+// A client with its seat.
+#[derive(Drop)]
+struct Desk<B: Group, C> {
+    client: C,
+    seat: Seat<B>,
+}
+
+// Each client with a seat, both in their order.
+fn desks_of<B: Group, C: Drop>(
+    alloc: Global,
+    seats: Vec<Seat<B>>,
+    clients: Vec<C>,
+) -> Result<Vec<Desk<B, C>>, AllocError>
+    ensures seats { IfOk result (λ desks. map (λ d. d.seat) desks.items ≡ seats.items) }
+    ensures clients { IfOk result (λ desks. map (λ d. d.client) desks.items ≡ clients.items) }
+{
+    let mut desks = Vec::with_capacity(alloc, seats.len())?;
+    let mut waiting = clients.into_iter();
+    for seat in seats {
+        let Some(client) = waiting.next() else {
+            return Err(AllocError);
+        };
+        desks.push(Desk { client, seat })?;
+    }
+    match waiting.next() {
+        Some(_) => Err(AllocError),
+        None => Ok(desks),
+    }
+}
+
+// Where clients and seats are put when the work is done, so that no memory is wanted then.
+#[derive(Drop)]
+struct Room<B: Group, C> {
+    clients: Vec<C>,
+    seats: Vec<Seat<B>>,
+}
+
+fn room_for<B: Group, C: Drop>(alloc: Global, count: usize) -> Result<Room<B, C>, AllocError>
+    ensures clients { IfOk result (λ room. HasRoom room.clients count) }
+    ensures seats { IfOk result (λ room. HasRoom room.seats (count + 1)) }
+{
+    let clients = Vec::with_capacity(alloc, count)?;
+    let places = count.checked_add(1).ok_or(AllocError)?;
+    let seats = Vec::with_capacity(alloc, places)?;
+    Ok(Room { clients, seats })
+}
+
+// The clients of these desks, and their seats with the last one behind them.
+fn parted<B: Group, C: Drop>(desks: Vec<Desk<B, C>>, last: Seat<B>, room: Room<B, C>) -> Room<B, C>
+    requires clients { HasRoom room.clients (vec_len desks) }
+    requires seats { HasRoom room.seats (vec_len desks + 1) }
+    ensures clients { result.clients.items ≡ map (λ d. d.client) desks.items }
+    ensures seats { result.seats.items ≡ map (λ d. d.seat) desks.items ++ last ∷ [] }
+{
+    let Room {
+        mut clients,
+        mut seats,
+    } = room;
+    for desk in desks {
+        let Desk { client, seat } = desk;
+        let Ok(()) = clients.push(client) else {
+            unreachable!()
+        };
+        let Ok(()) = seats.push(seat) else {
+            unreachable!()
+        };
+    }
+    let Ok(()) = seats.push(last) else {
+        unreachable!()
+    };
+    Room { clients, seats }
+}
+
+// Lets each client work, each in a thread.
+fn work_all<B: Group + Send + Sync, C: Client + Send, R: Threads + Wait + Sync>(
+    rt: &R,
+    shared: &Shared<B>,
+    mut desks: Vec<Desk<B, C>>,
+) -> Vec<Desk<B, C>>
+    ensures len { vec_len result ≡ vec_len desks }
+    ensures seats { (k : ℕ) (d : _) → k < vec_len desks → KeepsSeat (slice_index_or desks.items k d).seat (slice_index_or result.items k d).seat }
+{
+    let threads = desks.len().max(1);
+    for_each_mut(
+        rt,
+        &mut desks,
+        threads,
+        &|_: usize, desk: &mut Desk<B, C>| work_at(rt, shared, desk),
+    );
+    desks
+}
+
+fn work_at<B: Group, C: Client, R: Wait>(rt: &R, shared: &Shared<B>, desk: &mut Desk<B, C>)
+    ensures { KeepsSeat desk.old.seat desk.new.seat }
+{
+    desk.client.work(rt, shared, &mut desk.seat);
+}
+
+// Runs the clients and the three loops, each in a thread.
+fn run_all<
+    B: Group + Send + Sync,
+    C: Client + Send + Drop,
+    D: Device + Send + Drop,
+    R: Threads + Wait + Sync,
+>(
+    rt: &R,
+    shared: &Shared<B>,
+    desks: Vec<Desk<B, C>>,
+    last: Seat<B>,
+    flush: FlushPart<B, D>,
+    build: BuildView,
+) -> Ended<B, D, Vec<Desk<B, C>>>
+    requires flush { flush.published.board ≡ B.board }
+    requires build { build.board ≡ B.board }
+    ensures len { vec_len result.clients ≡ vec_len desks }
+    ensures seats { (k : ℕ) (d : _) → k < vec_len desks → KeepsSeat (slice_index_or desks.items k d).seat (slice_index_or result.clients.items k d).seat }
+    ensures last { result.seat.number ≡ last.number }
+    ensures board { result.flush.published.board ≡ B.board }
+{
+    run_beside(
+        rt,
+        shared,
+        last,
+        flush,
+        build,
+        &NoGate,
+        move || -> Vec<Desk<B, C>>
+            ensures len { vec_len result ≡ vec_len desks }
+            ensures seats { (k : ℕ) (d : _) → k < vec_len desks → KeepsSeat (slice_index_or desks.items k d).seat (slice_index_or result.items k d).seat }
+        { work_all(rt, shared, desks) },
+    )
+}
+
+// The device, once all that was made is written out, and why it isn't, if so.
+fn close<B: Group, D: Device, R: Wait>(
+    rt: &R,
+    alloc: Global,
+    shared: Shared<B>,
+    seats: Vec<Seat<B>>,
+    flush: FlushPart<B, D>,
+) -> (D, Result<(), Error>)
+    requires seats { AreAllSeats B.site.seats seats.items }
+    requires flush { flush.published.board ≡ B.board }
+    ensures { LeavesCommits D.history B.site.opened result.0 result.1 }
+{
+    match finish(rt, alloc, shared, seats, flush, Vec::new(alloc)) {
+        Ok(closed) => (closed.device, Ok(())),
+        Err((error, device)) => (device, Err(error)),
+    }
+}
+
+// What is left once clients and loops have ended.
+fn end<B: Group, C: Drop, D: Device, R: Wait>(
+    rt: &R,
+    alloc: Global,
+    shared: Shared<B>,
+    ended: Ended<B, D, Vec<Desk<B, C>>>,
+    room: Room<B, C>,
+) -> Served<C, D>
+    requires seats { AreAllSeats B.site.seats (map (λ d. d.seat) ended.clients.items ++ ended.seat ∷ []) }
+    requires flush { ended.flush.published.board ≡ B.board }
+    requires room { HasRoom room.clients (vec_len ended.clients) }
+    requires places { HasRoom room.seats (vec_len ended.clients + 1) }
+    ensures leaves { LeavesCommits D.history B.site.opened result.device result.written }
+    ensures clients { vec_len result.clients ≡ vec_len ended.clients }
+{
+    let Ended {
+        clients: desks,
+        seat,
+        flush,
+        built,
+        ..
+    } = ended;
+    let Room { clients, seats } = parted(desks, seat, room);
+    let (device, written) = close(rt, alloc, shared, seats, flush);
+    Served {
+        clients,
+        device,
+        built,
+        written,
+    }
+}
+
+// Gives each client a seat, and makes room for both, if there is memory.
+fn seated<B: Group, C: Drop>(
+    alloc: Global,
+    seats: Vec<Seat<B>>,
+    clients: Vec<C>,
+) -> Result<(Vec<Desk<B, C>>, Room<B, C>), AllocError>
+    ensures seats { IfOk result (λ r. map (λ d. d.seat) r.0.items ≡ seats.items) }
+    ensures clients { IfOk result (λ r. vec_len r.0 ≡ vec_len clients) }
+    ensures room { IfOk result (λ r. HasRoom r.1.clients (vec_len r.0)) }
+    ensures places { IfOk result (λ r. HasRoom r.1.seats (vec_len r.0 + 1)) }
+{
+    let desks = desks_of(alloc, seats, clients)?;
+    let room = room_for(alloc, desks.len())?;
+    Ok((desks, room))
+}
+
+// Seats the clients, and lets them work.
+fn seat_all<
+    B: Group + Send + Sync,
+    C: Client + Send + Drop,
+    D: Device + Send + Drop,
+    R: Threads + Wait + Sync,
+>(
+    rt: &R,
+    alloc: Global,
+    shared: Shared<B>,
+    parts: Parts<B, D>,
+    clients: Vec<C>,
+) -> Result<Served<C, D>, D>
+    requires seats { AreNewSeats B.board B.site.seats parts.seats.items }
+    requires some { 0 < B.site.seats }
+    requires flush { IsNewFlusher B.board B.site.opened parts.flush }
+    requires build { parts.build.board ≡ B.board }
+    ensures leaves { IfOk result (λ s. LeavesCommits D.history B.site.opened s.device s.written) }
+    ensures clients { IfOk result (λ s. vec_len s.clients ≡ vec_len clients) }
+    ensures back { IfErr result (λ d. d ≡ device_of parts.flush.writer) }
+{
+    let Parts {
+        mut seats,
+        flush,
+        build,
+    } = parts;
+    let Some(last) = seats.pop() else {
+        unreachable!()
+    };
+    match seated(alloc, seats, clients) {
+        Ok((desks, room)) => {
+            let ended = run_all(rt, &shared, desks, last, flush, build);
+            Ok(end(rt, alloc, shared, ended, room))
+        }
+        Err(AllocError) => Err(flush.into_parts().0),
+    }
+}

@@ -1,0 +1,105 @@
+//! A table with a secondary index that is built while transactions go on, and that survives a crash at any moment: all that a
+//! program names to use it, in one crate.
+//!
+//! # One thread
+//!
+//! A store is made on a device, opened, and served one request after another.
+//!
+//! ```
+//! fn fill(alloc: Global, mut disk: MemDisk<Global>, geometry: Geometry) -> Result<MemDisk<Global>, Error> {
+//!     format_store(&mut disk, geometry)?;
+//!     let mut engine = match restart(alloc, disk) {
+//!         Ok(engine) => engine,
+//!         Err((error, _)) => return Err(error),
+//!     };
+//!     let Reply::Txn(txn) = granted(engine.serve(Event::Begin))? else {
+//!         return Err(Error::NoSuchTxn);
+//!     };
+//!     let key = Key::new(b"ant")?;
+//!     let body = Body::new(b"1")?;
+//!     granted(engine.serve(Event::Insert { txn, key, body }))?;
+//!     granted(engine.serve(Event::Commit { txn }))?;
+//!     granted(engine.serve(Event::Create))?;
+//!     engine.build_to_end()?;
+//!     granted(engine.serve(Event::Flush))?;
+//!     Ok(engine.into_device())
+//! }
+//! ```
+//!
+//! What `restart`, `run`, `serve` and `build_to_end` promise is in their contracts. `granted` is the program's own: it makes an error of
+//! a `Reply::Refused`.
+//!
+//! # Many threads
+//!
+//! Each client has a thread of its own and a seat of its own; other threads build the index, clean it and write to the device.
+//!
+//! ```
+//! impl Put {
+//!     fn put<B: Group, R: Wait>(&self, rt: &R, shared: &Shared<B>, seat: &mut Seat<B>) -> Result<(), Error>
+//!         ensures { seat.new.number ≡ seat.old.number }
+//!     {
+//!         let txn = shared.begin(rt, seat)?;
+//!         if seat.ready(txn) {
+//!             shared.insert(rt, seat, txn, self.key, Body::new(b"")?)?;
+//!         }
+//!         if !seat.ready(txn) {
+//!             return Err(Error::NoSuchTxn);
+//!         }
+//!         let ticket = shared.commit(rt, seat, txn)?;
+//!         shared.await_ack(rt, seat, ticket)?;
+//!         Ok(())
+//!     }
+//! }
+//!
+//! impl Client for Put {
+//!     fn work<B: Group, R: Wait>(&mut self, rt: &R, shared: &Shared<B>, seat: &mut Seat<B>) {
+//!         self.done = self.put(rt, shared, seat);
+//!     }
+//! }
+//!
+//! match serve(rt, alloc, disk, clients) {
+//!     Ok(served) => ..,
+//!     Err((error, disk)) => ..,
+//! }
+//! ```
+//!
+//! A client's crate needs no proof of its own for the types that threads share: `serve` picks the group, and starts the threads. Where a
+//! client calls in a loop, the loop's invariant says that the seat is the same one, in a file `Invariants.antt` of the function:
+//!
+//! ```antt
+//! abbrev pub invariant-loop-key : goal.invariant-loop-key
+//! invariant-loop-key g l = l.seat.number ≡ l.fn.seat.number
+//! ```
+//!
+//! A program that starts threads itself opens the store by `open_store`, and calls a function that is generic in the group with
+//! `Brand`. It says in its `Invariants.antt` what the group's names are, as here for a function `work`:
+//!
+//! ```antt
+//! abbrev pub ghosts-work-B-Site : goal.ghosts-work-B-Site
+//! ghosts-work-B-Site g a = record { site = a.store.site }
+//!
+//! abbrev pub ghosts-work-B-Group : goal.ghosts-work-B-Group
+//! ghosts-work-B-Group g a = record { board = a.store.board }
+//! ```
+//!
+//! That what is shared may go to other threads is `Rattle.nsf.proofs.Crosses.shared_sync`.
+#![tactic(auto)]
+
+mod clients;
+
+pub use board::{BuildView, View};
+pub use clients::{Client, Served, serve};
+pub use closing::{Closed, finish};
+pub use file_disk as file;
+pub use flusher::FlushPart;
+pub use loops::{Ended, Gate, NoGate, Point, build_loop, clean_loop, flush_loop, run_beside};
+pub use model::Life;
+pub use nsf_core::{BuildReply, CleanReply, Core, Ticket};
+pub use records::{
+    BODY_MAX, Body, Error, Geometry, KEY_MAX, Key, Mark, Pair, Rid, Row, SLOTS_PER_PAGE, Txn,
+};
+pub use restart::{Engine, Event, Reply, restart};
+pub use sector_device::{Device, Failed, Fate, FaultDisk, MemDisk, Which};
+pub use sessions::Commit;
+pub use shared::{Ack, Change, Group, Seat, Shared};
+pub use threads::{OpenError, OpenStore, Parts, format_store, open_store};

@@ -1,0 +1,4 @@
+pub mod Values
+pub mod Fields
+pub mod Spots
+pub mod Opened

@@ -1,0 +1,49 @@
+-- What was opened is put under the handle, or its refusal told.
+use Rattle.std.proofs.Common.{◌≡◌, ℕ, ◌≤◌, Option, Some, None, Result, Ok, Err, IfOk, IfErr, sym, ◌∙◌, arith}
+use Rattle.std.specs.Global.{Box}
+use Rattle.records.specs.declared.error.Error.{Error}
+use Rattle.records.specs.declared.error.Error.TheVariants.{NoMemory, DeviceFailed, NotFormatted, Damaged, DeviceTooSmall, BadGeometry, TooManyTxns, TooManyChanges, NoSuchTxn, NoSuchRow, RowBusy, HeapFull, IndexFull, KeyTooLong, BodyTooLong, TxnsActive, IndexExists, NoIndex, NotBuilt, Stopped, Exhausted, BadScript}
+use Rattle.records.specs.Refusals.{number_of}
+use Rattle.nsf_c.specs.Handles.{Opened}
+use Rattle.nsf_c.specs.declared.held.Held.{Held}
+
+-- no refusal has the number 0
+some_number : (e : Error) → 1 ≤ number_of e
+some_number NoMemory = omega arith
+some_number DeviceFailed = omega arith
+some_number NotFormatted = omega arith
+some_number (Damaged sector) = omega arith
+some_number DeviceTooSmall = omega arith
+some_number BadGeometry = omega arith
+some_number TooManyTxns = omega arith
+some_number TooManyChanges = omega arith
+some_number NoSuchTxn = omega arith
+some_number NoSuchRow = omega arith
+some_number RowBusy = omega arith
+some_number HeapFull = omega arith
+some_number IndexFull = omega arith
+some_number KeyTooLong = omega arith
+some_number BodyTooLong = omega arith
+some_number TxnsActive = omega arith
+some_number IndexExists = omega arith
+some_number NoIndex = omega arith
+some_number NotBuilt = omega arith
+some_number Stopped = omega arith
+some_number Exhausted = omega arith
+some_number (BadScript line) = omega arith
+
+pub put_is : (P : Opened → Type 0) (opened : Result (Box Held) Error) (status : ℕ) (value : Option Held)
+    → IfOk opened (λ held. (status ≡ 0) × (value ≡ Some held.value))
+    → IfErr opened (λ e. (status ≡ number_of e) × (value ≡ None))
+    → IfOk opened (λ held. P held.value.store)
+    → status ≡ 0 → (s : Held) × (value ≡ Some s) × P s.store
+put_is P (Ok held) status value ok err has zero = (held.value, ok.1, has)
+put_is P (Err e) status value ok err has zero = absurd (omega (arith, some_number e, err.0, zero))
+
+pub ok_map : {X E : Type 0} {P Q : X → Type 0} (r : Result X E) → ((x : X) → P x → Q x) → IfOk r P → IfOk r Q
+ok_map (Ok x) f p = f x p
+ok_map (Err e) f p = tt
+
+pub err_map : {X E : Type 0} {P Q : E → Type 0} (r : Result X E) → ((e : E) → P e → Q e) → IfErr r P → IfErr r Q
+err_map (Ok x) f p = tt
+err_map (Err e) f p = f e p

@@ -1,0 +1,28 @@
+use Rattle.std.proofs.Common.{rules, ◌≡◌, ◌⊎◌, inl, inr, refl, ap, ◌∙◌}
+use Rattle.records.specs.GeometryValue.{IsGeometry}
+use Rattle.records.specs.Refusals.{number_of}
+use Rattle.flip_image.specs.Store.{IsFormatted}
+use Rattle.nsf_c.specs.Calls.{IsDisk}
+use Rattle.nsf_c.proofs.Opened.{ok_map, err_map}
+use Rattle.nsf_c.proofs.opening.make.Goals as goal
+
+made : (c : goal.After-open_on) → IsDisk (IsFormatted c.args.geometry) c.format.new.device
+made c = record {
+  content = c.in_ok-format.ensures.formatted;
+  synced = c.in_ok-format.ensures.synced;
+  failures = c.in_ok-format.ensures.quiet ∙ c.in_ok-disk.ensures.failures;
+}
+
+pub returns-clause-ok : goal.returns-clause-ok
+returns-clause-ok c = ok_map c.open_on.result (λ held opens. record { disk = c.format.new.device; is_disk = made c; opens = opens }) c.open_on.ensures.ok
+
+pub returns-clause-err : goal.returns-clause-err
+returns-clause-err c =
+    let within : IsGeometry c.args.geometry = search rules in
+    err_map c.open_on.result (λ e why. inr (
+      within,
+      elim why [
+        | inl is ↦ inl (ap number_of is)
+        | inr refused ↦ inr (inr (record { disk = c.format.new.device; error = e; is_disk = made c; refused = refused; status_is = refl }))
+      ],
+    )) c.open_on.ensures.err

@@ -1,0 +1,12 @@
+use Rattle.std.proofs.Common.{◌∙◌, ap, subst, IsTrue, ◌↔◌}
+use Rattle.core_model.specs.Histories.{CanOpen}
+use Rattle.nsf_core.specs.View.{CoreValue}
+use Rattle.nsf_core.specs.Opening.{opened_of}
+use Rattle.restart.specs.Parts.{core_of}
+use Rattle.nsf_c.specs.declared.held.Held.{Held}
+use Rattle.nsf_c.proofs.serving_calls.nsf_can_open.Goals as goal
+
+pub returns : goal.returns
+returns c =
+    let core_is = c.core.ensures ∙ ap (λ (h : Held). core_of h.store.engine) c.deref.ensures in
+    (c.take-held.result.value, c.take-held.ensures.taken, c.put.ensures, subst (λ (v : CoreValue). IsTrue c.can_open-is_sound.result ↔ CanOpen (opened_of v)) core_is c.can_open-is_sound.ensures)

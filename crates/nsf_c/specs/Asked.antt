@@ -1,0 +1,62 @@
+-- What C asks for, as an event of the engine.
+use Rattle.std.specs.Prelude.{◌≡◌, ◌⊎◌, ◌<◌, ◌≤◌, ℕ, List, length}
+use Rattle.records.specs.Values.{Place}
+use Rattle.records.specs.declared.rid.TheConstants.{SLOTS_PER_PAGE}
+use Rattle.records.specs.declared.key.TheConstants.{KEY_MAX, BODY_MAX}
+use Rattle.restart.specs.declared.event.Event.{Event}
+use Rattle.restart.specs.declared.event.Event.TheVariants.{Begin, Insert, Delete, Update, Step, Undo, End, Commit, Create, Drop, Build, Clean, Flush, Copy, Get, Find, Life}
+use Rattle.nsf_c.specs.declared.kind.TheConstants as kind
+use Rattle.nsf_c.specs.declared.asked.Asked.{Asked}
+
+-- the place that is asked about
+abbrev pub place_of : Asked → Place
+place_of a = record { page = a.page; slot = a.slot }
+
+-- whether what is asked for is this event, with this key and this body
+abbrev pub Asks : Asked → List ℕ → List ℕ → Event → Type 0
+Asks a key body Begin = a.kind ≡ kind.BEGIN
+Asks a key body (Insert txn k b) = (a.kind ≡ kind.INSERT) × (txn ≡ a.txn) × (k ≡ key) × (b ≡ body)
+Asks a key body (Delete txn rid) = (a.kind ≡ kind.DELETE) × (txn ≡ a.txn) × (rid ≡ place_of a)
+Asks a key body (Update txn rid k b) = (a.kind ≡ kind.UPDATE) × (txn ≡ a.txn) × (rid ≡ place_of a) × (k ≡ key) × (b ≡ body)
+Asks a key body (Step txn) = (a.kind ≡ kind.STEP) × (txn ≡ a.txn)
+Asks a key body (Undo txn) = (a.kind ≡ kind.UNDO) × (txn ≡ a.txn)
+Asks a key body (End txn) = (a.kind ≡ kind.END) × (txn ≡ a.txn)
+Asks a key body (Commit txn) = (a.kind ≡ kind.COMMIT) × (txn ≡ a.txn)
+Asks a key body Create = a.kind ≡ kind.CREATE
+Asks a key body Drop = a.kind ≡ kind.DROP
+Asks a key body Build = a.kind ≡ kind.BUILD
+Asks a key body Clean = a.kind ≡ kind.CLEAN
+Asks a key body Flush = a.kind ≡ kind.FLUSH
+Asks a key body Copy = a.kind ≡ kind.COPY
+Asks a key body (Get rid) = (a.kind ≡ kind.GET) × (rid ≡ place_of a)
+Asks a key body (Find k) = (a.kind ≡ kind.FIND) × (k ≡ key)
+Asks a key body Life = a.kind ≡ kind.LIFE
+
+-- whether this kind is asked of a transaction: to insert, delete, update, step, undo, end or commit
+abbrev pub IsOfTxn : ℕ → Type 0
+IsOfTxn k = (kind.INSERT ≤ k) × (k ≤ kind.COMMIT)
+
+-- whether it names a place
+abbrev pub NamesPlace : ℕ → Type 0
+NamesPlace k = (k ≡ kind.DELETE) ⊎ (k ≡ kind.UPDATE) ⊎ (k ≡ kind.GET)
+
+-- whether a key comes with it
+abbrev pub NamesKey : ℕ → Type 0
+NamesKey k = (k ≡ kind.INSERT) ⊎ (k ≡ kind.UPDATE) ⊎ (k ≡ kind.FIND)
+
+-- whether a body comes with it
+abbrev pub NamesBody : ℕ → Type 0
+NamesBody k = (k ≡ kind.INSERT) ⊎ (k ≡ kind.UPDATE)
+
+-- whether no event has it
+abbrev pub IsNoKind : ℕ → Type 0
+IsNoKind k = (k < kind.BEGIN) ⊎ (kind.DROP < k)
+
+-- why what is asked for is no event, by the number of the refusal
+abbrev pub IsBad : Asked → List ℕ → List ℕ → ℕ → Type 0
+IsBad a key body n =
+    ((n ≡ 9) × IsOfTxn a.kind × (a.txn ≡ 0))
+    ⊎ ((n ≡ 10) × NamesPlace a.kind × (SLOTS_PER_PAGE ≤ a.slot))
+    ⊎ ((n ≡ 14) × NamesKey a.kind × (KEY_MAX < length key))
+    ⊎ ((n ≡ 15) × NamesBody a.kind × (BODY_MAX < length body))
+    ⊎ ((n ≡ kind.NO_SUCH_EVENT) × IsNoKind a.kind)

@@ -1,0 +1,129 @@
+-- What the calls do.
+use Rattle.std.specs.Prelude.{◌≡◌, ◌⊎◌, ℕ, ◌/◌, List, length}
+use Rattle.std.specs.Simd.{first_chunks}
+use Rattle.std.specs.declared.alloc.Global.{Global}
+use Rattle.records.specs.GeometryValue.{GeometryValue, IsGeometry}
+use Rattle.records.specs.GeometryValue as geometry
+use Rattle.records.specs.Refusals.{number_of}
+use Rattle.records.specs.declared.error.Error.{Error}
+use Rattle.records.specs.declared.error.Error.TheVariants.{NoMemory, DeviceFailed, BadGeometry}
+use Rattle.sector_device.specs.Disk.{Image, sector, IsSynced}
+use Rattle.file_disk.specs.FileDisk.{history_of, failures_of}
+use Rattle.flip_image.specs.Store.{IsFormatted}
+use Rattle.core_model.specs.Histories.{CanOpen}
+use Rattle.nsf_core.specs.Opening.{opened_of}
+use Rattle.restart.specs.Parts.{core_of}
+use Rattle.restart.specs.declared.event.Event.{Event}
+use Rattle.restart.specs.declared.event.Reply.{Reply}
+use Rattle.serving.specs.Store as serving
+use Rattle.nsf_c.specs.declared.asked.Asked.{Asked}
+use Rattle.nsf_c.specs.declared.handle.Handle.{Handle}
+use Rattle.nsf_c.specs.declared.spot.Spot.{Spot}
+use Rattle.nsf_c.specs.declared.told.Told.{Told}
+use Rattle.nsf_c.specs.declared.told.Stat.{Stat}
+use Rattle.nsf_c.specs.Asked.{Asks, IsBad}
+use Rattle.nsf_c.specs.Handles.{Disk, Opened, Holds, Moves, Reads}
+use Rattle.nsf_c.specs.Spots.{FillsWith}
+use Rattle.nsf_c.specs.Told.{plain, life_told, told_of, status_of}
+
+-- ---- serving
+
+-- The event had this lawful reply.
+abbrev pub Serves : Event → Reply Global → Opened → Opened → Type 0
+Serves event reply old new = serving.Serves history_of failures_of event reply old new
+
+-- Records were flushed up to the last one made, or a refusal came.
+abbrev pub Flushes : Reply Global → Opened → Opened → Type 0
+Flushes reply old new = serving.Flushes history_of failures_of (serving.last_made old) reply old new
+
+-- An image was taken and made current, or a refusal came.
+abbrev pub TakesImage : Reply Global → Opened → Opened → Type 0
+TakesImage reply old new = serving.TakesImage history_of failures_of reply old new
+
+-- the reply is told, and the call answers its number
+abbrev pub Tells : Reply Global → ℕ → Told → Type 0
+Tells reply status told = (status ≡ status_of reply) × (told ≡ told_of reply)
+
+-- The event that is asked for was served.
+pub record IsServed (asked : Asked) (key body : List ℕ) (status : ℕ) (told : Told) (room spots : List Spot) (old new : Handle) : Type 0 where
+  pub event : Event
+  pub reply : Reply Global
+  pub asks : Asks asked key body event
+  pub serves : Moves (Serves event reply) old new
+  pub tells : Tells reply status told
+  pub fills : FillsWith reply room spots
+
+-- What is asked for is no event, and nothing was done.
+pub record IsNotServed (asked : Asked) (key body : List ℕ) (status : ℕ) (told : Told) (room spots : List Spot) (old new : Handle) : Type 0 where
+  pub bad : IsBad asked key body status
+  pub unchanged : new.value ≡ old.value
+  pub told_is : told ≡ plain 0 0
+  pub spots_stay : spots ≡ room
+
+-- A call that is no event had this reply.
+pub record IsAnswered (P : Reply Global → Opened → Opened → Type 0) (status : ℕ) (told : Told) (old new : Handle) : Type 0 where
+  pub reply : Reply Global
+  pub moves : Moves (P reply) old new
+  pub tells : Tells reply status told
+
+-- whether a core may begin with what the store holds
+abbrev pub IsSound : Opened → Type 0
+IsSound s = CanOpen (opened_of (core_of s.engine))
+
+-- what the store is, and how far it has come
+abbrev pub stat_of : Opened → Stat
+stat_of s = record {
+  last = serving.last_made s;
+  horizon = serving.horizon_of s;
+  attempts = (core_of s.engine).attempts;
+  pages = serving.pages_of s;
+  life = (life_told (serving.life_of s)).kind;
+}
+
+-- ---- opening
+
+-- how many sectors a store of these numbers needs, or 0 where they are no geometry
+abbrev pub IsNeeded : GeometryValue → ℕ → Type 0
+IsNeeded g sectors = (IsGeometry g × (sectors ≡ geometry.sectors_of g)) ⊎ ((¬ IsGeometry g) × (sectors ≡ 0))
+
+-- the whole sectors of these bytes
+abbrev pub sectors_of : List ℕ → Image
+sectors_of bytes = first_chunks 512 (length bytes / 512) bytes
+
+-- a disk whose content has P, all of it safe, and of which no call has failed
+pub record IsDisk (P : Image → Type 0) (disk : Disk) : Type 0 where
+  pub content : P (history_of disk).disk.content
+  pub synced : IsSynced (history_of disk).disk
+  pub failures : failures_of disk ≡ 0
+
+-- A store was opened on such a disk.
+pub record IsOpenedOn (P : Image → Type 0) (s : Opened) : Type 0 where
+  pub disk : Disk
+  pub is_disk : IsDisk P disk
+  pub opens : serving.OpensOn history_of disk s
+
+-- Nothing was opened on this disk, for this reason.
+abbrev pub IsRefused : Disk → Error → Type 0
+IsRefused disk e = (after : Disk) × serving.IsRefusedOn history_of failures_of disk after e
+
+-- None was, for the reason that a restart on such a disk gives.
+pub record IsRefusedOn (P : Image → Type 0) (status : ℕ) : Type 0 where
+  pub disk : Disk
+  pub error : Error
+  pub is_disk : IsDisk P disk
+  pub refused : IsRefused disk error
+  pub status_is : status ≡ number_of error
+
+-- a content of just these sectors
+abbrev pub Is : Image → Image → Type 0
+Is sectors content = content ≡ sectors
+
+-- why no store was opened on these sectors: there was no memory for the disk or the store, or a restart refused
+abbrev pub IsNotOpened : Image → ℕ → Type 0
+IsNotOpened sectors status = (status ≡ number_of NoMemory) ⊎ IsRefusedOn (Is sectors) status
+
+-- why no store was made: the numbers are no geometry; or they are, and there was no memory, or a call of the device failed, or a
+-- restart on the store just made refused
+abbrev pub IsNotMade : GeometryValue → ℕ → Type 0
+IsNotMade g status = ((¬ IsGeometry g) × (status ≡ number_of BadGeometry))
+    ⊎ (IsGeometry g × ((status ≡ number_of NoMemory) ⊎ (status ≡ number_of DeviceFailed) ⊎ IsRefusedOn (IsFormatted g) status))

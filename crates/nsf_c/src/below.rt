@@ -1,0 +1,47 @@
+//! What is below the disk of a store that C opened.
+use file_disk::Backing;
+use sector_device::SECTOR_SIZE;
+use std::io::{Error, ErrorKind};
+
+/// What is below the disk of a store.
+#[derive(Clone, Copy, Debug, Drop, PartialEq, Eq)]
+pub enum Below {
+    /// Nothing: what is written stays in memory.
+    Memory,
+    /// A line, by its descriptor: whoever is at its other end writes and syncs the sectors.
+    Line(i32),
+}
+
+// The number that asks for a sync in place of a write.
+const SYNC: u64 = u64::MAX;
+
+// Whether the other end said that it is done, by a byte of 0.
+fn is_done(line: i32) -> bool {
+    let mut answer = [1];
+    io::read_full(line, &mut answer) == 1 && answer[0] == 0
+}
+
+// Asks the other end, and waits for its answer.
+fn ask(line: i32, number: u64, bytes: &[u8]) -> std::io::Result<()> {
+    let is_sent = io::write_all(line, &number.to_le_bytes()) && io::write_all(line, bytes);
+    if is_sent && is_done(line) {
+        return Ok(());
+    }
+    Err(Error::from(ErrorKind::Other))
+}
+
+impl Backing for Below {
+    fn put(&mut self, n: u64, bytes: &[u8; SECTOR_SIZE]) -> std::io::Result<()> {
+        match self {
+            Below::Memory => Ok(()),
+            Below::Line(line) => ask(*line, n, bytes),
+        }
+    }
+
+    fn sync(&mut self) -> std::io::Result<()> {
+        match self {
+            Below::Memory => Ok(()),
+            Below::Line(line) => ask(*line, SYNC, &[]),
+        }
+    }
+}

@@ -1,0 +1,26 @@
+//! The engine as C calls it: a store stands behind a handle, which C keeps.
+//!
+//! Proved: each call meets the contract of the engine's call of the same name, over a disk whose reads are answered from memory.
+//! Trusted: what `include/nsf.h` asks of who calls, and that the other end of a line does what it is asked before it says so. One
+//! thread at a time may be in a call.
+#![tactic(auto)]
+
+mod asked;
+mod below;
+mod handle;
+mod held;
+mod kind;
+mod loose;
+mod opening;
+mod serving_calls;
+mod spot;
+mod told;
+
+pub use asked::Asked;
+pub use below::Below;
+pub use handle::Handle;
+pub use held::Held;
+pub use opening::{nsf_close, nsf_create, nsf_open, nsf_sectors};
+pub use serving_calls::{nsf_can_open, nsf_flush, nsf_image, nsf_serve, nsf_stat};
+pub use spot::Spot;
+pub use told::{Stat, Told};

@@ -1,0 +1,125 @@
+//! A store is made, opened and closed.
+ghost use Rattle.std.specs.Prelude.{◌≡◌, ◌≢◌, ◌⊎◌, Some, IfOk, IfErr};
+ghost use Rattle.records.specs.Refusals.{number_of};
+ghost use Rattle.file_disk.specs.FileDisk.{history_of};
+ghost use Rattle.flip_image.specs.Store.{IsFormatted};
+ghost use Rattle.serving.specs.Store.{OpensOn};
+ghost use Rattle.nsf_c.specs.Calls.{Is, IsNeeded, IsNotMade, IsNotOpened, IsOpenedOn, IsRefused, sectors_of};
+ghost use Rattle.nsf_c.specs.Handles.{Holds, IsOpen, IsVacant};
+
+use crate::below::Below;
+use crate::handle::Handle;
+use crate::held::Held;
+use file_disk::FileDisk;
+use flip_image::Halves;
+use records::{Error, Geometry};
+use sector_device::{Device, SECTOR_SIZE};
+use serving::Store;
+use std::alloc::Global;
+
+// What is below, where the descriptor is of a line, or is none.
+fn below(line: i32) -> Below {
+    if line < 0 {
+        Below::Memory
+    } else {
+        Below::Line(line)
+    }
+}
+
+/// How many sectors a store of this geometry needs, or 0 where one of the numbers is outside its limits.
+#[unsafe(no_mangle)]
+pub extern "C" fn nsf_sectors(pages: u32, entries: u32, slots: u32) -> u64
+    ensures { IsNeeded (record { pages = pages; entries = entries; slots = slots }) result }
+{
+    match Geometry::new(pages, entries, slots) {
+        Ok(geometry) => geometry.sectors(),
+        Err(_) => 0,
+    }
+}
+
+// Opens the store on the disk.
+fn open_on(alloc: Global, disk: FileDisk<Below, Global>) -> Result<Box<Held>, Error>
+    ensures ok { IfOk result (λ held. OpensOn history_of disk held.value.store) }
+    ensures err { IfErr result (λ e. (e ≡ Error.NoMemory) ⊎ IsRefused disk e) }
+{
+    match Store::open(alloc, disk) {
+        Ok(store) => Ok(Box::new(alloc, Held { store })?),
+        Err((error, _)) => Err(error),
+    }
+}
+
+// Opens the store that these sectors hold.
+fn open_sectors(alloc: Global, line: i32, sectors: &[[u8; SECTOR_SIZE]]) -> Result<Box<Held>, Error>
+    ensures ok { IfOk result (λ held. IsOpenedOn (Is sectors.now) held.value.store) }
+    ensures err { IfErr result (λ e. IsNotOpened sectors.now (number_of e)) }
+{
+    let disk = FileDisk::holding(alloc, below(line), sectors)?;
+    open_on(alloc, disk)
+}
+
+// Makes a store and opens it.
+fn make(alloc: Global, line: i32, geometry: Geometry) -> Result<Box<Held>, Error>
+    ensures ok { IfOk result (λ held. IsOpenedOn (IsFormatted geometry) held.value.store) }
+    ensures err { IfErr result (λ e. IsNotMade geometry (number_of e)) }
+{
+    let mut disk = FileDisk::new(alloc, below(line), geometry.sectors() as usize)?;
+    Halves::format(&mut disk, geometry)?;
+    open_on(alloc, disk)
+}
+
+// Puts what was opened under the handle. Answers 0, or the number of the refusal.
+fn put_opened(handle: &mut Handle, opened: Result<Box<Held>, Error>) -> u32
+    requires { IsVacant handle.old }
+    ensures ok { IfOk opened (λ held. (result ≡ 0) × (handle.new.value ≡ Some held.value)) }
+    ensures err { IfErr opened (λ e. (result ≡ number_of e) × IsVacant handle.new) }
+{
+    match opened {
+        Ok(held) => {
+            handle.put(held);
+            0
+        }
+        Err(error) => u32::from(error.number()),
+    }
+}
+
+/// Makes a store of this geometry and opens it under the handle: in memory where the line is negative, else on the line, at whose
+/// other end are as many sectors of zeros as `nsf_sectors` tells. Answers 0, or the number of the refusal.
+#[unsafe(no_mangle)]
+pub extern "C" fn nsf_create(
+    alloc: Global,
+    handle: &mut Handle,
+    line: i32,
+    pages: u32,
+    entries: u32,
+    slots: u32,
+) -> u32
+    requires { IsVacant handle.old }
+    ensures made { result ≡ 0 → Holds (IsOpenedOn (IsFormatted (record { pages = pages; entries = entries; slots = slots }))) handle.new }
+    ensures refused { result ≢ 0 → IsVacant handle.new × IsNotMade (record { pages = pages; entries = entries; slots = slots }) result }
+{
+    match Geometry::new(pages, entries, slots) {
+        Ok(geometry) => put_opened(handle, make(alloc, line, geometry)),
+        Err(error) => u32::from(error.number()),
+    }
+}
+
+/// Opens the store that the bytes hold, as whole sectors, under the handle: in memory where the line is negative, else on the
+/// line, at whose other end are the same sectors, all of them safe. Answers 0, or the number of the refusal.
+#[unsafe(no_mangle)]
+pub extern "C" fn nsf_open(alloc: Global, handle: &mut Handle, line: i32, bytes: &[u8]) -> u32
+    requires { IsVacant handle.old }
+    ensures opened { result ≡ 0 → Holds (IsOpenedOn (Is (sectors_of bytes.now))) handle.new }
+    ensures refused { result ≢ 0 → IsVacant handle.new × IsNotOpened (sectors_of bytes.now) result }
+{
+    let (sectors, _) = bytes.as_chunks::<SECTOR_SIZE>();
+    put_opened(handle, open_sectors(alloc, line, sectors))
+}
+
+/// Closes the store under the handle. What was not flushed is lost.
+#[unsafe(no_mangle)]
+pub extern "C" fn nsf_close(alloc: Global, handle: &mut Handle)
+    requires { IsOpen handle.old }
+    ensures { IsVacant handle.new }
+{
+    let _held = handle.take(alloc);
+}

@@ -1,0 +1,72 @@
+//! A store under many threads.
+ghost use Rattle.std.specs.Prelude.{◌≡◌};
+
+use nsf::{Body, Client, Error, Group, Key, MemDisk, OpenError, Seat, Shared, serve};
+use std::alloc::Global;
+use std::sync::Wait;
+use std::thread::Threads;
+
+/// Puts a row with its key, and waits until the device has it.
+#[derive(Drop)]
+pub struct Put {
+    pub key: Key,
+    pub done: Result<(), Error>,
+}
+
+impl Put {
+    // The row is put, or it is told why it isn't.
+    fn put<B: Group, R: Wait>(
+        &self,
+        rt: &R,
+        shared: &Shared<B>,
+        seat: &mut Seat<B>,
+    ) -> Result<(), Error>
+        ensures { seat.new.number ≡ seat.old.number }
+    {
+        let txn = shared.begin(rt, seat)?;
+        if seat.ready(txn) {
+            shared.insert(rt, seat, txn, self.key, Body::new(b"")?)?;
+        }
+        if !seat.ready(txn) {
+            return Err(Error::NoSuchTxn);
+        }
+        let ticket = shared.commit(rt, seat, txn)?;
+        shared.await_ack(rt, seat, ticket)?;
+        Ok(())
+    }
+}
+
+impl Client for Put {
+    fn work<B: Group, R: Wait>(&mut self, rt: &R, shared: &Shared<B>, seat: &mut Seat<B>) {
+        self.done = self.put(rt, shared, seat);
+    }
+}
+
+// A client for each key.
+fn clients_of(alloc: Global, keys: &[&[u8]]) -> Result<Vec<Put>, Error> {
+    let mut clients = Vec::new(alloc);
+    for key in keys {
+        let key = Key::new(key)?;
+        clients.push(Put { key, done: Ok(()) })?;
+    }
+    Ok(clients)
+}
+
+/// Puts two rows side by side in the store on the disk.
+pub fn put_two<R: Threads + Wait + Sync>(
+    rt: &R,
+    alloc: Global,
+    disk: MemDisk<Global>,
+) -> Result<MemDisk<Global>, OpenError> {
+    let clients = clients_of(alloc, &[b"bee", b"cat"])?;
+    match serve(rt, alloc, disk, clients) {
+        Ok(served) => {
+            served.written?;
+            for client in &served.clients {
+                client.done?;
+            }
+            Ok(served.device)
+        }
+        Err((error, _)) => Err(error),
+    }
+}

@@ -1,0 +1,9 @@
+# Sets `libraries`, what a program of C or Rust links, and `header`, the folder of nsf.h. Read by the examples' scripts.
+root=$(cd "$here/../.." && pwd)
+header=$root/crates/nsf_c/include
+if [ -z "$NSF_LIBRARY" ]; then
+    (cd "$root/crates/nsf_c" && rt lib >&2)
+    NSF_LIBRARY=$root/crates/nsf_c/out/libnsf_c.a
+fi
+kit=$(dirname "$(rt doc)")
+libraries="$NSF_LIBRARY $kit/c/libos_c.a $kit/c/liblibc_c.a"

@@ -1,0 +1,289 @@
+//! NSF from Rust, over its C interface: a store that is closed where it is dropped.
+//!
+//! What the C interface asks of who calls is kept by this crate's types: a store is owned, it stays on one thread, and no call
+//! overlaps another.
+mod device;
+mod sys;
+
+use device::Device;
+use std::fs::File;
+use std::io::{self, Read, Seek, SeekFrom, Write};
+use std::marker::PhantomData;
+
+pub use sys::Place;
+
+/// Why a call was refused, by its number in nsf.h, or the system's error.
+#[derive(Debug)]
+pub enum Refused {
+    Store(u32),
+    System(io::Error),
+}
+
+impl From<io::Error> for Refused {
+    fn from(error: io::Error) -> Refused {
+        Refused::System(error)
+    }
+}
+
+fn checked(status: u32) -> Result<(), Refused> {
+    match status {
+        0 => Ok(()),
+        number => Err(Refused::Store(number)),
+    }
+}
+
+/// How large a store is.
+#[derive(Clone, Copy, Debug)]
+pub struct Geometry {
+    pub pages: u32,
+    pub entries: u32,
+    pub slots: u32,
+}
+
+/// What a step of the builder came to.
+#[derive(Clone, Copy, Debug, PartialEq, Eq)]
+pub enum Built {
+    Goes,
+    Complete,
+}
+
+/// A row.
+#[derive(Clone, Debug, PartialEq, Eq)]
+pub struct Row {
+    pub key: Vec<u8>,
+    pub body: Vec<u8>,
+}
+
+/// A store that is open. It is closed where it is dropped, before its device is.
+pub struct Store {
+    handle: sys::Handle,
+    _device: Option<Device>,
+    // a handle stays on its thread
+    _here: PhantomData<*mut ()>,
+}
+
+mod kind {
+    pub const BEGIN: u32 = 1;
+    pub const INSERT: u32 = 2;
+    pub const DELETE: u32 = 3;
+    pub const STEP: u32 = 5;
+    pub const COMMIT: u32 = 8;
+    pub const CREATE: u32 = 9;
+    pub const BUILD: u32 = 10;
+    pub const GET: u32 = 14;
+    pub const FIND: u32 = 15;
+
+    pub const STEPPED: u32 = 3;
+    pub const DONE: u32 = 12;
+    pub const IDLE: u32 = 13;
+    pub const ROW: u32 = 22;
+}
+
+impl Store {
+    fn vacant(device: Option<Device>) -> Store {
+        Store {
+            handle: sys::Handle {
+                at: std::ptr::null_mut(),
+            },
+            _device: device,
+            _here: PhantomData,
+        }
+    }
+
+    fn created(device: Option<Device>, line: i32, geometry: Geometry) -> Result<Store, Refused> {
+        let mut store = Store::vacant(device);
+        let Geometry {
+            pages,
+            entries,
+            slots,
+        } = geometry;
+        checked(unsafe { sys::nsf_create(&mut store.handle, line, pages, entries, slots) })?;
+        Ok(store)
+    }
+
+    /// Makes a store in memory.
+    pub fn in_memory(geometry: Geometry) -> Result<Store, Refused> {
+        Store::created(None, -1, geometry)
+    }
+
+    /// Makes a store in a file that is empty.
+    pub fn create(mut file: File, geometry: Geometry) -> Result<Store, Refused> {
+        let Geometry {
+            pages,
+            entries,
+            slots,
+        } = geometry;
+        let sectors = unsafe { sys::nsf_sectors(pages, entries, slots) };
+        for _ in 0..sectors {
+            file.write_all(&[0; 512])?;
+        }
+        file.sync_all()?;
+        let device = Device::start(file)?;
+        let line = device.line();
+        Store::created(Some(device), line, geometry)
+    }
+
+    /// Opens the store in a file.
+    pub fn open(mut file: File) -> Result<Store, Refused> {
+        let mut bytes = Vec::new();
+        file.sync_all()?;
+        file.seek(SeekFrom::Start(0))?;
+        file.read_to_end(&mut bytes)?;
+        let device = Device::start(file)?;
+        let line = device.line();
+        let mut store = Store::vacant(Some(device));
+        checked(unsafe { sys::nsf_open(&mut store.handle, line, bytes.as_ptr(), bytes.len()) })?;
+        Ok(store)
+    }
+
+    fn ask(
+        &mut self,
+        event: sys::Event,
+        key: &[u8],
+        body: &[u8],
+        places: &mut [Place],
+    ) -> Result<sys::Reply, Refused> {
+        let mut reply = sys::Reply::NONE;
+        checked(unsafe {
+            sys::nsf_serve(
+                &mut self.handle,
+                &event,
+                key.as_ptr(),
+                key.len(),
+                body.as_ptr(),
+                body.len(),
+                places.as_mut_ptr(),
+                places.len(),
+                &mut reply,
+            )
+        })?;
+        Ok(reply)
+    }
+
+    fn ask_of(&mut self, kind: u32, txn: u64) -> Result<sys::Reply, Refused> {
+        let event = sys::Event {
+            kind,
+            txn,
+            ..sys::Event::default()
+        };
+        self.ask(event, &[], &[], &mut [])
+    }
+
+    /// Begins a transaction, and answers its number.
+    pub fn begin(&mut self) -> Result<u64, Refused> {
+        Ok(self.ask_of(kind::BEGIN, 0)?.number)
+    }
+
+    /// Makes the steps that a transaction owes.
+    pub fn finish(&mut self, txn: u64) -> Result<(), Refused> {
+        while self.ask_of(kind::STEP, txn)?.kind == kind::STEPPED {}
+        Ok(())
+    }
+
+    /// Inserts a row.
+    pub fn insert(&mut self, txn: u64, key: &[u8], body: &[u8]) -> Result<Place, Refused> {
+        let event = sys::Event {
+            kind: kind::INSERT,
+            txn,
+            ..sys::Event::default()
+        };
+        let reply = self.ask(event, key, body, &mut [])?;
+        self.finish(txn)?;
+        Ok(Place {
+            page: reply.page,
+            slot: reply.slot,
+        })
+    }
+
+    /// Deletes the row at a place.
+    pub fn delete(&mut self, txn: u64, place: Place) -> Result<(), Refused> {
+        let event = sys::Event {
+            kind: kind::DELETE,
+            txn,
+            page: place.page,
+            slot: place.slot,
+        };
+        self.ask(event, &[], &[], &mut [])?;
+        self.finish(txn)
+    }
+
+    /// Commits a transaction, and answers its ticket.
+    pub fn commit(&mut self, txn: u64) -> Result<u64, Refused> {
+        Ok(self.ask_of(kind::COMMIT, txn)?.number)
+    }
+
+    /// Creates the index.
+    pub fn create_index(&mut self) -> Result<(), Refused> {
+        self.ask_of(kind::CREATE, 0).map(|_| ())
+    }
+
+    /// Makes a step of the builder.
+    pub fn build(&mut self) -> Result<Built, Refused> {
+        match self.ask_of(kind::BUILD, 0)?.kind {
+            kind::DONE | kind::IDLE => Ok(Built::Complete),
+            _ => Ok(Built::Goes),
+        }
+    }
+
+    /// The row at a place.
+    pub fn get(&mut self, place: Place) -> Result<Option<Row>, Refused> {
+        let event = sys::Event {
+            kind: kind::GET,
+            page: place.page,
+            slot: place.slot,
+            ..sys::Event::default()
+        };
+        let reply = self.ask(event, &[], &[], &mut [])?;
+        if reply.kind != kind::ROW {
+            return Ok(None);
+        }
+        Ok(Some(Row {
+            key: reply.key[..usize::from(reply.key_length)].to_vec(),
+            body: reply.body[..usize::from(reply.body_length)].to_vec(),
+        }))
+    }
+
+    /// The places of the rows with a key.
+    pub fn find(&mut self, key: &[u8]) -> Result<Vec<Place>, Refused> {
+        let event = sys::Event {
+            kind: kind::FIND,
+            ..sys::Event::default()
+        };
+        let mut places = vec![Place::default(); 16];
+        loop {
+            let found = self.ask(event, key, &[], &mut places)?.number as usize;
+            if found <= places.len() {
+                places.truncate(found);
+                return Ok(places);
+            }
+            places.resize(found, Place::default());
+        }
+    }
+
+    /// Flushes until every record made is synced, and answers how far they are.
+    pub fn flush(&mut self) -> Result<u64, Refused> {
+        let mut reply = sys::Reply::NONE;
+        checked(unsafe { sys::nsf_flush(&mut self.handle, &mut reply) })?;
+        Ok(reply.number)
+    }
+
+    /// Takes an image and makes it current.
+    pub fn image(&mut self) -> Result<u64, Refused> {
+        let mut reply = sys::Reply::NONE;
+        checked(unsafe { sys::nsf_image(&mut self.handle, &mut reply) })?;
+        Ok(reply.number)
+    }
+
+    /// Whether the index fits the rows. To be asked while no transaction is active.
+    pub fn is_sound(&mut self) -> bool {
+        unsafe { sys::nsf_can_open(&mut self.handle) }
+    }
+}
+
+impl Drop for Store {
+    fn drop(&mut self) {
+        if !self.handle.at.is_null() {
+            unsafe { sys::nsf_close(&mut self.handle) }
+        }
+    }
+}

@@ -1,0 +1,69 @@
+//! The functions of nsf.h, as Rust declares them.
+
+#[repr(C)]
+pub struct Handle {
+    pub at: *mut u8,
+}
+
+#[repr(C)]
+#[derive(Clone, Copy, Default)]
+pub struct Event {
+    pub kind: u32,
+    pub page: u32,
+    pub txn: u64,
+    pub slot: u16,
+}
+
+#[repr(C)]
+#[derive(Clone, Copy, Default)]
+pub struct Place {
+    pub page: u32,
+    pub slot: u16,
+}
+
+#[repr(C)]
+#[derive(Clone, Copy)]
+pub struct Reply {
+    pub kind: u32,
+    pub page: u32,
+    pub number: u64,
+    pub slot: u16,
+    pub key_length: u8,
+    pub body_length: u8,
+    pub key: [u8; 24],
+    pub body: [u8; 37],
+}
+
+impl Reply {
+    pub const NONE: Reply = Reply {
+        kind: 0,
+        page: 0,
+        number: 0,
+        slot: 0,
+        key_length: 0,
+        body_length: 0,
+        key: [0; 24],
+        body: [0; 37],
+    };
+}
+
+extern "C" {
+    pub fn nsf_sectors(pages: u32, entries: u32, slots: u32) -> u64;
+    pub fn nsf_create(handle: *mut Handle, line: i32, pages: u32, entries: u32, slots: u32) -> u32;
+    pub fn nsf_open(handle: *mut Handle, line: i32, bytes: *const u8, length: usize) -> u32;
+    pub fn nsf_close(handle: *mut Handle);
+    pub fn nsf_serve(
+        handle: *mut Handle,
+        event: *const Event,
+        key: *const u8,
+        key_length: usize,
+        body: *const u8,
+        body_length: usize,
+        places: *mut Place,
+        room: usize,
+        reply: *mut Reply,
+    ) -> u32;
+    pub fn nsf_flush(handle: *mut Handle, reply: *mut Reply) -> u32;
+    pub fn nsf_image(handle: *mut Handle, reply: *mut Reply) -> u32;
+    pub fn nsf_can_open(handle: *mut Handle) -> bool;
+}

@@ -1,0 +1,99 @@
+use nsf::{Built, Geometry, Refused, Store};
+use std::fs::{File, OpenOptions};
+
+const GEOMETRY: Geometry = Geometry {
+    pages: 4,
+    entries: 256,
+    slots: 16,
+};
+
+fn put(store: &mut Store, key: &[u8], body: &[u8]) -> Result<nsf::Place, Refused> {
+    let txn = store.begin()?;
+    let place = store.insert(txn, key, body)?;
+    store.commit(txn)?;
+    Ok(place)
+}
+
+fn build(store: &mut Store) -> Result<(), Refused> {
+    while store.build()? != Built::Complete {}
+    Ok(())
+}
+
+#[test]
+fn an_index_is_built_while_the_table_is_written() {
+    let mut store = Store::in_memory(GEOMETRY).unwrap();
+    for i in 0..100u32 {
+        put(&mut store, &(i % 10).to_be_bytes(), &i.to_be_bytes()).unwrap();
+    }
+    store.create_index().unwrap();
+    for i in 100..120u32 {
+        store.build().unwrap();
+        put(&mut store, &(i % 10).to_be_bytes(), &i.to_be_bytes()).unwrap();
+    }
+    build(&mut store).unwrap();
+    for key in 0..10u32 {
+        let places = store.find(&key.to_be_bytes()).unwrap();
+        assert_eq!(places.len(), 12);
+        for place in places {
+            let row = store.get(place).unwrap().unwrap();
+            assert_eq!(row.key, key.to_be_bytes());
+        }
+    }
+    assert!(store.is_sound());
+}
+
+#[test]
+fn a_refusal_has_its_number() {
+    let mut store = Store::in_memory(GEOMETRY).unwrap();
+    assert!(matches!(store.commit(7), Err(Refused::Store(9))));
+    let txn = store.begin().unwrap();
+    assert!(matches!(store.insert(txn, &[0; 25], &[]), Err(Refused::Store(14))));
+    assert!(matches!(store.insert(txn, &[], &[0; 38]), Err(Refused::Store(15))));
+    assert!(matches!(store.find(b"key"), Err(Refused::Store(18))));
+    assert!(matches!(
+        Store::in_memory(Geometry { pages: 0, ..GEOMETRY }),
+        Err(Refused::Store(6))
+    ));
+}
+
+fn at(path: &std::path::Path) -> File {
+    OpenOptions::new()
+        .read(true)
+        .write(true)
+        .create(true)
+        .truncate(false)
+        .open(path)
+        .unwrap()
+}
+
+#[test]
+fn a_file_holds_what_was_flushed() {
+    let path = std::env::temp_dir().join(format!("nsf-rust-{}", std::process::id()));
+    let mut store = Store::create(at(&path), GEOMETRY).unwrap();
+    let kept = put(&mut store, b"kept", b"row").unwrap();
+    store.create_index().unwrap();
+    build(&mut store).unwrap();
+    store.flush().unwrap();
+    let lost = put(&mut store, b"lost", b"row").unwrap();
+    drop(store);
+
+    let mut store = Store::open(at(&path)).unwrap();
+    assert!(store.is_sound());
+    assert_eq!(store.get(kept).unwrap().unwrap().body, b"row");
+    assert_eq!(store.get(lost).unwrap(), None);
+    assert_eq!(store.find(b"kept").unwrap().len(), 1);
+    assert_eq!(store.find(b"lost").unwrap().len(), 0);
+    let mut place = kept;
+    place.slot = 40;
+    assert_eq!(store.get(place).unwrap(), None);
+    let txn = store.begin().unwrap();
+    store.delete(txn, kept).unwrap();
+    store.commit(txn).unwrap();
+    store.image().unwrap();
+    drop(store);
+
+    let mut store = Store::open(at(&path)).unwrap();
+    assert_eq!(store.get(kept).unwrap(), None);
+    drop(store);
+    std::fs::remove_file(path).unwrap();
+}
