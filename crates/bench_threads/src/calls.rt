@@ -1,0 +1,149 @@
+//! The calls of a seat, each with a test before it.
+use model::Life;
+use nsf_core::Ticket;
+use records::{Body, Error, Key, Rid, SLOTS_PER_PAGE, Txn};
+use shared::{Group, Seat, Shared};
+use std::sync::Wait;
+
+fn begin<B: Group, R: Wait>(rt: &R, shared: &Shared<B>, seat: &mut Seat<B>) -> Result<Txn, Error> {
+    shared.begin(rt, seat)
+}
+
+fn insert<B: Group, R: Wait>(
+    rt: &R,
+    shared: &Shared<B>,
+    seat: &mut Seat<B>,
+    txn: Txn,
+    key: Key,
+    body: Body,
+) -> Result<Rid, Error> {
+    if !seat.ready(txn) {
+        return Err(Error::NoSuchTxn);
+    }
+    let change = shared.insert(rt, seat, txn, key, body)?;
+    match change.rest {
+        Some(error) => Err(error),
+        None => Ok(change.rid),
+    }
+}
+
+fn delete<B: Group, R: Wait>(
+    rt: &R,
+    shared: &Shared<B>,
+    seat: &mut Seat<B>,
+    txn: Txn,
+    rid: Rid,
+) -> Result<(), Error> {
+    if !seat.ready(txn) {
+        return Err(Error::NoSuchTxn);
+    }
+    match shared.delete(rt, seat, txn, rid)?.rest {
+        Some(error) => Err(error),
+        None => Ok(()),
+    }
+}
+
+fn commit<B: Group, R: Wait>(
+    rt: &R,
+    shared: &Shared<B>,
+    seat: &mut Seat<B>,
+    txn: Txn,
+) -> Result<Ticket, Error> {
+    if !seat.ready(txn) {
+        return Err(Error::NoSuchTxn);
+    }
+    shared.commit(rt, seat, txn)
+}
+
+/// Waits until a commit is safe.
+pub(crate) fn await_ack<B: Group, R: Wait>(
+    rt: &R,
+    shared: &Shared<B>,
+    seat: &mut Seat<B>,
+    ticket: Ticket,
+) -> Result<(), Error> {
+    match shared.await_ack(rt, seat, ticket) {
+        Ok(_) => Ok(()),
+        Err(error) => Err(error),
+    }
+}
+
+/// Creates the index. No transaction may be active.
+pub(crate) fn create_index<B: Group, R: Wait>(
+    rt: &R,
+    shared: &Shared<B>,
+    seat: &mut Seat<B>,
+) -> Result<(), Error> {
+    match shared.create_index(rt, seat) {
+        Ok(_) => Ok(()),
+        Err(error) => Err(error),
+    }
+}
+
+/// Whether the index is complete.
+pub(crate) fn is_complete<B: Group, R: Wait>(rt: &R, shared: &Shared<B>) -> bool {
+    matches!(shared.life(rt), Life::Complete)
+}
+
+// Puts a row with this number as its key.
+fn put<B: Group, R: Wait>(
+    rt: &R,
+    shared: &Shared<B>,
+    seat: &mut Seat<B>,
+    txn: Txn,
+    number: u32,
+) -> Result<Rid, Error> {
+    let key = Key::new(&number.to_be_bytes())?;
+    insert(rt, shared, seat, txn, key, Body::new(b"row")?)
+}
+
+/// A transaction that puts a row with this number as its key, or deletes the one that is at the place, and waits until that is safe.
+/// Answers the place of the row that is there then.
+pub(crate) fn turn<B: Group, R: Wait>(
+    rt: &R,
+    shared: &Shared<B>,
+    seat: &mut Seat<B>,
+    number: u32,
+    place: Option<Rid>,
+) -> Result<Option<Rid>, Error> {
+    let txn = begin(rt, shared, seat)?;
+    let then = match place {
+        Some(rid) => {
+            delete(rt, shared, seat, txn, rid)?;
+            None
+        }
+        None => Some(put(rt, shared, seat, txn, number)?),
+    };
+    let ticket = commit(rt, shared, seat, txn)?;
+    await_ack(rt, shared, seat, ticket)?;
+    Ok(then)
+}
+
+// Puts a row in each slot of a page, with keys in no order, and waits until that is safe.
+fn fill_page<B: Group, R: Wait>(
+    rt: &R,
+    shared: &Shared<B>,
+    seat: &mut Seat<B>,
+    page: u16,
+) -> Result<(), Error> {
+    let txn = begin(rt, shared, seat)?;
+    for slot in 0..SLOTS_PER_PAGE {
+        let place = u32::from(page) * 64 + u32::from(slot);
+        put(rt, shared, seat, txn, place % 65_537 * 75 % 65_537)?;
+    }
+    let ticket = commit(rt, shared, seat, txn)?;
+    await_ack(rt, shared, seat, ticket)
+}
+
+/// Puts a row in each slot of so many pages, by a transaction for each page.
+pub(crate) fn fill<B: Group, R: Wait>(
+    rt: &R,
+    shared: &Shared<B>,
+    seat: &mut Seat<B>,
+    pages: u16,
+) -> Result<(), Error> {
+    for page in 0..pages {
+        fill_page(rt, shared, seat, page)?;
+    }
+    Ok(())
+}

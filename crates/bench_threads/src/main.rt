@@ -1,0 +1,76 @@
+//! What the threads of a store do: commits a second of writers, quiet and beside a build, how long they wait, and what an idle store
+//! costs. Without arguments it lets two writers commit beside a small build, and says whether there were commits and the build ended;
+//! `table` prints figures, of one number of writers where one is given; `picture FILE` draws commits a second over time, beside a build.
+#![tactic(auto)]
+
+mod calls;
+mod clients;
+mod clock;
+mod picture;
+mod rounds;
+mod table;
+
+use crate::clients::Plan;
+use anyhow::Result;
+use std::alloc::Global;
+use std::env;
+use std::fs::Files;
+use std::rt::Clock;
+use std::sync::Wait;
+use std::thread::Threads;
+use std::time::CpuClock;
+
+// A little, with what is found.
+fn check<R: Print + Alloc<A = Global> + Threads + Wait + Clock + CpuClock + Sync>(
+    rt: &R,
+) -> Result<()> {
+    let plan = Plan {
+        pages: 1,
+        before: 5,
+        after: 5,
+    };
+    let round = rounds::play(rt, rt.alloc(), 2, 2, plan)?;
+    println!(rt;
+        "commits {} built {}",
+        !round.commits.is_empty(),
+        round.times.created < round.times.complete
+    )?;
+    Ok(())
+}
+
+// The word at this place, or none.
+fn word_at(words: &[String], at: usize) -> &str {
+    match words.get(at) {
+        Some(word) => word.as_str(),
+        None => "",
+    }
+}
+
+// Does what the words ask for.
+fn run<R: Print + Alloc<A = Global> + Threads + Wait + Clock + CpuClock + Files + Sync>(
+    rt: &R,
+    word: &str,
+    given: &str,
+) -> Result<()> {
+    match word {
+        "quiet" => table::quiet(rt, given.parse().unwrap_or(4)),
+        "beside" => table::beside(rt, given.parse().unwrap_or(4)),
+        "idle" => table::idle(rt, given.parse().unwrap_or(8)),
+        "picture" => picture::draw(rt, 4, given),
+        "table" => {
+            for writers in [1, 2, 4, 8] {
+                table::quiet(rt, writers)?;
+            }
+            for writers in [1, 2, 4, 8] {
+                table::beside(rt, writers)?;
+            }
+            table::idle(rt, 8)
+        }
+        _ => check(rt),
+    }
+}
+
+fn main(rt: HostRuntime) -> Result<()> {
+    let words: Vec<String> = env::args(&rt)?.collect(rt.alloc())?;
+    run(&rt, word_at(&words, 1), word_at(&words, 2))
+}

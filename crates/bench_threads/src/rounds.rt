@@ -1,0 +1,154 @@
+//! Rounds of writers beside the loops of a store.
+ghost use Rattle.std.specs.Prelude.{◌≡◌};
+
+use crate::clients::{Client, Commit, Plan, Times, work_all};
+use board::BuildView;
+use file_disk::{Detached, FileDisk};
+use flusher::FlushPart;
+use loops::{Ended, NoGate, run_beside};
+use records::{Error, Geometry};
+use shared::{Group, Seat, Shared};
+use std::alloc::Global;
+use std::marker::Brand;
+use std::rt::Clock;
+use std::sync::Wait;
+use std::thread::Threads;
+use std::time::CpuClock;
+use threads::{OpenError, OpenStore, Parts, format_store, open_store};
+
+// A disk in memory.
+type Disk = FileDisk<Detached, Global>;
+
+/// A round: its commits, and the times.
+#[derive(Drop)]
+pub(crate) struct Round {
+    pub commits: Vec<Commit>,
+    pub times: Times,
+}
+
+// A disk in memory with a new store of 256 pages.
+fn formatted(alloc: Global) -> Result<Disk, Error> {
+    let geometry = Geometry::new(256, 65_536, 256)?;
+    let mut disk = FileDisk::new(alloc, Detached, geometry.sectors() as usize)?;
+    format_store(&mut disk, geometry)?;
+    Ok(disk)
+}
+
+// So many clients; the other seats are let go.
+fn clients_of<B: Group>(
+    alloc: Global,
+    seats: Vec<Seat<B>>,
+    count: usize,
+) -> Result<Vec<Client<B>>, Error> {
+    let mut clients = Vec::new(alloc);
+    for seat in seats {
+        if clients.len() < count {
+            clients.push(Client {
+                seat,
+                commits: Vec::new(alloc),
+                times: None,
+                refused: None,
+            })?;
+        }
+    }
+    Ok(clients)
+}
+
+// The commits of all clients in one list, and the times; or the first refusal.
+fn round_of<B: Group>(alloc: Global, clients: Vec<Client<B>>) -> Result<Round, Error> {
+    let mut commits = Vec::new(alloc);
+    let mut times = None;
+    for mut client in clients {
+        if let Some(error) = client.refused {
+            return Err(error);
+        }
+        times = times.or(client.times);
+        commits.append(&mut client.commits)?;
+    }
+    match times {
+        Some(times) => Ok(Round { commits, times }),
+        None => Err(Error::NoMemory),
+    }
+}
+
+// Runs the clients beside the loops.
+fn run_loops<B: Group + Send + Sync, R: Threads + Wait + Clock + CpuClock + Sync>(
+    rt: &R,
+    shared: &Shared<B>,
+    last: Seat<B>,
+    flush: FlushPart<B, Disk>,
+    build: BuildView,
+    clients: Vec<Client<B>>,
+    plan: Plan,
+) -> Ended<B, Disk, Vec<Client<B>>>
+    requires flush { flush.published.board ≡ B.board }
+    requires build { build.board ≡ B.board }
+{
+    run_beside(
+        rt,
+        shared,
+        last,
+        flush,
+        build,
+        &NoGate,
+        move || work_all(rt, shared, clients, plan),
+    )
+}
+
+// Lets so many clients work.
+fn work<B: Group + Send + Sync, R: Threads + Wait + Clock + CpuClock + Sync>(
+    rt: &R,
+    alloc: Global,
+    shared: &Shared<B>,
+    parts: Parts<B, Disk>,
+    count: usize,
+    plan: Plan,
+) -> Result<Round, Error>
+    requires flush { parts.flush.published.board ≡ B.board }
+    requires build { parts.build.board ≡ B.board }
+{
+    let Parts {
+        mut seats,
+        flush,
+        build,
+    } = parts;
+    let Some(last) = seats.pop() else {
+        return Err(Error::NoMemory);
+    };
+    let clients = clients_of(alloc, seats, count)?;
+    let ended = run_loops(rt, shared, last, flush, build, clients, plan);
+    ended.flushed?;
+    round_of(alloc, ended.clients)
+}
+
+// Gives the store its names, and lets the clients work.
+fn begin<B: Group + Send + Sync, R: Threads + Wait + Clock + CpuClock + Sync>(
+    rt: &R,
+    alloc: Global,
+    store: OpenStore<Disk>,
+    count: usize,
+    plan: Plan,
+) -> Result<Round, Error>
+    requires names { store.site ≡ B.site }
+    requires board { store.board ≡ B.board }
+{
+    match store.start::<B>() {
+        Ok((shared, parts)) => work(rt, alloc, &shared, parts, count, plan),
+        Err((error, _)) => Err(error),
+    }
+}
+
+/// A round over a new store of 256 pages, which has a seat for each of so many clients, but only so many writers work beside the one
+/// that leads.
+pub(crate) fn play<R: Threads + Wait + Clock + CpuClock + Sync>(
+    rt: &R,
+    alloc: Global,
+    seats: u8,
+    writers: u8,
+    plan: Plan,
+) -> Result<Round, OpenError> {
+    match open_store(alloc, formatted(alloc)?, usize::from(seats) + 2) {
+        Ok(store) => Ok(begin::<Brand, R>(rt, alloc, store, usize::from(writers) + 1, plan)?),
+        Err((error, _)) => Err(error),
+    }
+}

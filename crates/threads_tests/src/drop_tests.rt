@@ -1,0 +1,109 @@
+//! The loop that builds an index ends where the index is dropped.
+ghost use Rattle.std.specs.Prelude.{◌≡◌};
+
+use crate::example::formatted;
+use board::BuildView;
+use demonstration::set_up;
+use loops::{Gate, Point, build_loop};
+use nsf_core::Ticket;
+use records::{Error, Geometry};
+use sector_device::{Device, MemDisk};
+use shared::{Group, Seat, Shared};
+use std::alloc::Global;
+use std::cell::Cell;
+use std::marker::Brand;
+use std::sync::Wait;
+use std::test::Fail;
+use threads::{OpenError, OpenStore, Parts, open_store};
+
+// How the builder ended, and whether the index was dropped.
+type Ended = (Result<Ticket, Error>, bool);
+
+// Holds the builder where it has scanned its first page, while a seat drops the index.
+#[derive(Drop)]
+struct DropsIndex<'a, B: Group, R> {
+    rt: &'a R,
+    shared: &'a Shared<B>,
+    seat: Cell<Option<Seat<B>>>,
+    dropped: Cell<bool>,
+}
+
+impl<B: Group, R: Wait> Gate for DropsIndex<'_, B, R> {
+    fn at(&self, point: Point) {
+        if point != Point::BuildScanned {
+            return;
+        }
+        if let Some(mut seat) = self.seat.replace(None) {
+            let dropped = self.shared.drop_index(self.rt, &mut seat);
+            self.dropped.set(dropped.is_ok());
+        }
+    }
+}
+
+// Creates an index over a hundred rows, and builds it.
+fn build<B: Group, R: Wait>(
+    rt: &R,
+    shared: &Shared<B>,
+    mut seat: Seat<B>,
+    mut build: BuildView,
+) -> Result<Ended, Error>
+    requires { build.board ≡ B.board }
+{
+    set_up(rt, shared, &mut seat)?;
+    let mut view = shared.another_view(&mut seat);
+    let gate = DropsIndex {
+        rt,
+        shared,
+        seat: Cell::new(Some(seat)),
+        dropped: Cell::new(false),
+    };
+    let built = build_loop(rt, shared, &mut build, &mut view, &gate);
+    Ok((built, gate.dropped.get()))
+}
+
+fn build_with<B: Group, D: Device + Drop, R: Wait>(
+    rt: &R,
+    shared: &Shared<B>,
+    parts: Parts<B, D>,
+) -> Result<Ended, Error>
+    requires { parts.build.board ≡ B.board }
+{
+    let Parts {
+        mut seats,
+        build: view,
+        ..
+    } = parts;
+    match seats.pop() {
+        Some(seat) => build(rt, shared, seat, view),
+        None => Err(Error::NoMemory),
+    }
+}
+
+fn build_in<B: Group, D: Device + Drop, R: Wait>(
+    rt: &R,
+    store: OpenStore<D>,
+) -> Result<Ended, Error>
+    requires names { store.site ≡ B.site }
+    requires board { store.board ≡ B.board }
+{
+    match store.start::<B>() {
+        Ok((shared, parts)) => build_with(rt, &shared, parts),
+        Err((error, _)) => Err(error),
+    }
+}
+
+fn build_on<R: Wait>(rt: &R, alloc: Global, disk: MemDisk<Global>) -> Result<Ended, OpenError> {
+    match open_store(alloc, disk, 1) {
+        Ok(store) => Ok(build_in::<Brand, MemDisk<Global>, R>(rt, store)?),
+        Err((error, _)) => Err(error),
+    }
+}
+
+#[test]
+fn a_build_ends_where_its_index_is_dropped(rt: HostRuntime) -> Result<(), Fail> {
+    let disk = formatted(rt.alloc(), Geometry::new(2, 256, 16)?, 4_096)?;
+    let (built, dropped) = build_on(&rt, rt.alloc(), disk)?;
+    assert!(&rt; dropped);
+    assert_eq!(&rt; built.err(), Some(Error::NoIndex));
+    Ok(())
+}
