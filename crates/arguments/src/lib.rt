@@ -1,4 +1,8 @@
 //! The arguments of the programs `nsf-replay` and `nsf-threads`, read from their words.
+//!
+//! Proved: `read` answers what the words ask for (`asked`), each number in its range (`in_range`). Help and faults come only where
+//! the words have them, with their status (`none`). What words ask for is said in the terms of `clap`'s own contract.
+//! Only tested: the texts of help and of faults.
 #![tactic(auto)]
 
 mod threads;

@@ -14,10 +14,12 @@ pub record Posted : Type 0 where
   pub failed : Bool
   pub stopped : Bool
 
+-- a flag as a word
 abbrev pub flag : Bool → ℕ
 flag true = 1
 flag false = 0
 
+-- the four words, in the order in which they lie
 abbrev pub words_of : Posted → List ℕ
 words_of b = b.horizon ∷ b.progress ∷ flag b.failed ∷ flag b.stopped ∷ []
 

@@ -8,6 +8,7 @@ use Rattle.board.specs.Views.{stays_as, leaves_as}
 abbrev pub without_builder : Knowledge → Knowledge
 without_builder v = record v { builds = false }
 
+-- the builder's view: it raises the progress, and neither publishes nor stops
 abbrev pub builder_of : Knowledge → Knowledge
 builder_of v = record v { flushes = false; may_stop = false; stops = false }
 
@@ -15,6 +16,7 @@ builder_of v = record v { flushes = false; may_stop = false; stops = false }
 abbrev pub without_reader : Knowledge → Knowledge
 without_reader v = record v { may_stop = false }
 
+-- the view of a thread that only reads, and may set the stop flag
 abbrev pub reader_of : Knowledge → Knowledge
 reader_of v = record v { flushes = false; builds = false }
 
@@ -22,6 +24,7 @@ reader_of v = record v { flushes = false; builds = false }
 abbrev pub staying : Knowledge → Knowledge
 staying v = record v { name = stays_as v.name }
 
+-- the view that leaves where one becomes two
 abbrev pub leaving : Knowledge → Knowledge
 leaving v = record v { flushes = false; builds = false; name = leaves_as v.name; stops = false }
 
@@ -51,27 +54,35 @@ informed v told = record v {
 abbrev Seated : Type 0
 Seated = Me (Unit {0}) Knowledge
 
+-- what a step tells the thread that makes it: of the step, what it knew, what it read, and what it knows then
 abbrev Tells : Type 1
 Tells = Step (Unit {0}) → Seated → ℕ → Seated → Type 0
 
+-- its count is raised to the number given, and never lowered
 abbrev pub RaisesHorizon : Tells
 RaisesHorizon st m n m' = m' ≡ (record m.0 { published = max m.0.published st.first }, m.1)
 
+-- so is the builder's count
 abbrev pub RaisesProgress : Tells
 RaisesProgress st m n m' = m' ≡ (record m.0 { attempts = max m.0.attempts st.first }, m.1)
 
+-- its count says that the device failed
 abbrev pub SetsFailed : Tells
 SetsFailed st m n m' = m' ≡ (record m.0 { device_failed = true }, m.1)
 
+-- the stop flag is set, by this view
 abbrev pub SetsStop : Tells
 SetsStop st m n m' = m' ≡ (record m.0 { stopped = true; stops = true }, m.1)
 
+-- it reads a horizon no less than the one it saw, and has not looked at the failed flag since
 abbrev pub ReadsHorizon : Tells
 ReadsHorizon st m n m' = (m.0.horizon ≤ n) × (m' ≡ (record m.0 { horizon = n; checked = false }, m.1))
 
+-- it reads a progress no less than the one it saw
 abbrev pub ReadsProgress : Tells
 ReadsProgress st m n m' = (m.0.progress ≤ n) × (m' ≡ (record m.0 { progress = n }, m.1))
 
+-- it reads the failed flag, which stays set where it was seen set, and has looked at it since the horizon
 abbrev pub ReadsFailed : Tells
 ReadsFailed st m n m' = (m.0.failed ≡ true → (n == 1) ≡ true) × (m' ≡ (record m.0 { failed = n == 1; checked = true }, m.1))
 

@@ -29,6 +29,7 @@ pub record BuilderCount : Type 0 where
   pub board : TableId
   pub progress : ℕ
 
+-- a view of this board that has read nothing
 abbrev pub nothing_seen : TableId → Sighting
 nothing_seen board = record {
   board = board;
@@ -46,6 +47,7 @@ nothing_seen board = record {
 abbrev pub stays_as : List Bool → List Bool
 stays_as name = name ++ false ∷ []
 
+-- the name of the view that leaves
 abbrev pub leaves_as : List Bool → List Bool
 leaves_as name = name ++ true ∷ []
 
@@ -72,9 +74,11 @@ sighting_of board v = record {
   name = v.name;
 }
 
+-- what the holder of the flusher's view has published
 abbrev pub flusher_count_of : TableId → Knowledge → FlusherCount
 flusher_count_of board v = record { board = board; horizon = v.published; failed = v.device_failed }
 
+-- what the holder of the builder's view has published
 abbrev pub builder_count_of : TableId → Knowledge → BuilderCount
 builder_count_of board v = record { board = board; progress = v.attempts }
 

@@ -10,6 +10,11 @@
 //!
 //! Only [`Board::new`] takes memory. Every other call returns at once with its answer: it takes no memory, waits for
 //! nothing and cannot fail. A call of the six kinds of step makes one atomic step on one word.
+//!
+//! Proved: what each call does to the view that it steps with, and nothing else (`seen`, `stays`, `leaves`). No horizon or progress
+//! is read below one that the view saw (`rises`). `settle` tells that no horizon which another view saw is above the flusher's
+//! count (`horizon`). The flusher's own count is what is published: that it is at most what is synced is kept by the type above.
+//! Neither: that a read is of now, that a ring wakes anyone, that a thread gets on, or fairness.
 #![tactic(auto)]
 
 mod board;

@@ -7,7 +7,7 @@ use std::sync::atomic::{AtomicU64, Ordering};
 use std::time::Duration;
 
 // After so many attempts the builder pauses, unless it is told otherwise.
-const PAUSE_EVERY: u64 = 32;
+const PAUSE_EVERY: u64 = 64;
 
 /// Wakes the threads that sleep until it rings.
 #[derive(Drop)]
@@ -57,6 +57,8 @@ pub struct Waits {
     pub resting: Bell,
     pause_every: AtomicU64,
     ended_runs: AtomicU64,
+    // How many threads want the lock, that others wait for, and don't have it yet.
+    wanting: AtomicU64,
 }
 
 impl Waits {
@@ -67,6 +69,7 @@ impl Waits {
             resting: Bell::new(),
             pause_every: AtomicU64::new(PAUSE_EVERY),
             ended_runs: AtomicU64::new(0),
+            wanting: AtomicU64::new(0),
         }
     }
 
@@ -85,6 +88,21 @@ impl Waits {
     /// Sets after how many attempts the builder pauses.
     pub fn set_pause_every(&self, attempts: u64) {
         self.pause_every.store(attempts, Ordering::SeqCst);
+    }
+
+    /// Says that a seat, or the flusher, wants the lock. `has_lock` follows once it has it.
+    pub fn wants_lock(&self) {
+        self.wanting.fetch_add(1, Ordering::SeqCst);
+    }
+
+    /// Says that who wanted the lock has it.
+    pub fn has_lock(&self) {
+        self.wanting.fetch_sub(1, Ordering::SeqCst);
+    }
+
+    /// Whether a seat or the flusher wants the lock: the builder and the cleaner let it go first.
+    pub fn is_lock_wanted(&self) -> bool {
+        self.wanting.load(Ordering::SeqCst) > 0
     }
 
     /// How many runs of the loops have ended. The loops of one run end where this is no longer what it was as they began.

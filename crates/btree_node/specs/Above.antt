@@ -19,10 +19,12 @@ IsLeastAbove m start None = (q : Pair) → IsAfter start q → get m q ≡ None
 IsLeastAbove m start (Some e) = IsAfter start e.0 × (get m e.0 ≡ Some e.1) × ((q : Pair) → IsAfter start q → pair_cmp q e.0 ≡ Less → get m q ≡ None)
 
 -- ---- on ascending entries
+-- the first entry, if there is one
 abbrev pub first_of : List Entry → Option Entry
 first_of [] = None
 first_of (e ∷ es) = Some e
 
+-- the first entry above a pair, if there is one
 abbrev pub first_above : List Entry → Pair → Option Entry
 first_above [] p = None
 first_above (e ∷ es) p = cond (is_below p e.pair) (Some e) (first_above es p)

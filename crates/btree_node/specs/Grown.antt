@@ -20,6 +20,7 @@ AreEnough n s = (0 < n → 0 < s.leaves) × (n ≤ s.inners + 1)
 abbrev pub AreExactly : ℕ → Nodes → Type 0
 AreExactly n s = (s.leaves + s.inners ≡ n) × (0 < n → s.leaves ≡ 1)
 
+-- the entries of a child that was split off, if there is one
 abbrev pub upper_entries : {A : Type 0} → Option (Child A) → List Entry
 upper_entries None = []
 upper_entries (Some c) = entries c.node.value
@@ -39,10 +40,12 @@ abbrev pub IsSplitAlong : {A : Type 0} → ℕ → ℕ → Nodes → Nodes → O
 IsSplitAlong n h before after None = Unit {0}
 IsSplitAlong n h before after (Some c) = (n ≡ h) × (before.inners + 1 ≤ after.inners + h)
 
+-- how many leaves are kept spare: one or none
 abbrev pub leaves_in : {A : Type 0} → Option (Box (Node A) A) → ℕ
 leaves_in None = 0
 leaves_in (Some b) = 1
 
+-- a spare leaf is empty
 abbrev pub IsSpareLeaf : {A : Type 0} → Option (Box (Node A) A) → Type 0
 IsSpareLeaf None = Unit {0}
 IsSpareLeaf (Some b) = b.value ≡ an_empty_leaf

@@ -13,6 +13,7 @@ abbrev pub tree_at : {A : Type 0} → Option (Box (Node A) A) → Tree
 tree_at None = leaf []
 tree_at (Some root) = root.value
 
+-- an empty tree, or a root with what a root has to keep
 abbrev pub IsWhole : {A : Type 0} → Option (Box (Node A) A) → Type 0
 IsWhole None = Unit {0}
 IsWhole (Some root) = IsRoot (depth root.value) root.value

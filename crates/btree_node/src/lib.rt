@@ -1,4 +1,10 @@
 //! An ordered map from pair to mark, in a B-tree that takes memory before it changes and never half way.
+//!
+//! Proved, for every allocator: the tree is the finite map of its entries (`contents`). `plan_insert` only reads, and answers
+//! `NoMemory` alone (`plan`, `no_memory`). `insert`, `set_mark` and `remove` change the named pair alone and can't fail. A look-up
+//! answers the tree's height as what it visited (`visited`), at most four (`few_visited`).
+//! Only tested (`table_tests`): plans with each allocation refused in turn; heights of full trees. Neither: that the count of
+//! visits is what the code did; speed; stack. By hand: the `unsafe impl` of an allocator that always refuses.
 #![tactic(auto)]
 
 ghost use Rattle.std.specs.Prelude.{◌≡◌, ◌<◌, ◌≤◌, ◌↔◌, None, IfOk, IfErr, IsSome, IsTrue};

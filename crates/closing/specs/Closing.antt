@@ -36,7 +36,7 @@ pub record IsCoreOf (o : Opened) (seats : List SeatValue) (popped : List RecordV
   pub committed : committed_rows core ≡ table_with o.given.table commits
   pub rows : core.txns.active ≡ [] → core.heap.rows ≡ table_with o.given.table commits
 
--- The image gives all that was made: the table of what was opened with all commits set over it, the core's life, and what is recovered of the core's cells. With no active transaction that is the core's rows and entries.
+-- The crash state gives all that was made: the table of what was opened with all commits set over it, the core's life, and what is recovered of the core's cells. With no active transaction that is the core's rows and entries.
 pub record GivesAll (o : Opened) (g : GeometryValue) (core : CoreValue) (commits : List CommitValue) (image : Image) : Type 0 where
   pub given : Given
   pub gives : Gives image g given
@@ -48,7 +48,7 @@ pub record GivesAll (o : Opened) (g : GeometryValue) (core : CoreValue) (commits
   pub recovers : given ≡ recovered cells core.last
   pub alone : core.txns.active ≡ [] → given ≡ record { table = core.heap.rows; entries = core.index.entries; life = core.life; last = core.last }
 
--- The image gives what some of the records that these seats, the builder and the cleaner made, the first ones, make of what was opened, with every record up to the floor; those that the flusher had popped are the first that were made. Its table is that of what was opened with the seats' commits up to its last record set over it.
+-- The crash state gives what some of the records that these seats, the builder and the cleaner made, the first ones, make of what was opened, with every record up to the floor; those that the flusher had popped are the first that were made. Its table is that of what was opened with the seats' commits up to its last record set over it.
 pub record GivesSome (o : Opened) (g : GeometryValue) (seats : List SeatValue) (popped : List RecordValue) (floor : ℕ) (image : Image) : Type 0 where
   pub core : CoreValue
   pub pushed : List RecordValue

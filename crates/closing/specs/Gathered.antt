@@ -21,6 +21,7 @@ pub record AreCommitsOf (seats : List SeatValue) (commits : List CommitValue) : 
 
 -- ---- how they are gathered (no public clause cites these)
 
+-- these vectors of commits, as lists
 abbrev pub lists_of : {A : Type 0} → List (Vec CommitValue A) → List (List CommitValue)
 lists_of lists = map (λ v. v.items) lists
 
@@ -28,6 +29,7 @@ lists_of lists = map (λ v. v.items) lists
 abbrev pub commits_of : List SessionValue → List (List CommitValue)
 commits_of book = map (λ s. s.commits) book
 
+-- whether a commit has this number
 abbrev pub is_numbered : ℕ → Option ℕ → Bool
 is_numbered n None = false
 is_numbered n (Some k) = k == n

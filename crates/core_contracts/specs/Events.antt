@@ -6,6 +6,7 @@ use Rattle.records.specs.declared.pair.Pair.{Pair}
 use Rattle.records.specs.declared.row.Row.{Row}
 use Rattle.model.specs.declared.life.Life as life
 
+-- what may be asked of a core: steps of transactions, of the index's life, of builder and cleaner, and readings
 pub data Event : Type 0 where
   Begin : Event
   Insert : (t : ℕ) → Row → Event
@@ -23,6 +24,7 @@ pub data Event : Type 0 where
   Life : Event
   Drop : Event
 
+-- what a step of the builder answers
 pub data BuildReply : Type 0 where
   Scanned : (page : ℕ) → BuildReply
   Placed : Pair → BuildReply
@@ -31,11 +33,13 @@ pub data BuildReply : Type 0 where
   Done : (record_number : ℕ) → BuildReply
   Idle : BuildReply
 
+-- what a step of the cleaner answers
 pub data CleanReply : Type 0 where
   Cleaned : Pair → CleanReply
   Kept : Pair → CleanReply
   Wrapped : CleanReply
 
+-- what a core answers; a refusal names its error
 pub data Reply : Type 0 where
   Txn : (t : ℕ) → Reply
   Rid : Place → Reply
@@ -63,6 +67,7 @@ pub record Standing : Type 0 where
   pub all_attempts : ℕ  -- the builder's attempts since the restart
   pub scanned : ℕ  -- the pages that it took in a row since its last attempt, the creation, the dropping or the restart
 
+-- what a step of the builder changes of what is counted
 abbrev pub after_build : Standing → BuildReply → Standing
 after_build k (Scanned page) = record k { scanned = k.scanned + 1 }
 after_build k (Placed p) = record k { made = k.made + 1; attempts = k.attempts + 1; all_attempts = k.all_attempts + 1; scanned = 0 }
@@ -71,11 +76,13 @@ after_build k (BuildReply.Marked p n) = record k { made = k.made + 1; attempts =
 after_build k (Done n) = record k { made = k.made + 1 }
 after_build k Idle = k
 
+-- what a step of the cleaner changes of it
 abbrev pub after_clean : Standing → CleanReply → Standing
 after_clean k (Cleaned p) = record k { made = k.made + 1 }
 after_clean k (Kept p) = k
 after_clean k Wrapped = k
 
+-- what a reply changes of it
 abbrev pub standing_after : Standing → Reply → Standing
 standing_after k (Txn t) = record k { begun = k.begun + 1; active = k.active + 1 }
 standing_after k (Reply.Rid r) = record k { made = k.made + 1 }

@@ -70,12 +70,15 @@ pub record IsFree (s : State) (r : Place) : Type 0 where
   pub empty : get s.rows r ≡ None
   pub unheld : s.holder r ≡ None
 
+-- another transaction holds the place
 abbrev pub IsHeldByOther : State → ℕ → Place → Type 0
 IsHeldByOther s t r = (u : ℕ) × (s.holder r ≡ Some u) × (u ≢ t)
 
+-- the transaction's list of changes is full
 abbrev pub HasNoMoreChanges : State → ℕ → Type 0
 HasNoMoreChanges s t = CHANGES_MAX ≤ length (as_list (txn_at s t).changes)
 
+-- some transaction is active
 abbrev pub IsAnyActive : State → Type 0
 IsAnyActive s = (t : ℕ) × (x : Active) × (s.txns t ≡ Some x)
 
@@ -102,16 +105,19 @@ HasNoPlace s _ = ⊥
 abbrev pub last_refusals : State → Standing → MachineStep → Refusals
 last_refusals s k e = (HasNoPlace s e, Error.IndexFull) ∷ ((LAST_NUMBER ≤ k.made) × (action_of s e ≢ None), Error.Exhausted) ∷ []
 
+-- the refusals that only the step itself can meet; none where no step is due
 abbrev pub refusals_of : State → Standing → Option MachineStep → Refusals
 refusals_of s k None = []
 refusals_of s k (Some e) = last_refusals s k e
 
 -- ---- the reply and the step that are due
 
+-- a place that is free, with no free one below it
 pub record IsLeastFree (s : State) (r : Place) : Type 0 where
   pub free : IsFree s r
   pub least : (q : Place) → IsFree s q → is_lt (rid_cmp q r) ≡ false
 
+-- the change that the transaction makes next, of this place
 abbrev pub change_of : State → ℕ → Place → Rows → ChangeValue
 change_of s t rid rows = record { position = length (as_list (txn_at s t).changes); rid = rid; rows = rows }
 
@@ -126,6 +132,7 @@ pub record IsNextPair (s : State) (p : Pair) : Type 0 where
   pub all_taken : (n : ℕ) → n < s.pages → s.taken n ≡ true
   pub none_left : (q : Pair) → above s.bound q ≡ true → above (Some q) p ≡ true → s.taken q.rid.page ≡ true → s.missed q ≡ true
 
+-- when each answer of the builder is due
 abbrev pub IsBuildDue : State → Standing → BuildReply → Type 0
 IsBuildDue s k Idle = s.life ≡ Complete
 IsBuildDue s k (BuildReply.Marked p n) = IsBuilding s.life × (ATTEMPTS_PER_CHECKPOINT ≤ k.attempts) × (s.bound ≡ Some p) × (n ≡ k.made + 1)
@@ -134,6 +141,7 @@ IsBuildDue s k (Placed p) = IsBetween s k × IsNextPair s p × (get s.entries p 
 IsBuildDue s k (Rejected p) = IsBetween s k × IsNextPair s p × (get s.entries p ≢ None)
 IsBuildDue s k (Done n) = IsBetween s k × CanFinish s × (n ≡ k.made + 1)
 
+-- the step that the machine makes with it, if any
 abbrev pub build_step : BuildReply → Option MachineStep
 build_step (Scanned page) = Some (Take page)
 build_step (Placed p) = Some (Attempt p)
@@ -148,11 +156,13 @@ pub record IsNextEntry (s : State) (p : Pair) : Type 0 where
   pub above_place : above s.cleaned p ≡ true
   pub least : (q : Pair) → get s.entries q ≢ None → above s.cleaned q ≡ true → above (Some q) p ≡ false
 
+-- when each answer of the cleaner is due: the least entry above its place goes or stays, or there is none
 abbrev pub IsCleanDue : State → CleanReply → Type 0
 IsCleanDue s (Cleaned p) = IsNextEntry s p × CanClean s p
 IsCleanDue s (Kept p) = IsNextEntry s p × (CanClean s p → ⊥)
 IsCleanDue s Wrapped = (p : Pair) → above s.cleaned p ≡ true → get s.entries p ≡ None
 
+-- the step that the machine makes with it
 abbrev pub clean_step : CleanReply → MachineStep
 clean_step (Cleaned p) = MachineStep.Clean p
 clean_step (Kept p) = Keep p
@@ -199,6 +209,7 @@ abbrev pub WantsMemory : State → Event → Option MachineStep → Type 0
 WantsMemory s e None = IsLookUp e
 WantsMemory s e (Some step) = (action_of s step ≢ None) ⊎ NeedsRoom step
 
+-- the state after a step, if one is made
 abbrev pub after_any : State → Option MachineStep → State
 after_any s None = s
 after_any s (Some e) = after s e

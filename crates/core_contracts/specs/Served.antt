@@ -89,6 +89,7 @@ turn_of Event.Create = Deed.Created ∷ []
 turn_of Event.Drop = Deed.Dropped ∷ []
 turn_of _ = []
 
+-- what a step of the builder adds to the history
 abbrev pub items_of_build : BuildReply → List Item
 items_of_build (Scanned page) = []
 items_of_build (Placed p) = []
@@ -159,6 +160,7 @@ pub record HasServed (o : Opened) (made : List RecordValue) (pairs : List (Event
   pub number : k.made ≡ o.given.last + length made
   pub standing : HasStanding s k
 
+-- the step may be made, if there is one
 abbrev pub IsEnabledAny : State → Option MachineStep → Type 0
 IsEnabledAny s None = Unit {0}
 IsEnabledAny s (Some e) = IsEnabled s e

@@ -5,6 +5,7 @@ use Rattle.core_model.specs.Example.{pair, place, row}
 
 -- The builder's insertion of the pair is then rejected.
 
+-- what is asked, each with its reply
 abbrev pub script : List (Event × Reply)
 script =
     (Event.Create, Reply.Ticketed 1)

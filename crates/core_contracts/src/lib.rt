@@ -1,4 +1,7 @@
 //! What the contracts of a core speak of: events, the replies that each may get, and a core that has served them.
+//!
+//! Definitions, and no code that runs. `IsAllowed` says which reply each event may get in a state, and the step that is made with
+//! it. `items_of` says which history events and replies tell. That code replies so is the contract of `nsf_core`.
 #![tactic(auto)]
 
 ghost use Rattle.std.specs.Prelude.{Option, take, length, ◌≡◌, ◌≤◌, ◌+◌, ◌++◌, [], ◌∷◌, ℕ, List};

@@ -1,7 +1,8 @@
 -- The rows of pages that are copied.
-use Rattle.std.proofs.Common.{◌≡◌, ◌≢◌, ⊎_elim, ℕ, ◌+◌, ◌<◌, ◌≤◌, Option, Some, None, refl, sym, ap, subst, ◌∙◌, arith}
+use Rattle.std.proofs.Common.{◌≡◌, ◌≢◌, ⊎_elim, ℕ, zero, suc, ◌+◌, ◌<◌, ◌≤◌, List, [], ◌∷◌, length, slice_get, slice_set, Option, Some, None, refl, sym, ap, subst, ◌∙◌, arith}
 use Rattle.std.specs.Prelude.{IsSome}
 use Rattle.std.proofs.lemmas.Bool.{cases_eq, cases_lt}
+use Rattle.std.proofs.lemmas.Option.{same_Some}
 use Rattle.std.specs.FinMap.{empty, get, get-empty}
 use Rattle.records.specs.Maps.{alike, get-set_at_other, get-set_at_same, rid_exact, set_at}
 use Rattle.records.specs.Orders.{rid_cmp}
@@ -67,17 +68,49 @@ page_put heap inside page old new h = record {
   others = h.others;
 }
 
-pub page_alone : (v : CoreValue) → AreRowsInside v.heap → (page : ℕ) (rows : Table) → HasPagePut v.heap.rows page empty rows → IsPageOf (unlisted v) page rows
-page_alone v inside page rows put = record {
-  rows-are = record { there = put.here; elsewhere = λ q apart. put.others q apart ∙ get-empty rid_cmp q };
-  slots = λ q r is. ⊎_elim
-      (λ same. (inside q (subst IsSome (sym (sym (put.here q same) ∙ is)) refl)).1)
-      (λ apart. absurd (none_some r (sym (put.others q apart ∙ get-empty rid_cmp q) ∙ is)))
-      (cases_eq q.page page);
+-- ---- the slots of one page
+
+get-set : {X : Type 0} (xs : List X) (i j : ℕ) (y : X) → j ≡ i → i < length xs → slice_get (slice_set xs i y) j ≡ Some y
+get-set [] i j y same low = absurd (omega (arith, low))
+get-set (x ∷ xs) zero zero y same low = refl
+get-set (x ∷ xs) zero (suc j) y same low = absurd (omega (arith, same))
+get-set (x ∷ xs) (suc i) zero y same low = absurd (omega (arith, same))
+get-set (x ∷ xs) (suc i) (suc j) y same low = get-set xs i j y (omega (arith, same)) (omega (arith, low))
+
+get-set_other : {X : Type 0} (xs : List X) (i j : ℕ) (y : X) → j ≢ i → slice_get (slice_set xs i y) j ≡ slice_get xs j
+get-set_other [] i j y apart = refl
+get-set_other (x ∷ xs) zero zero y apart = absurd (apart refl)
+get-set_other (x ∷ xs) zero (suc j) y apart = refl
+get-set_other (x ∷ xs) (suc i) zero y apart = refl
+get-set_other (x ∷ xs) (suc i) (suc j) y apart = get-set_other xs i j y (λ e. apart (ap suc e))
+
+-- the first slots have the rows of the page
+abbrev pub AreSlotsTo : Table → ℕ → ℕ → List (Option Row) → Type 0
+AreSlotsTo all page n slots = (k : ℕ) → k < n → slice_get slots k ≡ Some (get all (record { page = page; slot = k }))
+
+pub one_slot : (all : Table) (page n : ℕ) (slots : List (Option Row)) (row : Option Row) → row ≡ get all (record { page = page; slot = n }) → n < length slots → AreSlotsTo all page n slots → AreSlotsTo all page (n + 1) (slice_set slots n row)
+one_slot all page n slots row found inside h = λ k below. ⊎_elim
+    (λ same. get-set slots n k row same inside ∙ ap Some found ∙ ap (λ j. Some (get all (record { page = page; slot = j }))) (sym same))
+    (λ apart. get-set_other slots n k row apart ∙ h k (omega (arith, below, apart)))
+    (cases_eq k n)
+
+-- a table of these slots alone has the rows of the page
+pub page_filled : (v : CoreValue) → AreRowsInside v.heap → (page : ℕ) (slots : List (Option Row)) (rows : Table) → AreSlotsTo v.heap.rows page SLOTS_PER_PAGE slots → AreSlotsTo rows page SLOTS_PER_PAGE slots
+    → ((q : Place) → q.page ≢ page → get rows q ≡ None) → ((q : Place) (r : Row) → get rows q ≡ Some r → q.slot < SLOTS_PER_PAGE) → IsPageOf (unlisted v) page rows
+page_filled v inside page slots rows all there elsewhere low = record {
+  rows-are = record { there = λ q same. ⊎_elim (here q same) (past q) (cases_lt q.slot SLOTS_PER_PAGE); elsewhere = elsewhere };
+  slots = low;
 }
   where
-    none_some : (r : Row) → (◌≡◌ {A = Option Row} None (Some r)) → ⊥
-    none_some r e = absurd cc
+    here : (q : Place) → q.page ≡ page → q.slot < SLOTS_PER_PAGE → get rows q ≡ get v.heap.rows q
+    here q same below = subst (λ (p : Place). get rows p ≡ get v.heap.rows p) (λ i. record { page = sym same i; slot = q.slot }) (same_Some _ _ (sym (there q.slot below) ∙ all q.slot below))
+
+    none : (q : Place) → SLOTS_PER_PAGE ≤ q.slot → (o : Option Row) → get rows q ≡ o → get rows q ≡ None
+    none q beyond None is = is
+    none q beyond (Some r) is = let below = low q r is in absurd (omega (arith, below, beyond))
+
+    past : (q : Place) → SLOTS_PER_PAGE ≤ q.slot → get rows q ≡ get v.heap.rows q
+    past q beyond = none q beyond (get rows q) refl ∙ sym (no_row v.heap inside q (λ place. let slot = place.1 in omega (arith, slot, beyond)))
 
 -- ---- all pages
 

@@ -1,7 +1,8 @@
 //! The parts of a copy: lists, rows and entries.
-ghost use Rattle.std.specs.Prelude.{◌≡◌, ◌≤◌, ℕ, length, None, IsSome, OnOk, IfOk, IfErr};
+ghost use Rattle.std.specs.Prelude.{◌≡◌, ◌≤◌, ◌<◌, ℕ, length, slice_get, Some, None, IsSome, OnOk, IfOk, IfErr};
 ghost use Rattle.std.specs.FinMap as map;
 ghost use Rattle.records.specs.Values.{Place};
+ghost use Rattle.records.specs.declared.rid.TheConstants.{SLOTS_PER_PAGE};
 ghost use Rattle.btree_node.specs.Above.{IsLeastAbove};
 ghost use Rattle.heap_pages.specs.Pages.{IsPlaceInside};
 ghost use Rattle.nsf_core.specs.Moves.{txn_shown};
@@ -10,10 +11,10 @@ ghost use Rattle.core_copies.specs.Pieces.{AreEntriesOf, IsPageOf};
 ghost use Rattle.core_copies.specs.Private.{HasListPut, HasPagePut, unlisted};
 ghost use Rattle.core_copies.specs.Shown.{list_shown};
 
-use image_model::CHUNK_ENTRIES;
-use model::{EntryMap, ListMap, RowMap};
+use image_model::{CHUNK_ENTRIES, PageRows};
+use model::{EntryMap, ListMap, ROWS_PER_PAGE, RowMap};
 use nsf_core::Core;
-use records::{Error, Mark, Pair, Rid, SLOTS_PER_PAGE, Txn};
+use records::{Error, Mark, Pair, Rid, Row, SLOTS_PER_PAGE, Txn};
 use std::alloc::Allocator;
 
 // Adds the list that the log has of the transaction, if it has one.
@@ -73,18 +74,29 @@ fn put_page<A: Allocator + Copy>(
     Ok(())
 }
 
+// The rows of the page, by their slots.
+fn page_slots<A: Allocator + Copy>(core: &Core<A>, page: u32) -> [Option<Row>; ROWS_PER_PAGE]
+    ensures { (slot : ℕ) → slot < SLOTS_PER_PAGE → slice_get result slot ≡ Some (map.get (value_of core.now).heap.rows (record { page = page; slot = slot })) }
+{
+    let mut slots = [None; ROWS_PER_PAGE];
+    for slot in 0..SLOTS_PER_PAGE {
+        slots[slot as usize] = core.get(Rid { page, slot });
+    }
+    slots
+}
+
 /// The rows of the page.
 pub(crate) fn page_rows<A: Allocator + Copy>(
     alloc: A,
     core: &Core<A>,
     page: u32,
-) -> Result<RowMap<A>, Error>
+) -> Result<PageRows<A>, Error>
     ensures rows { IfOk result (λ rows. IsPageOf (unlisted (value_of core.now)) page rows) }
     ensures no_memory { IfErr result (λ e. e ≡ Error.NoMemory) }
 {
     let _pages = core.pages();
-    let mut rows = RowMap::new(alloc);
-    put_page(core, page, &mut rows)?;
+    let slots = page_slots(core, page);
+    let rows = PageRows::new(alloc, page, slots)?;
     Ok(rows)
 }
 

@@ -1,6 +1,11 @@
 //! Laws of the core with its index: what holds after any list of calls, of any transactions, the builder and the cleaner.
 //!
 //! They follow from what the methods of `nsf_core` promise alone, one call after another, and speak of no device.
+//!
+//! Proved, of any list of calls: each reply was allowed (`replied`), and the core holds the history that the replies tell
+//! (`holds`). With a complete index and no transaction active, the visible entries are the pairs of the rows (`complete`). Wherever
+//! the records stop, a prefix of the history is recovered of them (`recovers`). `one_reply` and `one_answer`: but for want of
+//! memory, a state and an event leave one reply and one value.
 #![tactic(auto)]
 
 ghost use Rattle.std.specs.Prelude.{◌≡◌, ◌≢◌, ◌≤◌, ◌+◌, ◌++◌, [], ◌∷◌, ℕ, List, Option, length, take};

@@ -9,9 +9,11 @@ use Rattle.nsf_core.specs.Loading.{life_loaded}
 use Rattle.nsf_core.specs.Moves.{fresh}
 use Rattle.nsf_core.specs.View.{CoreValue}
 
+-- the core with these rows
 abbrev pub with_rows : CoreValue → Table → CoreValue
 with_rows v rows = record v { heap = record v.heap { rows = rows } }
 
+-- the core with these entries
 abbrev pub with_entries : CoreValue → Index → CoreValue
 with_entries v entries = record v { index = record v.index { entries = entries } }
 

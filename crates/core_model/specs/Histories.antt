@@ -24,9 +24,11 @@ use Rattle.core_model.specs.Steps.{Attempt, Begin, Checkpoint, Clean, Commit, Cr
 
 -- ---- the history of a run, read off the changes that were asked for, the commits, the creation, the end of the build and the dropping
 
+-- before the first step no transaction was asked for anything
 abbrev pub no_writes : ℕ → List Write
 no_writes t = []
 
+-- what a change sets: its place, with the row after it
 abbrev pub write_of : ChangeValue → Write
 write_of c = record { rid = c.rid; row = new_row c.rows }
 
@@ -48,6 +50,7 @@ writes_after writes (Keep p) = writes
 writes_after writes Wrap = writes
 writes_after writes Drop = writes
 
+-- what a step adds to the history: a commit, or what becomes of the index
 abbrev pub deeds_of : (ℕ → List Write) → MachineStep → List Deed
 deeds_of writes (Begin t) = []
 deeds_of writes (Start t c) = []
@@ -65,6 +68,7 @@ deeds_of writes (Keep p) = []
 deeds_of writes Wrap = []
 deeds_of writes Drop = Dropped ∷ []
 
+-- what these steps tell, one after another
 abbrev pub history : (ℕ → List Write) → List MachineStep → List Deed
 history writes [] = []
 history writes (e ∷ es) = deeds_of writes e ++ history (writes_after writes e) es
@@ -75,6 +79,7 @@ AreItemsOf items steps = map (λ (item : Item). item.deed) items ≡ history no_
 
 -- ---- a core over loaded cells
 
+-- the pair that was checkpointed last, where the index is being built and one was
 abbrev pub highest_of : Life → Option Pair
 highest_of Absent = None
 highest_of (Building highest) = highest

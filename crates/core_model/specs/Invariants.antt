@@ -34,6 +34,7 @@ applied_of Unchanged applied = Unchanged
 applied_of (older ▹ c) true = older ▹ c
 applied_of (older ▹ c) false = older
 
+-- the changes that the rows show: all, but for a newest one that has not set its row, or whose row is back
 abbrev pub made_of : Active → Changes
 made_of x = applied_of x.changes (is_applied x.phase)
 
@@ -53,6 +54,7 @@ pub record HasPair (pair : Option Pair) (P : Pair → Type 0) : Type 0 where
   pub is : pair ≡ Some it
   pub holds : P it
 
+-- the newest change has the pair that its phase speaks of; a pair that its steps or its undo have marked, with the row owed, is marked
 abbrev pub IsInPhase : Bool → Index → ChangeValue → Phase → Bool → Type 0
 IsInPhase indexed entries c OldMarked rolling = HasPair (old_pair indexed c) (λ p. rolling ≡ false → get entries p ≡ Some Marked)
 IsInPhase indexed entries c RowSet rolling = HasPair (new_pair indexed c) (λ p. Unit {0})
@@ -60,15 +62,18 @@ IsInPhase indexed entries c Made rolling = Unit {0}
 IsInPhase indexed entries c (NewMarked applied) rolling = HasPair (new_pair indexed c) (λ p. get entries p ≡ Some Marked)
 IsInPhase indexed entries c OldSet rolling = HasPair (old_pair indexed c) (λ p. Unit {0})
 
+-- so is the newest change of the transaction; with none, nothing is owed
 abbrev pub IsPhaseOf : Bool → Index → Changes → Phase → Bool → Type 0
 IsPhaseOf indexed entries Unchanged phase rolling = phase ≡ Made
 IsPhaseOf indexed entries (older ▹ c) phase rolling = IsInPhase indexed entries c phase rolling
 
+-- the transaction holds the rows that it changed, each change began from what the older ones made, and its phase is so
 pub record TxnHolds (s : State) (t : ℕ) (x : Active) : Type 0 where
   pub names : IsHolderOf s.holder t x.changes
   pub chained : IsChained s.committed x.changes
   pub phase : IsPhaseOf (is_indexed s.life) s.entries x.changes x.phase x.rolling
 
+-- the row at a held place is what its holder's changes made of the committed row
 pub record IsHeld (s : State) (r : Place) (t : ℕ) : Type 0 where
   pub txn : Active
   pub active : s.txns t ≡ Some txn
@@ -81,6 +86,7 @@ IsAhead Absent bound missed p = Unit {0}
 IsAhead (Building highest) bound missed p = (above bound p ≡ true) × (missed p ≡ false)
 IsAhead Complete bound missed p = ⊥
 
+-- the pair is live, or has no entry and the builder is still to come to it
 abbrev pub IsVisibleOrAhead : State → Pair → Type 0
 IsVisibleOrAhead s p = (get s.entries p ≡ Some Live) ⊎ (get s.entries p ≡ None) × IsAhead s.life s.bound s.missed p
 
@@ -147,15 +153,18 @@ HasShape indexed c Made = Unit {0}
 HasShape indexed c (NewMarked applied) = HasPair (new_pair indexed c) (λ p. Unit {0})
 HasShape indexed c OldSet = HasPair (old_pair indexed c) (λ p. Unit {0})
 
+-- the newest change has the pair that its phase speaks of; with none, nothing is owed
 abbrev pub IsShaped : Bool → Changes → Phase → Type 0
 IsShaped indexed Unchanged phase = phase ≡ Made
 IsShaped indexed (older ▹ c) phase = HasShape indexed c phase
 
+-- the transaction holds the rows that it changed, its phase fits, and its changes count from 0
 pub record IsFit (holder : Place → Option ℕ) (indexed : Bool) (t : ℕ) (x : Active) : Type 0 where
   pub names : IsHolderOf holder t x.changes
   pub shaped : IsShaped indexed x.changes x.phase
   pub numbered : IsNumbered x.changes
 
+-- what safety needs, whatever rows and entries the core began with
 pub record IsWellFormed (s : State) : Type 0 where
   pub rows : (r : Place) (row : Row) → get s.rows r ≡ Some row → r.page < s.pages
   pub held : (r : Place) (t : ℕ) → s.holder r ≡ Some t → r.page < s.pages
@@ -166,6 +175,7 @@ pub record IsWellFormed (s : State) : Type 0 where
 
 -- ---- all of it
 
+-- what every step keeps: what safety needs, and what the theorem needs
 pub record Invariant (s : State) : Type 0 where
   pub fit : IsWellFormed s
   pub coherent : IsCoherent s

@@ -18,6 +18,7 @@ abbrev pub next_number : ℕ → Option Action → ℕ
 next_number last None = last
 next_number last (Some action) = last + 1
 
+-- the record of this action behind the last one; none where there is no action
 abbrev pub one_record : ℕ → Option Action → List RecordValue
 one_record last None = []
 one_record last (Some action) = record { number = last + 1; action = action } ∷ []
@@ -27,6 +28,7 @@ abbrev pub records_from : State → ℕ → List MachineStep → List RecordValu
 records_from s last [] = []
 records_from s last (e ∷ es) = one_record last (action_of s e) ++ records_from (after s e) (next_number last (action_of s e)) es
 
+-- a deed as an item, with the number of the next record
 abbrev pub item_at : ℕ → Deed → Item
 item_at last deed = record { number = last + 1; deed = deed }
 
@@ -39,6 +41,7 @@ items_from writes s last (e ∷ es) = map (item_at last) (deeds_of writes e) ++ 
 abbrev pub records_over : Opened → List MachineStep → List RecordValue
 records_over o steps = records_from (opened o) o.given.last steps
 
+-- the history of these steps over what was opened
 abbrev pub items_over : Opened → List MachineStep → List Item
 items_over o steps = items_from no_writes (opened o) o.given.last steps
 
@@ -46,7 +49,7 @@ items_over o steps = items_from no_writes (opened o) o.given.last steps
 abbrev pub reopened : Opened → List RecordValue → ℕ → Opened
 reopened o records n = record o { given = given_after o.given (take n records) }
 
--- What is recovered of the first n of the records is the history's beginning up to the last of them, and a core may begin with it.
+-- What is recovered of the first n of the records is the history's prefix up to the last of them, and a core may begin with it.
 pub record RecoversPrefix (o : Opened) (steps : List MachineStep) (n : ℕ) : Type 0 where
   pub beginning : IsBeginning o.given (items_over o steps) (o.given.last + n) (given_after o.given (take n (records_over o steps)))
   pub opens : CanOpen (reopened o (records_over o steps) n)

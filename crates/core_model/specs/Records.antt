@@ -31,33 +31,41 @@ pub record HasCells (s : State) (cells : Cells) : Type 0 where
   pub pending : (t : ℕ) → IsListOf (get cells.pending t) (s.txns t)
   pub life : cells.life ≡ s.life
 
+-- the cells after a record of this action, if there is one
 abbrev pub set_by_any : Cells → Option Action → Cells
 set_by_any cells None = cells
 set_by_any cells (Some action) = set_by cells action
 
+-- a step of a change on this part
 abbrev pub forward : ℕ → Part → ChangeValue → Action
 forward t part c = OfTxn t (TxnAction.Forward part c)
 
+-- a step on this part that takes a change back
 abbrev pub undo : ℕ → Part → ChangeValue → Bool → Action
 undo t part c last = OfTxn t (TxnAction.Undo part c last)
 
+-- the record of a change's first step: it marks the old pair, or with none sets the row
 abbrev pub first_action : ℕ → ChangeValue → Option Pair → Action
 first_action t c None = forward t Slot c
 first_action t c (Some p) = forward t OldEntry c
 
+-- the record of the step that is owed
 abbrev pub next_action : ℕ → Changes → Phase → Option Action
 next_action t (older ▹ c) OldMarked = Some (forward t Slot c)
 next_action t (older ▹ c) RowSet = Some (forward t NewEntry c)
 next_action t _ _ = None
 
+-- whether an undo that sets the row is at its end: no old pair is owed
 abbrev pub is_last : Option Pair → Bool
 is_last None = true
 is_last (Some p) = false
 
+-- the record of the first step of an undo
 abbrev pub begun_action : ℕ → ChangeValue → (old new : Option Pair) → Action
 begun_action t c old None = undo t Slot c (is_last old)
 begun_action t c old (Some p) = undo t NewEntry c false
 
+-- the record of the next step of an undo, by the phase of the newest change
 abbrev pub undo_action : Bool → ℕ → Changes → Phase → Option Action
 undo_action indexed t Unchanged phase = None
 undo_action indexed t (older ▹ c) OldMarked = Some (begun_action t c (old_pair indexed c) (new_pair indexed c))
@@ -66,6 +74,7 @@ undo_action indexed t (older ▹ c) Made = Some (begun_action t c (old_pair inde
 undo_action indexed t (older ▹ c) (NewMarked applied) = Some (undo t Slot c (is_last (old_pair indexed c)))
 undo_action indexed t (older ▹ c) OldSet = Some (undo t OldEntry c true)
 
+-- the record of an attempt: one where the pair had no entry
 abbrev pub place_action : Pair → Option Mark → Option Action
 place_action p None = Some (OfIndex (BuildPlace p))
 place_action p (Some mark) = None

@@ -26,6 +26,7 @@ pub record Active : Type 0 where
 abbrev pub Pledges : Type 0
 Pledges = FinMap nat_cmp ℕ
 
+-- the machine: rows, entries, transactions, the builder and the cleaner, as plain data
 pub record State : Type 0 where
   pub rows : Table
   pub entries : Index

@@ -27,6 +27,7 @@ use Rattle.core_model.specs.States.{Active, Made, NewMarked, OldMarked, OldSet, 
 unfoldable pub update : {K X : Type 0} → (K → K → Ordering) → (K → X) → K → X → K → X
 update R f k v q = cond (eq_by_cmp R q k) v (f q)
 
+-- whether a pair comes after this one: every pair does where there is none
 abbrev pub above : Option Pair → Pair → Bool
 above None q = true
 above (Some p) q = is_lt (pair_cmp p q)
@@ -38,12 +39,15 @@ is_pair_of (Some row) p = eq_by_cmp (slice_cmp nat_cmp) row.key p.key
 
 -- ---- transactions
 
+-- a transaction that has done nothing
 abbrev pub new_txn : Active
 new_txn = record { changes = Unchanged; phase = Made; rolling = false }
 
+-- the active transaction of this number, or a new one
 abbrev pub txn_at : State → ℕ → Active
 txn_at s t = unwrap_or (s.txns t) new_txn
 
+-- the active transactions with this one changed
 abbrev pub with_txn : State → ℕ → Active → ℕ → Option Active
 with_txn s t x = update nat_cmp s.txns t (Some x)
 
@@ -60,9 +64,11 @@ is_applied Made = true
 is_applied (NewMarked applied) = applied
 is_applied OldSet = false
 
+-- the transaction in another phase
 abbrev pub with_phase : Active → Phase → Active
 with_phase x phase = record x { phase = phase }
 
+-- the transaction with one change more, in this phase
 abbrev pub with_change : Active → ChangeValue → Phase → Active
 with_change x c phase = record x { changes = x.changes ▹ c; phase = phase }
 
@@ -70,6 +76,7 @@ with_change x c phase = record x { changes = x.changes ▹ c; phase = phase }
 abbrev pub without_newest : Changes → Active
 without_newest older = record { changes = older; phase = Made; rolling = true }
 
+-- the transaction rolling back, in this phase
 abbrev pub undoing : Active → Phase → Active
 undoing x phase = record { changes = x.changes; phase = phase; rolling = true }
 
@@ -103,6 +110,7 @@ abbrev pub row_undone : Active → Changes → Option Pair → Active
 row_undone x older None = without_newest older
 row_undone x older (Some p) = undoing x OldSet
 
+-- the old row is back, and the old pair is owed, or the change is off
 abbrev pub undone_row : State → ℕ → Active → ChangeValue → Changes → State
 undone_row s t x c older = record s {
   rows = set_at s.rows c.rid (old_row c.rows);
@@ -117,6 +125,7 @@ undone_first s t x c older applied (Some p) = record s {
 }
 undone_first s t x c older applied None = undone_row s t x c older
 
+-- the next step of an undo, by the phase of the newest change; with no change the transaction is only rolling back
 abbrev pub undone : State → ℕ → Active → Changes → Phase → State
 undone s t x Unchanged phase = record s { txns = with_txn s t (undoing x phase) }
 undone s t x (older ▹ c) OldMarked = undone_first s t x c older false (new_pair (is_indexed s.life) c)
@@ -128,6 +137,7 @@ undone s t x (older ▹ c) OldSet = record s {
   txns = with_txn s t (without_newest older);
 }
 
+-- a place's holder once the transaction is over
 abbrev pub freed : ℕ → Option ℕ → Option ℕ
 freed t None = None
 freed t (Some u) = cond (eq_by_cmp nat_cmp u t) None (Some u)
@@ -138,6 +148,7 @@ left s t committed = record s { txns = update nat_cmp s.txns t None; holder = λ
 
 -- ---- the builder and the cleaner
 
+-- the index is being built, and the builder has done nothing
 abbrev pub created : State → State
 created s = record s { life = Building None; bound = None; given = λ p. false; missed = λ p. false; taken = λ n. false }
 
@@ -145,6 +156,7 @@ created s = record s { life = Building None; bound = None; given = λ p. false; 
 abbrev pub dropped : State → State
 dropped s = record s { entries = empty; life = Absent; bound = None; given = λ p. false; missed = λ p. false; taken = λ n. false; cleaned = None }
 
+-- the builder has taken this page: each pair counts as given or as missed by it
 abbrev pub page_taken : State → ℕ → State
 page_taken s n = record s {
   given = λ p. s.given p || (nat_eq p.rid.page n && is_pair_of (get s.rows p.rid) p);
@@ -152,11 +164,13 @@ page_taken s n = record s {
   taken = λ m. s.taken m || nat_eq m n;
 }
 
+-- the builder's action on this pair, which is the bound from then on
 abbrev pub attempted : State → Pair → State
 attempted s p = record s { entries = set_at s.entries p (after_action BuildPut (get s.entries p)); bound = Some p }
 
 -- ---- all steps
 
+-- the steps of the machine, of transactions, builder and cleaner
 pub data MachineStep : Type 0 where
   Begin : (t : ℕ) → MachineStep
   Start : (t : ℕ) → ChangeValue → MachineStep
@@ -199,9 +213,11 @@ abbrev pub places_of : Bool → ℕ
 places_of false = 0
 places_of true = PLACES_PER_CHANGE
 
+-- how many places the transaction has reserved and not used
 abbrev pub reserved : Pledges → ℕ → ℕ
 reserved pledges t = unwrap_or (get pledges t) 0
 
+-- how many places are reserved in all
 abbrev pub all_reserved : Pledges → ℕ
 all_reserved pledges = sum (values pledges)
 
@@ -209,9 +225,11 @@ all_reserved pledges = sum (values pledges)
 abbrev pub places_used : Pledges → ℕ → (more used : ℕ) → Pledges
 places_used pledges t more used = insert pledges t (reserved pledges t + more - used)
 
+-- the transaction reserves so many more, and has used one for each entry that was added
 abbrev pub with_places : State → ℕ → ℕ → Index → Pledges
 with_places s t more entries = places_used s.pledges t more (len entries - len s.entries)
 
+-- the reserved places after a step that left these entries
 abbrev pub pledges_after : State → MachineStep → Index → Pledges
 pledges_after s (Begin t) entries = insert s.pledges t 0
 pledges_after s (Start t c) entries = with_places s t (places_of (is_indexed s.life)) entries
@@ -221,11 +239,13 @@ pledges_after s (End t) entries = remove s.pledges t
 pledges_after s (Commit t) entries = remove s.pledges t
 pledges_after s _ entries = s.pledges
 
+-- the state after a step
 abbrev pub after : State → MachineStep → State
 after s e = record (moved_by s e) { pledges = pledges_after s e (moved_by s e).entries }
 
 -- ---- when a step is enabled
 
+-- the transaction is active
 abbrev pub IsActive : State → ℕ → Type 0
 IsActive s t = s.txns t ≡ Some (txn_at s t)
 
@@ -237,6 +257,7 @@ IsReady x = (x.phase ≡ Made) × (x.rolling ≡ false)
 abbrev pub HasFreePlaces : State → Type 0
 HasFreePlaces s = is_indexed s.life ≡ true → len s.entries + all_reserved s.pledges + places_of true ≤ s.places
 
+-- when a change may begin: nothing is owed, the row is as the change found it, nobody else holds it, and there is room
 pub record CanStart (s : State) (t : ℕ) (c : ChangeValue) : Type 0 where
   pub active : IsActive s t
   pub ready : IsReady (txn_at s t)
@@ -255,6 +276,7 @@ pub record CanAttempt (s : State) (p : Pair) : Type 0 where
   pub none_left : (q : Pair) → above s.bound q ≡ true → above (Some q) p ≡ true → s.taken q.rid.page ≡ true → s.missed q ≡ true
   pub room : get s.entries p ≡ None → len s.entries + all_reserved s.pledges < s.places
 
+-- when a build may end: every page was taken, and no pair above the bound is left that each taking gave
 pub record CanFinish (s : State) : Type 0 where
   pub building : IsBuilding s.life
   pub all_taken : (n : ℕ) → n < s.pages → s.taken n ≡ true
@@ -266,11 +288,13 @@ IsPassed Absent p = ⊥
 IsPassed (Building highest) p = above highest p ≡ false
 IsPassed Complete p = Unit {0}
 
+-- when the cleaner may take an entry out: it is marked, nobody holds its row, and the build has passed it
 pub record CanClean (s : State) (p : Pair) : Type 0 where
   pub marked : get s.entries p ≡ Some Marked
   pub free : s.holder p.rid ≡ None
   pub passed : IsPassed s.life p
 
+-- when a step may be made
 abbrev pub IsEnabled : State → MachineStep → Type 0
 IsEnabled s (Begin t) = s.txns t ≡ None
 IsEnabled s (Start t c) = CanStart s t c

@@ -1,4 +1,10 @@
 //! The core as an abstract machine: its steps, and what every order of them keeps.
+//!
+//! Proved, on plain data: every order of the steps keeps rows, entries, history and reserved places together (`every_order`). A
+//! complete index with no transaction active is exact (`complete_index`). A restart at any stop gives a prefix of the history
+//! (`any_stop`). Each step sets the cell that its record names (`each_record`). A worked example shows that the premises can be met
+//! (`undone_insertion_is_rejected`).
+//! Nothing here runs. That code makes these steps is the contract of `nsf_core`.
 #![tactic(auto)]
 
 ghost use Rattle.std.specs.Prelude.{◌≡◌, ◌≤◌, ◌+◌, ◌++◌, [], ℕ, List, Option, Some, length, map, take, true, IsTrue};

@@ -23,12 +23,15 @@ entry_step pair mark action = option_map (λ p. record { cell = cell.Entry p mar
 
 -- ---- a change
 
+-- the step that marks the old pair, where there is one
 abbrev pub marks_old : Bool → ChangeValue → Option Step
 marks_old indexed c = entry_step (moved_pair indexed c (old_row c.rows)) Marked (Forward part.OldEntry c)
 
+-- the step that sets the new row
 abbrev pub sets_new : ChangeValue → Step
 sets_new c = record { cell = cell.Slot c.rid (new_row c.rows); action = Forward part.Slot c }
 
+-- the step that puts the new pair, where there is one
 abbrev pub puts_new : Bool → ChangeValue → Option Step
 puts_new indexed c = entry_step (moved_pair indexed c (new_row c.rows)) Live (Forward part.NewEntry c)
 
@@ -38,12 +41,15 @@ forward_steps indexed c = some_step (marks_old indexed c) ++ sets_new c ∷ some
 
 -- ---- its undo: `last` takes the change off its transaction's list
 
+-- the step that marks the new pair, where there is one
 abbrev pub marks_new : Bool → ChangeValue → Option Step
 marks_new indexed c = entry_step (moved_pair indexed c (new_row c.rows)) Marked (Undo part.NewEntry c false)
 
+-- the step that sets the old row again
 abbrev pub sets_old : ChangeValue → Bool → Step
 sets_old c last = record { cell = cell.Slot c.rid (old_row c.rows); action = Undo part.Slot c last }
 
+-- the step that puts the old pair again, where there is one
 abbrev pub puts_old : Bool → ChangeValue → Option Step
 puts_old indexed c = entry_step (moved_pair indexed c (old_row c.rows)) Live (Undo part.OldEntry c true)
 

@@ -1,4 +1,8 @@
 //! The steps of a change and of its undo, each with what its record says.
+//!
+//! Proved: `forward` and `undo` answer the steps of the definitions, in order. The law `each_change` of `nsf_core` ties each step's
+//! record to the abstract core (`first`, `next`, `undo`). The core takes its steps one by one, by `mark_old`, `set_new`, `put_new`
+//! and those of the undo.
 #![tactic(auto)]
 
 mod laws;

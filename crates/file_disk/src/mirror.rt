@@ -67,6 +67,13 @@ impl<F: Drop, A: Allocator> FileDisk<F, A> {
         Ok(disk)
     }
 
+    /// The sectors that the disk holds.
+    pub fn content(&self) -> &[[u8; SECTOR_SIZE]]
+        ensures { result.now ≡ (history_of self.now).disk.content }
+    {
+        &self.content
+    }
+
     /// What is below.
     pub fn into_below(self) -> F {
         self.below

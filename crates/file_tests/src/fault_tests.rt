@@ -3,7 +3,7 @@ use crate::backing::{Host, Loss, Sector};
 use file_disk::FileDisk;
 use flip_image::Halves;
 use nsf_core::BuildReply;
-use records::{Body, Error, Geometry, Key, Mark, Pair, Rid, SLOTS_PER_PAGE};
+use records::{Body, Error, Geometry, Key, Mark, Pair, Rid, Row, SLOTS_PER_PAGE};
 use restart::{Event, Reply};
 use sector_device::{Device, Failed};
 use serving::Store;
@@ -60,11 +60,11 @@ struct Told {
     acknowledged: u8,
 }
 
-fn serve(store: &mut Store<Disk>, event: Event) -> Reply<Global> {
+fn serve<D: Device>(store: &mut Store<D>, event: Event) -> Reply<Global> {
     store.serve(event)
 }
 
-fn flush(store: &mut Store<Disk>) -> bool {
+fn flush<D: Device>(store: &mut Store<D>) -> bool {
     match store.flush() {
         Reply::Horizon(_) => true,
         _ => false,
@@ -72,7 +72,7 @@ fn flush(store: &mut Store<Disk>) -> bool {
 }
 
 // Puts a row with this number as its key, and commits it.
-fn put(store: &mut Store<Disk>, number: u8) -> Result<bool, Fail> {
+fn put<D: Device>(store: &mut Store<D>, number: u8) -> Result<bool, Error> {
     let Reply::Txn(txn) = serve(store, Event::Begin) else {
         return Ok(false);
     };
@@ -86,7 +86,7 @@ fn put(store: &mut Store<Disk>, number: u8) -> Result<bool, Fail> {
 }
 
 // Puts rows, each flushed, while the index is built, until a flush is refused.
-fn play(store: &mut Store<Disk>) -> Result<Told, Fail> {
+fn play<D: Device>(store: &mut Store<D>) -> Result<Told, Error> {
     let mut told = Told::default();
     serve(store, Event::Create);
     for number in 0..ROWS {
@@ -102,11 +102,27 @@ fn play(store: &mut Store<Disk>) -> Result<Told, Fail> {
     Ok(told)
 }
 
+// Opens the store on the disk, and runs the script. The disk is given back, also where it couldn't be opened.
+fn play_on<D: Device + Drop>(alloc: Global, disk: D) -> Result<(Told, D), Error> {
+    match Store::open(alloc, disk) {
+        Ok(mut store) => Ok((play(&mut store)?, store.into_device())),
+        Err((_, disk)) => Ok((Told::default(), disk)),
+    }
+}
+
+fn row_in<D: Device>(store: &Store<D>, rid: Rid) -> Option<Row> {
+    store.core().get(rid)
+}
+
+fn entry_above<D: Device>(store: &Store<D>, last: Option<Pair>) -> Option<(Pair, Mark)> {
+    store.core().above(last.as_ref())
+}
+
 // How many rows there are, where these are the first ones.
-fn rows_in(store: &Store<Disk>) -> Option<u8> {
+fn rows_in<D: Device>(store: &Store<D>) -> Option<u8> {
     let mut rows: u8 = 0;
     for slot in 0..SLOTS_PER_PAGE {
-        if let Some(row) = store.core().get(Rid { page: 0, slot }) {
+        if let Some(row) = row_in(store, Rid { page: 0, slot }) {
             if row.key.as_slice() != [rows].as_slice() || u16::from(rows) != slot {
                 return None;
             }
@@ -116,7 +132,7 @@ fn rows_in(store: &Store<Disk>) -> Option<u8> {
     Some(rows)
 }
 
-fn build(store: &mut Store<Disk>) -> bool {
+fn build<D: Device>(store: &mut Store<D>) -> bool {
     for _ in 0..200 {
         match serve(store, Event::Build) {
             Reply::Built(BuildReply::Done(_)) | Reply::Built(BuildReply::Idle) => return true,
@@ -128,11 +144,11 @@ fn build(store: &mut Store<Disk>) -> bool {
 }
 
 // How many entries there are, where each is live.
-fn entries_in(store: &Store<Disk>) -> Option<u8> {
+fn entries_in<D: Device>(store: &Store<D>) -> Option<u8> {
     let mut entries: u8 = 0;
     let mut last: Option<Pair> = None;
     for _ in 0..100 {
-        match store.core().above(last.as_ref()) {
+        match entry_above(store, last) {
             Some((pair, Mark::Live)) => {
                 entries = entries.saturating_add(1);
                 last = Some(pair);
@@ -144,6 +160,20 @@ fn entries_in(store: &Store<Disk>) -> Option<u8> {
     Some(entries)
 }
 
+// How many rows there are in the store on the disk; and how many entries, if its index can be built to its end.
+fn found_on<D: Device + Drop>(alloc: Global, disk: D) -> Option<(Option<u8>, Option<Option<u8>>)> {
+    let Ok(mut store) = Store::open(alloc, disk) else {
+        return None;
+    };
+    let rows = rows_in(&store);
+    let entries = if build(&mut store) {
+        Some(entries_in(&store))
+    } else {
+        None
+    };
+    Some((rows, entries))
+}
+
 // Runs the script with this put or sync failing, loses the power, and looks at what is there. Answers how many puts and syncs were
 // made.
 fn run(
@@ -153,23 +183,20 @@ fn run(
     fails_at: u64,
     loss: Loss,
 ) -> Result<u64, Fail> {
-    let (told, host) = match Store::open(alloc, disk_with(alloc, image, fails_at)?) {
-        Ok(mut store) => {
-            let told = play(&mut store)?;
-            (told, store.into_device().into_below())
-        }
-        Err((_, disk)) => (Told::default(), disk.into_below()),
-    };
+    let (told, disk) = play_on(alloc, disk_with(alloc, image, fails_at)?)?;
+    let host = disk.into_below();
     let calls = host.calls();
     let left = host.lose_power(loss);
-    let Ok(mut store) = Store::open(alloc, disk_with(alloc, left.as_slice(), 0)?) else {
+    let Some((rows, entries)) = found_on(alloc, disk_with(alloc, left.as_slice(), 0)?) else {
         return Err(Fail::new("the store can't be opened again"));
     };
-    let rows = rows_in(&store).unwrap_or(u8::MAX);
+    let Some(rows) = rows else {
+        return Err(Fail::new("rows that weren't put"));
+    };
     assert!(rt; told.acknowledged <= rows && rows <= ROWS);
     assert!(rt; rows <= told.committed.saturating_add(1));
-    if build(&mut store) {
-        assert_eq!(rt; entries_in(&store), Some(rows));
+    if let Some(entries) = entries {
+        assert_eq!(rt; entries, Some(rows));
     }
     Ok(calls)
 }

@@ -15,12 +15,15 @@ abbrev pub header_sector : GeometryValue → Half → ℕ
 header_sector g A = FRONT_SECTORS
 header_sector g B = FRONT_SECTORS + half_sectors_of g
 
+-- where a half's transaction heads lie
 abbrev pub heads_sector : GeometryValue → Half → ℕ
 heads_sector g half = header_sector g half + HEADER_SECTORS
 
+-- where its undo items begin
 abbrev pub undo_first : GeometryValue → Half → ℕ
 undo_first g half = heads_sector g half + HEADS_SECTORS
 
+-- where its pages begin
 abbrev pub pages_first : GeometryValue → Half → ℕ
 pages_first g half = undo_first g half + UNDO_SECTORS
 
@@ -28,9 +31,11 @@ pages_first g half = undo_first g half + UNDO_SECTORS
 abbrev pub page_sector : GeometryValue → Half → ℕ → ℕ
 page_sector g half page = pages_first g half + PAGE_SECTORS * page
 
+-- where its entries begin
 abbrev pub entries_first : GeometryValue → Half → ℕ
 entries_first g half = page_sector g half g.pages
 
+-- where its log begins
 abbrev pub log_first : GeometryValue → Half → ℕ
 log_first g half = entries_first g half + sectors_for g.entries ENTRIES_PER_SECTOR
 

@@ -40,7 +40,7 @@ abbrev pub flip_sector : Half → List ℕ
 flip_sector A = zero_sector
 flip_sector B = marked_sector
 
--- the image is of a store of this geometry, whose current half is this one
+-- the content is of a store of this geometry, whose current half is this one
 pub record IsStore (g : GeometryValue) (half : Half) (image : Image) : Type 0 where
   pub limits : IsGeometry g
   pub room : sectors_of g ≤ length image
@@ -87,7 +87,7 @@ IsFormatSector g n = (n < undo_first g A) ⊎ (((pages_first g A ≤ n) × (n < 
 
 -- ---- what a reader refuses
 
--- the image has too few sectors for a superblock and a flip sector, or for the geometry in its superblock
+-- the content has too few sectors for a superblock and a flip sector, or for the geometry in its superblock
 abbrev pub IsTooSmall : Image → Type 0
 IsTooSmall image =
     (length image < FRONT_SECTORS)
@@ -104,7 +104,7 @@ pub record IsSuperblockDamaged (image : Image) : Type 0 where
   pub titled : take TITLE_SIZE (sector image SUPERBLOCK_SECTOR) ≡ title
   pub none : (g : GeometryValue) → IsGeometry g → ¬ IsSuperblock g (sector image SUPERBLOCK_SECTOR)
 
--- why the image is refused: each refusal in its state, in which no other one is answered
+-- why the content is refused: each refusal in its state, in which no other one is answered
 abbrev pub IsRefused : Image → Error → Type 0
 IsRefused image e =
     ((e ≡ DeviceTooSmall) × IsTooSmall image)

@@ -47,7 +47,7 @@ run_of o f = record { geometry = (halves_of f.writer).geometry; last = o.given.l
 abbrev pub last_handed : {D : Type 0} → Opened → FlushValue D → ℕ
 last_handed o f = o.given.last + length f.handed
 
--- A core may begin with what is given after each beginning of the records, where it may with what was opened.
+-- A core may begin with what is given after each prefix of the records, where it may with what was opened.
 abbrev pub MayOpenAgain : Opened → List RecordValue → Type 0
 MayOpenAgain o records = CanOpen o → (n : ℕ) → n ≤ length records → CanOpen (record o { given = given_after o.given (take n records) })
 
@@ -63,7 +63,7 @@ pub record IsFlusher {D : Type 0} (history : D → History) (o : Opened) (f : Fl
   pub horizon : f.published.horizon ≤ synced_of f.writer
   pub failed : f.published.failed ≡ has_failed f.writer
 
--- The image has the cells as some of these records, the first ones, left those that were opened, with every record up to the
+-- The crash state has the cells as some of these records, the first ones, left those that were opened, with every record up to the
 -- floor; a reader finds what these records make of what was opened; and a core may begin with that, where it may with what was
 -- opened.
 pub record GivesBeginning (o : Opened) (g : GeometryValue) (handed : List RecordValue) (floor : ℕ) (image : Image) : Type 0 where
@@ -74,7 +74,7 @@ pub record GivesBeginning (o : Opened) (g : GeometryValue) (handed : List Record
   pub gives : Gives image g (given_after o.given (take count handed))
   pub opens : CanOpen o → CanOpen (record o { given = given_after o.given (take count handed) })
 
--- So does each image that a crash leaves of the flusher's device: with all that its writer has synced.
+-- So does each crash state of the flusher's device: with all that its writer has synced.
 abbrev pub IsLeft : {D : Type 0} → Opened → FlushValue D → Image → Type 0
 IsLeft o f = GivesBeginning o (halves_of f.writer).geometry f.handed (synced_of f.writer)
 

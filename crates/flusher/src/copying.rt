@@ -7,7 +7,7 @@ ghost use Rattle.nsf_core.specs.Outbox.{HandsOn};
 ghost use Rattle.store_writer.specs.Parts.{halves_of, has_failed, image_of};
 ghost use Rattle.store_writer.specs.Places.{IsAtPiece};
 ghost use Rattle.store_writer.specs.Writer.{IsChunk, MustStartAgain};
-ghost use Rattle.flusher.specs.Images.{IsDue, IsHalfFull, TakesNext};
+ghost use Rattle.flusher.specs.Images.{IsDue, IsNearlyFull, TakesNext};
 
 use crate::part::FlushPart;
 use image_model::{Chunk, CopyPlace};
@@ -58,12 +58,13 @@ impl<B: Site, D: Device> FlushPart<B, D> {
         !self.held.is_empty()
     }
 
-    /// Whether half the slots of the current half's log are open, and one at least: an image is wanted, which empties it.
+    /// Whether two thirds of the slots of the current half's log are open, and one at least: an image is wanted, which empties it.
     pub fn wants_image(&self) -> bool
-        ensures { IsTrue result ↔ IsHalfFull self.now.writer }
+        ensures { IsTrue result ↔ IsNearlyFull self.now.writer }
     {
         let open = self.writer.open_slots();
-        open > 0 && open >= u64::from(self.writer.geometry().slots / 2)
+        let slots = u64::from(self.writer.geometry().slots);
+        open > 0 && open >= slots - slots / 3
     }
 
     /// Pushes records that wait in the core to the queue, pops records that wait there, and hands in all that is held. No clause

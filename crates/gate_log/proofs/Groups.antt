@@ -1,7 +1,7 @@
 -- Groups of records, and the bytes that spell them.
 use Rattle.std.proofs.Common.{Result, Ok, Err, IfOk, Option, Some, None, MatchOption, ◌≡◌, ℕ, ◌+◌, ◌-◌, ◌^◌, ◌<◌, ◌≤◌, List, [], ◌∷◌, ◌++◌, length, take, drop, replicate, All, refl, sym, ap, subst, ◌∙◌, arith, append_assoc, get_or}
 use Rattle.std.specs.List.{flat_map}
-use Rattle.std.proofs.lemmas.List.{take_more, take_all, nil_from_length, get_or_at, take-append-drop, append-nil, length-append, length-take, length-drop, drop-drop, take_at, drop_at}
+use Rattle.std.proofs.lemmas.List.{drop-replicate, take_more, nil_from_length, get_or_at, take-append-drop, append-nil, length-append, length-take, length-drop, drop-drop, take_at, drop_at}
 use Rattle.std.proofs.lemmas.List.Concat.{flat_map-append}
 use Rattle.std.proofs.lemmas.List.Elements.{All-head, All-tail, All-same, All-replicate}
 use Rattle.byteorder.specs.Endian.{big_number}
@@ -57,19 +57,19 @@ length-header count len = omega (arith, length-append {A = ℕ} (u16 count) (u16
 
 -- what is filled up with zeros is a group
 pub group_filled : (records : List RecordValue) (bytes all body : List ℕ) (n : ℕ) → FitsGroup records → All Fits records → bytes ≡ spellings records
-    → all ≡ header (length records) (length bytes) ++ bytes → n ≡ length all → body ≡ take 3584 all ++ replicate (3584 - n) 0 → IsGroup records body
+    → all ≡ header (length records) (length bytes) ++ bytes → n ≡ length all → body ≡ all ++ drop n (replicate 3584 0) → IsGroup records body
 group_filled records bytes all body n room fits is all-is n-is filled =
     let front : List ℕ = header (length records) (length bytes) in
     let size : length all ≡ 4 + length bytes = ap length all-is ∙ omega (arith, length-append {A = ℕ} front bytes, length-header (length records) (length bytes)) in
     let short = room.short in
     let same : length bytes ≡ length (spellings records) = ap length is in
-    let whole : take 3584 all ≡ all = take_all 3584 all (omega arith) in
     let zeros : 3584 - n ≡ 3580 - length (spellings records) = omega arith in
     record {
       fits = room;
       each = fits;
       spelled = filled
-          ∙ ap (λ (t : List ℕ). t ++ replicate (3584 - n) 0) (whole ∙ all-is)
+          ∙ ap (λ (t : List ℕ). all ++ t) (drop-replicate n 3584 0)
+          ∙ ap (λ (t : List ℕ). t ++ replicate (3584 - n) 0) all-is
           ∙ ap (λ (m : ℕ). (front ++ bytes) ++ replicate m 0) zeros
           ∙ append_assoc front bytes (replicate (3580 - length (spellings records)) 0)
           ∙ ap (λ (t : List ℕ). header (length records) (length t) ++ (t ++ replicate (3580 - length (spellings records)) 0)) is;

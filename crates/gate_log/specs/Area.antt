@@ -38,7 +38,7 @@ InSlot area slot n = (gate area slot ≤ n) × (n < gate area slot + SLOT_SECTOR
 abbrev pub IsGate : Area → ℕ → Type 0
 IsGate area n = (slot : ℕ) × (slot < area.slots) × (n ≡ gate area slot)
 
--- the image has every sector of the area
+-- the content has every sector of the area
 abbrev pub IsAreaInside : Area → Image → Type 0
 IsAreaInside area image = area.first + SLOT_SECTORS * area.slots ≤ length image
 
@@ -56,13 +56,13 @@ AreGatesZero area image = (slot : ℕ) → slot < area.slots → sector image (g
 abbrev pub body : Image → ℕ → List ℕ
 body image n = concat (slice_range image (n + 1) (n + SLOT_SECTORS))
 
--- In the image the first slots of the area are open, one for each of the groups in order, and the others are closed.
+-- In the content the first slots of the area are open, one for each of the groups in order, and the others are closed.
 pub record HoldsGroups (area : Area) (image : Image) (groups : List (List RecordValue)) : Type 0 where
   pub room : length groups ≤ area.slots
   pub opened : (slot : ℕ) → slot < length groups → IsOpen image (gate area slot) × IsGroup (slice_index_or groups slot []) (body image (gate area slot))
   pub closed : (slot : ℕ) → length groups ≤ slot → slot < area.slots → ¬ IsOpen image (gate area slot)
 
--- the log's area holds these groups in the image, and the log knows how many they are
+-- the log's area holds these groups in the content, and the log knows how many they are
 pub record Stands (log : Log) (image : Image) (groups : List (List RecordValue)) : Type 0 where
   pub held : HoldsGroups log.area image groups
   pub counted : log.open_slots ≡ length groups

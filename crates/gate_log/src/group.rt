@@ -80,10 +80,12 @@ pub fn spell<A: Allocator + Copy>(alloc: A, records: &[Record]) -> Result<Vec<u8
 {
     let spelled = spelled(alloc, records)?;
     let header = header(records.len() as u16, spelled.len() as u16);
+    let zeros = [0; BODY_SIZE];
     let mut body = Vec::with_capacity(alloc, BODY_SIZE)?;
     body.extend_from_slice(&header)?;
     body.extend_from_slice(&spelled)?;
-    body.resize(BODY_SIZE, 0)?;
+    let (_, rest) = zeros.split_at(body.len());
+    body.extend_from_slice(rest)?;
     Ok(body)
 }
 

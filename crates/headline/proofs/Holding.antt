@@ -37,7 +37,7 @@ covered (Building (Some highest)) pair built = built
 covered Complete pair built = tt
 
 index_of : (g : GeometryValue) (given : Given) → CanOpen (over g given) → IsIndexOf given.table given.life given.entries
-index_of g given opens = record { sound = opens.sound; whole = shown }
+index_of g given opens = record { sound = opens.sound; whole = shown; gone = opens.empty }
   where
     shown : (pair : Pair) → IsBuiltTo given.life pair → IsPairOf given.table pair → map.get given.entries pair ≡ Some Live
     shown pair built is =
@@ -45,6 +45,9 @@ index_of g given opens = record { sound = opens.sound; whole = shown }
         let same : of_row ≡ pair = ap (λ (key : List ℕ). let p : Pair = record { key = key; rid = pair.rid } in p) is.has_key in
         subst (λ (p : Pair). map.get given.entries p ≡ Some Live) same
         (opens.complete pair.rid is.row is.is_there (subst (IsCovered given.life (highest_of given.life)) (sym same) (covered given.life pair built)))
+
+never_both : (life : Life) → life ≡ Absent → life ≡ Complete → ⊥
+never_both life none complete = cc
 
 -- ---- a store that was just formatted
 
@@ -87,7 +90,11 @@ module _ {D M : Type 0} (history : D → History) (g : GeometryValue) (days : Li
     days-are = held.days-are;
     rows = ends.rows ∙ held.rows;
     life = ends.complete;
-    index = record { sound = λ pair live. (ends.whole pair).0 live; whole = λ pair all there. (ends.whole pair).1 there };
+    index = record {
+      sound = λ pair live. (ends.whole pair).0 live;
+      whole = λ pair all there. (ends.whole pair).1 there;
+      gone = λ none pair. absurd (never_both new.life none ends.complete);
+    };
   }
 
   -- it was left as it was opened, or its build was carried to its end

@@ -15,6 +15,7 @@ use Rattle.headline.specs.Told.{acknowledged, told_over}
 abbrev pub Answer : Type 0 → Type 0
 Answer M = Result (Vec (Reply M) M) Error
 
+-- the replies of a day; none where nothing was served
 abbrev pub replies_of : {M : Type 0} → Answer M → List (Reply M)
 replies_of (Ok replies) = replies.items
 replies_of (Err e) = []

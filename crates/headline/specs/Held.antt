@@ -20,10 +20,12 @@ IsBuiltTo (Building None) pair = ⊥
 IsBuiltTo (Building (Some highest)) pair = is_lt (pair_cmp highest pair) ≡ false
 IsBuiltTo Complete pair = Unit {0}
 
--- Each visible entry is the pair of a row; and as far as the index is built, the pair of each row is visible.
+-- Each visible entry is the pair of a row; as far as the index is built, the pair of each row is visible; and where there is no index,
+-- also since it was dropped, no entry is left, visible or marked.
 pub record IsIndexOf (rows : Table) (life : Life) (entries : Index) : Type 0 where
   pub sound : (pair : Pair) → map.get entries pair ≡ Some Live → IsPairOf rows pair
   pub whole : (pair : Pair) → IsBuiltTo life pair → IsPairOf rows pair → map.get entries pair ≡ Some Live
+  pub gone : life ≡ Absent → (pair : Pair) → map.get entries pair ≡ None
 
 -- The rows are those of all commits that were kept, in order. The index's life is what was kept of it, or it was built to its end now.
 pub record Holds {M : Type 0} (days : List (Day M)) (answers : List (Answer M)) (built : Bool) (core : CoreValue) : Type 0 where

@@ -13,7 +13,7 @@ use Rattle.restart.specs.Store.{over}
 use Rattle.headline.specs.declared.day.Day.{Day}
 use Rattle.headline.specs.Days.{Answer, AreDays}
 
--- the image gives the table and the index's life of what was kept of the days, and a core may begin with it
+-- the crash state gives the table and the index's life of what was kept of the days, and a core may begin with it
 pub record GivesDays {M : Type 0} (geometry : GeometryValue) (days : List (Day M)) (answers : List (Answer M)) (image : Image) : Type 0 where
   pub given : Given
   pub gives : Gives image geometry given

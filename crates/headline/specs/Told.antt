@@ -48,6 +48,7 @@ deeds_told writes request deeds None = deeds
 deeds_told writes (event.Commit txn) deeds (Some commit) = Committed (writes txn) ∷ []
 deeds_told writes request deeds (Some commit) = []
 
+-- these deeds as items of one log record
 abbrev pub numbered : ℕ → List Deed → List Item
 numbered number deeds = map (λ deed. record { number = number; deed = deed }) deeds
 

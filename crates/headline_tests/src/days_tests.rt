@@ -1,9 +1,9 @@
 // A store that lives through days.
-use headline::{Day, live_through};
+use headline::{Day, Mortal, live_through};
 use model::Life;
-use records::{Body, Geometry, Key, Rid, Txn};
-use restart::Event;
-use sector_device::MemDisk;
+use records::{Body, Error, Geometry, Key, Rid, Txn};
+use restart::{Engine, Event};
+use sector_device::{Device, MemDisk};
 use std::alloc::Global;
 use std::test::Fail;
 
@@ -23,6 +23,39 @@ fn day(alloc: Global, key: &[u8], last: &[Event], within: bool) -> Result<Day<Gl
     Ok(Day { requests, within })
 }
 
+// The store that is there behind the days, its index built.
+fn lived<D: Mortal>(
+    alloc: Global,
+    device: D,
+    geometry: Geometry,
+    days: &[Day<Global>],
+) -> Result<Engine<D, Global>, Error> {
+    Ok(live_through(alloc, device, geometry, days, true)?.engine)
+}
+
+// Where the rows with this key lie.
+fn places<D: Device>(engine: &Engine<D, Global>, key: Key) -> Result<Vec<Rid>, Error> {
+    engine.core().find(key)
+}
+
+// How far the index is behind the days, and where the rows with each of the keys lie.
+fn found_behind<D: Mortal>(
+    alloc: Global,
+    device: D,
+    geometry: Geometry,
+    days: &[Day<Global>],
+    keys: &[Key],
+) -> Result<(Life, Vec<(Key, Rid)>), Error> {
+    let engine = lived(alloc, device, geometry, days)?;
+    let mut found = Vec::new(alloc);
+    for key in keys {
+        for rid in &places(&engine, *key)? {
+            found.push((*key, *rid))?;
+        }
+    }
+    Ok((engine.core().life(), found))
+}
+
 // The first day's commit is flushed, the second day's isn't, and the third day puts its row there. The index that is built in the end
 // has the pairs of both rows.
 #[test]
@@ -35,12 +68,13 @@ fn three_days_and_a_build(rt: HostRuntime) -> Result<(), Fail> {
         day(alloc, b"bee", &[], true)?,
         day(alloc, b"cat", &[Event::Flush], false)?,
     ];
-    let lived = live_through(alloc, disk, geometry, &days, true)?;
-    let core = lived.engine.core();
-    assert!(rt; core.life() == Life::Complete);
-    for (slot, key) in [(0, b"ant"), (1, b"cat")] {
-        let found = core.find(Key::new(key)?)?;
-        assert_eq!(rt; found.as_slice(), [Rid { page: 0, slot }].as_slice());
-    }
+    let keys = [Key::new(b"ant")?, Key::new(b"bee")?, Key::new(b"cat")?];
+    let (life, found) = found_behind(alloc, disk, geometry, &days, &keys)?;
+    assert!(rt; life == Life::Complete);
+    let wanted = [
+        (keys[0], Rid { page: 0, slot: 0 }),
+        (keys[2], Rid { page: 0, slot: 1 }),
+    ];
+    assert_eq!(rt; found.as_slice(), wanted.as_slice());
     Ok(())
 }

@@ -18,6 +18,7 @@ pub record HeapValue : Type 0 where
   pub pages : ℕ
   pub rows : Rows
 
+-- how the logic stores a heap
 abbrev pub coded_heap : Coded HeapValue
 coded_heap = code_by (ℕ × Rows) (coded× coded_ℕ (code coded_rid coded_row)) (λ h. (h.pages, h.rows)) (λ p. record { pages = p.0; rows = p.1 }) (λ _. refl)
 

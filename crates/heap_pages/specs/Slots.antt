@@ -13,6 +13,7 @@ use Rattle.records.specs.declared.row.Row.{Row}
 abbrev pub Slots : Type 0
 Slots = FinMap nat_cmp Row
 
+-- how the logic stores the slots of a page
 abbrev pub coded_slots : Coded Slots
 coded_slots = code coded_ℕ coded_row
 
@@ -22,6 +23,7 @@ slot_entries i [] = []
 slot_entries i (None ∷ slots) = slot_entries (i + 1) slots
 slot_entries i (Some row ∷ slots) = (i, row) ∷ slot_entries (i + 1) slots
 
+-- the rows of these slots, counted from 0
 abbrev pub page_of : List (Option Row) → Slots
 page_of slots = from_sorted (slot_entries 0 slots)
 

@@ -69,6 +69,7 @@ item_bytes image first h position = piece image (undo_at first) ITEM_SIZE (CHANG
 abbrev pub row_bytes : Image → (first page k : ℕ) → List ℕ
 row_bytes image first page k = piece image (page_at first page) ROW_SIZE k
 
+-- the bytes of the i-th entry of an image
 abbrev pub entry_bytes : GeometryValue → Image → (first i : ℕ) → List ℕ
 entry_bytes g image first i = piece image (entries_at g first) ENTRY_SIZE i
 

@@ -48,6 +48,7 @@ pub record HoldsLists (g : GeometryValue) (first : ℕ) (image : Image) (heads :
 abbrev pub table_of : List (Place × Row) → Table
 table_of rows = extended finite.empty rows
 
+-- the index of these entries
 abbrev pub index_of : List (Pair × Mark) → Index
 index_of entries = extended finite.empty entries
 
@@ -78,6 +79,7 @@ abbrev pub IsEntryPlace : List ℕ → Option (Pair × Mark) → Type 0
 IsEntryPlace bytes None = bytes ≡ zeros ENTRY_SIZE
 IsEntryPlace bytes (Some e) = IsEntryPiece bytes e
 
+-- the bytes of the place of an undo item: zeros where there is none
 abbrev pub IsItemPlace : List ℕ → Option ChangeValue → Type 0
 IsItemPlace bytes None = bytes ≡ zeros ITEM_SIZE
 IsItemPlace bytes (Some c) = IsItemPiece bytes (item_of c)
@@ -98,19 +100,23 @@ abbrev pub IsItemRefused : GeometryValue → ℕ → Image → (h count before n
 IsItemRefused g first image h count before now e = IsHindered before now e
     ⊎ ((p : ℕ) × (p < count) × (e ≡ Damaged (sector_of g first (AnItem h p))) × (¬ IsSound g first image (AnItem h p)) × ((q : ℕ) → q < p → IsSound g first image (AnItem h q)))
 
+-- why lists are not read: the first undo item, by head and position, that says nothing
 abbrev pub AreListsRefused : GeometryValue → ℕ → Image → List Head → (before now : ℕ) → Error → Type 0
 AreListsRefused g first image heads before now e = IsHindered before now e
     ⊎ ((h : ℕ) × (p : ℕ) × (x : Head) × (slice_get heads h ≡ Some x) × (p < x.changes) × (e ≡ Damaged (sector_of g first (AnItem h p))) × (¬ IsSound g first image (AnItem h p))
     × ((q : ℕ) → q < p → IsSound g first image (AnItem h q)) × ((k q : ℕ) (y : Head) → k < h → slice_get heads k ≡ Some y → q < y.changes → IsSound g first image (AnItem k q)))
 
+-- why a page is not read: it says nothing
 abbrev pub IsPageRefused : GeometryValue → ℕ → Image → (page before now : ℕ) → Error → Type 0
 IsPageRefused g first image page before now e = IsHindered before now e
     ⊎ ((e ≡ Damaged (sector_of g first (APage page))) × (¬ IsSound g first image (APage page)))
 
+-- why pages are not read: the first that says nothing
 abbrev pub ArePagesRefused : GeometryValue → ℕ → Image → (before now : ℕ) → Error → Type 0
 ArePagesRefused g first image before now e = IsHindered before now e
     ⊎ ((page : ℕ) × (page < g.pages) × (e ≡ Damaged (sector_of g first (APage page))) × (¬ IsSound g first image (APage page)) × ((earlier : ℕ) → earlier < page → IsSound g first image (APage earlier)))
 
+-- why entries are not read: the first that says nothing
 abbrev pub AreEntriesRefused : GeometryValue → ℕ → Image → (count before now : ℕ) → Error → Type 0
 AreEntriesRefused g first image count before now e = IsHindered before now e
     ⊎ ((i : ℕ) × (i < count) × (e ≡ Damaged (sector_of g first (AnEntry i))) × (¬ IsSound g first image (AnEntry i)) × ((j : ℕ) → j < i → IsSound g first image (AnEntry j)))

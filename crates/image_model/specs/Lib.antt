@@ -1,3 +1,4 @@
 pub mod Run
 pub mod Partly
 pub mod Places
+pub mod Slots

@@ -2,7 +2,8 @@
 ghost use Rattle.std.specs.Prelude.{◌≡◌};
 ghost use Rattle.image_model.specs.Places.{place_behind};
 
-use model::{CellMaps, Life, ListMap, RowMap};
+use crate::page_rows::PageRows;
+use model::{CellMaps, Life, ListMap};
 use records::{Geometry, Mark, Pair};
 use std::alloc::Allocator;
 
@@ -28,7 +29,7 @@ pub enum Piece<A: Allocator> {
     /// The index's life and the lists of changes.
     Start { life: Life, lists: ListMap<A> },
     /// The rows of a page.
-    Page { page: u32, rows: RowMap<A> },
+    Page { page: u32, rows: PageRows<A> },
     /// Entries in the order of their pairs, `CHUNK_ENTRIES` at most.
     Entries { entries: Vec<(Pair, Mark), A> },
 }

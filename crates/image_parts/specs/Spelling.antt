@@ -35,9 +35,11 @@ abbrev pub row : Option Row → List ℕ
 row None = zeros ROW_SIZE
 row (Some r) = 1 ∷ (padded KEY_MAX r.key ++ padded BODY_MAX r.body)
 
+-- a pair: the key with its length in front and zeros behind, then the place
 abbrev pub pair : Pair → List ℕ
 pair p = padded KEY_MAX p.key ++ rid p.rid
 
+-- 1 live, 2 marked
 abbrev pub mark : Mark → ℕ
 mark Live = 1
 mark Marked = 2
@@ -66,6 +68,7 @@ life Absent = 0 ∷ highest None
 life (Building p) = 1 ∷ highest p
 life Complete = 2 ∷ highest None
 
+-- the header's sector: life, base and count of entries, then zeros
 abbrev pub header : Header → List ℕ
 header h = filled SECTOR_SIZE (life h.life ++ (u64 h.base ++ u32 h.entries))
 
@@ -74,27 +77,33 @@ abbrev pub RowFitsIfSome : Option Row → Type 0
 RowFitsIfSome None = Unit {0}
 RowFitsIfSome (Some r) = RowFits r
 
+-- a head within the format's limits
 pub record HeadFits (h : Head) : Type 0 where
   pub txn : IsTxn h.txn
   pub changes : h.changes ≤ CHANGES_MAX
 
+-- so is a head, where there is one
 abbrev pub HeadFitsIfSome : Option Head → Type 0
 HeadFitsIfSome None = Unit {0}
 HeadFitsIfSome (Some h) = HeadFits h
 
+-- an undo item within the limits
 pub record ItemFits (i : UndoItem) : Type 0 where
   pub rid : RidFits i.rid
   pub rows : RowsFit i.rows
 
+-- a pair within the limits, where there is one
 abbrev pub PairFitsIfSome : Option Pair → Type 0
 PairFitsIfSome None = Unit {0}
 PairFitsIfSome (Some p) = PairFits p
 
+-- the highest pair of an index that is being built is within the limits
 abbrev pub LifeFits : Life → Type 0
 LifeFits Absent = Unit {0}
 LifeFits (Building p) = PairFitsIfSome p
 LifeFits Complete = Unit {0}
 
+-- a header within the limits
 pub record HeaderFits (h : Header) : Type 0 where
   pub life : LifeFits h.life
   pub base : h.base ≤ LAST_NUMBER

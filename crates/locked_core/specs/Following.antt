@@ -12,6 +12,6 @@ pub record FollowOpening (o : Opened) (records : List RecordValue) : Type 0 wher
   pub in_order : AreFollowing o.pages o.given.last (opening_cells o.given) records
   pub small : o.given.last + length records ≤ LAST_NUMBER
 
--- What is given after a beginning of the records has no more entries than the opening has places.
+-- What is given after a prefix of the records has no more entries than the opening has places.
 abbrev pub FitPlaces : Opened → List RecordValue → Type 0
 FitPlaces o records = (n : ℕ) → n ≤ length records → len (given_after o.given (take n records)).entries ≤ o.places

@@ -13,5 +13,6 @@ pub record LockedValue : Type 0 where
   pub pushed : List RecordValue
   pub book : List SessionValue
 
+-- what contracts see of it
 abbrev pub locked_of : {B : Type 0} {g : _} → Locked B g → LockedValue
 locked_of l = record { core = value_of l.core; pushed = l.pusher.records; book = map shown l.book.items }

@@ -19,9 +19,11 @@ pub record Names : Type 0 where
   pub seats : ℕ
   pub opened : Opened
 
+-- a name of no table
 abbrev pub no_table : TableId
 no_table = record { words = 0; slots = 0; views_name = 0; atom = 0; block = 0; offset = 0; slot_names = [] }
 
+-- names of nothing, before there is a group
 abbrev pub no_names : Names
 no_names = record {
   queue = record { web = (0, 0); heap = record { memory = record { seal = tt } } };

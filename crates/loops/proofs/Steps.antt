@@ -1,5 +1,5 @@
 -- What a step of the builder means to the loop.
-use Rattle.std.proofs.Common.{◌≡◌, ◌≢◌, ◌⊎◌, IfErr, ◌<◌, ◌≤◌, ℕ, Bool, true, false, nat_lt, refl, Result, Ok, Err, inl, inr, sym, subst, max, arith, ltb-true, ltb-false}
+use Rattle.std.proofs.Common.{◌≡◌, ◌≢◌, ◌⊎◌, IfErr, IfOk, IfSome, Option, None, Some, ◌<◌, ◌≤◌, ℕ, Bool, true, false, nat_lt, refl, Result, Ok, Err, inl, inr, sym, subst, max, arith, ltb-true, ltb-false}
 use Rattle.std.proofs.Math.Logic.{∥∥₁_map}
 use Rattle.records.specs.declared.error.Error.{Error}
 use Rattle.records.specs.declared.error.Error.TheVariants.{NoMemory, Stopped}
@@ -56,3 +56,39 @@ pub ended_why : {T : Type 0} (o : Opened) (P : Type 0) (result : Result T Error)
 ended_why o P (Ok x) why = tt
 ended_why o P (Err e) (inl stopped) = inl stopped.0
 ended_why o P (Err e) (inr refused) = inr refused
+
+-- ---- one index behind another
+
+-- what was published of an index that was completed stays so
+pub still_published : (o : Opened) (ticket : Ticket) (was now : ℕ) → was ≤ now → ∥ HasPublished o ticket was ∥₁ → ∥ HasPublished o ticket now ∥₁
+still_published o ticket was now rises before = ∥∥₁_map before (λ published. record { attempts = published.attempts; stepped = published.stepped; told = omega (arith, published.told, rises) })
+
+pub still_last : (o : Opened) (completed : Option Ticket) (was now : ℕ) → was ≤ now → IfSome completed (λ ticket. ∥ HasPublished o ticket was ∥₁) → IfSome completed (λ ticket. ∥ HasPublished o ticket now ∥₁)
+still_last o None was now rises before = tt
+still_last o (Some ticket) was now rises before = still_published o ticket was now rises before
+
+-- a count that rose twice is that of an attempt
+pub attempted_on : (o : Opened) (first was now : ℕ) → was ≤ now → (first < was → ∥ HasAttempted o was ∥₁) → (was < now → ∥ HasAttempted o now ∥₁) → first < now → ∥ HasAttempted o now ∥₁
+attempted_on o first was now rises before later more = by (nat_lt was now) refl
+  where
+    by : (b : Bool) → nat_lt was now ≡ b → ∥ HasAttempted o now ∥₁
+    by true less = later (ltb-true was now less)
+    by false not =
+        let same : now ≡ was = omega (arith, rises, ltb-false was now not) in
+        subst (λ (k : ℕ). ∥ HasAttempted o k ∥₁) (sym same) (before (omega (arith, same, more)))
+
+-- what holds of the index that was completed last holds of the one that is told
+pub last_told : (P : Ticket → Type 0) (completed : Option Ticket) (error : Error) (result : Result Ticket Error) → IfOk result (λ ticket. (completed ≡ Some ticket) × (error ≡ Stopped)) → IfSome completed P → IfOk result P
+last_told P None error (Ok ticket) is before = absurd (none_told ticket is.0)
+  where
+    none_told : (t : Ticket) → None ≡ Some t → ⊥
+    none_told t same = cc
+last_told P (Some last) error (Ok ticket) is before =
+    let same : last ≡ ticket = (let told : Some last ≡ Some ticket = is.0 in cc) in
+    subst P same before
+last_told P completed error (Err e) is before = tt
+
+-- why the last build ended is why none is told
+pub why_told : (W : Error → Type 0) (completed : Option Ticket) (error : Error) (result : Result Ticket Error) → IfErr result (λ e. (e ≡ error) × (error ≡ Stopped → completed ≡ None)) → W error → IfErr result W
+why_told W completed error (Ok ticket) is why = tt
+why_told W completed error (Err e) is why = subst W (sym is.0) why

@@ -1,7 +1,7 @@
 -- What a step of the builder means to the loop.
-use Rattle.std.specs.Prelude.{◌≡◌, ◌≢◌, ◌⊎◌, ◌<◌, ◌≤◌, ℕ, Result, Ok, Err, IfErr, IfOk}
+use Rattle.std.specs.Prelude.{◌≡◌, ◌≢◌, ◌⊎◌, ◌<◌, ◌≤◌, Bool, true, ℕ, Result, Ok, Err, IfErr, IfOk}
 use Rattle.records.specs.declared.error.Error.{Error}
-use Rattle.records.specs.declared.error.Error.TheVariants.{NoMemory, Stopped}
+use Rattle.records.specs.declared.error.Error.TheVariants.{NoIndex, NoMemory, Stopped}
 use Rattle.records.specs.declared.pair.Pair.{Pair}
 use Rattle.board.specs.Views.{BuilderCount}
 use Rattle.core_contracts.specs.Events.{Built, Event, Refused, Reply}
@@ -40,12 +40,13 @@ pub record BuildsOn (o : Opened) (old : BuilderCount) (result : Result Ticket Er
   pub attempted : old.progress < new.progress → ∥ HasAttempted o new.progress ∥₁
   pub board : new.board ≡ old.board
 
--- The loop ends where the step completed the index, or where it was refused but for want of memory; and an attempt is one. (No
--- public clause cites this.)
-abbrev pub IsOutcome : Outcome → Result BuildReply Error → Type 0
-IsOutcome (Done ticket) step = step ≡ Ok (reply.Done ticket)
-IsOutcome (Refused e) step = (step ≡ Err e) × (e ≢ NoMemory)
-IsOutcome Attempted step = (pair : Pair) × ((step ≡ Ok (reply.Placed pair)) ⊎ (step ≡ Ok (reply.Rejected pair)))
-IsOutcome Scanned step = Unit {0}
-IsOutcome Marked step = Unit {0}
-IsOutcome Nothing step = Unit {0}
+-- What a step means to a loop that waits for an index where there is none, or to one that doesn't: the loop ends where the step completed the
+-- index, or where it was refused, but for want of memory, and for want of an index only where the loop doesn't wait for one. (No public clause
+-- cites this.)
+abbrev pub IsOutcome : (waits : Bool) → Outcome → Result BuildReply Error → Type 0
+IsOutcome waits (Done ticket) step = step ≡ Ok (reply.Done ticket)
+IsOutcome waits (Refused e) step = (step ≡ Err e) × (e ≢ NoMemory) × (waits ≡ true → e ≢ NoIndex)
+IsOutcome waits Attempted step = (pair : Pair) × ((step ≡ Ok (reply.Placed pair)) ⊎ (step ≡ Ok (reply.Rejected pair)))
+IsOutcome waits Scanned step = (page : ℕ) × (step ≡ Ok (reply.Scanned page))
+IsOutcome waits Marked step = (pair : Pair) × (ticket : Ticket) × (step ≡ Ok (reply.Marked pair ticket))
+IsOutcome waits Nothing step = (step ≡ Ok reply.Idle) ⊎ (step ≡ Err NoMemory) ⊎ ((step ≡ Err NoIndex) × (waits ≡ true))

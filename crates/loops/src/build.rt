@@ -35,7 +35,8 @@ pub(crate) enum Outcome {
 
 /// Makes steps of the builder, each under the lock anew, until one completes the index, and publishes behind each attempt how many
 /// were made since the store was opened. Now and then it leaves room for the seats by a short pause. Where the index was complete
-/// before, it sleeps, and looks again. After want of memory it tries again.
+/// before, it sleeps, and looks again. After want of memory it tries again: the same step, since one that was refused has changed
+/// nothing (`each_refusal` of `shared`).
 ///
 /// `Stopped` where the stop flag was read. Else the refusal is one of the core's `build_step`, but not `NoMemory`.
 pub fn build_loop<B: Group, R: Wait, G: Gate>(
@@ -113,7 +114,7 @@ pub(crate) fn build_until<B: Group, R: Wait, G: Gate>(
 
 // What this answer of a step means, to a loop that waits for an index where there is none, or to one that doesn't.
 fn outcome_of(step: Result<BuildReply, Error>, waits: bool) -> Outcome
-    ensures { IsOutcome result step }
+    ensures { IsOutcome waits result step }
 {
     match step {
         Ok(BuildReply::Done(ticket)) => Outcome::Done(ticket),
@@ -132,12 +133,14 @@ fn outcome_of(step: Result<BuildReply, Error>, waits: bool) -> Outcome
 fn build_step<B: Group, R: Wait>(rt: &R, shared: &Shared<B>) -> (Result<BuildReply, Error>, u64)
     ensures { ∥ HasStepped B.site.opened (reply_by built result.0) result.1 ∥₁ }
 {
-    let mut locked = shared.locked().lock(rt);
+    let mut locked = shared.hold_last(rt);
     locked.push_outbox(rt, shared.queue());
     let built = locked.build_step();
     let attempts = locked.attempts();
     locked.push_outbox(rt, shared.queue());
     drop(locked);
-    shared.board().waits().pushed.ring();
+    if matches!(built, Ok(BuildReply::Done(_))) {
+        shared.board().waits().pushed.ring();
+    }
     (built, attempts)
 }

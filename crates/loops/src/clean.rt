@@ -61,11 +61,10 @@ pub(crate) fn clean_until<B: Group, R: Wait, G: Gate>(
 fn clean_step<B: Group, R: Wait>(rt: &R, shared: &Shared<B>) -> Result<CleanReply, Error>
     ensures { ∥ WasServed B.site.opened Event.Clean (reply_by cleaner result) ∥₁ }
 {
-    let mut locked = shared.locked().lock(rt);
+    let mut locked = shared.hold_last(rt);
     locked.push_outbox(rt, shared.queue());
     let cleaned = locked.clean_step();
     locked.push_outbox(rt, shared.queue());
     drop(locked);
-    shared.board().waits().pushed.ring();
     cleaned
 }

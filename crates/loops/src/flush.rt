@@ -15,8 +15,8 @@ use crate::gate::{Gate, Point};
 use crate::rest::{Found, has_ended, rest_flusher};
 use board::View;
 use flusher::FlushPart;
-use image_model::{Chunk, CopyPlace};
-use records::Error;
+use image_model::{CHUNK_ENTRIES, Chunk, CopyPlace};
+use records::{Error, Geometry};
 use sector_device::Device;
 use shared::{Group, Shared};
 use std::alloc::Global;
@@ -39,8 +39,8 @@ pub(crate) enum Copying {
 }
 
 /// Pops the records that wait, hands them in under the lock, writes them in groups, and publishes behind each group how far they are
-/// synced. Now and then it looks under the lock for records that the queue refused. Once half the slots of the log are open it takes
-/// an image, each chunk of it copied under the lock anew, with a pause behind each four, and makes it current. Where nothing waits it sleeps
+/// synced. Now and then it looks under the lock for records that the queue refused. Once two thirds of the slots of the log are open it takes
+/// an image, each chunk of it copied under the lock anew, some of them behind each group, and makes it current. Where nothing waits it sleeps
 /// until records are made, or for a short while. After want of memory it tries again.
 ///
 /// It ends where the stop flag is read, or with `DeviceFailed` where the device failed, now or earlier, stop flag or not. What is
@@ -85,6 +85,7 @@ pub(crate) fn flush_until<B: Group, D: Device, R: Wait, G: Gate>(
     let mut copying = Copying::Idle;
     let mut rounds: u32 = 0;
     let mut quiet = 0;
+    let mut taken = 0;
     for _ in rt.forever() {
         if part.has_failed() {
             return Err(Error::DeviceFailed);
@@ -98,45 +99,50 @@ pub(crate) fn flush_until<B: Group, D: Device, R: Wait, G: Gate>(
         }
         rounds = rounds.wrapping_add(1);
         let synced = part.synced();
-        let went = round(
-            rt,
-            shared,
-            part,
-            &mut copying,
-            rounds % LOOK_EVERY == 0,
-            gate,
-        )
-        .is_ok();
-        let seen = found(part, synced, copying, went);
+        let handed = part.last_handed();
+        let looks = rounds % LOOK_EVERY == 0;
+        let takes = looks || rings != taken || matches!(copying, Copying::Idle);
+        if synced == handed && takes {
+            taken = rings;
+        }
+        let went = round(rt, shared, part, &mut copying, takes, looks, gate).is_ok();
+        let seen = found(part, synced, handed, copying, went);
         quiet = rest_flusher(rt, bell, rings, seen, quiet);
     }
     unreachable!()
 }
 
-// What was found in a round, before which so much was synced, and which went well or was cut short for want of memory. Where memory
-// is wanting for the records that wait, there is nothing to do for a while.
+// What was found in a round, before which so much was synced, and so much had been handed in, and which went well or was cut short for
+// want of memory. Where memory is wanting for the records that wait, there is nothing to do for a while. A round that began with records
+// that wait takes none from the queue, so there may be more at once.
 fn found<B: Group, D: Device>(
     part: &FlushPart<B, D>,
     synced: u64,
+    handed: u64,
     copying: Copying,
     went: bool,
 ) -> Found {
     let waits = part.synced() != part.last_handed();
-    if part.synced() != synced || (went && waits) {
-        return Found::Records;
-    }
+    let has_written = part.synced() != synced;
+    let took_none = synced != handed;
     match copying {
+        _ if went && (waits || (has_written && took_none)) => Found::More,
+        Copying::Idle if has_written => Found::Records,
         Copying::Idle => Found::Nothing,
+        Copying::Steps(_) | Copying::GivenUp if has_written => Found::More,
         Copying::Steps(_) | Copying::GivenUp => Found::Image,
     }
 }
 
-// One round: the records that wait are handed in, a group of them is written, and some steps of an image are made where they are due.
+// One round: the records that wait are handed in, where they are to be taken, a group of them is written, and some steps of an image
+// are made where they are due. Beside an image records are taken where the bell has rung, so that a few of the builder's take no group of
+// their own.
 fn round<B: Group, D: Device, R: Wait, G: Gate>(
     rt: &R,
     shared: &Shared<B>,
     part: &mut FlushPart<B, D>,
     copying: &mut Copying,
+    takes: bool,
     looks: bool,
     gate: &G,
 ) -> Result<(), Error>
@@ -146,13 +152,19 @@ fn round<B: Group, D: Device, R: Wait, G: Gate>(
     ensures through { RunsThrough D.history D.failures B.site.opened part.old part.new }
     ensures copying { StandsBy copying.new part.new }
 {
-    hand_in(rt, shared, part, looks);
+    hand_in(rt, shared, part, takes, looks);
     let is_full = write(shared, part, gate)?;
     copy_some(rt, shared, part, copying, is_full, gate)
 }
 
-// Makes four steps of an image, where as many are due: it is whole then before the log is full, also of the largest store with the
-// longest log.
+// How many steps of an image are made a round: so many that an image, also of a full index, is whole before a quarter of the log's
+// slots are written behind its beginning.
+fn steps_a_round(geometry: Geometry) -> u32 {
+    let steps = geometry.pages + geometry.entries / CHUNK_ENTRIES as u32 + 3;
+    steps / (geometry.slots / 4).max(1) + 1
+}
+
+// Makes some steps of an image, where as many are due.
 fn copy_some<B: Group, D: Device, R: Wait, G: Gate>(
     rt: &R,
     shared: &Shared<B>,
@@ -167,26 +179,14 @@ fn copy_some<B: Group, D: Device, R: Wait, G: Gate>(
     ensures through { RunsThrough D.history D.failures B.site.opened part.old part.new }
     ensures copying { StandsBy copying.new part.new }
 {
-    copy_twice(rt, shared, part, copying, is_full, gate)?;
-    copy_twice(rt, shared, part, copying, is_full, gate)
-}
-
-fn copy_twice<B: Group, D: Device, R: Wait, G: Gate>(
-    rt: &R,
-    shared: &Shared<B>,
-    part: &mut FlushPart<B, D>,
-    copying: &mut Copying,
-    is_full: bool,
-    gate: &G,
-) -> Result<(), Error>
-    requires part { part.old.published.board ≡ B.board }
-    requires copying { StandsBy copying.old part.old }
-    ensures goes_on { GoesOn D.history D.failures B.site.opened part.old part.new }
-    ensures through { RunsThrough D.history D.failures B.site.opened part.old part.new }
-    ensures copying { StandsBy copying.new part.new }
-{
-    copy(rt, shared, part, copying, is_full, gate)?;
-    copy(rt, shared, part, copying, is_full, gate)
+    part.stands();
+    for _ in 0..steps_a_round(part.geometry()) {
+        copy(rt, shared, part, copying, is_full, gate)?;
+        if matches!(*copying, Copying::Idle) {
+            return Ok(());
+        }
+    }
+    Ok(())
 }
 
 // Pops the records that wait, and hands them in. What memory is wanting for waits for a later round.
@@ -194,13 +194,14 @@ fn hand_in<B: Group, D: Device, R: Wait>(
     rt: &R,
     shared: &Shared<B>,
     part: &mut FlushPart<B, D>,
+    takes: bool,
     looks: bool,
 )
     ensures goes_on { GoesOn D.history D.failures B.site.opened part.old part.new }
     ensures through { RunsThrough D.history D.failures B.site.opened part.old part.new }
     ensures copying { (copying : CopyingValue) → StandsBy copying part.old → StandsBy copying part.new }
 {
-    let _ = take_in(rt, shared, part, looks);
+    let _ = take_in(rt, shared, part, takes, looks);
     part.stands();
 }
 
@@ -210,12 +211,14 @@ fn take_in<B: Group, D: Device, R: Wait>(
     rt: &R,
     shared: &Shared<B>,
     part: &mut FlushPart<B, D>,
+    takes: bool,
     looks: bool,
 ) -> Result<(), Error>
     ensures { TakesIn part.old part.new }
 {
     let waits = part.synced() != part.last_handed();
-    if waits {
+    let passes = waits || !takes;
+    if passes {
         return Ok(());
     }
     part.take(rt, shared.queue())?;
@@ -223,7 +226,7 @@ fn take_in<B: Group, D: Device, R: Wait>(
     if !wanted {
         return Ok(());
     }
-    let mut locked = shared.locked().lock(rt);
+    let mut locked = shared.hold(rt);
     part.take_in(rt, shared.queue(), &mut *locked)
 }
 
@@ -341,7 +344,7 @@ fn copied_piece<B: Group, D: Device, R: Wait>(
     if part.has_failed() {
         return Err(Error::DeviceFailed);
     }
-    let mut locked = shared.locked().lock(rt);
+    let mut locked = shared.hold(rt);
     let copied = part.copy_step(rt, shared.queue(), &mut *locked, place);
     part.stands();
     copied
@@ -359,7 +362,7 @@ fn copied_whole<B: Group, D: Device, R: Wait>(
     ensures chunk { IfOk result (λ chunk. IsChunk (run_of B.site.opened part.new) part.new.writer chunk.number chunk.piece) }
     ensures at { IfOk result (λ chunk. IsAtPiece (halves_of part.new.writer).geometry.pages chunk.piece (image_of part.new.writer)) }
 {
-    let mut locked = shared.locked().lock(rt);
+    let mut locked = shared.hold(rt);
     let copied = part.copy_whole(rt, shared.queue(), &mut *locked);
     part.stands();
     copied

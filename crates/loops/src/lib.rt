@@ -4,6 +4,13 @@
 //! of the build. What a round does is a step of the layers below; a loop adds the order, and at each of its points calls a gate,
 //! with no lock held, so that a test can hold it there. [`run_beside`] runs all three beside what the seats do, each in a thread of its
 //! own.
+//!
+//! Proved: `flush_loop` ends with `Ok` only where the stop flag was read and the device has not failed, and with `DeviceFailed`
+//! where the device failed (`stopped`, `failed`); over all its rounds no record is lost and no horizon falls (`goes_on`).
+//! `build_loop` ends with a ticket only where some core that may lie under the lock answers that it completed the index (`done`).
+//! `run_beside` keeps what the clients promise (`clients`).
+//! Neither: that a thread is started or a call returns, that the builder or the cleaner makes a step, when an image is taken, and
+//! that a gate is called.
 #![tactic(auto)]
 
 mod build;

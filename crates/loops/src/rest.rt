@@ -4,8 +4,8 @@ ghost use Rattle.std.specs.Prelude.{◌≡◌, None, false};
 use board::Bell;
 use shared::{Group, Shared};
 use std::sync::Wait;
-use std::thread;
 use std::time::Duration;
+use std::{hint, thread};
 
 // The shortest and the longest sleep of a loop that found nothing to do, in microseconds.
 const SHORTEST: u64 = 125;
@@ -14,6 +14,9 @@ const LONGEST: u64 = 8_000;
 
 // So many rounds in which the flusher found nothing it looks again at once, and then sleeps.
 const LOOKS: u32 = 16;
+
+// So often the flusher looks behind a group whether records were made meanwhile, before it sleeps.
+const RING_LOOKS: u32 = 200;
 
 // How many microseconds the flusher sleeps where nothing waits, at first, and where an image is copied; and the builder where it leaves
 // room for the others.
@@ -50,7 +53,9 @@ impl Rest {
 /// What the flusher found in a round.
 #[derive(Clone, Copy)]
 pub(crate) enum Found {
-    /// A group was written, or records wait.
+    /// There is more to write or to copy at once.
+    More,
+    /// A group was written, and nothing waits.
     Records,
     /// An image is under way.
     Image,
@@ -67,8 +72,9 @@ pub(crate) fn rest_flusher<R: Wait>(
     quiet: u32,
 ) -> u32 {
     match found {
+        Found::More => 0,
         Found::Records => {
-            thread::yield_now();
+            await_ring(rt, bell, rings);
             0
         }
         Found::Image => {
@@ -86,6 +92,17 @@ pub(crate) fn rest_flusher<R: Wait>(
             quiet.saturating_add(1)
         }
     }
+}
+
+// Looks a few times whether the bell has rung, and then sleeps until it rings.
+fn await_ring<R: Wait>(rt: &R, bell: &Bell, rings: u64) {
+    for _ in 0..RING_LOOKS {
+        if bell.rings() != rings {
+            return;
+        }
+        hint::spin_loop();
+    }
+    bell.sleep(rt, rings, Duration::from_micros(FLUSHER_SLEEP));
 }
 
 /// A pause of the builder, so that the seats get the lock, where it has made so many steps since the last one. Answers how many it has

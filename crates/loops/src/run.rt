@@ -1,6 +1,6 @@
 //! The loops of a store, each in a thread of its own, beside what its seats do.
-ghost use Rattle.std.specs.Prelude.{◌≡◌, false, true, IfErr, OnOk};
-ghost use Rattle.records.specs.declared.error.Error.TheVariants.{DeviceFailed};
+ghost use Rattle.std.specs.Prelude.{◌≡◌, false, true, None, Some, IfErr, IfOk, OnOk};
+ghost use Rattle.records.specs.declared.error.Error.TheVariants.{DeviceFailed, Stopped};
 ghost use Rattle.store_writer.specs.Parts.{has_failed};
 ghost use Rattle.flusher.specs.Going.{GoesOn};
 ghost use Rattle.loops.specs.Building.{BuildsOn};
@@ -30,14 +30,14 @@ pub struct Ended<B: Group, D: Device, X> {
     pub build: BuildView,
     /// How the flusher ended.
     pub flushed: Result<(), Error>,
-    /// The ticket of the index, where it was completed meanwhile; else why it wasn't, which is `Stopped` where the clients ended first
-    /// or there was nothing to build.
+    /// The ticket of the index that was completed last meanwhile; else why none was, which is `Stopped` where the clients ended first
+    /// or there was nothing to build. A later build that was refused is told in its place.
     pub built: Result<Ticket, Error>,
 }
 
 /// Runs flusher, cleaner and builder beside the clients, each in a thread of its own, until the clients have ended; then it ends the
-/// three, and waits for that. A build that is under way is carried on, and so is one that a client begins; where the index is complete,
-/// or there is none, the builder waits. With what comes back it may be called again.
+/// three, and waits for that. A build that is under way is carried on, and so is each that a client begins, also where it dropped an index
+/// that was complete; where the index is complete, or there is none, the builder waits. With what comes back it may be called again.
 ///
 /// Of the board the seat has seen no more than before, and its view may have another name (`seen`). Flusher and builder end as
 /// `flush_loop` and `build_loop` do, or with the clients.
@@ -253,6 +253,29 @@ fn build_until_end<B: Group, R: Wait, G: Gate>(
     requires view { view.board ≡ B.board }
     ensures { BuildsOn B.site.opened build result.ended result.build }
 {
-    let ended = build_until(rt, shared, &mut build, &mut view, gate, Some(run));
-    Building { build, ended }
+    let mut completed = None;
+    for _ in rt.forever() {
+        match build_until(rt, shared, &mut build, &mut view, gate, Some(run)) {
+            Ok(ticket) => completed = Some(ticket),
+            Err(error) => {
+                let ended = end_of(completed, error);
+                return Building { build, ended };
+            }
+        }
+    }
+    unreachable!()
+}
+
+// How a builder ended that completed this index last, if any, and could then make no step more.
+fn end_of(completed: Option<Ticket>, error: Error) -> Result<Ticket, Error>
+    ensures ok { IfOk result (λ ticket. (completed ≡ Some ticket) × (error ≡ Stopped)) }
+    ensures err { IfErr result (λ e. (e ≡ error) × (error ≡ Stopped → completed ≡ None)) }
+{
+    match completed {
+        None => Err(error),
+        Some(ticket) => match error {
+            Error::Stopped => Ok(ticket),
+            other => Err(other),
+        },
+    }
 }

@@ -38,6 +38,7 @@ AllowsPart life Slot = Unit {0}
 AllowsPart life OldEntry = life ≢ Absent
 AllowsPart life NewEntry = life ≢ Absent
 
+-- a transaction's record that may come: of a page of the store, a part that there is, and the next or the last change of its list
 abbrev pub CanFollowTxn : ℕ → Cells → ℕ → TxnAction → Type 0
 CanFollowTxn pages cells txn (Forward part c) = (c.rid.page < pages) × AllowsPart cells.life part × IsNextOn (list_of cells.pending txn) c × IsAdmitted cells.pending txn
 CanFollowTxn pages cells txn (Undo part c last) = (c.rid.page < pages) × AllowsPart cells.life part × IsLastOf (list_of cells.pending txn) c
@@ -48,6 +49,7 @@ CanFollowTxn pages cells txn End = Unit {0}
 abbrev pub IsBuilding : Life → Type 0
 IsBuilding life = (highest : Option Pair) × (life ≡ Building highest)
 
+-- a record of the index that may come in this life of it
 abbrev pub CanFollowIndex : ℕ → Life → IndexAction → Type 0
 CanFollowIndex pages life Create = life ≡ Absent
 CanFollowIndex pages life (BuildPlace pair) = (pair.rid.page < pages) × IsBuilding life
@@ -56,6 +58,7 @@ CanFollowIndex pages life BuildDone = IsBuilding life
 CanFollowIndex pages life (Clean pair) = (pair.rid.page < pages) × (life ≢ Absent)
 CanFollowIndex pages life Drop = life ≢ Absent
 
+-- a record's action that may come over these cells
 abbrev pub CanFollowBy : ℕ → Cells → Action → Type 0
 CanFollowBy pages cells (OfTxn txn action) = CanFollowTxn pages cells txn action
 CanFollowBy pages cells (OfIndex action) = CanFollowIndex pages cells.life action

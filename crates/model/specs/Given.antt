@@ -56,7 +56,7 @@ opening_cells given = record { rows = given.table; entries = given.entries; pend
 abbrev pub given_after : Given → List RecordValue → Given
 given_after opening records = recovered (cells_after (opening_cells opening) records) (opening.last + length records)
 
--- What is given is the beginning of a history, up to the last record: one that has every item up to the floor. Each live
+-- What is given is a prefix of a history, up to the last record: one that has every item up to the floor. Each live
 -- entry names a row with its key.
 pub record IsBeginning (opening : Given) (items : List Item) (floor : ℕ) (given : Given) : Type 0 where
   pub has_floor : floor ≤ given.last

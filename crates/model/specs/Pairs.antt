@@ -13,11 +13,13 @@ use Rattle.model.specs.Table.{Index}
 use Rattle.model.specs.declared.life.Life.{Life}
 use Rattle.model.specs.declared.life.Life.TheVariants.{Absent, Building, Complete}
 
+-- whether there is an index, complete or not
 abbrev pub is_indexed : Life → Bool
 is_indexed Absent = false
 is_indexed (Building highest) = true
 is_indexed Complete = true
 
+-- the pair of a row at a place
 abbrev pub pair_of : Place → Row → Pair
 pair_of rid row = record { key = row.key; rid = rid }
 
@@ -26,6 +28,7 @@ abbrev pub pair_at : Place → Option Row → Option Pair
 pair_at rid None = None
 pair_at rid (Some row) = Some (pair_of rid row)
 
+-- whether two rows have one key
 abbrev pub same_key : Row → Row → Bool
 same_key a b = eq_by_cmp (slice_cmp nat_cmp) a.key b.key
 
@@ -40,6 +43,7 @@ gone true rid (Some row) (Some other) = cond (same_key row other) None (Some (pa
 abbrev pub old_pair : Bool → ChangeValue → Option Pair
 old_pair indexed c = gone indexed c.rid (old_row c.rows) (new_row c.rows)
 
+-- the pair that a change puts: that of the row after it, unless the key stays
 abbrev pub new_pair : Bool → ChangeValue → Option Pair
 new_pair indexed c = gone indexed c.rid (new_row c.rows) (old_row c.rows)
 

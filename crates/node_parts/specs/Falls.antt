@@ -14,6 +14,7 @@ most_falls : {A : Type 0} (G : Ghosts A) (cs : List (Child A)) → most (deep-Ch
 most_falls G [] = omega arith
 most_falls G (c ∷ cs) = omega (arith, most_falls G cs)
 
+-- how deep a node's parts are nested is at most the depth of its tree
 pub depth_falls : {A : Type 0} (G : Ghosts A) (n : Parts A) → max (deep-Parts A G n) 0 ≤ depth (tree_of n)
 depth_falls G (Leaf es) = omega arith
 depth_falls G (Inner cs) = omega (arith, most_falls G cs.items)

@@ -7,6 +7,7 @@ use Rattle.node_parts.specs.declared.Parts.{Parts}
 use Rattle.node_parts.specs.declared.Parts.TheVariants.{Leaf, Inner}
 use Rattle.node_parts.specs.declared.Child.{Child}
 
+-- the tree of a node's parts
 abbrev pub tree_of : {A : Type 0} → Parts A → Tree
 tree_of (Leaf es) = leaf es.items
 tree_of (Inner cs) = branch (forest_of (map (λ c. c.node.value) cs.items))
@@ -21,6 +22,7 @@ abbrev pub AreLabelled : {A : Type 0} → List (Child A) → Type 0
 AreLabelled [] = Unit {0}
 AreLabelled (c ∷ cs) = (least_of (entries c.node.value) ≡ Some c.least) × AreLabelled cs
 
+-- a node has at most 32 items, and room for 32; each child has its label
 abbrev pub IsSound : {A : Type 0} → Parts A → Type 0
 IsSound (Leaf es) = (vec_len es ≤ 32) × (32 ≤ vec_capacity es)
 IsSound (Inner cs) = (vec_len cs ≤ 32) × (32 ≤ vec_capacity cs) × AreLabelled cs.items

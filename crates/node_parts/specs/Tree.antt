@@ -18,14 +18,17 @@ mutual
     more : Tree → Forest → Forest
 
 -- ---- a row of trees as a list
+-- a list of trees as a row
 abbrev pub forest_of : List Tree → Forest
 forest_of [] = none
 forest_of (t ∷ ts) = more t (forest_of ts)
 
+-- a row of trees as a list
 abbrev pub trees_of : Forest → List Tree
 trees_of none = []
 trees_of (more t f) = t ∷ trees_of f
 
+-- there and back is the same list
 pub trees_of-forest_of : (ts : List Tree) → trees_of (forest_of ts) ≡ ts
 trees_of-forest_of [] = refl
 trees_of-forest_of (t ∷ ts) = ap (λ us. t ∷ us) (trees_of-forest_of ts)
@@ -51,30 +54,36 @@ abbrev mutual
   forest_depth (more t f) = max (depth t) (forest_depth f)
 
 -- ---- how the logic stores a tree
+-- how the logic stores a leaf's entries
 abbrev entries_code : Coded (List Entry)
 entries_code = coded_list (code_by (Pair × Mark) (coded× coded_pair coded_mark) (λ e. (e.pair, e.mark)) (λ t. record { pair = t.0; mark = t.1 }) (λ _. refl))
 
+-- the first of two
 abbrev first : Gv → Gv
 first gnil = gnil
 first (gnum n) = gnil
 first (gcons a b) = a
 
+-- the second of two
 abbrev second : Gv → Gv
 second gnil = gnil
 second (gnum n) = gnil
 second (gcons a b) = b
 
+-- whether there are two
 abbrev is_pair : Gv → Bool
 is_pair gnil = false
 is_pair (gnum n) = false
 is_pair (gcons a b) = true
 
+-- whether it is the number 0
 abbrev is_zero : Gv → Bool
 is_zero gnil = false
 is_zero (gnum zero) = true
 is_zero (gnum (suc n)) = false
 is_zero (gcons a b) = false
 
+-- a tree as what the logic stores
 abbrev mutual
   tree_to : Tree → Gv
   tree_to (leaf es) = gcons (gnum 0) (entries_code.code es)
@@ -97,6 +106,7 @@ mutual
   forest_to-inj none (more t g) e = let h : false ≡ true = ap is_pair e in cc
   forest_to-inj (more s f) none e = let h : true ≡ false = ap is_pair e in cc
 
+-- how the logic stores a tree
 abbrev pub tree_code : Coded Tree
 tree_code = record { code = tree_to; inj = tree_to-inj }
 
@@ -105,9 +115,11 @@ abbrev pub IsLeaf : Tree → Type 0
 IsLeaf (leaf es) = Unit {0}
 IsLeaf (branch f) = ⊥
 
+-- a leaf with nothing in it
 abbrev pub an_empty_leaf : Tree
 an_empty_leaf = leaf []
 
+-- an inner node with no child
 abbrev pub an_empty_inner : Tree
 an_empty_inner = branch none
 

@@ -1,4 +1,8 @@
 //! Nodes of a B-tree whose room is taken as they are made, so that no later change takes memory.
+//!
+//! Proved: what each change of a node leaves of its entries, and that a node has at most 32 items and room for 32. No change of a
+//! node that was made takes memory.
+//! Neither: speed.
 #![tactic(auto)]
 
 ghost use Rattle.std.specs.Prelude.{◌≡◌, ℕ, ◌+◌, ◌<◌, ◌≤◌, ◌++◌, length, Some, IfOk, IfErr};

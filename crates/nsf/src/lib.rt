@@ -83,6 +83,13 @@
 //! ```
 //!
 //! That what is shared may go to other threads is `Rattle.nsf.proofs.Crosses.shared_sync`.
+//!
+//! # What is promised
+//!
+//! Of one thread: the contracts of `restart`, and above them `live_through` of `headline`. Of many: when all clients of `serve`
+//! have ended, a crash leaves what was opened with commits of some seats set over it, up to a record; all of them where nothing was
+//! refused (`leaves`, `written`); as many clients come back as went in (`clients`).
+//! Only tested (`nsf_tests`): both examples. Neither: that a client is called, or that the commits are those of these clients.
 #![tactic(auto)]
 
 mod clients;

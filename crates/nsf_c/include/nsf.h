@@ -12,9 +12,13 @@
  *   - A pointer is not null and is aligned for its type, also where its length is 0. Behind it lie as many values as its length
  *     says, set to something. What a call may write (a handle, a reply, a stat, places) overlaps nothing else that is passed.
  *   - malloc and free are one allocator's, and align as the C standard asks.
- *   - The other end of a line does what it is asked before it says so (nsf_create).
+ *   - Of a line (nsf_create): the descriptor is open and blocks as long as the store is open, and nothing else reads from it or
+ *     writes to it. Its other end does what it is asked before it says so. Where that end may be closed before the store is, SIGPIPE
+ *     is ignored: a write to it would end the process. A signal that is caught in the calling thread restarts its system calls
+ *     (SA_RESTART), or the call it interrupts may count as one of a failed device.
  *
- * No call ends the process or runs for ever; on a line it waits for the other end. Where memory is refused, a call answers 1. */
+ * A call keeps no pointer that it was passed, but the handle's own. No call ends the process (but see SIGPIPE) or runs for ever; on a
+ * line it waits for the other end. Where memory is refused, a call answers 1. */
 #ifndef NSF_H
 #define NSF_H
 
@@ -36,7 +40,8 @@ typedef struct nsf_handle {
 #define NSF_VACANT {0}
 
 /* What a call answers: 0, or why it was refused. A refused event changed nothing, but that a flush or a copy that was refused by 2 may
- * have written some of what it was to write; from then on each flush and copy is refused by 2, until the store is opened again. */
+ * have written some of what it was to write; from then on each flush and copy is refused by 2, until the store is opened again. An
+ * answer of 0 is not all: where what was asked for isn't met, the reply is NSF_SKIPPED, and nothing was done. */
 enum {
     NSF_OK = 0,
     NSF_NO_MEMORY = 1,
@@ -60,7 +65,8 @@ enum {
     NSF_NOT_BUILT = 19,
     NSF_STOPPED = 20,
     NSF_EXHAUSTED = 21,
-    NSF_NO_SUCH_EVENT = 23
+    NSF_NO_SUCH_EVENT = 23,
+    NSF_UNREADY = 101 /* of the inline functions alone: the reply was NSF_SKIPPED */
 };
 
 /* The text of a refusal. */
@@ -90,19 +96,22 @@ static inline const char *nsf_message(uint32_t refusal)
     case NSF_STOPPED: return "the store was told to stop";
     case NSF_EXHAUSTED: return "the last number that a record may have is given away";
     case NSF_NO_SUCH_EVENT: return "no event has this kind";
+    case NSF_UNREADY: return "the transaction owes a step, has changes left, or is rolling back: nothing was done";
     default: return "no refusal has this number";
     }
 }
 
-/* What nsf_serve may be asked. What a kind has no use for is not looked at. */
+/* What nsf_serve may be asked. What a kind has no use for is not looked at. An insertion, a deletion, an update or a commit of a
+ * transaction that owes a step of its newest change, or is rolling back, is NSF_SKIPPED. */
 enum {
     NSF_BEGIN = 1,    /* a transaction; replies NSF_TXN */
     NSF_INSERT = 2,   /* txn, key, body; NSF_RID */
     NSF_DELETE = 3,   /* txn, place; NSF_STEPPED */
     NSF_UPDATE = 4,   /* txn, place, key, body; NSF_STEPPED */
     NSF_STEP = 5,     /* txn: the step that it owes of its newest change; NSF_STEPPED, or NSF_SKIPPED where it owes none */
-    NSF_UNDO = 6,     /* txn: a step of taking its newest change back; NSF_UNDONE, or NSF_EMPTY where none is left */
-    NSF_END = 7,      /* txn, which has no change left; NSF_ENDED */
+    NSF_UNDO = 6,     /* txn, which rolls back from then on: a step of taking its newest change back; NSF_UNDONE, or NSF_EMPTY where
+                       * none is left */
+    NSF_END = 7,      /* txn; NSF_ENDED, or NSF_SKIPPED where it has a change left */
     NSF_COMMIT = 8,   /* txn; NSF_TICKET: it is safe once a horizon is no less than `number` */
     NSF_CREATE = 9,   /* the index, which is then to be built; NSF_TICKET */
     NSF_BUILD = 10,   /* a step of the builder; NSF_SCANNED to NSF_IDLE */
@@ -200,10 +209,17 @@ uint64_t nsf_sectors(uint32_t pages, uint32_t entries, uint32_t slots);
  * nsf_file.h has an other end over a file. */
 uint32_t nsf_create(nsf_handle *handle, int32_t line, uint32_t pages, uint32_t entries, uint32_t slots);
 
-/* Opens the store that the bytes hold, as sectors of 512; bytes behind the last whole one are not looked at. In memory where `line` is
- * negative; else at the other end of the line are the same sectors, all of them safe. Whatever a crash left of a store that was
- * made and written by these calls is opened: with a prefix of what was committed, which has everything that a horizon told of. */
+/* Opens the store that the bytes hold, as sectors of 512; bytes behind the last whole one are not looked at. The bytes are copied. In
+ * memory where `line` is negative; else at the other end of the line are the same sectors, all of them safe. Whatever a crash left of
+ * a store that was made and written by these calls is opened: with a prefix of what was committed, which has everything that a horizon
+ * told of; and so is what nsf_save copied. */
 uint32_t nsf_open(nsf_handle *handle, int32_t line, const uint8_t *bytes, size_t length);
+
+/* Copies sectors out that the store holds, from number `first` on: as many as there are and as there is room for. Answers how many;
+ * behind these the room stays as it was. A store that nsf_create made has as many as nsf_sectors tells, one that nsf_open opened as
+ * many as it was given. All of them, copied with no other call between, are what a crash may leave now. So a store in memory is
+ * saved by nsf_flush and nsf_save, and opened again by nsf_open. */
+uint64_t nsf_save(nsf_handle *handle, uint64_t first, uint8_t (*sectors)[NSF_SECTOR], size_t room);
 
 /* Closes the store. What was not flushed is lost. */
 void nsf_close(nsf_handle *handle);
@@ -224,7 +240,13 @@ bool nsf_can_open(nsf_handle *handle);
 
 void nsf_stat(nsf_handle *handle, nsf_status *status);
 
-/* ---- nsf_serve, event by event. These are not proved: each is its one call. */
+/* ---- the calls with less to write. These functions are not proved. */
+
+/* Saves the store into these bytes, as many whole sectors as they hold. Answers how many bytes were set. */
+static inline size_t nsf_save_bytes(nsf_handle *handle, uint8_t *bytes, size_t length)
+{
+    return (size_t)nsf_save(handle, 0, (uint8_t (*)[NSF_SECTOR])bytes, length / NSF_SECTOR) * NSF_SECTOR;
+}
 
 static inline uint32_t nsf_ask(nsf_handle *handle, const nsf_event *event, nsf_reply *reply)
 {
@@ -239,6 +261,23 @@ static inline uint32_t nsf_ask_of(nsf_handle *handle, uint32_t kind, uint64_t tx
     return nsf_ask(handle, &event, reply);
 }
 
+/* As nsf_ask, of what may be skipped. */
+static inline uint32_t nsf_ask_ready(nsf_handle *handle, const nsf_event *event, nsf_reply *reply)
+{
+    uint32_t refused = nsf_ask(handle, event, reply);
+    return !refused && reply->kind == NSF_SKIPPED ? (uint32_t)NSF_UNREADY : refused;
+}
+
+/* The same of what answers a ticket, which is 0 where it is refused. */
+static inline uint32_t nsf_ask_ticket(nsf_handle *handle, uint32_t kind, uint64_t txn, uint64_t *ticket)
+{
+    nsf_event event = {kind, 0, txn, 0};
+    nsf_reply reply = NSF_NO_REPLY;
+    uint32_t refused = nsf_ask_ready(handle, &event, &reply);
+    *ticket = refused ? 0 : reply.number;
+    return refused;
+}
+
 static inline uint32_t nsf_begin(nsf_handle *handle, uint64_t *txn)
 {
     nsf_reply reply = NSF_NO_REPLY;
@@ -247,19 +286,7 @@ static inline uint32_t nsf_begin(nsf_handle *handle, uint64_t *txn)
     return refused;
 }
 
-static inline uint32_t nsf_insert(nsf_handle *handle, uint64_t txn, const void *key, size_t key_length, const void *body,
-                                  size_t body_length, nsf_place *place)
-{
-    nsf_event event = {NSF_INSERT, 0, txn, 0};
-    nsf_place nowhere = {0, 0};
-    nsf_reply reply = NSF_NO_REPLY;
-    uint32_t refused = nsf_serve(handle, &event, (const uint8_t *)key, key_length, (const uint8_t *)body, body_length, &nowhere, 0, &reply);
-    place->page = reply.page;
-    place->slot = reply.slot;
-    return refused;
-}
-
-/* A change is one step without an index; with one, a further step puts or marks an entry. This makes all that are owed. */
+/* A change is one step without an index; with one, further steps put or mark entries. This makes all that are owed. */
 static inline uint32_t nsf_finish(nsf_handle *handle, uint64_t txn)
 {
     nsf_reply reply = NSF_NO_REPLY;
@@ -270,19 +297,68 @@ static inline uint32_t nsf_finish(nsf_handle *handle, uint64_t txn)
     return refused;
 }
 
+/* Inserts, deletes or updates a row by the first step: nsf_finish makes the others. */
+static inline uint32_t nsf_insert(nsf_handle *handle, uint64_t txn, const void *key, size_t key_length, const void *body,
+                                  size_t body_length, nsf_place *place)
+{
+    nsf_event event = {NSF_INSERT, 0, txn, 0};
+    nsf_place nowhere = {0, 0};
+    nsf_reply reply = NSF_NO_REPLY;
+    uint32_t refused = nsf_serve(handle, &event, (const uint8_t *)key, key_length, (const uint8_t *)body, body_length, &nowhere, 0, &reply);
+    place->page = reply.page;
+    place->slot = reply.slot;
+    return !refused && reply.kind == NSF_SKIPPED ? (uint32_t)NSF_UNREADY : refused;
+}
+
 static inline uint32_t nsf_delete(nsf_handle *handle, uint64_t txn, nsf_place place)
 {
     nsf_event event = {NSF_DELETE, place.page, txn, place.slot};
     nsf_reply reply = NSF_NO_REPLY;
-    return nsf_ask(handle, &event, &reply);
+    return nsf_ask_ready(handle, &event, &reply);
 }
 
-/* Where a step is owed, or the transaction is rolling back, nothing is done, and the ticket is 0. */
+static inline uint32_t nsf_update(nsf_handle *handle, uint64_t txn, nsf_place place, const void *key, size_t key_length,
+                                  const void *body, size_t body_length)
+{
+    nsf_event event = {NSF_UPDATE, place.page, txn, place.slot};
+    nsf_place nowhere = {0, 0};
+    nsf_reply reply = NSF_NO_REPLY;
+    uint32_t refused = nsf_serve(handle, &event, (const uint8_t *)key, key_length, (const uint8_t *)body, body_length, &nowhere, 0, &reply);
+    return !refused && reply.kind == NSF_SKIPPED ? (uint32_t)NSF_UNREADY : refused;
+}
+
 static inline uint32_t nsf_commit(nsf_handle *handle, uint64_t txn, uint64_t *ticket)
 {
+    return nsf_ask_ticket(handle, NSF_COMMIT, txn, ticket);
+}
+
+/* Takes all changes of the transaction back, and ends it. */
+static inline uint32_t nsf_roll_back(nsf_handle *handle, uint64_t txn)
+{
     nsf_reply reply = NSF_NO_REPLY;
-    uint32_t refused = nsf_ask_of(handle, NSF_COMMIT, txn, &reply);
-    *ticket = refused ? 0 : reply.number;
+    uint32_t refused;
+    do {
+        refused = nsf_ask_of(handle, NSF_UNDO, txn, &reply);
+    } while (!refused && reply.kind == NSF_UNDONE);
+    return refused ? refused : nsf_ask_of(handle, NSF_END, txn, &reply);
+}
+
+static inline uint32_t nsf_create_index(nsf_handle *handle, uint64_t *ticket)
+{
+    return nsf_ask_ticket(handle, NSF_CREATE, 0, ticket);
+}
+
+static inline uint32_t nsf_drop_index(nsf_handle *handle, uint64_t *ticket)
+{
+    return nsf_ask_ticket(handle, NSF_DROP, 0, ticket);
+}
+
+/* Makes a step of the builder, and tells whether the index is complete. */
+static inline uint32_t nsf_build_step(nsf_handle *handle, bool *is_complete)
+{
+    nsf_reply reply = NSF_NO_REPLY;
+    uint32_t refused = nsf_ask_of(handle, NSF_BUILD, 0, &reply);
+    *is_complete = reply.kind == NSF_DONE || reply.kind == NSF_IDLE;
     return refused;
 }
 

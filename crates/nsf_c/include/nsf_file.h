@@ -4,8 +4,8 @@
  * was written and synced, and that writing 512 bytes at a multiple of 512 harms no other sector: a disk of 512-byte sectors, or one
  * that keeps what it acknowledged if the power fails. Link with -pthread.
  *
- * A signal that is caught in the calling thread should restart its system calls (SA_RESTART), or it may come through as a failed
- * device. The file is locked (flock) as long as it is open: a second opening is refused by NSF_SYSTEM and EWOULDBLOCK. */
+ * The file is locked (flock) as long as it is open: a second opening is refused by NSF_SYSTEM and EWOULDBLOCK. Needs POSIX of 2008: under
+ * -std=c99, define _POSIX_C_SOURCE as 200809L before the first header. */
 #ifndef NSF_FILE_H
 #define NSF_FILE_H
 
@@ -127,7 +127,7 @@ static inline bool nsf_sync_folder(const char *path)
 /* Opens the file and locks it, with as many sectors of zeros as are asked for, all of them safe. */
 static inline bool nsf_file_clear(nsf_file *f, const char *path, uint64_t sectors)
 {
-    static const uint8_t zeros[NSF_SECTOR];
+    static const uint8_t zeros[NSF_SECTOR] = {0};
     f->file = open(path, O_RDWR | O_CREAT | O_EXCL, 0666);
     if (f->file < 0)
         return false;

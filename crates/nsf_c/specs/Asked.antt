@@ -52,11 +52,23 @@ NamesBody k = (k ≡ kind.INSERT) ⊎ (k ≡ kind.UPDATE)
 abbrev pub IsNoKind : ℕ → Type 0
 IsNoKind k = (k < kind.BEGIN) ⊎ (kind.DROP < k)
 
--- why what is asked for is no event, by the number of the refusal
+-- it is asked of a transaction, and names none
+abbrev pub LacksTxn : Asked → Type 0
+LacksTxn a = IsOfTxn a.kind × (a.txn ≡ 0)
+
+-- it names a place whose slot is on no page
+abbrev pub LacksSlot : Asked → Type 0
+LacksSlot a = NamesPlace a.kind × (SLOTS_PER_PAGE ≤ a.slot)
+
+-- the key that comes with it is too long
+abbrev pub HasLongKey : Asked → List ℕ → Type 0
+HasLongKey a key = NamesKey a.kind × (KEY_MAX < length key)
+
+-- why what is asked for is no event, by the number of the refusal: the first of these, in this order
 abbrev pub IsBad : Asked → List ℕ → List ℕ → ℕ → Type 0
 IsBad a key body n =
-    ((n ≡ 9) × IsOfTxn a.kind × (a.txn ≡ 0))
-    ⊎ ((n ≡ 10) × NamesPlace a.kind × (SLOTS_PER_PAGE ≤ a.slot))
-    ⊎ ((n ≡ 14) × NamesKey a.kind × (KEY_MAX < length key))
-    ⊎ ((n ≡ 15) × NamesBody a.kind × (BODY_MAX < length body))
+    ((n ≡ 9) × LacksTxn a)
+    ⊎ ((n ≡ 10) × LacksSlot a × (¬ LacksTxn a))
+    ⊎ ((n ≡ 14) × HasLongKey a key × (¬ LacksTxn a) × (¬ LacksSlot a))
+    ⊎ ((n ≡ 15) × NamesBody a.kind × (BODY_MAX < length body) × (¬ LacksTxn a) × (¬ LacksSlot a) × (¬ HasLongKey a key))
     ⊎ ((n ≡ kind.NO_SUCH_EVENT) × IsNoKind a.kind)

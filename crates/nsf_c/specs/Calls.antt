@@ -1,5 +1,5 @@
 -- What the calls do.
-use Rattle.std.specs.Prelude.{◌≡◌, ◌⊎◌, ℕ, ◌/◌, List, length}
+use Rattle.std.specs.Prelude.{◌≡◌, ◌⊎◌, ℕ, ◌-◌, ◌/◌, ◌++◌, List, length, take, drop, min}
 use Rattle.std.specs.Simd.{first_chunks}
 use Rattle.std.specs.declared.alloc.Global.{Global}
 use Rattle.records.specs.GeometryValue.{GeometryValue, IsGeometry}
@@ -13,6 +13,7 @@ use Rattle.flip_image.specs.Store.{IsFormatted}
 use Rattle.core_model.specs.Histories.{CanOpen}
 use Rattle.nsf_core.specs.Opening.{opened_of}
 use Rattle.restart.specs.Parts.{core_of}
+use Rattle.restart.specs.Store.{Past, IsAt, Survives, acknowledged_by}
 use Rattle.restart.specs.declared.event.Event.{Event}
 use Rattle.restart.specs.declared.event.Reply.{Reply}
 use Rattle.serving.specs.Store as serving
@@ -79,6 +80,22 @@ stat_of s = record {
   pages = serving.pages_of s;
   life = (life_told (serving.life_of s)).kind;
 }
+
+-- ---- saving
+
+-- what its device holds
+abbrev pub content_of : Opened → Image
+content_of s = (history_of (serving.device_of s)).disk.content
+
+-- So many sectors from the first on, as many as there are and as there is room for, stand in front; behind them stays what was there.
+pub record CopiesOut (content : Image) (first count : ℕ) (old new : Image) : Type 0 where
+  pub count_is : count ≡ min (length content - first) (length old)
+  pub new_is : new ≡ take count (drop first content) ++ drop count old
+
+-- Whatever run left the store where it is: a device of these sectors holds a beginning of it, with all that a reply has told to be
+-- safe.
+abbrev pub IsKept : Opened → Image → Type 0
+IsKept s image = (past : Past Global) → IsAt history_of past s.engine → Survives past (acknowledged_by past) image
 
 -- ---- opening
 

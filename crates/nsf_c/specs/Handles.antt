@@ -12,12 +12,15 @@ use Rattle.nsf_c.specs.declared.handle.Handle.{Handle}
 abbrev pub Disk : Type 0
 Disk = FileDisk Below Global
 
+-- a store that C has open
 abbrev pub Opened : Type 0
 Opened = Store Disk
 
+-- a store is open under the handle
 abbrev pub IsOpen : Handle → Type 0
 IsOpen h = IsFull h.value
 
+-- none is
 abbrev pub IsVacant : Handle → Type 0
 IsVacant h = h.value ≡ None
 

@@ -6,6 +6,7 @@ use Rattle.restart.specs.declared.event.Reply.{Reply}
 use Rattle.restart.specs.declared.event.Reply.TheVariants.{Found}
 use Rattle.nsf_c.specs.declared.spot.Spot.{Spot}
 
+-- a place as C has it
 abbrev pub spot_of : Place → Spot
 spot_of rid = record { page = rid.page; slot = rid.slot }
 
@@ -13,9 +14,11 @@ spot_of rid = record { page = rid.page; slot = rid.slot }
 abbrev pub nowhere : Place
 nowhere = record { page = 0; slot = 0 }
 
+-- the place at an index, or none
 abbrev pub rid_at : List Place → ℕ → Place
 rid_at rids k = slice_index_or rids k nowhere
 
+-- so with places of C
 abbrev pub spot_at : List Spot → ℕ → Spot
 spot_at spots k = slice_index_or spots k (spot_of nowhere)
 

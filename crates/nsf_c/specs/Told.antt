@@ -53,6 +53,7 @@ rowed k row = record (plain k 0) {
   body = padded BODY_MAX row.body;
 }
 
+-- what C is told of a step of the builder
 abbrev pub built_told : BuildReply → Told
 built_told (build.Scanned page) = record (plain kind.SCANNED 0) { page = page }
 built_told (build.Placed pair) = paired kind.PLACED 0 pair
@@ -61,17 +62,20 @@ built_told (build.Marked pair ticket) = paired kind.MARKED ticket.record pair
 built_told (build.Done ticket) = plain kind.DONE ticket.record
 built_told build.Idle = plain kind.IDLE 0
 
+-- of a step of the cleaner
 abbrev pub cleaned_told : CleanReply → Told
 cleaned_told (clean.Cleaned pair) = paired kind.CLEANED 0 pair
 cleaned_told (clean.Kept pair) = paired kind.KEPT 0 pair
 cleaned_told clean.Wrapped = plain kind.WRAPPED 0
 
+-- of the index's life
 abbrev pub life_told : Life → Told
 life_told life.Absent = plain kind.ABSENT 0
 life_told (life.Building None) = plain kind.BUILDING 0
 life_told (life.Building (Some pair)) = paired kind.BUILDING_AT 0 pair
 life_told life.Complete = plain kind.COMPLETE 0
 
+-- of a row that was looked for
 abbrev pub row_told : Option Row → Told
 row_told (Some row) = rowed kind.ROW row
 row_told None = plain kind.NO_ROW 0
@@ -81,6 +85,7 @@ abbrev pub sector_of : Error → ℕ
 sector_of (Damaged sector) = sector
 sector_of e = 0
 
+-- of any reply
 abbrev pub told_of : Reply Global → Told
 told_of (reply.Txn txn) = plain kind.TXN txn
 told_of (reply.Rid rid) = placed kind.RID 0 rid

@@ -1,5 +1,5 @@
 //! What C asks for.
-ghost use Rattle.std.specs.Prelude.{◌≡◌, ◌<◌, ◌≤◌, IfOk, IfErr, length};
+ghost use Rattle.std.specs.Prelude.{◌≡◌, ◌<◌, ◌≤◌, IfOk, IfErr, OnOk, length};
 ghost use Rattle.nsf_c.specs.Asked.{Asks, IsBad, IsOfTxn, place_of};
 
 use crate::kind::{
@@ -11,7 +11,6 @@ use restart::Event;
 
 /// What C asks for. The key and the body stand beside it.
 #[repr(C)]
-#[derive(Clone, Copy, Debug, PartialEq, Eq)]
 pub struct Asked {
     pub kind: u32,
     pub page: u32,
@@ -21,6 +20,7 @@ pub struct Asked {
 
 fn key_of(bytes: &[u8]) -> Result<Key, u32>
     ensures ok { IfOk result (λ key. key ≡ bytes.now) }
+    ensures fits { OnOk result (length bytes.now ≤ KEY_MAX) }
     ensures too_long { IfErr result (λ n. (n ≡ 14) × (KEY_MAX < length bytes.now)) }
 {
     match Key::new(bytes) {
@@ -42,6 +42,7 @@ fn body_of(bytes: &[u8]) -> Result<Body, u32>
 impl Asked {
     fn txn(&self) -> Result<Txn, u32>
         ensures ok { IfOk result (λ txn. txn ≡ self.now.txn) }
+        ensures some { OnOk result (0 < self.now.txn) }
         ensures none { IfErr result (λ n. (n ≡ 9) × (self.now.txn ≡ 0)) }
     {
         match Txn::new(self.txn) {
@@ -52,6 +53,7 @@ impl Asked {
 
     fn rid(&self) -> Result<Rid, u32>
         ensures ok { IfOk result (λ rid. rid ≡ place_of self.now) }
+        ensures inside { OnOk result (self.now.slot < SLOTS_PER_PAGE) }
         ensures none { IfErr result (λ n. (n ≡ 10) × (SLOTS_PER_PAGE ≤ self.now.slot)) }
     {
         if self.slot >= SLOTS_PER_PAGE {
@@ -94,8 +96,8 @@ impl Asked {
     }
 
     /// The event that is asked for. The error is the number of the refusal: 9 where a transaction has no number, 10 where a place
-    /// has no such slot, 14 for a key and 15 for a body that is too long, 23 where no event has the kind. They are looked for in the
-    /// order of the fields, the place before the key.
+    /// has no such slot, 14 for a key and 15 for a body that is too long, 23 where no event has the kind. Of several it is the first in
+    /// this order.
     pub(crate) fn event(&self, key: &[u8], body: &[u8]) -> Result<Event, u32>
         ensures asks { IfOk result (Asks self.now key.now body.now) }
         ensures bad { IfErr result (IsBad self.now key.now body.now) }

@@ -4,7 +4,7 @@ use sector_device::SECTOR_SIZE;
 use std::io::{Error, ErrorKind};
 
 /// What is below the disk of a store.
-#[derive(Clone, Copy, Debug, Drop, PartialEq, Eq)]
+#[derive(Drop)]
 pub enum Below {
     /// Nothing: what is written stays in memory.
     Memory,

@@ -3,6 +3,8 @@
 //! Proved: each call meets the contract of the engine's call of the same name, over a disk whose reads are answered from memory.
 //! Trusted: what `include/nsf.h` asks of who calls, and that the other end of a line does what it is asked before it says so. One
 //! thread at a time may be in a call.
+//! By hand: five functions of `handle.rt` and `loose.rt`, by which a pointer is a box again. Neither proved nor built by the gate:
+//! what is C.
 #![tactic(auto)]
 
 mod asked;
@@ -12,6 +14,7 @@ mod held;
 mod kind;
 mod loose;
 mod opening;
+mod saving;
 mod serving_calls;
 mod spot;
 mod told;
@@ -21,6 +24,7 @@ pub use below::Below;
 pub use handle::Handle;
 pub use held::Held;
 pub use opening::{nsf_close, nsf_create, nsf_open, nsf_sectors};
+pub use saving::nsf_save;
 pub use serving_calls::{nsf_can_open, nsf_flush, nsf_image, nsf_serve, nsf_stat};
 pub use spot::Spot;
 pub use told::{Stat, Told};

@@ -8,7 +8,7 @@ use std::alloc::Global;
 
 /// A place of a row.
 #[repr(C)]
-#[derive(Clone, Copy, Debug, PartialEq, Eq)]
+#[derive(Clone, Copy)]
 pub struct Spot {
     pub page: u32,
     pub slot: u16,

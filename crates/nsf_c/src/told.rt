@@ -25,7 +25,7 @@ pub struct Told {
 
 /// What a store is, and how far it has come.
 #[repr(C)]
-#[derive(Clone, Copy, Debug, PartialEq, Eq)]
+#[derive(Clone, Copy)]
 pub struct Stat {
     /// The number of the last record made.
     pub last: u64,

@@ -21,6 +21,7 @@ IsPairInside v p = p.rid.page < v.heap.pages
 abbrev pub IsLifeInside : CoreValue → Life → Type 0
 IsLifeInside v life = (p : Pair) → life ≡ Building (Some p) → IsPairInside v p
 
+-- the core with this entry set, or none
 abbrev pub entry_loaded : CoreValue → Pair → Option Mark → CoreValue
 entry_loaded v p mark = record v { index = record v.index { entries = set_at v.index.entries p mark } }
 

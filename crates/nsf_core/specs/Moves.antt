@@ -24,6 +24,7 @@ abbrev pub OwesNone : Option TxnState → Type 0
 OwesNone None = ⊥
 OwesNone (Some x) = (x.progress ≢ OwesRow) × (x.progress ≢ OwesEntry)
 
+-- what the core has of an active transaction
 abbrev pub txn_shown : CoreValue → ℕ → Option TxnState
 txn_shown v t = table.state_of t v.txns.active
 

@@ -35,8 +35,10 @@ pub record IsShown (v : CoreValue) (p : Pair) : Type 0 where
 abbrev pub IsRowShown : CoreValue → Place → Type 0
 IsRowShown v r = (row : Row) → get v.heap.rows r ≡ Some row → IsShown v (pair_of r row)
 
+-- every entry may stand there
 abbrev pub EachMayStand : CoreValue → Type 0
 EachMayStand v = (p : Pair) (mark : Mark) → get v.index.entries p ≡ Some mark → MayStand v p mark
 
+-- so it is of each place
 abbrev pub EachIsShown : CoreValue → Type 0
 EachIsShown v = (r : Place) → IsRowShown v r

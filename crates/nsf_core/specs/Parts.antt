@@ -2,6 +2,7 @@
 use Rattle.nsf_core.specs.View.{CoreValue}
 use Rattle.nsf_core.specs.declared.parts.Parts.{Parts}
 
+-- what contracts see of the parts
 abbrev pub parts_of : {A : Type 0} → Parts A → CoreValue
 parts_of c = record {
   heap = c.heap;

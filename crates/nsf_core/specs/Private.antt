@@ -45,10 +45,12 @@ use Rattle.nsf_core.specs.declared.reply.BuildReply.{BuildReply}
 use Rattle.nsf_core.specs.declared.reply.BuildReply.TheVariants as reply
 use Rattle.nsf_core.specs.Moves.{txn_shown}
 
+-- how many changes the transaction has
 abbrev pub changes_of : Option TxnState → ℕ
 changes_of None = 0
 changes_of (Some x) = length x.changes
 
+-- how many places it has reserved and not used
 abbrev pub reserved_of : Option TxnState → ℕ
 reserved_of None = 0
 reserved_of (Some x) = x.reserved
@@ -63,6 +65,7 @@ pub record IsFreePlace (v : CoreValue) (r : Place) : Type 0 where
 abbrev pub HasPlacesLeft : CoreValue → Type 0
 HasPlacesLeft v = is_indexed v.life ≡ true → len v.index.entries + v.index.pledged + PLACES_PER_CHANGE ≤ v.index.capacity
 
+-- with an index, there is no room for the places of one more change
 abbrev pub LacksPlaces : CoreValue → Type 0
 LacksPlaces v = (is_indexed v.life ≡ true) × (v.index.capacity < len v.index.entries + v.index.pledged + PLACES_PER_CHANGE)
 
@@ -109,6 +112,7 @@ pub data IsUnchangeable (v : CoreValue) (t : ℕ) (r : Place) (e : Error) : Type
 abbrev pub next_change : CoreValue → ℕ → Place → Rows → ChangeValue
 next_change v t r rows = record { position = changes_of (txn_shown v t); rid = r; rows = rows }
 
+-- the core with one record more that waits
 abbrev pub with_record : CoreValue → Action → CoreValue
 with_record v action = record v { last = v.last + 1; outbox = v.outbox ++ record { number = v.last + 1; action = action } ∷ [] }
 
@@ -163,6 +167,7 @@ abbrev pub first_made : CoreValue → ℕ → ChangeValue → Option Pair → Co
 first_made v t c None = row_first v t c
 first_made v t c (Some p) = mark_first v t c p
 
+-- the entry that a step sets, if it sets one
 abbrev pub entry_of : TxnAction → Cell → Option (Pair × TxnAction)
 entry_of action (cell.Slot rid row) = None
 entry_of action (cell.Entry pair mark) = Some (pair, action)
@@ -249,6 +254,7 @@ IsUnplaced v p e = IsAbsent v.index.entries p × (((e ≡ IndexFull) × IsFull v
 abbrev pub checkpointed : CoreValue → Pair → CoreValue
 checkpointed v p = with_record (record v { life = Building (Some p); tried = 0 }) (OfIndex (index_action.BuildCheckpoint p))
 
+-- the core behind the end of the build
 abbrev pub completed : CoreValue → CoreValue
 completed v = with_record (record v { life = Complete }) (OfIndex index_action.BuildDone)
 

@@ -4,10 +4,12 @@ use Rattle.records.specs.declared.error.Error.{Error}
 use Rattle.core_contracts.specs.Events.{Refused, Reply}
 use Rattle.nsf_core.specs.declared.parts.Ticket.{Ticket}
 
+-- a result as a reply
 abbrev pub reply_by : {T : Type 0} → (T → Reply) → Result T Error → Reply
 reply_by f (Ok x) = f x
 reply_by f (Err e) = Refused e
 
+-- a ticket as a reply: a commit's has its number
 abbrev pub ticket_by : (ℕ → Reply) → ℕ → Option ℕ → Reply
 ticket_by other number None = other number
 ticket_by other number (Some commit) = Reply.Committed number commit

@@ -3,5 +3,6 @@ use Rattle.nsf_core.specs.View.{CoreValue}
 use Rattle.nsf_core.specs.Parts.{parts_of}
 use Rattle.nsf_core.specs.declared.store.Core.{Core}
 
+-- what contracts see of it
 abbrev pub value_of : {A : Type 0} → Core A → CoreValue
 value_of c = parts_of c.parts

@@ -22,6 +22,7 @@ use Rattle.core_contracts.specs.Events.{Event, Reply, Standing, standing_after}
 use Rattle.core_contracts.specs.Replies.{IsAllowed, after_any}
 use Rattle.core_contracts.specs.Served.{HasStanding, records_by}
 
+-- what contracts see of a core
 pub record CoreValue : Type 0 where
   pub heap : HeapValue
   pub txns : TableValue
@@ -46,17 +47,20 @@ IsProgressOf Rolling phase = phase ≡ Made
 IsProgressOf UndoesRow phase = (applied : Bool) × (phase ≡ NewMarked applied)
 IsProgressOf UndoesEntry phase = phase ≡ OldSet
 
+-- a transaction of the code stands for this one of the machine
 pub record ShowsTxn (x : TxnState) (a : Active) : Type 0 where
   pub changes : as_list a.changes ≡ x.changes
   pub phase : IsProgressOf x.progress a.phase
   pub rolling : a.rolling ≡ rolls x.progress
 
+-- both have the transaction, and so, or neither has it
 abbrev pub AreOne : Option TxnState → Option Active → Type 0
 AreOne None o = o ≡ None
 AreOne (Some x) o = (a : Active) × (o ≡ Some a) × ShowsTxn x a
 
 -- ---- the scan
 
+-- the scan stands for what the machine's builder has taken
 pub record IsScan (v : ScanValue) (s : State) (k : Standing) : Type 0 where
   pub run : ScanRun
   pub made : HasRun v run
@@ -69,6 +73,7 @@ pub record IsScan (v : ScanValue) (s : State) (k : Standing) : Type 0 where
 
 -- ---- all of it
 
+-- the core stands for this state of the machine, with these counts
 pub record Shows (v : CoreValue) (s : State) (k : Standing) : Type 0 where
   pub rows : s.rows ≡ v.heap.rows
   pub entries : s.entries ≡ v.index.entries

@@ -1,4 +1,6 @@
 //! Keeps a store in a file: makes it, serves it, builds its index, and shows it.
+//!
+//! All that it does is in `shell`.
 #![tactic(auto)]
 
 use std::io::BufReader;

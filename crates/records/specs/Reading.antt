@@ -26,6 +26,7 @@ abbrev pub ◌>>=◌ : {A B : Type 0} → Option A → (A → Option B) → Opti
 (Some x) >>= f = f x
 None >>= f = None
 
+-- a number of n bytes in front, and what is behind it
 abbrev pub number_at : ℕ → List ℕ → Option (ℕ × List ℕ)
 number_at n bytes = if nat_lt (length bytes) n then None else Some (big_number n bytes, drop n bytes)
 
@@ -67,6 +68,7 @@ row_at (suc zero ∷ rest) = do
   Some (Some r.0, r.1)
 row_at (suc (suc b) ∷ rest) = None
 
+-- the rows of a change, which has one at least
 abbrev pub rows_of : Option Row → Option Row → Option Rows
 rows_of None None = None
 rows_of None (Some new) = Some (Inserted new)
@@ -140,6 +142,7 @@ action_at txn bytes = do
   kind ← byte_at bytes
   if txn == 0 then (index_action_at kind.0 kind.1 >>= λ a. Some (OfIndex a.0, a.1)) else (txn_action_at kind.0 kind.1 >>= λ a. Some (OfTxn txn a.0, a.1))
 
+-- a record with this number, where the format allows that
 abbrev pub numbered : ℕ → Action × List ℕ → Option (RecordValue × List ℕ)
 numbered n a = if n == 0 then None else if nat_lt LAST_NUMBER n then None else Some (record { number = n; action = a.0 }, a.1)
 

@@ -3,6 +3,7 @@ use Rattle.std.specs.Prelude.{ℕ, List, codes}
 use Rattle.records.specs.declared.error.Error.{Error}
 use Rattle.records.specs.declared.error.Error.TheVariants.{NoMemory, DeviceFailed, NotFormatted, Damaged, DeviceTooSmall, BadGeometry, TooManyTxns, TooManyChanges, NoSuchTxn, NoSuchRow, RowBusy, HeapFull, IndexFull, KeyTooLong, BodyTooLong, TxnsActive, IndexExists, NoIndex, NotBuilt, Stopped, Exhausted, BadScript}
 
+-- the number of each refusal
 abbrev pub number_of : Error → ℕ
 number_of NoMemory = 1
 number_of DeviceFailed = 2
@@ -27,6 +28,7 @@ number_of Stopped = 20
 number_of Exhausted = 21
 number_of (BadScript line) = 22
 
+-- the name of each refusal, as bytes
 abbrev pub name_of : Error → List ℕ
 name_of NoMemory = codes "NoMemory"
 name_of DeviceFailed = codes "DeviceFailed"

@@ -39,6 +39,7 @@ u32 n = big_bytes 4 n
 unfoldable pub u64 : ℕ → List ℕ
 u64 n = big_bytes 8 n
 
+-- a place: page, then slot
 abbrev pub rid : Place → List ℕ
 rid r = u32 r.page ++ u16 r.slot
 
@@ -47,31 +48,38 @@ abbrev pub row : Option Row → List ℕ
 row None = 0 ∷ []
 row (Some r) = 1 ∷ (short r.key ++ short r.body)
 
+-- the row before a change, if there is one
 abbrev pub old_row : Rows → Option Row
 old_row (Inserted new) = None
 old_row (Deleted old) = Some old
 old_row (Updated old new) = Some old
 
+-- the row after it, if there is one
 abbrev pub new_row : Rows → Option Row
 new_row (Inserted new) = Some new
 new_row (Deleted old) = None
 new_row (Updated old new) = Some new
 
+-- a change: position, place, the row before and the row after
 abbrev pub change : ChangeValue → List ℕ
 change c = c.position ∷ (rid c.rid ++ (row (old_row c.rows) ++ row (new_row c.rows)))
 
+-- a pair: the key with its length in front, then the place
 abbrev pub pair : Pair → List ℕ
 pair p = short p.key ++ rid p.rid
 
+-- a flag as one byte
 abbrev pub flag : Bool → List ℕ
 flag false = 0 ∷ []
 flag true = 1 ∷ []
 
+-- the kind of a step on each part
 abbrev pub forward_kind : Part → ℕ
 forward_kind Slot = 1
 forward_kind OldEntry = 2
 forward_kind NewEntry = 3
 
+-- the kind of an undo step on each part
 abbrev pub undo_kind : Part → ℕ
 undo_kind NewEntry = 4
 undo_kind Slot = 5
@@ -84,6 +92,7 @@ txn_fields (Undo part c last) = undo_kind part ∷ (change c ++ flag last)
 txn_fields Commit = 7 ∷ []
 txn_fields End = 8 ∷ []
 
+-- kind and fields of a record of the index
 abbrev pub index_fields : IndexAction → List ℕ
 index_fields Create = 9 ∷ []
 index_fields (BuildPlace p) = 10 ∷ pair p
@@ -92,6 +101,7 @@ index_fields BuildDone = 12 ∷ []
 index_fields (Clean p) = 13 ∷ pair p
 index_fields Drop = 14 ∷ []
 
+-- kind and fields of any record
 abbrev pub fields_of : Action → List ℕ
 fields_of (OfTxn txn action) = txn_fields action
 fields_of (OfIndex action) = index_fields action
@@ -101,6 +111,7 @@ abbrev pub txn_of : Action → ℕ
 txn_of (OfTxn txn action) = txn
 txn_of (OfIndex action) = 0
 
+-- the bytes of a record: number, transaction or 0, kind, fields
 abbrev pub spelling : RecordValue → List ℕ
 spelling r = u64 r.number ++ (u64 (txn_of r.action) ++ fields_of r.action)
 
@@ -109,33 +120,40 @@ pub record RidFits (r : Place) : Type 0 where
   pub page : r.page < 2 ^ 32
   pub slot : r.slot < SLOTS_PER_PAGE
 
+-- key and body are no longer than they may be
 pub record RowFits (r : Row) : Type 0 where
   pub key : length r.key ≤ KEY_MAX
   pub body : length r.body ≤ BODY_MAX
 
+-- so are the rows of a change
 abbrev pub RowsFit : Rows → Type 0
 RowsFit (Inserted new) = RowFits new
 RowsFit (Deleted old) = RowFits old
 RowsFit (Updated old new) = RowFits old × RowFits new
 
+-- a change within the limits
 pub record ChangeFits (c : ChangeValue) : Type 0 where
   pub position : c.position < CHANGES_MAX
   pub rid : RidFits c.rid
   pub rows : RowsFit c.rows
 
+-- a pair within the limits
 pub record PairFits (p : Pair) : Type 0 where
   pub key : length p.key ≤ KEY_MAX
   pub rid : RidFits p.rid
 
+-- a number that a transaction may have
 abbrev pub IsTxn : ℕ → Type 0
 IsTxn n = (1 ≤ n) × (n < 2 ^ 64)
 
+-- a transaction's action within the limits
 abbrev pub TxnActionFits : TxnAction → Type 0
 TxnActionFits (Forward part c) = ChangeFits c
 TxnActionFits (Undo part c last) = ChangeFits c
 TxnActionFits Commit = Unit {0}
 TxnActionFits End = Unit {0}
 
+-- an action of the index within the limits
 abbrev pub IndexActionFits : IndexAction → Type 0
 IndexActionFits Create = Unit {0}
 IndexActionFits (BuildPlace p) = PairFits p
@@ -144,10 +162,12 @@ IndexActionFits BuildDone = Unit {0}
 IndexActionFits (Clean p) = PairFits p
 IndexActionFits Drop = Unit {0}
 
+-- any action within the limits
 abbrev pub ActionFits : Action → Type 0
 ActionFits (OfTxn txn action) = IsTxn txn × TxnActionFits action
 ActionFits (OfIndex action) = IndexActionFits action
 
+-- a record within the limits of the format
 pub record Fits (r : RecordValue) : Type 0 where
   pub first : 1 ≤ r.number
   pub last : r.number ≤ LAST_NUMBER

@@ -14,7 +14,7 @@ use Rattle.store_reader.specs.Contents.{Gives}
 abbrev pub IsSpare : GeometryValue → Half → ℕ → Type 0
 IsSpare geometry current n = InHalf geometry (other current) n ⊎ (n ≡ FLIP_SECTOR)
 
--- The second image differs from the first one in the half that wasn't current, and in the flip sector, at most; and it gives
+-- The second content differs from the first one in the half that wasn't current, and in the flip sector, at most; and it gives
 -- what the first one gives.
 pub record IsWrittenBack (before image : Image) : Type 0 where
   pub geometry : GeometryValue

@@ -33,6 +33,7 @@ IsBare cells = (cells.rows ≡ map.empty) × (cells.entries ≡ map.empty) × (c
 abbrev pub CanRedo : StoreValue → RecordValue → Type 0
 CanRedo v r = CanFollow v.geometry.pages v.last v.cells r
 
+-- the store's cells after this record
 abbrev pub after_record : StoreValue → RecordValue → StoreValue
 after_record v r = record v { cells = set_by v.cells r.action; last = r.number }
 
@@ -42,30 +43,37 @@ after_records v records = record v { cells = cells_after v.cells records; last =
 
 -- ---- codes
 
+-- how the logic stores a geometry
 abbrev coded_geometry : Coded GeometryValue
 coded_geometry = code_by (ℕ × (ℕ × ℕ)) (coded× coded_ℕ (coded× coded_ℕ coded_ℕ)) (λ g. (g.pages, (g.entries, g.slots))) (λ p. record { pages = p.0; entries = p.1.0; slots = p.1.1 }) (λ _. refl)
 
+-- a life as one of three cases
 abbrev life_in : Life → Bool ⊎ Option Pair
 life_in Absent = inl false
 life_in (Building highest) = inr highest
 life_in Complete = inl true
 
+-- and back
 abbrev life_out : Bool ⊎ Option Pair → Life
 life_out (inl false) = Absent
 life_out (inl true) = Complete
 life_out (inr highest) = Building highest
 
+-- there and back is the same life
 abbrev life_back : (l : Life) → life_out (life_in l) ≡ l
 life_back Absent = refl
 life_back (Building highest) = refl
 life_back Complete = refl
 
+-- how it stores a life
 abbrev coded_life : Coded Life
 coded_life = code_by (Bool ⊎ Option Pair) (coded⊎ coded_bool (coded_option coded_pair)) life_in life_out life_back
 
+-- how it stores cells
 abbrev pub coded_cells : Coded Cells
 coded_cells = code_by (Table × (Index × (Pending × Life))) (coded× (map.code coded_rid coded_row) (coded× (map.code coded_pair coded_mark) (coded× (map.code coded_ℕ (coded_list coded_change)) coded_life)))
     (λ c. (c.rows, (c.entries, (c.pending, c.life)))) (λ p. record { rows = p.0; entries = p.1.0; pending = p.1.1.0; life = p.1.1.1 }) (λ _. refl)
 
+-- how it stores all of it
 abbrev pub coded_store : Coded StoreValue
 coded_store = code_by (GeometryValue × (Cells × ℕ)) (coded× coded_geometry (coded× coded_cells coded_ℕ)) (λ v. (v.geometry, (v.cells, v.last))) (λ p. record { geometry = p.0; cells = p.1.0; last = p.1.1 }) (λ _. refl)

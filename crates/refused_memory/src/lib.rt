@@ -1,4 +1,6 @@
 //! Memory for tests, which refuses one allocation, and counts what it refused.
+//!
+//! For tests alone. The proof of its `unsafe impl` is written by hand.
 #![tactic(auto)]
 
 ghost use Rattle.std.specs.Prelude.{◌≡◌, ⊤, MatchOption};

@@ -27,6 +27,7 @@ abbrev pub row_held : (t : ℕ) (holder : Option ℕ) → Option Row → Option 
 row_held t None row = None
 row_held t (Some u) row = if t == u then Some row else None
 
+-- whether a further step of the newest change is owed
 abbrev pub is_owed : Phase → (rolling : Bool) → Bool
 is_owed OldMarked rolling = not rolling
 is_owed RowSet rolling = not rolling
@@ -34,6 +35,7 @@ is_owed Made rolling = false
 is_owed (NewMarked applied) rolling = false
 is_owed OldSet rolling = false
 
+-- what the newest change sets, if there is one
 abbrev pub newest_write : Changes → Option Write
 newest_write Unchanged = None
 newest_write (older ▹ c) = Some (write_of c)
@@ -63,6 +65,7 @@ Agree s t (Some a) None = ⊥
 
 -- ---- all of them
 
+-- what a seat's session has of a transaction
 abbrev pub active_in : ℕ → Option SessionValue → Option ActiveValue
 active_in t None = None
 active_in t (Some session) = active_of t session.active

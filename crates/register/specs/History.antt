@@ -35,10 +35,12 @@ commit_told number (Checkpointed pair) = []
 commit_told number Completed = []
 commit_told number Dropped = []
 
+-- the commits of a history, each with its number and what it writes
 abbrev pub commits_told : List Item → List (ℕ × List Write)
 commits_told [] = []
 commits_told (item ∷ items) = commit_told item.number item.deed ++ commits_told items
 
+-- what a deed did to the index, with its number
 abbrev pub turn_told : ℕ → Deed → List Turn
 turn_told number (Committed writes) = []
 turn_told number Created = Turn.Created number ∷ []

@@ -12,6 +12,7 @@ pub record IsKept (o : Opened) (pushed : List RecordValue) (core : CoreValue) : 
   pub calls : List (Event × Reply)
   pub replied : HasReplied o calls pushed core
 
+-- an event that commits nothing
 abbrev pub IsNoCommit : Event → Type 0
 IsNoCommit (Event.Commit t) = ⊥
 IsNoCommit _ = Unit {0}

@@ -1,6 +1,11 @@
 //! Laws of a core that many seats share: what their sessions' steps and the queue keep of it, in whatever order they come.
 //!
 //! They follow from what a session's steps, the core and the laws of its calls promise, and speak of no lock.
+//!
+//! Proved: the sessions of all seats have of each transaction, commit, creation and dropping what the core has (`IsRegister`). It
+//! is so from the opening on, and after each kind of step (`each_agreement`, `each_agreement_of_a_transaction`, `each_commit`). For
+//! each record number the commits up to it give the table (`each_table`). A seat reads its own rows off its session (`each_sight`,
+//! `each_row`).
 #![tactic(auto)]
 
 ghost use Rattle.std.specs.Prelude.{◌≡◌, ◌+◌, ◌++◌, ◌∷◌, [], List, None, Option, Some, slice_get, slice_set, true, ℕ};

@@ -36,6 +36,7 @@ pub record IsKept (s : State SessionValue Knowledge) : Type 0 where
 abbrev pub nobody : Knowledge
 nobody = record { makes = false; number = 0; parts = 0; session = empty_session; beside = empty_session }
 
+-- what the thread knows that makes the table
 abbrev pub first_maker : Knowledge
 first_maker = record { makes = true; number = 0; parts = 0; session = empty_session; beside = empty_session }
 

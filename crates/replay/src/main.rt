@@ -1,4 +1,6 @@
 //! Runs a script of commands against a store on a disk in memory, and prints each answer.
+//!
+//! All that it does is in `session`.
 #![tactic(auto)]
 
 use std::process::ExitCode;

@@ -1,4 +1,6 @@
 //! Tests of the program `nsf-replay`, as `session` runs it, where memory is refused.
+//!
+//! Proved of them is safety.
 #![tactic(auto)]
 
 #[cfg(test)]

@@ -40,10 +40,12 @@ abbrev pub places_text : List Place → List ℕ
 places_text [] = codes "-"
 places_text (rid ∷ rids) = rid_text rid ++ further_text rids
 
+-- an entry: its mark, and its pair
 abbrev pub entry_text : Pair → Mark → List ℕ
 entry_text pair Live = codes "live " ++ pair_text pair
 entry_text pair Marked = codes "marked " ++ pair_text pair
 
+-- the index's life
 abbrev pub life_text : Life → List ℕ
 life_text Absent = codes "none"
 life_text (Building None) = codes "building -"
@@ -72,6 +74,7 @@ step_text (step.Cleaned pair) = codes "cleaned " ++ pair_text pair
 step_text (step.Kept pair) = codes "kept " ++ pair_text pair
 step_text step.Wrapped = codes "wrapped"
 
+-- the text of an answer
 abbrev pub answer_text : Answer → List ℕ
 answer_text (answer.Txn txn) = codes "txn " ++ decimal txn
 answer_text (answer.Rid rid) = codes "rid " ++ rid_text rid

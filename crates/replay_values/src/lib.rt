@@ -1,4 +1,7 @@
 //! The values of the program `nsf-replay`: what its arguments ask for, and the lines that it prints.
+//!
+//! Proved: the text of each answer, to the byte (`answer_text`); what is asked for where arguments are left out
+//! (`Options::with_defaults`); which fate a name names (`fate_named`; the law `each_fate_has_a_name`).
 #![tactic(auto)]
 
 mod answer;

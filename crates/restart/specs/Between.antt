@@ -5,6 +5,7 @@ use Rattle.restart.specs.declared.event.Event.TheVariants as event
 use Rattle.restart.specs.declared.event.Reply.{Reply}
 use Rattle.restart.specs.Copies.{IsRefusal}
 
+-- whether a request is one to copy
 abbrev pub is_copy : Event → Bool
 is_copy event.Begin = false
 is_copy (event.Insert txn key body) = false

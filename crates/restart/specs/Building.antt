@@ -66,6 +66,7 @@ GoesOnBuilding (build.Marked pair ticket) = Unit {0}
 GoesOnBuilding (build.Done ticket) = ⊥
 GoesOnBuilding build.Idle = ⊥
 
+-- the reply tells of such a step
 abbrev pub IsUnderway : {M : Type 0} → Reply M → Type 0
 IsUnderway (reply.Txn t) = ⊥
 IsUnderway (reply.Rid r) = ⊥
@@ -138,5 +139,6 @@ pub record EndsWhole (old new : CoreValue) : Type 0 where
   pub complete : new.life ≡ Complete
   pub whole : IsIndexWhole new
 
+-- so it is with no transaction active, of an engine that came from what a core may begin with
 abbrev pub BuildsWhole : CoreValue → CoreValue → Type 0
 BuildsWhole old new = HasCome old → old.txns.active ≡ [] → EndsWhole old new

@@ -57,6 +57,7 @@ next_place GivenUp = None
 
 -- ---- how many copies are left
 
+-- how many entries were copied
 abbrev pub entries_at : Stage → ℕ
 entries_at stage.Whole = 0
 entries_at (stage.Partly pages count highest life) = count
@@ -176,6 +177,7 @@ pub record IsPutOff {D M : Type 0} (failures : D → ℕ) (old new : Parts D M) 
   pub halves : halves_of (writer_of new) ≡ halves_of (writer_of old)
   pub keeps : old.copying ≢ Steps None → KeepsStore old new
 
+-- which answer a copy gives, and what it leaves
 abbrev pub IsCopyAnswer : {D M : Type 0} → (D → ℕ) → Reply M → Parts D M → Parts D M → Type 0
 -- A piece of an image was taken. Fewer copies are left.
 IsCopyAnswer failures reply.Copied old new = Succeeds failures old new × TakesPiece old new × (copies_left new < copies_left old)
@@ -212,9 +214,11 @@ abbrev pub copies : {M : Type 0} → List (Reply M) → List Event
 copies [] = []
 copies (r ∷ replies) = event.Copy ∷ copies replies
 
+-- a refusal
 abbrev pub IsRefusal : {M : Type 0} → Reply M → Type 0
 IsRefusal r = (e : Error) × (r ≡ reply.Refused e)
 
+-- an image became current
 abbrev pub IsFlip : {M : Type 0} → Reply M → Type 0
 IsFlip r = (n : ℕ) × (r ≡ reply.Flipped n)
 

@@ -52,6 +52,7 @@ answered (reply.Life life) = Some (core.LifeIs life)
 answered reply.Skipped = Some core.Skipped
 answered (reply.Refused e) = Some (core.Refused e)
 
+-- an event with its reply, where the core was asked and has answered
 abbrev pub both : Option core.Event → Option core.Reply → List (core.Event × core.Reply)
 both None answer = []
 both (Some e) None = []

@@ -122,6 +122,7 @@ abbrev pub IsInCoreBy : {D M : Type 0} → Option core.Event → Reply M → Par
 IsInCoreBy None answer old new = ⊥
 IsInCoreBy (Some e) answer old new = ServesInCore e answer old new
 
+-- so of a request in the engine's own words
 abbrev pub IsInCore : {D M : Type 0} → Event → Reply M → Parts D M → Parts D M → Type 0
 IsInCore request answer old new = IsInCoreBy (asked request) answer old new
 

@@ -9,7 +9,7 @@ pub record Life (M : Type 0) : Type 0 where
   pub run : Past M
   pub left : Given
 
--- Each run began with what the crash before it left, the first of them with this. What a crash left is a beginning of the run's
+-- Each run began with what the crash before it left, the first of them with this. What a crash left is a prefix of the run's
 -- history, with all that was acknowledged.
 abbrev pub AreLives : {M : Type 0} → Given → List (Life M) → Given → Type 0
 AreLives given [] now = now ≡ given

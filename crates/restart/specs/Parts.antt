@@ -8,12 +8,15 @@ use Rattle.store_writer.specs.Parts as writer
 use Rattle.store_writer.specs.declared.writer.Writer.{Writer}
 use Rattle.restart.specs.declared.parts.Parts.{Parts}
 
+-- its core
 abbrev pub core_of : {D M : Type 0} → Parts D M → CoreValue
 core_of engine = value_of engine.core
 
+-- its writer
 abbrev pub writer_of : {D M : Type 0} → Parts D M → Writer D M
 writer_of engine = engine.writer
 
+-- its device
 abbrev pub device_of : {D M : Type 0} → Parts D M → D
 device_of engine = writer.device_of engine.writer
 

@@ -15,7 +15,7 @@ SurvivesAnyCrash {D} {M} history events replies old new = (past : Past M) → Is
     → LeavesOnly (history (device_of old)) (history (device_of new)) (λ image. (j : ℕ) × (j ≤ length events) × SurvivesAt past events replies j image)
 
 -- These requests were answered so, whatever was answered before. A crash once the call has ended leaves a
--- beginning of the whole run, with all that a reply has told to be safe, those of this call too.
+-- prefix of the whole run, with all that a reply has told to be safe, those of this call too.
 abbrev pub KeepsWholeRun : {D M : Type 0} → (D → History) → List Event → List (Reply M) → Parts D M → Parts D M → Type 0
 KeepsWholeRun {D} {M} history events replies old new = (past : Past M) → IsAt history past old → (image : Image) → IsCrashImage (history (device_of new)).disk image
     → Survives (and_then past events replies) (acknowledged_by (and_then past events replies)) image

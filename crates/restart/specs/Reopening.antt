@@ -65,7 +65,7 @@ pub record IsNotOpened {D : Type 0} (history : D → History) (failures : D → 
   pub told : e ≢ DeviceFailed → failures after ≡ failures before
   pub synced : e ≢ DeviceFailed → IsSynced (history after).disk
 
--- The engine holds a beginning of the run's history, which has every item up to the floor and no record past the last that
+-- The engine holds a prefix of the run's history, which has every item up to the floor and no record past the last that
 -- the run made, and no transaction; and what it holds is something that a core may begin with: as far as the index is built, it shows the pair of each row, and no other. A
 -- run begins over it; and the core has come to where it is, so that a build that goes on to its end leaves the index whole.
 pub record Recovers {D M : Type 0} (history : D → History) (past : Past M) (floor : ℕ) (engine : Parts D M) : Type 0 where
@@ -77,7 +77,7 @@ pub record Recovers {D M : Type 0} (history : D → History) (past : Past M) (fl
   pub begins : IsAt history (opening past.geometry given) engine
   pub come : HasCome (core_of engine)
 
--- Whatever run left the device so, the engine holds a beginning of its history, with all up to the floor.
+-- Whatever run left the device so, the engine holds a prefix of its history, with all up to the floor.
 abbrev pub RecoversAnyRun : {D M : Type 0} → (D → History) → D → Parts D M → Type 0
 RecoversAnyRun {D} {M} history before engine = (past : Past M) (floor : ℕ) → Survives past floor (history before).disk.content → Recovers history past floor engine
 
@@ -85,7 +85,7 @@ RecoversAnyRun {D} {M} history before engine = (past : Past M) (floor : ℕ) →
 abbrev pub RefusesNoRun : (M : Type 0) → {D : Type 0} → (D → History) → (D → ℕ) → D → D → Error → Type 0
 RefusesNoRun M history failures before after e = (past : Past M) (floor : ℕ) → Survives past floor (history before).disk.content → Refuses (failures before) (failures after) e
 
--- Whatever run left a synced device so, with all up to the floor, a crash at any moment since leaves such a beginning too.
+-- Whatever run left a synced device so, with all up to the floor, a crash at any moment since leaves such a prefix too.
 abbrev pub StaysOfAnyRun : (M : Type 0) → {D : Type 0} → (D → History) → D → D → Type 0
 StaysOfAnyRun M history before after = IsSynced (history before).disk → (past : Past M) (floor : ℕ) → Survives past floor (history before).disk.content
     → LeavesOnly (history before) (history after) (Survives past floor)

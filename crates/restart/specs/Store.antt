@@ -45,6 +45,7 @@ over geometry given = record { given = given; pages = geometry.pages; places = g
 abbrev pub items_told : {M : Type 0} → Past M → List Item
 items_told past = told.items_of no_writes (core_calls past.events past.replies)
 
+-- the last record that the run's replies told to be safe
 abbrev pub acknowledged_by : {M : Type 0} → Past M → ℕ
 acknowledged_by past = acknowledged past.given.last past.replies
 
@@ -56,7 +57,7 @@ last_made past = (standing_over (standing_at past.given.last) (core_calls past.e
 abbrev pub and_then : {M : Type 0} → Past M → List Event → List (Reply M) → Past M
 and_then past events replies = record past { events = past.events ++ events; replies = past.replies ++ replies }
 
--- The image gives a beginning of the run's history, which has every item up to the floor, and no record past the last that
+-- The crash state gives a prefix of the run's history, which has every item up to the floor, and no record past the last that
 -- the run made; and a core may begin with it.
 pub record Survives {M : Type 0} (past : Past M) (floor : ℕ) (image : Image) : Type 0 where
   pub given : Given
@@ -164,9 +165,10 @@ AreServed history failures past (event ∷ events) [] old new = ⊥
 abbrev pub RunsOn : {D M : Type 0} → (D → History) → List Event → List (Reply M) → Parts D M → Parts D M → Type 0
 RunsOn {D} {M} history events replies old new = (past : Past M) → IsAt history past old → GoesOn history past events replies old new
 
+-- so it is of any run that left the engine where it was
 abbrev pub RunsLawfully : {D M : Type 0} → (D → History) → (D → ℕ) → List Event → List (Reply M) → Parts D M → Parts D M → Type 0
 RunsLawfully {D} {M} history failures events replies old new = (past : Past M) → IsAt history past old → AreServed history failures past events replies old new
 
--- whatever run left the engine so, a crash of the device leaves a beginning of it with everything acknowledged
+-- whatever run left the engine so, a crash of the device leaves a prefix of it with everything acknowledged
 abbrev pub KeepsRun : {D M : Type 0} → (D → History) → Parts D M → D → Type 0
 KeepsRun {D} {M} history engine device = (past : Past M) (image : Image) → IsAt history past engine → IsCrashImage (history device).disk image → Survives past (acknowledged_by past) image

@@ -27,13 +27,13 @@ pub record Story : Type 0 where
 abbrev pub untold : GeometryValue → Story
 untold g = record { geometry = g; items = []; made = 0; safe = 0 }
 
--- This is what a beginning of the story's history makes of nothing, one that has every item up to the last that was told to be
+-- This is what a prefix of the story's history makes of nothing, one that has every item up to the last that was told to be
 -- safe, and no record that wasn't made.
 pub record IsLeftOf (story : Story) (given : Given) : Type 0 where
   pub beginning : IsBeginning nothing story.items story.safe given
   pub within : given.last ≤ story.made
 
--- Such a thing is what the image gives, and a core may begin with it.
+-- Such a thing is what the content gives, and a core may begin with it.
 pub record GivesStory (story : Story) (image : Image) : Type 0 where
   pub given : Given
   pub gives : Gives image story.geometry given
@@ -58,6 +58,7 @@ and_run story past safe = record { geometry = story.geometry; items = up_to past
 
 -- ---- the last checkpoint
 
+-- the deed is a commit
 abbrev pub IsCommit : Deed → Type 0
 IsCommit (Committed writes) = Unit {0}
 IsCommit Created = ⊥

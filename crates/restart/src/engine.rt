@@ -116,6 +116,15 @@ impl<D: Device, A: Allocator + Copy> Engine<D, A> {
         &self.parts.core
     }
 
+    /// The device as it is now. A crash of it leaves what `restart` takes back to a prefix of the history, with everything that was
+    /// acknowledged.
+    pub fn device(&self) -> &D
+        ensures device { result.now ≡ device_of self.now }
+        ensures survives { KeepsRun D.history self.now result.now }
+    {
+        self.parts.writer.device()
+    }
+
     /// The core, and the writer that owns the device, with every record that the core made (`left`): the device is as it was.
     /// The writer gives an image under way up at the first piece of another one. The core goes on counting its transactions and
     /// commits; one that served nothing is as `restart` loaded it.

@@ -1,4 +1,12 @@
 //! A store over two halves: it is opened, serves requests in order, and survives a crash at any moment.
+//!
+//! Proved: a crash at any moment of `run`, within any write or sync, leaves what the first requests committed, with all that was
+//! acknowledged before (`any_crash`, `at_end`: of an engine that is where a run left it). Each reply is lawful (`lawful`).
+//! `restart` opens what a crash of such a run left, and is refused there only for want of memory or by a device that fails
+//! (`recovers`, `readable`). With no transaction active, an `Ok` of `build_to_end` over such a store leaves the visible entries
+//! just the pairs of the rows (`whole`). `copies_flip`: so many copies make an image current.
+//! Only tested (`store_tests`): each allocation refused, and each call of the device failing, in turn; that calls succeed where
+//! there is memory. Neither: time.
 #![tactic(auto)]
 
 mod asking;

@@ -51,6 +51,7 @@ rid_text rid = decimal rid.page ++ 46 ∷ decimal rid.slot
 abbrev pub IsByteText : List ℕ → List ℕ → Type 0
 IsByteText word bytes = ((word ≡ 61 ∷ bytes) × All IsAsciiGraphic bytes) ⊎ ((word ≡ 58 ∷ encode_lower bytes) × IsBytes bytes)
 
+-- the name of each fate
 abbrev pub fate_name : Fate → List ℕ
 fate_name Old = codes "old"
 fate_name New = codes "new"

@@ -27,23 +27,27 @@ abbrev pub parts_left : ℕ → Option (List ℕ) → List (List ℕ)
 parts_left separator None = []
 parts_left separator (Some rest) = parted_by separator rest
 
+-- the one word that is left
 abbrev pub only : List (List ℕ) → Option (List ℕ)
 only [] = None
 only (word ∷ []) = Some word
 only (word ∷ more ∷ rest) = None
 
+-- the two words that are left
 abbrev pub first_two : List (List ℕ) → Option (List ℕ × List ℕ)
 first_two [] = None
 first_two (first ∷ rest) = do
   second ← only rest
   Some (first, second)
 
+-- the three words that are left
 abbrev pub first_three : List (List ℕ) → Option (List ℕ × List ℕ × List ℕ)
 first_three [] = None
 first_three (first ∷ rest) = do
   two ← first_two rest
   Some (first, two.0, two.1)
 
+-- the four words that are left
 abbrev pub first_four : List (List ℕ) → Option (List ℕ × List ℕ × List ℕ × List ℕ)
 first_four [] = None
 first_four (first ∷ rest) = do
@@ -70,6 +74,7 @@ count_at word = do
   n ← number_at word
   if nat_le 1 n && nat_le n STEPS_MAX then Some n else None
 
+-- a place of these two parts
 abbrev pub place_at : List (List ℕ) → Option Place
 place_at [] = None
 place_at (first ∷ rest) = do
@@ -91,6 +96,7 @@ text_at (first ∷ rest) =
     else if first == 58 then hex_at rest
     else None
 
+-- the fate that a word names
 abbrev pub fate_at : List ℕ → Option Fate
 fate_at word =
     if bytes_eq word (codes "old") then Some Old
@@ -100,6 +106,7 @@ fate_at word =
     else if bytes_eq word (codes "junk") then Some Junk
     else None
 
+-- a command that has no words
 abbrev pub alone_at : Command → List (List ℕ) → Option Command
 alone_at command [] = Some command
 alone_at command (word ∷ rest) = None

@@ -1,7 +1,7 @@
 -- A disk of sectors: what it holds, which sectors are unsynced, and what a crash leaves of it.
 use Rattle.std.specs.Prelude.{◌≡◌, ℕ, ◌<◌, Bool, true, false, ◌||◌, ◌==◌, List, [], length, slice_index, slice_index_or, slice_set}
 
--- the bytes of each sector: the content of a disk, or what a crash leaves of one
+-- the bytes of each sector: the content of a disk, or a crash state, which is what a crash leaves of one
 abbrev pub Image : Type 0
 Image = List (List ℕ)
 
@@ -39,18 +39,18 @@ IsFailedWrite old n new = (bytes : List ℕ) × IsSector bytes × (new ≡ after
 abbrev pub IsSynced : Disk → Type 0
 IsSynced disk = (k : ℕ) → disk.unsynced k ≡ false
 
--- what a crash may leave: the content of each sector that is synced, and any 512 bytes in each that is not
+-- a crash state of the disk: the content of each sector that is synced, and any 512 bytes in each that is not
 pub record IsCrashImage (disk : Disk) (image : Image) : Type 0 where
   pub sectors : length image ≡ length disk.content
   pub kept : (k : ℕ) → disk.unsynced k ≡ false → sector image k ≡ sector disk.content k
   pub torn : (k : ℕ) → k < length image → disk.unsynced k ≡ true → IsSector (sector image k)
 
--- the second image is the first one, but for the sectors of S
+-- the second content is the first one, but for the sectors of S
 pub record SameOutside (S : ℕ → Type 0) (image other : Image) : Type 0 where
   pub sectors : length other ≡ length image
   pub same : (k : ℕ) → ¬ S k → sector other k ≡ sector image k
 
--- outside the sectors of S the disk holds the image, and each sector is synced
+-- outside the sectors of S the disk holds this content, and each sector is synced
 pub record SyncedOutside (S : ℕ → Type 0) (image : Image) (disk : Disk) : Type 0 where
   pub content : SameOutside S image disk.content
   pub synced : (k : ℕ) → ¬ S k → disk.unsynced k ≡ false

@@ -2,7 +2,7 @@
 use Rattle.std.specs.Prelude.{◌≡◌, ◌⊎◌, ℕ, ◌+◌, ◌-◌, ◌^◌, ◌<◌, ◌≤◌, List, [], ◌∷◌, Result, OnOk, OnErr}
 use Rattle.sector_device.specs.Disk.{Image, IsWhole, Disk, IsCrashImage, SameOutside, SyncedOutside}
 
--- the disk as it is, and as it was at each moment until now
+-- the past of a disk: as it is, and as it was at each moment until now
 pub record History : Type 0 where
   pub disk : Disk
   pub moment : ℕ
@@ -16,22 +16,22 @@ pub record Elapses (old new : History) : Type 0 where
   pub kept : (t : ℕ) → t ≤ old.moment → new.disk_at t ≡ old.disk_at t
   pub during : (t : ℕ) → old.moment ≤ t → t ≤ new.moment → (new.disk_at t ≡ old.disk) ⊎ (new.disk_at t ≡ new.disk)
 
--- each crash image of the moments from one to another has P
+-- each crash state of the moments from one to another has P
 abbrev pub Between : (ℕ → Disk) → ℕ → ℕ → (Image → Type 0) → Type 0
 Between disk_at from to P = (t : ℕ) (image : Image) → from ≤ t → t ≤ to → IsCrashImage (disk_at t) image → P image
 
--- a crash at any moment from old to new leaves an image that has P
+-- a crash at any moment from old to new leaves a crash state that has P
 pub record LeavesOnly (old new : History) (P : Image → Type 0) : Type 0 where
   pub later : old.moment ≤ new.moment
   pub kept : (t : ℕ) → t ≤ old.moment → new.disk_at t ≡ old.disk_at t
   pub each : Between new.disk_at old.moment new.moment P
 
--- The borders rise from the one moment to the other, and each crash image from the j-th to the next has P j.
+-- The borders rise from the one moment to the other, and each crash state from the j-th to the next has P j.
 abbrev pub Spans : (ℕ → Disk) → (ℕ → Image → Type 0) → ℕ → ℕ → List ℕ → ℕ → Type 0
 Spans disk_at P j from [] to = from ≡ to
 Spans disk_at P j from (next ∷ borders) to = (from ≤ next) × Between disk_at from next (P j) × Spans disk_at P (j + 1) next borders to
 
--- Calls were made that write only sectors of S: a crash at any moment since leaves the image outside S, and outside S
+-- Calls were made that write only sectors of S: a crash at any moment since leaves this content outside S, and outside S
 -- the disk holds it, synced.
 pub record RunsWithin (S : ℕ → Type 0) (image : Image) (old new : History) : Type 0 where
   pub now : SyncedOutside S image new.disk

@@ -28,6 +28,7 @@ abbrev pub state_after : MemoryState → List Call → MemoryState
 state_after s [] = s
 state_after s (call ∷ calls) = state_after (step s call) calls
 
+-- as a disk
 abbrev pub disk_of : MemoryState → Disk
 disk_of s = record { content = s.content; unsynced = λ k. slice_index_or s.unsynced k false }
 

@@ -13,10 +13,12 @@ use Rattle.replay_values.specs.declared.step.Step.TheVariants as step
 use Rattle.replay_values.specs.declared.answer.Answer.{Answer}
 use Rattle.replay_values.specs.declared.answer.Answer.TheVariants as answer
 
+-- the row that was looked for, or none
 abbrev pub row_answer : Option Row → Answer
 row_answer (Some row) = answer.Row row
 row_answer None = answer.NoRow
 
+-- a step of the builder, to be printed
 abbrev pub build_step_of : BuildReply → Step
 build_step_of (build.Scanned page) = step.Scanned page
 build_step_of (build.Placed pair) = step.Placed pair
@@ -25,6 +27,7 @@ build_step_of (build.Marked pair ticket) = step.Marked pair ticket.record
 build_step_of (build.Done ticket) = step.Completed ticket.record
 build_step_of build.Idle = step.Idle
 
+-- a step of the cleaner, to be printed
 abbrev pub clean_step_of : CleanReply → Step
 clean_step_of (clean.Cleaned pair) = step.Cleaned pair
 clean_step_of (clean.Kept pair) = step.Kept pair

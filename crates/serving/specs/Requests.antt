@@ -32,6 +32,7 @@ with_row key body asked =
     then (if nat_le (length body) BODY_MAX then Ok asked else Err BodyTooLong)
     else Err KeyTooLong
 
+-- the request that a command becomes; a key or body that is too long is refused
 abbrev pub request_of : Command → Result Request Error
 request_of command.Begin = Ok (request.Event event.Begin)
 request_of (command.Insert txn key body) = with_row key body (request.Event (event.Insert txn key body))

@@ -75,7 +75,7 @@ module _ {D : Type 0} where
   last_made s = (core_of s.engine).last
 
 module _ {D : Type 0} (history : D → History) where
-  -- The store was opened on this device. Whatever run of an engine left the device so, it holds a beginning of that run, with all
+  -- The store was opened on this device. Whatever run of an engine left the device so, it holds a prefix of that run, with all
   -- that the run had to keep.
   pub record OpensOn (device : D) (opened_store : Store D) : Type 0 where
     pub opened : IsOpened history device opened_store.engine

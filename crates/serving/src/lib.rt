@@ -3,6 +3,7 @@
 //!
 //! Proved: each request is a run of the engine's own steps, with just the replies that these had (`Serves`, `Flushes`,
 //! `TakesImage`), and a dump prints just the rows, the entries and the life that are there.
+//! Neither: when memory is lacking.
 #![tactic(auto)]
 
 mod answer;

@@ -110,6 +110,14 @@ impl<D: Device> Store<D> {
         self.horizon
     }
 
+    /// The device, with what was written to it so far. A crash of it leaves what [`Store::into_device`] says.
+    pub fn device(&self) -> &D
+        ensures device { result.now ≡ device_of self.now }
+        ensures survives { LeavesItsRun D.history self.now result.now }
+    {
+        self.engine.device()
+    }
+
     /// The device, with what was written to it. A crash of it leaves what a restart takes back to a prefix of what was served,
     /// with everything that a reply has told to be safe.
     pub fn into_device(self) -> D

@@ -25,6 +25,7 @@ use Rattle.session.specs.declared.session.Session.{Session}
 use Rattle.session.specs.declared.session.End.{End}
 use Rattle.session.specs.declared.session.End.TheVariants as end
 
+-- the geometry that the arguments ask for
 abbrev pub geometry_of : Arguments → GeometryValue
 geometry_of arguments = record { pages = arguments.pages; entries = arguments.entries; slots = arguments.slots }
 

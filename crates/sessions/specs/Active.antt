@@ -3,6 +3,7 @@ use Rattle.std.specs.Prelude.{◌≡◌, ℕ, ◌<◌, zero, suc, true, List, []
 use Rattle.sessions.specs.declared.active.ActiveTxn.{ActiveTxn}
 use Rattle.sessions.specs.Values.{ActiveValue, active_of, with_active}
 
+-- what contracts see of it
 abbrev pub active_value : ActiveTxn → ActiveValue
 active_value a = record { txn = a.txn; rows = a.rows.items; unfinished = a.unfinished; rolling = a.rolling }
 
@@ -11,9 +12,11 @@ abbrev pub place_from : ℕ → ℕ → List ActiveTxn → Option ℕ
 place_from txn i [] = None
 place_from txn i (a ∷ rest) = if txn == a.txn then Some i else place_from txn (i + 1) rest
 
+-- it has room for one row more
 abbrev pub HasRoom : ActiveTxn → Type 0
 HasRoom a = vec_len a.rows < vec_capacity a.rows
 
+-- so has the one at this place of the list
 abbrev pub HasRoomAt : ℕ → List ActiveTxn → Type 0
 HasRoomAt i active = (a : ActiveTxn) × (slice_get active i ≡ Some a) × HasRoom a
 

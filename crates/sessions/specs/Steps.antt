@@ -28,6 +28,7 @@ change_seen core change a = record a { rows = with_write (row_now core change.ri
 abbrev pub rows_now : CoreValue → List Write → List Write
 rows_now core rows = map (λ w. row_now core w.rid) rows
 
+-- the change, as long as a step of it is owed
 abbrev pub still_unfinished : CoreValue → ℕ → Option Write → Option Write
 still_unfinished core txn change = option_and_then (unfinished_in core txn) change
 
@@ -41,26 +42,33 @@ taken_back core a = record a { rows = rows_now core a.rows; unfinished = None; r
 
 -- ---- the session
 
+-- a transaction more
 abbrev pub begun : SessionValue → ℕ → SessionValue
 begun s txn = record s { active = s.active ++ new_active txn ∷ [] }
 
+-- the first step of a change was made
 abbrev pub changed : SessionValue → CoreValue → ℕ → Write → SessionValue
 changed s core txn change = record s { active = with_active (change_seen core change) txn s.active }
 
+-- a further step was made
 abbrev pub stepped : SessionValue → CoreValue → ℕ → SessionValue
 stepped s core txn = record s { active = with_active (step_seen core) txn s.active }
 
+-- a step of an undo was made
 abbrev pub rolling_back : SessionValue → CoreValue → ℕ → SessionValue
 rolling_back s core txn = record s { active = with_active (taken_back core) txn s.active }
 
+-- the transaction has ended
 abbrev pub ended : SessionValue → ℕ → SessionValue
 ended s txn = record s { active = without txn s.active }
 
+-- it has committed, with this ticket
 abbrev pub committed : SessionValue → ℕ → Ticket → SessionValue
 committed s txn ticket = record s {
   commits = s.commits ++ record { ticket = ticket; writes = rows_of txn s.active } ∷ [];
   active = without txn s.active;
 }
 
+-- the index was created or dropped
 abbrev pub with_turn : SessionValue → Turn → SessionValue
 with_turn s turn = record s { turns = s.turns ++ turn ∷ [] }

@@ -24,6 +24,7 @@ pub record SessionValue : Type 0 where
   pub turns : List Turn
   pub active : List ActiveValue
 
+-- a session of a seat that has done nothing
 abbrev pub empty_session : SessionValue
 empty_session = record { commits = []; turns = []; active = [] }
 
@@ -57,9 +58,11 @@ without txn active = filter (λ a. not (txn == a.txn)) active
 abbrev pub rows_of : ℕ → List ActiveValue → List Write
 rows_of txn active = unwrap_or (option_map (λ a. a.rows) (active_of txn active)) []
 
+-- whether the transaction is one of the seat's
 abbrev pub is_active : SessionValue → ℕ → Bool
 is_active s txn = is_some (active_of txn s.active)
 
+-- whether a transaction may begin a change or commit
 abbrev pub can_go_on : Option ActiveValue → Bool
 can_go_on None = false
 can_go_on (Some a) = not (is_some a.unfinished) && not a.rolling
@@ -68,6 +71,7 @@ can_go_on (Some a) = not (is_some a.unfinished) && not a.rolling
 abbrev pub is_ready : SessionValue → ℕ → Bool
 is_ready s txn = can_go_on (active_of txn s.active)
 
+-- whether it has a change to finish
 abbrev pub has_unfinished : Option ActiveValue → Bool
 has_unfinished None = false
 has_unfinished (Some a) = is_some a.unfinished

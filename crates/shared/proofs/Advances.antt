@@ -35,7 +35,7 @@ IsAnswer Skipped = ⊥
 IsAnswer (Refused error) = ⊥
 IsAnswer _ = Unit {0}
 
-due : (s : State) (k : Standing) (e : Event) (reply : Reply) (step : Option MachineStep) → IsAllowed s k e reply step → IsAnswer reply → IsProper s e × IsDue s k e reply step
+pub due : (s : State) (k : Standing) (e : Event) (reply : Reply) (step : Option MachineStep) → IsAllowed s k e reply step → IsAnswer reply → IsProper s e × IsDue s k e reply step
 due s k e reply step (unknown a) answer = absurd answer
 due s k e reply step (skipped a b) answer = absurd answer
 due s k e reply step (refused a b error f) answer = absurd answer

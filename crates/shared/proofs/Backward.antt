@@ -44,6 +44,10 @@ module _ (t : ℕ) where
   back_more p q r (inl same) b = inr (subst (λ v. IsGoingBack v t r) same b)
   back_more p q r (inr a) b = inr (record { others = b.others ∙ a.others; active = b.active; rolling = b.rolling; places = λ x. b.places x ∙ a.places x })
 
+  pub back_joined : (p q r : SessionValue) → IsBackFrom p q → IsBackFrom q r → IsBackFrom p r
+  back_joined p q r a (inl same) = subst (IsBackFrom p) (sym same) a
+  back_joined p q r a (inr b) = back_more p q r a b
+
   pub back_stays : (p q r : SessionValue) → IsBackFrom p q → r ≡ q → IsBackFrom p r
   back_stays p q r back is = subst (IsBackFrom p) (sym is) back
 

@@ -9,3 +9,5 @@ mod SameSeat
 mod Made
 mod Backward
 mod Ends
+mod Undone
+mod Again

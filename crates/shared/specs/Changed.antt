@@ -30,6 +30,7 @@ abbrev pub HasChanged : SessionValue → (txn : ℕ) → (change : Write) → (r
 HasChanged old txn change None new = IsUnderWay old txn change new × (unfinished_of new txn ≡ None)
 HasChanged old txn change (Some e) new = IsUnderWay old txn change new × (unfinished_of new txn ≡ Some change)
 
+-- whether a transaction is rolling back
 abbrev pub goes_back : Option ActiveValue → Bool
 goes_back None = false
 goes_back (Some a) = a.rolling

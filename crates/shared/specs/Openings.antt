@@ -22,6 +22,7 @@ pub record IsJustOpened (v : CoreValue) : Type 0 where
   pub opens : CanOpen (opened_of v)
   pub begins : BeginsWith (opened_of v) v
 
+-- the names of what is made for the seats
 abbrev pub names_of : Opening → Names
 names_of o = record { queue = o.queue; table = o.registry; seats = length o.book.items; opened = opened_of (value_of o.core) }
 

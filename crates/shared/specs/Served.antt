@@ -1,6 +1,6 @@
 -- What happened under the lock.
 use Rattle.std.specs.FinMap.{get}
-use Rattle.std.specs.Prelude.{List, Option, slice_get, Some, ℕ, ◌≡◌, ◌⊎◌}
+use Rattle.std.specs.Prelude.{List, Option, slice_get, Some, ℕ, [], ◌∷◌, ◌≡◌, ◌⊎◌}
 use Rattle.records.specs.RecordValue.{RecordValue}
 use Rattle.records.specs.Values.{Place}
 use Rattle.records.specs.declared.row.Row.{Row}
@@ -10,6 +10,7 @@ use Rattle.core_laws.specs.Holds.{committed_rows}
 use Rattle.core_model.specs.Histories.{Opened}
 use Rattle.nsf_core.specs.Moves.{HasNoChange, txn_shown}
 use Rattle.nsf_core.specs.View.{CoreValue, Serves}
+use Rattle.sessions.specs.Steps.{rolling_back}
 use Rattle.sessions.specs.Values.{SessionValue}
 use Rattle.register.specs.Reading.{ReadsBack}
 use Rattle.locked_core.specs.Names.{IsShared}
@@ -45,8 +46,24 @@ pub record WasTakenBack (o : Opened) (seat : ℕ) (session : SessionValue) (txn 
   pub none_left : HasNoChange (txn_shown end.core txn)
   pub rows : (q : Place) (row : Option Row) → row_of session txn q ≡ Some row → row ≡ get (committed_rows end.core) q
 
+-- A step that takes a change of the transaction back was served so, while the seat had the first session. In the other one the transaction is rolling back, and has at each place that it holds the row that the step left there.
+pub record WasUndone (o : Opened) (seat : ℕ) (old : SessionValue) (txn : ℕ) (new : SessionValue) : Type 0 where
+  pub undo : WasServedTo o seat old (Event.Undo txn) Reply.Undone
+  pub session : new ≡ rolling_back old undo.new txn
+
+-- These sessions came one after another, each by an undo step from the one before it.
+abbrev pub AreUndone : Opened → (seat : ℕ) → SessionValue → (txn : ℕ) → List SessionValue → SessionValue → Type 0
+AreUndone o seat old txn [] new = new ≡ old
+AreUndone o seat old txn (next ∷ rest) new = WasUndone o seat old txn next × AreUndone o seat next txn rest new
+
+-- Undo steps, or none, were made of the seat's transaction, and each of them is made still.
+pub record HasUndone (o : Opened) (seat : ℕ) (old : SessionValue) (txn : ℕ) (new : SessionValue) : Type 0 where
+  pub sessions : List SessionValue
+  pub undone : AreUndone o seat old txn sessions new
+
 -- And so it was, after undo steps or none, of a seat that had the other session at first.
 pub record WasAborted (o : Opened) (seat : ℕ) (old : SessionValue) (txn : ℕ) : Type 0 where
   pub last : SessionValue
   pub back : (last ≡ old) ⊎ IsGoingBack old txn last
+  pub undone : HasUndone o seat old txn last
   pub taken : WasTakenBack o seat last txn

@@ -5,7 +5,7 @@ ghost use Rattle.core_contracts.specs.Events.{Event, Refused};
 ghost use Rattle.sessions.specs.Steps.{ended};
 ghost use Rattle.sessions.specs.Values.{is_active};
 ghost use Rattle.shared.specs.Changed.{IsGoingBack};
-ghost use Rattle.shared.specs.Served.{WasAborted, WasServedTo, WasTakenBack};
+ghost use Rattle.shared.specs.Served.{HasUndone, WasAborted, WasServedTo, WasTakenBack, WasUndone};
 
 use crate::seat::Seat;
 use crate::shared::Shared;
@@ -18,12 +18,14 @@ impl<B: Group> Shared<B> {
     /// seat's from then on. At its end each place that it held has its committed row.
     ///
     /// `NoSuchTxn` where the transaction isn't one of the seat's, and else the refusals of the core's `undo_step` and `end`.
-    /// After one of them the transaction is as before or rolling back, and `abort` may be called again.
+    /// After one of them the transaction is as before or rolling back. The undo steps that were made stay made (`undone`), and `abort`,
+    /// called again, goes on from there (law `each_refusal`).
     pub fn abort<R: Wait>(&self, rt: &R, seat: &mut Seat<B>, txn: Txn) -> Result<(), Error>
         ensures foreign { is_active seat.old.session txn ≡ false → (result ≡ Err NoSuchTxn) × (seat.new ≡ seat.old) }
         ensures ok { OnOk result (seat.new.session ≡ ended seat.old.session txn) }
         ensures aborted { OnOk result ∥ WasAborted B.site.opened seat.old.number seat.old.session txn ∥₁ }
         ensures err { OnErr result ((seat.new.session ≡ seat.old.session) ⊎ IsGoingBack seat.old.session txn seat.new.session) }
+        ensures undone { OnErr result ∥ HasUndone B.site.opened seat.old.number seat.old.session txn seat.new.session ∥₁ }
         ensures served { IfErr result (λ e. is_active seat.old.session txn ≡ true → ∥ WasServedTo B.site.opened seat.new.number seat.new.session (Event.End txn) (Refused e) ∥₁ ⊎ ∥ WasServedTo B.site.opened seat.new.number seat.new.session (Event.Undo txn) (Refused e) ∥₁) }
         ensures seat { seat.new ≡ record seat.old { session = seat.new.session } }
     {
@@ -51,11 +53,12 @@ impl<B: Group> Shared<B> {
         ensures last { IfOk result (λ last. last ≡ true → seat.new.session ≡ ended seat.old.session txn) }
         ensures taken { IfOk result (λ last. last ≡ true → ∥ WasTakenBack B.site.opened seat.old.number seat.old.session txn ∥₁) }
         ensures back { IfOk result (λ last. last ≡ false → IsGoingBack seat.old.session txn seat.new.session) }
+        ensures undone { IfOk result (λ last. last ≡ false → ∥ WasUndone B.site.opened seat.old.number seat.old.session txn seat.new.session ∥₁) }
         ensures refused { OnErr result (seat.new ≡ seat.old) }
         ensures served { IfErr result (λ e. ∥ WasServedTo B.site.opened seat.old.number seat.old.session (Event.End txn) (Refused e) ∥₁ ⊎ ∥ WasServedTo B.site.opened seat.old.number seat.old.session (Event.Undo txn) (Refused e) ∥₁) }
         ensures seat { seat.new ≡ record seat.old { session = seat.new.session } }
     {
-        let mut guard = self.locked.lock(rt);
+        let mut guard = self.hold(rt);
         let locked = &mut *guard;
         locked.push_outbox(rt, &self.queue);
         if locked.may_end(txn) {

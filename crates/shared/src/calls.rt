@@ -27,7 +27,7 @@ impl<B: Group> Shared<B> {
         ensures ok { IfOk result (λ txn. seat.new ≡ record seat.old { session = begun seat.old.session txn }) }
         ensures refused { OnErr result (seat.new ≡ seat.old) }
     {
-        let mut locked = self.locked.lock(rt);
+        let mut locked = self.hold(rt);
         locked.push_outbox(rt, &self.queue);
         locked.begin(&self.registry, &mut seat.part)
     }
@@ -44,7 +44,7 @@ impl<B: Group> Shared<B> {
         ensures ok { IfOk result (λ ticket. seat.new ≡ record seat.old { session = committed seat.old.session txn ticket }) }
         ensures refused { OnErr result (seat.new ≡ seat.old) }
     {
-        let mut locked = self.locked.lock(rt);
+        let mut locked = self.hold(rt);
         locked.push_outbox(rt, &self.queue);
         let committed = locked.commit(&self.registry, &mut seat.part, txn);
         locked.push_outbox(rt, &self.queue);
@@ -61,7 +61,7 @@ impl<B: Group> Shared<B> {
         ensures ok { IfOk result (λ ticket. seat.new ≡ record seat.old { session = with_turn seat.old.session (Created ticket.«record») }) }
         ensures refused { OnErr result (seat.new ≡ seat.old) }
     {
-        let mut locked = self.locked.lock(rt);
+        let mut locked = self.hold(rt);
         locked.push_outbox(rt, &self.queue);
         let created = locked.create_index(&self.registry, &mut seat.part);
         locked.push_outbox(rt, &self.queue);
@@ -80,7 +80,7 @@ impl<B: Group> Shared<B> {
         ensures ok { IfOk result (λ ticket. seat.new ≡ record seat.old { session = with_turn seat.old.session (Dropped ticket.«record») }) }
         ensures refused { OnErr result (seat.new ≡ seat.old) }
     {
-        let mut locked = self.locked.lock(rt);
+        let mut locked = self.hold(rt);
         locked.push_outbox(rt, &self.queue);
         let dropped = locked.drop_index(&self.registry, &mut seat.part);
         locked.push_outbox(rt, &self.queue);
@@ -97,7 +97,7 @@ impl<B: Group> Shared<B> {
         ensures own { (txn : ℕ) (row : Option RowValue) → row_of seat.old.session txn rid ≡ Some row → result ≡ row }
         ensures seat { seat.new ≡ seat.old }
     {
-        let mut guard = self.locked.lock(rt);
+        let mut guard = self.hold(rt);
         let locked = &mut *guard;
         locked.compare_seat(&self.registry, &mut seat.part);
         locked.get(rid)
@@ -109,7 +109,7 @@ impl<B: Group> Shared<B> {
     pub fn find<R: Wait>(&self, rt: &R, key: Key) -> Result<Vec<Rid>, Error>
         ensures { ∥ WasServed B.site.opened (Event.Find key) (reply_by (λ rids. Reply.Found rids.items) result) ∥₁ }
     {
-        let locked = self.locked.lock(rt);
+        let locked = self.hold(rt);
         locked.find(key)
     }
 
@@ -117,7 +117,7 @@ impl<B: Group> Shared<B> {
     pub fn life<R: Wait>(&self, rt: &R) -> Life
         ensures { ∥ WasServed B.site.opened Event.Life (Reply.LifeIs result) ∥₁ }
     {
-        let locked = self.locked.lock(rt);
+        let locked = self.hold(rt);
         locked.life()
     }
 }

@@ -47,7 +47,6 @@ impl<B: Group> Shared<B> {
     {
         let rid = self.start_insert(rt, seat, txn, key, body)?;
         let rest = self.finish_change(rt, seat, txn);
-        self.wake_flusher();
         Ok(Change { rid, rest })
     }
 
@@ -74,7 +73,6 @@ impl<B: Group> Shared<B> {
     {
         self.start_delete(rt, seat, txn, rid)?;
         let rest = self.finish_change(rt, seat, txn);
-        self.wake_flusher();
         Ok(Change { rid, rest })
     }
 
@@ -103,7 +101,6 @@ impl<B: Group> Shared<B> {
     {
         self.start_update(rt, seat, txn, rid, key, body)?;
         let rest = self.finish_change(rt, seat, txn);
-        self.wake_flusher();
         Ok(Change { rid, rest })
     }
 
@@ -124,7 +121,6 @@ impl<B: Group> Shared<B> {
             return Err(Error::NoSuchTxn);
         }
         let rest = self.finish_change(rt, seat, txn);
-        self.wake_flusher();
         match rest {
             Some(error) => Err(error),
             None => Ok(()),
@@ -148,7 +144,7 @@ impl<B: Group> Shared<B> {
         ensures refused { OnErr result (seat.new ≡ seat.old) }
         ensures seat { seat.new ≡ record seat.old { session = seat.new.session } }
     {
-        let mut locked = self.locked.lock(rt);
+        let mut locked = self.hold(rt);
         locked.push_outbox(rt, &self.queue);
         let started = locked.insert(&self.registry, &mut seat.part, txn, key, body);
         locked.push_outbox(rt, &self.queue);
@@ -171,7 +167,7 @@ impl<B: Group> Shared<B> {
         ensures refused { OnErr result (seat.new ≡ seat.old) }
         ensures seat { seat.new ≡ record seat.old { session = seat.new.session } }
     {
-        let mut locked = self.locked.lock(rt);
+        let mut locked = self.hold(rt);
         locked.push_outbox(rt, &self.queue);
         let started = locked.delete(&self.registry, &mut seat.part, txn, rid);
         locked.push_outbox(rt, &self.queue);
@@ -196,7 +192,7 @@ impl<B: Group> Shared<B> {
         ensures refused { OnErr result (seat.new ≡ seat.old) }
         ensures seat { seat.new ≡ record seat.old { session = seat.new.session } }
     {
-        let mut locked = self.locked.lock(rt);
+        let mut locked = self.hold(rt);
         locked.push_outbox(rt, &self.queue);
         let started = locked.update(&self.registry, &mut seat.part, txn, rid, key, body);
         locked.push_outbox(rt, &self.queue);
@@ -211,7 +207,7 @@ impl<B: Group> Shared<B> {
         ensures refused { OnErr result (seat.new ≡ seat.old) }
         ensures seat { seat.new ≡ record seat.old { session = seat.new.session } }
     {
-        let mut locked = self.locked.lock(rt);
+        let mut locked = self.hold(rt);
         locked.push_outbox(rt, &self.queue);
         let stepped = locked.next_step(&self.registry, &mut seat.part, txn);
         locked.push_outbox(rt, &self.queue);

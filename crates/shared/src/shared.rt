@@ -7,8 +7,17 @@ use locked_core::Locked;
 use registry::Registry;
 use std::alloc::Global;
 use std::marker::PhantomData;
-use std::sync::Mutex;
+use std::sync::{Mutex, MutexGuard, Wait};
+use std::{hint, thread};
 use tail::RecordQueue;
+
+// So often it is looked whether the lock is free before a sleep, and so often between two times that the processor is left to others.
+const LOCK_LOOKS: u32 = 4_000;
+
+const LOOKS_A_YIELD: u32 = 200;
+
+// So often the builder and the cleaner look whether those that go first have the lock.
+const LOOKS_BEHIND_OTHERS: u32 = 400;
 
 /// A core that several threads share by a `&`, each with its seat.
 #[derive(Drop)]
@@ -47,6 +56,43 @@ impl<B: Group> Shared<B> {
     /// time.
     pub fn pause_builder_every(&self, attempts: u64) {
         self.board.waits().set_pause_every(attempts);
+    }
+
+    /// Takes the lock for a seat or for the flusher, before the builder and the cleaner.
+    pub fn hold<R: Wait>(&self, rt: &R) -> MutexGuard<'_, Locked<B>> {
+        let waits = self.board.waits();
+        waits.wants_lock();
+        let guard = self.seize(rt);
+        waits.has_lock();
+        guard
+    }
+
+    /// Takes the lock for the builder or the cleaner: for a short while seats and the flusher go first.
+    pub fn hold_last<R: Wait>(&self, rt: &R) -> MutexGuard<'_, Locked<B>> {
+        let waits = self.board.waits();
+        for _ in 0..LOOKS_BEHIND_OTHERS {
+            if !waits.is_lock_wanted() {
+                break;
+            }
+            hint::spin_loop();
+        }
+        self.seize(rt)
+    }
+
+    // The lock, without a sleep where it is free soon: one that is left to a thread that sleeps keeps all others waiting until that
+    // one is awake.
+    fn seize<R: Wait>(&self, rt: &R) -> MutexGuard<'_, Locked<B>> {
+        for look in 0..LOCK_LOOKS {
+            if let Some(guard) = self.locked.try_lock() {
+                return guard;
+            }
+            if look % LOOKS_A_YIELD == 0 {
+                thread::yield_now();
+            } else {
+                hint::spin_loop();
+            }
+        }
+        self.locked.lock(rt)
     }
 
     // Wakes the flusher, for which records may wait.

@@ -3,7 +3,6 @@ use crate::asked::{Verb, is_wanted, read};
 use crate::refused::Refused;
 use crate::serve::serve_lines;
 use crate::show::{Stored, write_stat};
-use file_disk::{Detached, FileDisk, HostFile};
 use flip_image::Halves;
 use model::Life;
 use nsf_core::BuildReply;
@@ -30,39 +29,33 @@ fn open<D: Device + Drop>(alloc: Global, disk: D) -> Result<Store<D>, Refused> {
     }
 }
 
-// The store in the file, to be served.
-fn open_file<R: Files<File = File>>(
-    rt: &R,
-    alloc: Global,
-    path: &str,
-) -> Result<Store<FileDisk<HostFile, Global>>, Refused> {
-    open(alloc, file_disk::open(rt, alloc, path)?)
-}
-
-// What the file says, and a copy of its store in memory.
-fn read_file<R: Files<File = File>>(
-    rt: &R,
-    alloc: Global,
-    path: &str,
-) -> Result<(Stored, Store<FileDisk<Detached, Global>>), Refused> {
-    let mut disk = file_disk::read(rt, alloc, path)?;
-    let found = read_store(alloc, &mut disk)?;
+// What the disk itself says.
+fn read_disk<D: Device>(alloc: Global, disk: &mut D) -> Result<Stored, Refused> {
+    let found = read_store(alloc, disk)?;
     let open_slots = found.log.open_slots();
     let restored = found.restored;
-    let stored = Stored {
+    Ok(Stored {
         geometry: restored.geometry,
         open_slots,
         last: restored.last,
-    };
+    })
+}
+
+// What the disk itself says, and its store.
+fn read_and_open<D: Device + Drop>(
+    alloc: Global,
+    mut disk: D,
+) -> Result<(Stored, Store<D>), Refused> {
+    let stored = read_disk(alloc, &mut disk)?;
     Ok((stored, open(alloc, disk)?))
 }
 
 // Makes the disk a store, and gives its file its name.
-fn finish<R: Files<File = File> + AllocGlobal>(
+fn finish<R: Files<File = File> + AllocGlobal, D: Device + Drop>(
     rt: &R,
     path: &str,
     geometry: Geometry,
-    mut disk: FileDisk<HostFile, Global>,
+    mut disk: D,
 ) -> Result<(), Refused> {
     Halves::format(&mut disk, geometry)?;
     file_disk::publish(rt, path)?;
@@ -180,7 +173,22 @@ fn build<D: Device, E: Write>(
     built
 }
 
-// Builds the index in the file to its end.
+// What follows does one verb on a disk, and then on that of a file: what a file is, is behind none of the store's own calls.
+
+// Builds the index on the disk to its end.
+fn build_disk<D: Device + Drop, W: Write, E: Write>(
+    alloc: Global,
+    disk: D,
+    shows_progress: bool,
+    output: &mut W,
+    errors: &mut E,
+) -> Result<(), Refused> {
+    let mut store = open(alloc, disk)?;
+    let attempts = build(&mut store, shows_progress, errors)?;
+    writeln!(output, "complete, {attempts} pairs attempted")?;
+    Ok(())
+}
+
 fn build_file<R: Files<File = File>, W: Write, E: Write>(
     rt: &R,
     alloc: Global,
@@ -189,20 +197,17 @@ fn build_file<R: Files<File = File>, W: Write, E: Write>(
     output: &mut W,
     errors: &mut E,
 ) -> Result<(), Refused> {
-    let mut store = open_file(rt, alloc, path)?;
-    let attempts = build(&mut store, shows_progress, errors)?;
-    writeln!(output, "complete, {attempts} pairs attempted")?;
-    Ok(())
+    let disk = file_disk::open(rt, alloc, path)?;
+    build_disk(alloc, disk, shows_progress, output, errors)
 }
 
-// Says whether the file holds a store, whose index fits its rows.
-fn check_file<R: Files<File = File>, W: Write>(
-    rt: &R,
+// Says whether the disk holds a store, whose index fits its rows.
+fn check_disk<D: Device + Drop, W: Write>(
     alloc: Global,
-    path: &str,
+    disk: D,
     output: &mut W,
 ) -> Result<(), Refused> {
-    let (_, store) = read_file(rt, alloc, path)?;
+    let (_, store) = read_and_open(alloc, disk)?;
     if !store.core().can_open() {
         return Err(Refused::Unsound);
     }
@@ -210,29 +215,67 @@ fn check_file<R: Files<File = File>, W: Write>(
     Ok(())
 }
 
-// Prints what the store in the file holds.
+fn check_file<R: Files<File = File>, W: Write>(
+    rt: &R,
+    alloc: Global,
+    path: &str,
+    output: &mut W,
+) -> Result<(), Refused> {
+    check_disk(alloc, file_disk::read(rt, alloc, path)?, output)
+}
+
+// Prints what the store on the disk holds.
+fn dump_disk<D: Device + Drop, W: Write>(
+    alloc: Global,
+    disk: D,
+    output: &mut W,
+) -> Result<(), Refused> {
+    let (_, store) = read_and_open(alloc, disk)?;
+    Ok(store.dump(output)?)
+}
+
 fn dump_file<R: Files<File = File>, W: Write>(
     rt: &R,
     alloc: Global,
     path: &str,
     output: &mut W,
 ) -> Result<(), Refused> {
-    let (_, store) = read_file(rt, alloc, path)?;
-    Ok(store.dump(output)?)
+    dump_disk(alloc, file_disk::read(rt, alloc, path)?, output)
 }
 
-// Prints what the store in the file is, and how far it has come.
+// Prints what the store on the disk is, and how far it has come.
+fn stat_disk<D: Device + Drop, W: Write>(
+    alloc: Global,
+    disk: D,
+    output: &mut W,
+) -> Result<(), Refused> {
+    let (stored, store) = read_and_open(alloc, disk)?;
+    Ok(write_stat(&stored, store.core(), output)?)
+}
+
 fn stat_file<R: Files<File = File>, W: Write>(
     rt: &R,
     alloc: Global,
     path: &str,
     output: &mut W,
 ) -> Result<(), Refused> {
-    let (stored, store) = read_file(rt, alloc, path)?;
-    Ok(write_stat(&stored, store.core(), output)?)
+    stat_disk(alloc, file_disk::read(rt, alloc, path)?, output)
 }
 
-// Serves the input, and tells whether each line was one of a script. Behind the last line what is not flushed yet is flushed.
+// Serves the input over the store on the disk, and tells whether each line was one of a script. Behind the last line what is not
+// flushed yet is flushed.
+fn run_disk<D: Device + Drop, I: BufRead, W: Write>(
+    alloc: Global,
+    disk: D,
+    input: &mut I,
+    output: &mut W,
+) -> Result<bool, Refused> {
+    let mut store = open(alloc, disk)?;
+    let served = serve_lines(alloc, &mut store, input, output);
+    flush(&mut store)?;
+    Ok(served?)
+}
+
 fn run_file<R: Files<File = File>, I: BufRead, W: Write>(
     rt: &R,
     alloc: Global,
@@ -240,10 +283,7 @@ fn run_file<R: Files<File = File>, I: BufRead, W: Write>(
     input: &mut I,
     output: &mut W,
 ) -> Result<bool, Refused> {
-    let mut store = open_file(rt, alloc, path)?;
-    let served = serve_lines(alloc, &mut store, input, output);
-    flush(&mut store)?;
-    Ok(served?)
+    run_disk(alloc, file_disk::open(rt, alloc, path)?, input, output)
 }
 
 // Does what is asked for, and tells whether nothing was refused.

@@ -1,4 +1,4 @@
--- What an image of a device gives a reader, and why a reader refuses an image that gives nothing.
+-- What the content of a device gives a reader, and why a reader refuses a content that gives nothing.
 use Rattle.std.specs.Prelude.{◌≡◌, ◌⊎◌, ◌+◌, ◌<◌, ◌≤◌, ℕ, List, [], length}
 use Rattle.std.specs.FinMap.{len}
 use Rattle.sector_device.specs.Disk.{Image}
@@ -16,7 +16,7 @@ use Rattle.flip_image.specs.declared.half.Half.{Half}
 use Rattle.flip_image.specs.Layout.{header_sector, log_first}
 use Rattle.flip_image.specs.Store.{IsStore, HoldsImage, IsRefused}
 
--- ---- what an image gives
+-- ---- what a content gives
 
 -- the area of a half's log
 abbrev pub log_area : GeometryValue → Half → Area
@@ -26,7 +26,7 @@ log_area geometry half = record { first = log_first geometry half; slots = geome
 abbrev pub given_over : ℕ → Cells → List RecordValue → Given
 given_over base cells records = recovered (cells_after cells records) (base + length records)
 
--- The image is of a store of this geometry. Its current half, this one, holds the image of these cells, which record `base`
+-- The content is of a store of this geometry. Its current half, this one, holds the image of these cells, which record `base`
 -- left; and its log holds these records, each of which can follow the one before, the first of them record `base`.
 pub record HoldsStore (image : Image) (geometry : GeometryValue) (half : Half) (base : ℕ) (cells : Cells) (records : List RecordValue) : Type 0 where
   pub store : IsStore geometry half image
@@ -36,7 +36,7 @@ pub record HoldsStore (image : Image) (geometry : GeometryValue) (half : Half) (
   pub all : records ≡ records_of groups
   pub following : AreFollowing geometry.pages base cells records
 
--- The image gives what is recovered of its current half's image and log; the geometry has a place for each entry of it.
+-- The content gives what is recovered of its current half's image and log; the geometry has a place for each entry of it.
 pub record Gives (image : Image) (geometry : GeometryValue) (given : Given) : Type 0 where
   pub half : Half
   pub base : ℕ
@@ -46,7 +46,7 @@ pub record Gives (image : Image) (geometry : GeometryValue) (given : Given) : Ty
   pub recovered : given ≡ given_over base cells records
   pub room : len given.entries ≤ geometry.entries
 
--- What a reader found in the image: the geometry, the log with its open slots, and what the image gives.
+-- What a reader found in the content: the geometry, the log with its open slots, and what the content gives.
 pub record IsFound (image : Image) (geometry : GeometryValue) (log : Log) (given : Given) : Type 0 where
   pub gives : Gives image geometry given
   pub area : log.area ≡ log_area geometry gives.half
@@ -56,9 +56,9 @@ pub record IsFound (image : Image) (geometry : GeometryValue) (log : Log) (given
 abbrev pub IsUntouched : Image → GeometryValue → Type 0
 IsUntouched image geometry = (half : Half) × HoldsStore image geometry half 0 no_cells []
 
--- ---- why an image gives nothing
+-- ---- why a content gives nothing
 
--- the image is of a store, whose current half begins with a header
+-- the content is of a store, whose current half begins with a header
 abbrev pub HasHeader : Image → Type 0
 HasHeader image = (geometry : GeometryValue) × (half : Half) × IsStore geometry half image × IsSound geometry (header_sector geometry half) image TheHeader
 
@@ -96,6 +96,6 @@ pub record IsStoreDamagedAt (image : Image) (sector : ℕ) : Type 0 where
   pub store : IsStore geometry half image
   pub damaged : IsHalfDamaged geometry half image sector
 
--- why the image gives nothing: it is refused as a store, or its current half is damaged
+-- why the content gives nothing: it is refused as a store, or its current half is damaged
 abbrev pub IsUnreadable : Image → Error → Type 0
 IsUnreadable image e = IsRefused image e ⊎ ((sector : ℕ) × (e ≡ Damaged sector) × IsStoreDamagedAt image sector)

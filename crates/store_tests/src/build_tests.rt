@@ -1,28 +1,34 @@
 // An index is built over as many rows as a store holds.
-use crate::store::{Answer, Store, ample, ask, formatted, open, sound};
+use crate::opened::{Memory, ample, open};
 use nsf_core::BuildReply;
 use records::{Body, Key, Pair, Txn, compare_pairs};
 use restart::Event;
 use std::alloc::Global;
 use std::process::Abort;
 use std::test::Fail;
+use store_for_tests::{Answer, Disk, Store};
 
 const PAGES: u32 = 256;
 
 const ROWS: u32 = 16_128;
 
-// Transactions of 64 insertions each put a row in each place. Keys that lie beside each other lie far apart.
-fn fill(rt: &impl Abort, store: &mut Store<'_>) -> Result<(), Fail> {
+// An insertion of the row of this number. Keys that lie beside each other lie far apart.
+fn insertion(txn: Txn, n: u32) -> Result<Event, Fail> {
     let body = Body::new(b"")?;
+    let key = Key::new(&(n % ROWS * 9_677 % ROWS).to_be_bytes())?;
+    Ok(Event::Insert { txn, key, body })
+}
+
+// Transactions of 64 insertions each put a row in each place.
+fn fill(rt: &impl Abort, store: &mut Store<&Memory>) -> Result<(), Fail> {
     for number in 0..ROWS / 64 {
         let txn = Txn::new(u64::from(number) + 1).ok_or("a transaction")?;
-        ask(store, &Event::Begin);
+        store.ask(&Event::Begin);
         for n in 64 * number..64 * number + 64 {
-            let key = Key::new(&(n * 9_677 % ROWS).to_be_bytes())?;
-            let put = ask(store, &Event::Insert { txn, key, body });
+            let put = store.ask(&insertion(txn, n)?);
             assert!(rt; matches!(put, Answer::Rid(_)), "row {n}: {put:?}");
         }
-        ask(store, &Event::Commit { txn });
+        store.ask(&Event::Commit { txn });
     }
     Ok(())
 }
@@ -39,15 +45,13 @@ fn put_by(answer: Answer) -> Option<Pair> {
 #[test]
 fn an_index_over_every_place(rt: HostRuntime) -> Result<(), Fail> {
     let memory = ample(rt.alloc());
-    let Ok(mut store) = open(&memory, sound(formatted(rt.alloc(), PAGES, 4)?)) else {
-        return Err("a store")?;
-    };
+    let mut store = open(&memory, Disk::formatted(rt.alloc(), PAGES, 4)?)?;
     fill(&rt, &mut store)?;
-    ask(&mut store, &Event::Create);
+    store.ask(&Event::Create);
     let mut last = None;
     let mut placed: u32 = 0;
     for _ in 0..PAGES + ROWS + ROWS / 64 {
-        let Some(pair) = put_by(ask(&mut store, &Event::Build)) else {
+        let Some(pair) = put_by(store.ask(&Event::Build)) else {
             continue;
         };
         if let Some(last) = last {
@@ -56,7 +60,7 @@ fn an_index_over_every_place(rt: HostRuntime) -> Result<(), Fail> {
         last = Some(pair);
         placed = placed.saturating_add(1);
     }
-    let end = ask(&mut store, &Event::Build);
+    let end = store.ask(&Event::Build);
     assert!(rt;
         matches!(end, Answer::Built(BuildReply::Done(_))),
         "{end:?}"

@@ -1,47 +1,33 @@
 // A store byte by byte, as the format document has it.
-use crate::requests::requests;
-use crate::store::{Store, ample, ask, close, formatted, open, sound};
-use sector_device::{Device, MemDisk, SECTOR_SIZE};
-use std::alloc::Global;
+use crate::opened::{ample, open, write_at};
+use sector_device::SECTOR_SIZE;
 use std::process::Abort;
 use std::test::Fail;
+use store_for_tests::{Disk, requests};
 
 // A sector, and what stands in it at these places: the rest is zeros.
 type Sector<'a> = (u64, &'a [(usize, &'a [u8])]);
 
-fn check(rt: &impl Abort, disk: &mut MemDisk<Global>, (n, pieces): Sector<'_>) -> Result<(), Fail> {
+fn check(rt: &impl Abort, disk: &mut Disk, (n, pieces): Sector<'_>) -> Result<(), Fail> {
     let mut wanted = [0; SECTOR_SIZE];
     for (at, bytes) in pieces {
-        for (place, byte) in wanted.iter_mut().skip(*at).zip(*bytes) {
-            *place = *byte;
-        }
+        write_at(&mut wanted, *at, bytes);
     }
-    assert!(rt; n < disk.sectors());
-    let mut found = [7; SECTOR_SIZE];
-    disk.read(n, &mut found)?;
-    assert!(rt; found == wanted, "sector {n}");
+    assert!(rt; disk.sector(n)? == wanted, "sector {n}");
     Ok(())
 }
 
-fn run_all(store: &mut Store<'_>, alloc: Global, script: &str) -> Result<(), Fail> {
-    for event in requests(alloc, script)?.iter() {
-        ask(store, event);
-    }
-    Ok(())
-}
+// A commit, and then a build, a change behind it that owes nothing, and an image.
+const SCRIPT: &str = "begin\ninsert 1 =ant =x\ncommit 1\nflush\n\
+    create\nbuild 2\nbegin\ninsert 2 =a =\nstep 2\nimage\nimage\nimage\nimage\n";
 
 // The first restart makes half B current: half A is in sectors 2 to 559, half B begins at 560, and its first gate is in 1086.
 #[test]
 fn a_store_byte_by_byte(rt: HostRuntime) -> Result<(), Fail> {
     let memory = ample(rt.alloc());
-    let Ok(mut store) = open(&memory, sound(formatted(rt.alloc(), 1, 4)?)) else {
-        return Err("a store")?;
-    };
-    let commit = "begin\ninsert 1 =ant =x\ncommit 1\nflush\n";
-    run_all(&mut store, rt.alloc(), commit)?;
-    let rest = "create\nbuild 2\nbegin\ninsert 2 =a =\nstep 2\nimage\nimage\nimage\nimage\n";
-    run_all(&mut store, rt.alloc(), rest)?;
-    let mut disk = close(store).into_inner();
+    let mut store = open(&memory, Disk::formatted(rt.alloc(), 1, 4)?)?;
+    store.run(rt.alloc(), &requests(rt.alloc(), SCRIPT)?)?;
+    let mut disk = store.close();
     let group = b"\0\x02\0\x31\
         \0\0\0\0\0\0\0\x01\0\0\0\0\0\0\0\x01\x01\0\0\0\0\0\0\0\0\x01\x03\x61\x6e\x74\x01\x78\
         \0\0\0\0\0\0\0\x02\0\0\0\0\0\0\0\x01\x07";

@@ -1,12 +1,11 @@
 // A store is stopped at each call of its device in turn, and crashes; and so are the restarts behind it.
-use crate::contents::{Contents, held_by};
-use crate::requests::requests;
-use crate::store::{Answer, Memory, Store, ample, ask, close, formatted, open, sound};
+use crate::opened::{Memory, ample, open};
 use restart::Event;
-use sector_device::{Fate, FaultDisk, MemDisk, Which};
+use sector_device::{Fate, Which};
 use std::alloc::Global;
 use std::process::Abort;
 use std::test::Fail;
+use store_for_tests::{Answer, Contents, Disk, Store, requests};
 
 // More than the calls that a run makes.
 const CALLS: u64 = 1_000;
@@ -29,23 +28,21 @@ fn told_safe(answer: Answer) -> Option<u64> {
 // What the store holds at first, and whenever all is told to be safe.
 fn given_by(alloc: Global, events: &[Event]) -> Result<Vec<Contents>, Fail> {
     let memory = ample(alloc);
-    let Ok(mut store) = open(&memory, sound(formatted(alloc, 1, 4)?)) else {
-        return Err("a store")?;
-    };
-    let mut given = vec![in alloc; held_by(&store)]?;
+    let mut store = open(&memory, Disk::formatted(alloc, 1, 4)?)?;
+    let mut given = vec![in alloc; store.contents()]?;
     for event in events {
-        if told_safe(ask(&mut store, event)).is_some() {
-            given.push(held_by(&store))?;
+        if told_safe(store.ask(event)).is_some() {
+            given.push(store.contents())?;
         }
     }
     Ok(given)
 }
 
 // The number up to which all was told to be safe.
-fn run_all(store: &mut Store<'_>, events: &[Event]) -> u64 {
+fn run_all(store: &mut Store<&Memory>, events: &[Event]) -> u64 {
     let mut safe: u64 = 0;
     for event in events {
-        safe = told_safe(ask(store, event)).unwrap_or(safe);
+        safe = told_safe(store.ask(event)).unwrap_or(safe);
     }
     safe
 }
@@ -64,16 +61,15 @@ struct Stopped {
 // whether a restart was stopped.
 fn held_at_last(
     memory: &Memory,
-    mut disk: MemDisk<Global>,
+    mut disk: Disk,
     (which, fate): Case,
     call: u64,
 ) -> Result<(Contents, bool), Fail> {
     let mut again = false;
     for call in [call, call, 0] {
-        disk.crash(&[fate]);
-        match open(memory, FaultDisk::new(disk, which, call)) {
-            Ok(store) => return Ok((held_by(&store), again)),
-            Err((_, stopped)) => disk = stopped.into_inner(),
+        match Store::open(memory, disk.crash(fate).failing(which, call)) {
+            Ok(store) => return Ok((store.contents(), again)),
+            Err((_, stopped)) => disk = stopped,
         }
         again = true;
     }
@@ -89,13 +85,13 @@ fn stop_at(
     restart_call: u64,
 ) -> Result<Stopped, Fail> {
     let memory = ample(alloc);
-    let disk = FaultDisk::new(formatted(alloc, 1, 4)?, case.0, call);
-    let (safe, disk) = match open(&memory, disk) {
-        Ok(mut store) => (run_all(&mut store, events), close(store)),
+    let disk = Disk::formatted(alloc, 1, 4)?.failing(case.0, call);
+    let (safe, disk) = match Store::open(&memory, disk) {
+        Ok(mut store) => (run_all(&mut store, events), store.close()),
         Err((_, disk)) => (0, disk),
     };
     let failed = call <= disk.made();
-    let (left, again) = held_at_last(&memory, disk.into_inner(), case, restart_call)?;
+    let (left, again) = held_at_last(&memory, disk, case, restart_call)?;
     Ok(Stopped {
         safe,
         left,
@@ -169,29 +165,27 @@ fn stop(rt: &impl Abort, alloc: Global, cases: &[(Case, u64)]) -> Result<(), Fai
 // The calls that change what is kept fail in turn, with each fate of what is not synced, and behind each of them each such call
 // of a restart.
 
+const WRITES: Which = Which::WritesAndSyncs;
+
 #[test]
 fn each_stop_that_loses_all(rt: HostRuntime) -> Result<(), Fail> {
-    let old = (Which::WritesAndSyncs, Fate::Old);
-    let zero = (Which::WritesAndSyncs, Fate::Zero);
-    stop(&rt, rt.alloc(), &[(old, 1), (zero, 1)])
+    let cases = [((WRITES, Fate::Old), 1), ((WRITES, Fate::Zero), 1)];
+    stop(&rt, rt.alloc(), &cases)
 }
 
 #[test]
 fn each_stop_that_keeps_all(rt: HostRuntime) -> Result<(), Fail> {
-    let new = (Which::WritesAndSyncs, Fate::New);
-    stop(&rt, rt.alloc(), &[(new, 1)])
+    stop(&rt, rt.alloc(), &[((WRITES, Fate::New), 1)])
 }
 
 #[test]
 fn each_stop_that_spoils(rt: HostRuntime) -> Result<(), Fail> {
-    let gate = (Which::WritesAndSyncs, Fate::Gate);
-    let junk = (Which::WritesAndSyncs, Fate::Junk);
-    stop(&rt, rt.alloc(), &[(gate, 1), (junk, 1)])
+    let cases = [((WRITES, Fate::Gate), 1), ((WRITES, Fate::Junk), 1)];
+    stop(&rt, rt.alloc(), &cases)
 }
 
 // Each call fails in turn, and behind it one in 16 of a restart.
 #[test]
 fn each_failure(rt: HostRuntime) -> Result<(), Fail> {
-    let all = (Which::All, Fate::Old);
-    stop(&rt, rt.alloc(), &[(all, 16)])
+    stop(&rt, rt.alloc(), &[((Which::All, Fate::Old), 16)])
 }

@@ -1,113 +1,100 @@
 // Images that are copied piece by piece.
-use crate::contents::{entries_of, held_by};
-use crate::requests::requests;
-use crate::store::{Answer, Store, ample, answer_of, close, formatted, open, sound};
+use crate::opened::{ample, open};
 use model::Life;
-use restart::Event;
-use sector_device::{Fate, MemDisk};
+use sector_device::Fate;
 use std::alloc::Global;
 use std::process::Abort;
 use std::test::Fail;
+use store_for_tests::{Answer, Contents, Disk, requests};
 
-// How many pieces are copied in one run of the requests, and the last answer.
-fn run_all(store: &mut Store<'_>, events: &[Event]) -> Result<(usize, Answer), Fail> {
+// How many pieces were copied, and the last answer.
+fn copies_of(answers: &[Answer]) -> (usize, Option<Answer>) {
     let mut copies: usize = 0;
-    let mut last = Answer::Skipped;
-    for reply in store.run(events)?.iter() {
-        last = answer_of(reply);
-        if last == Answer::Copied {
+    for answer in answers {
+        if *answer == Answer::Copied {
             copies = copies.saturating_add(1);
         }
     }
-    Ok((copies, last))
+    (copies, answers.last().copied())
 }
 
-// So many pieces are copied in one run of the script, which ends with the flip up to this record. What a crash leaves then.
+// So many pieces are copied in one run of the script, which ends with the flip up to this record. What a crash leaves then, and how
+// many entries.
 fn flip(
     rt: &impl Abort,
     alloc: Global,
     script: &str,
     pages: u32,
     (copies, number): (usize, u64),
-) -> Result<MemDisk<Global>, Fail> {
+) -> Result<(Contents, usize), Fail> {
     let memory = ample(alloc);
-    let Ok(mut store) = open(&memory, sound(formatted(alloc, pages, 16)?)) else {
-        return Err("a store")?;
-    };
-    let found = run_all(&mut store, &requests(alloc, script)?)?;
-    assert_eq!(rt; found, (copies, Answer::Flipped(number)));
-    let mut disk = close(store).into_inner();
-    disk.crash(&[Fate::Junk]);
-    Ok(disk)
+    let mut store = open(&memory, Disk::formatted(alloc, pages, 16)?)?;
+    let answers = store.run(alloc, &requests(alloc, script)?)?;
+    assert_eq!(rt;
+        copies_of(&answers),
+        (copies, Some(Answer::Flipped(number)))
+    );
+    let store = open(&memory, store.close().crash(Fate::Junk))?;
+    Ok((store.contents(), store.entries()))
+}
+
+// Four transactions of 50 rows each, with this behind them.
+fn behind_200_rows(alloc: Global, script: &str) -> Result<String, Fail> {
+    let mut text = String::new(alloc);
+    for txn in 1..5 {
+        text.push_str("begin\n")?;
+        for _ in 0..50 {
+            text.push_str(&format!(in alloc; "insert {txn} =a =\n")?)?;
+        }
+        text.push_str(&format!(in alloc; "commit {txn}\n")?)?;
+    }
+    text.push_str(script)?;
+    Ok(text)
 }
 
 // A transaction works while an image is copied, and then it is current: what was made meanwhile is there too.
-#[test]
-fn an_image_between_requests(rt: HostRuntime) -> Result<(), Fail> {
-    let script = "begin\ninsert 1 =a =\ncommit 1\nimage\nimage\nbegin\ninsert 2 =b =\ncommit 2\n\
-        image\nimage\nimage\n";
-    let disk = flip(&rt, rt.alloc(), script, 2, (4, 4))?;
-    let memory = ample(rt.alloc());
-    let Ok(store) = open(&memory, sound(disk)) else {
-        return Err("a store after the crash")?;
-    };
-    let left = held_by(&store);
-    assert!(rt; left.last == 4 && left.rows.0.is_some() && left.rows.1.is_some());
-    Ok(())
-}
-
-// Of 200 rows on four pages, and their entries, an image takes its start, the pages, and two chunks of entries.
-#[test]
-fn an_image_of_a_build(rt: HostRuntime) -> Result<(), Fail> {
-    let mut script = String::new(rt.alloc());
-    for txn in 1..5 {
-        script.push_str("begin\n")?;
-        for _ in 0..50 {
-            script.push_str(&format!(in rt.alloc(); "insert {txn} =a =\n")?)?;
-        }
-        script.push_str(&format!(in rt.alloc(); "commit {txn}\n")?)?;
-    }
-    script.push_str("create\nbuild 208\nimage\nimage\nimage\nimage\nimage\nimage\nimage\nimage\n")?;
-    flip(&rt, rt.alloc(), &script, 4, (7, 409))?;
-    Ok(())
-}
+const BETWEEN_REQUESTS: &str = "begin\ninsert 1 =a =\ncommit 1\nimage\nimage\n\
+    begin\ninsert 2 =b =\ncommit 2\nimage\nimage\nimage\n";
 
 // An index of two rows is dropped when three pieces of an image are copied.
+const DROPPED: &str = "begin\ninsert 1 =a =\ninsert 1 =b =\ncommit 1\ncreate\nbuild 4\n\
+    image\nimage\nimage\ndrop\nflush\nimage\n";
+
+// Of 200 rows on four pages, and their entries, an image takes its start, the pages, and two chunks of entries.
+const OF_A_BUILD: &str = "create\nbuild 208\n\
+    image\nimage\nimage\nimage\nimage\nimage\nimage\nimage\n";
+
+// An index of 200 rows is dropped when its first chunk is copied, and made anew: what was copied of the first is gone.
+const MADE_ANEW: &str = "create\nbuild 208\nimage\nimage\nimage\nimage\nimage\nimage\n\
+    drop\ncreate\nbuild 68\nimage\nimage\n";
+
 #[test]
-fn an_index_dropped_while_copied(rt: HostRuntime) -> Result<(), Fail> {
-    let script = "begin\ninsert 1 =a =\ninsert 1 =b =\ncommit 1\ncreate\nbuild 4\n\
-        image\nimage\nimage\ndrop\nflush\nimage\n";
-    let disk = flip(&rt, rt.alloc(), script, 1, (3, 8))?;
-    let memory = ample(rt.alloc());
-    let Ok(store) = open(&memory, sound(disk)) else {
-        return Err("a store after the crash")?;
-    };
-    let left = held_by(&store);
+fn images_between_requests(rt: HostRuntime) -> Result<(), Fail> {
+    let (left, _) = flip(&rt, rt.alloc(), BETWEEN_REQUESTS, 2, (4, 4))?;
+    assert!(rt; left.last == 4 && left.rows.0.is_some() && left.rows.1.is_some());
+    let (left, _) = flip(&rt, rt.alloc(), DROPPED, 1, (3, 8))?;
     assert!(rt; left.rows.0.is_some() && left.rows.1.is_some());
     assert!(rt; left.life == Life::Absent && left.entries.0.is_none());
     Ok(())
 }
 
-// An index of 200 rows is dropped when its first chunk is copied, and made anew: what was copied of the first is gone.
+// How many entries a crash leaves behind 200 rows and this script.
+fn entries_behind(
+    rt: &impl Abort,
+    alloc: Global,
+    script: &str,
+    flipped: (usize, u64),
+) -> Result<usize, Fail> {
+    let text = behind_200_rows(alloc, script)?;
+    let (_, entries) = flip(rt, alloc, &text, 4, flipped)?;
+    Ok(entries)
+}
+
 #[test]
-fn an_index_made_anew_while_copied(rt: HostRuntime) -> Result<(), Fail> {
-    let mut script = String::new(rt.alloc());
-    for txn in 1..5 {
-        script.push_str("begin\n")?;
-        for _ in 0..50 {
-            script.push_str(&format!(in rt.alloc(); "insert {txn} =a =\n")?)?;
-        }
-        script.push_str(&format!(in rt.alloc(); "commit {txn}\n")?)?;
-    }
-    script.push_str(
-        "create\nbuild 208\nimage\nimage\nimage\nimage\nimage\nimage\n\
-        drop\ncreate\nbuild 68\nimage\nimage\n",
-    )?;
-    let disk = flip(&rt, rt.alloc(), &script, 4, (7, 475))?;
-    let memory = ample(rt.alloc());
-    let Ok(store) = open(&memory, sound(disk)) else {
-        return Err("a store after the crash")?;
-    };
-    assert!(rt; entries_of(&store) == 64);
+fn images_of_builds(rt: HostRuntime) -> Result<(), Fail> {
+    let built = entries_behind(&rt, rt.alloc(), OF_A_BUILD, (7, 409))?;
+    assert_eq!(rt; built, 200);
+    let anew = entries_behind(&rt, rt.alloc(), MADE_ANEW, (7, 475))?;
+    assert_eq!(rt; anew, 64);
     Ok(())
 }

@@ -1,12 +1,13 @@
 //! Tests of the crate that opens a store and serves it, `restart`.
+//!
+//! Each allocation is refused in turn, and each call of the device fails in turn, with each fate; damaged stores are refused by
+//! name. Proved of them is safety.
 #![tactic(auto)]
 
 #[cfg(test)]
 mod build_tests;
 #[cfg(test)]
 mod byte_tests;
-#[cfg(test)]
-mod contents;
 #[cfg(test)]
 mod crash_tests;
 #[cfg(test)]
@@ -16,6 +17,4 @@ mod image_tests;
 #[cfg(test)]
 mod memory_tests;
 #[cfg(test)]
-mod requests;
-#[cfg(test)]
-mod store;
+mod opened;

@@ -1,8 +1,6 @@
 // Memory is refused to a store, each allocation in turn. What was refused for want of memory is asked again, and every other
 // reply is that of a store to which nothing was refused.
-use crate::contents::{Contents, held_by};
-use crate::requests::requests;
-use crate::store::{Answer, Disk, Memory, Store, ask, close, formatted, open, sound};
+use crate::opened::{Memory, open};
 use records::Error;
 use refused_memory::Refusing;
 use restart::Event;
@@ -10,33 +8,39 @@ use sector_device::Fate;
 use std::alloc::Global;
 use std::process::Abort;
 use std::test::Fail;
+use store_for_tests::{Answer, Contents, Disk, Store, requests};
 
 // How often a run is played at most.
 const PLAYS: u64 = 2_000;
 
 // Opens the store, if need be a second time. Without a refusal of memory there is no want of it.
-fn open_again<'a>(rt: &impl Abort, memory: &'a Memory, disk: Disk) -> Result<Store<'a>, Fail> {
+fn open_again<'a>(
+    rt: &impl Abort,
+    memory: &'a Memory,
+    disk: Disk,
+) -> Result<Store<&'a Memory>, Fail> {
     let before = memory.refused();
-    let disk = match open(memory, disk) {
-        Ok(store) => return Ok(store),
+    match Store::open(memory, disk) {
+        Ok(store) => Ok(store),
         Err((error, disk)) => {
             assert!(rt; error == Error::NoMemory && before < memory.refused());
-            disk
+            open(memory, disk)
         }
-    };
-    match open(memory, disk) {
-        Ok(store) => Ok(store),
-        Err(_) => Err("a store")?,
     }
 }
 
 // The answer, if need be to a second request.
-fn ask_again(rt: &impl Abort, memory: &Memory, store: &mut Store<'_>, event: &Event) -> Answer {
+fn ask_again(
+    rt: &impl Abort,
+    memory: &Memory,
+    store: &mut Store<&Memory>,
+    event: &Event,
+) -> Answer {
     let before = memory.refused();
-    match ask(store, event) {
+    match store.ask(event) {
         Answer::Refused(Error::NoMemory) => {
             assert!(rt; before < memory.refused(), "{event:?}");
-            ask(store, event)
+            store.ask(event)
         }
         answer => answer,
     }
@@ -51,13 +55,11 @@ fn play(
 ) -> Result<(Vec<Answer>, Contents, u64), Fail> {
     let memory = Refusing::new(alloc, before);
     let mut answers = Vec::new(alloc);
-    let mut store = open_again(rt, &memory, sound(formatted(alloc, 2, 12)?))?;
+    let mut store = open_again(rt, &memory, Disk::formatted(alloc, 2, 12)?)?;
     for event in events {
         answers.push(ask_again(rt, &memory, &mut store, event))?;
     }
-    let mut disk = close(store).into_inner();
-    disk.crash(&[Fate::Junk]);
-    let left = held_by(&open_again(rt, &memory, sound(disk))?);
+    let left = open_again(rt, &memory, store.close().crash(Fate::Junk))?.contents();
     Ok((answers, left, memory.refused()))
 }
 
@@ -88,29 +90,34 @@ const TAKEN_BACK: &str = "create\nbegin\ninsert 1 =k =\nbuild\nundo 1\nundo 1\nu
 const UPDATED: &str = "begin\ninsert 1 =p =1\ncommit 1\ncreate\nbegin\nupdate 2 0.0 =q =2\n\
     begin\ndelete 3 0.0\nstep 2\nundo 2\nundo 2\nundo 2\nundo 2\nend 2\nend 3\nflush\n";
 
+// Behind the insertion of 64 rows: a row is deleted behind the scan, its entry is taken out at the checkpoint, and another
+// deletion comes to no end.
+const OVER_TWO_PAGES: &str = "commit 1\ncreate\nbuild 2\nbegin\ndelete 2 1.0\nstep 2\ncommit 2\n\
+    clean 2\nflush\nbuild 65\nclean 64\nbegin\ndelete 3 0.0\nclean 2\nflush\n";
+
+// A script that inserts so many rows, with this behind it.
+fn behind_rows(alloc: Global, rows: u8, script: &str) -> Result<String, Fail> {
+    let mut text = String::new(alloc);
+    text.push_str("begin\n")?;
+    for key in 0..rows {
+        text.push_str(&format!(in alloc; "insert 1 :{key:02x} =\n")?)?;
+    }
+    text.push_str(script)?;
+    Ok(text)
+}
+
 #[test]
 fn each_allocation_is_refused(rt: HostRuntime) -> Result<(), Fail> {
-    for (script, least) in [(DELETED, 25), (TAKEN_BACK, 15), (UPDATED, 15)] {
+    let large = behind_rows(rt.alloc(), 64, OVER_TWO_PAGES)?;
+    let cases = [
+        (DELETED, 25),
+        (TAKEN_BACK, 15),
+        (UPDATED, 15),
+        (large.as_str(), 30),
+    ];
+    for (script, least) in cases {
         let refusals = refuse_each(&rt, rt.alloc(), script)?;
         assert!(rt; least < refusals, "{refusals} refusals");
     }
-    Ok(())
-}
-
-// Over two pages: a row is deleted behind the scan, its entry is taken out at the checkpoint, and another deletion comes to
-// no end.
-#[test]
-fn each_allocation_over_two_pages(rt: HostRuntime) -> Result<(), Fail> {
-    let mut script = String::new(rt.alloc());
-    script.push_str("begin\n")?;
-    for key in 0..64u8 {
-        script.push_str(&format!(in rt.alloc(); "insert 1 :{key:02x} =\n")?)?;
-    }
-    script.push_str(
-        "commit 1\ncreate\nbuild 2\nbegin\ndelete 2 1.0\nstep 2\ncommit 2\nclean 2\nflush\n\
-        build 65\nclean 64\nbegin\ndelete 3 0.0\nclean 2\nflush\n",
-    )?;
-    let refusals = refuse_each(&rt, rt.alloc(), &script)?;
-    assert!(rt; 30 < refusals, "{refusals} refusals");
     Ok(())
 }

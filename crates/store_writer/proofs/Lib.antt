@@ -1,3 +1,4 @@
+mod NoCells
 mod Numbers
 mod Left
 mod Halves

@@ -25,13 +25,13 @@ pub record HalfHas (g : GeometryValue) (half : Half) (image : Image) (last : ℕ
   pub last-is : last ≡ base + length (records_of groups)
   pub cells-are : cells ≡ cells_after copied (records_of groups)
 
--- the image is of a store, whose current half has these cells after record `last`
+-- the content is of a store, whose current half has these cells after record `last`
 pub record StoreHas (g : GeometryValue) (image : Image) (last : ℕ) (cells : Cells) : Type 0 where
   pub half : Half
   pub store : IsStore g half image
   pub has : HalfHas g half image last cells
 
--- The image has the cells after some record of the run, no earlier than `floor` and no later than `handed`. A reader finds what
+-- The crash state has the cells after some record of the run, no earlier than `floor` and no later than `handed`. A reader finds what
 -- is recovered of them, where the geometry has a place for each entry.
 pub record LeftBy (run : Run) (floor handed : ℕ) (image : Image) : Type 0 where
   pub number : ℕ

@@ -305,6 +305,7 @@ abbrev pub IsPageAnswered : {D M : Type 0} → ℕ → (page : ℕ) → StepRepl
 IsPageAnswered number page Taken old new = (¬ IsPageRefused old) × ((image : NewImage) × HasKept image old new × HasRows number page old image)
 IsPageAnswered number page StartAgain old new = (new ≡ old) × IsPageRefused old
 
+-- so it is of entries (no public clause cites it)
 abbrev pub AreEntriesAnswered : {D M : Type 0} → ℕ → List (Pair × Mark) → StepReply → Writer D M → Writer D M → Type 0
 AreEntriesAnswered number entries Taken old new = (¬ AreRefused (length entries) old) × ((image : NewImage) × HasKept image old new × HaveEntries number entries old image)
 AreEntriesAnswered number entries StartAgain old new = (new ≡ old) × AreRefused (length entries) old

@@ -11,7 +11,7 @@ ghost use Rattle.records.specs.declared.pair.Mark.{Mark as MarkValue};
 ghost use Rattle.records.specs.declared.geometry.TheConstants.{ENTRIES_PER_SECTOR};
 ghost use Rattle.model.specs.Cells.{Cells};
 ghost use Rattle.model.specs.Table.{Index};
-ghost use Rattle.model.specs.declared.life.Life.TheVariants.{Absent, Building};
+ghost use Rattle.model.specs.declared.life.Life.TheVariants.{Building};
 ghost use Rattle.model.specs.declared.life.Life.{Life as LifeValue};
 ghost use Rattle.model.specs.Redo.{cells_of};
 ghost use Rattle.gate_log.specs.Group.{FitsGroup};
@@ -268,18 +268,6 @@ pub(crate) fn lists_alone<A: Allocator + Copy>(
         entries: EntryMap::new(alloc),
         lists,
         life,
-    }
-}
-
-/// Cells that have these rows, and no more.
-pub(crate) fn rows_alone<A: Allocator + Copy>(alloc: A, rows: RowMap<A>) -> CellMaps<A>
-    ensures { cells_of result ≡ record { rows = rows; entries = map.empty; pending = map.empty; life = Absent } }
-{
-    CellMaps {
-        rows,
-        entries: EntryMap::new(alloc),
-        lists: ListMap::new(alloc),
-        life: Life::Absent,
     }
 }
 

@@ -225,6 +225,13 @@ impl<D: Device, A: Allocator + Copy> StoreWriter<D, A> {
         self.writer.log.open_slots()
     }
 
+    /// The device as it is now.
+    pub fn device(&self) -> &D
+        ensures { result.now ≡ device_of self.now }
+    {
+        &self.writer.device
+    }
+
     /// The device as it is now. The records that wait are lost.
     pub fn into_device(self) -> D
         ensures device { result ≡ device_of self }

@@ -18,14 +18,15 @@ ghost use Rattle.store_writer.specs.Places.{IsAtPlace, IsAtPiece, AreRowsNow, Ar
 ghost use Rattle.store_writer.specs.Image.{InNewSlot, IsPlan, BecomesImage};
 
 use crate::image::{
-    NewImage, Plan, Stage, carry, lists_alone, plan_for, rows_alone, stage_behind, with_page,
-    write_first, write_next, write_whole,
+    NewImage, Plan, Stage, carry, lists_alone, plan_for, stage_behind, with_page, write_first,
+    write_next, write_whole,
 };
+use crate::page_cells::PageCells;
 use flip_image::Halves;
 use gate_log::{Appended, LogArea, group_len, spell};
-use image_model::{Chunk, Piece};
+use image_model::{Chunk, PageRows, Piece};
 use image_parts::Header;
-use model::{CellMaps, Life, ListMap, RowMap};
+use model::{CellMaps, Life, ListMap};
 use records::{Error, Geometry, Mark, Pair, Record};
 use sector_device::Device;
 use std::alloc::Allocator;
@@ -313,7 +314,7 @@ impl<D: Device, A: Allocator + Copy> Writer<D, A> {
     }
 
     /// Takes the rows of the image's next page, as they are after the record `number`.
-    fn take_page(&mut self, number: u64, page: u32, rows: RowMap<A>) -> Result<StepReply, Error>
+    fn take_page(&mut self, number: u64, page: u32, rows: PageRows<A>) -> Result<StepReply, Error>
         requires sound { self.old.failed ≡ false }
         requires page { (run : Run) × (handed : ℕ) × IsWriter D.history run handed self.old × ((image : NewImage) → self.old.image ≡ Some image → IsPageChunk run image number page rows) }
         ensures writer { (run : Run) (handed : ℕ) → IsWriter D.history run handed self.old → ((image : NewImage) → self.old.image ≡ Some image → IsPageChunk run image number page rows) → IsWriter D.history run handed self.new }
@@ -334,8 +335,7 @@ impl<D: Device, A: Allocator + Copy> Writer<D, A> {
         if is_full(self.log, self.halves.geometry()) {
             return Ok(StepReply::StartAgain);
         }
-        let alloc = *self.waiting.allocator();
-        let cells = rows_alone(alloc, rows);
+        let cells = PageCells { rows };
         if self
             .halves
             .write_rows(&mut self.device, page, &cells)

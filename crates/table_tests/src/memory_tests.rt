@@ -1,10 +1,11 @@
 // Each part is used with each of its allocations refused in turn: it wants memory just where one was refused.
-use crate::values::{Memory, pair_of, row_of};
+use crate::values::{pair_of, row_of};
 use heap_pages::Heap;
 use marked_index::MarkedIndex;
 use records::{Change, Error, Geometry, Mark, Rid, Rows, SLOTS_PER_PAGE};
 use refused_memory::Refusing;
 use sorted_scan::Scan;
+use std::alloc::Allocator;
 use std::process::Abort;
 use std::test::Fail;
 use txn_table::TxnTable;
@@ -13,7 +14,7 @@ use txn_table::TxnTable;
 const PLAYS: u64 = 2_000;
 
 // Fills a page, whose pairs come from a scan then.
-fn scan_page(rt: &impl Abort, memory: &Memory) -> Result<(), Error> {
+fn scan_page<A: Allocator + Copy>(rt: &impl Abort, memory: A) -> Result<(), Error> {
     let mut heap = Heap::new(memory, 1)?;
     for slot in 0..SLOTS_PER_PAGE {
         assert!(rt; heap.pages() == 1);
@@ -32,7 +33,7 @@ fn scan_page(rt: &impl Abort, memory: &Memory) -> Result<(), Error> {
 }
 
 // Four transactions make nine changes each.
-fn change_rows(memory: &Memory) -> Result<(), Error> {
+fn change_rows<A: Allocator + Copy>(memory: A) -> Result<(), Error> {
     let mut table = TxnTable::new(memory);
     for page in 0..4u32 {
         let txn = table.begin()?;
@@ -55,7 +56,7 @@ fn change_rows(memory: &Memory) -> Result<(), Error> {
 }
 
 // Each way to add an entry, by turns; then the shown ones of a key are listed.
-fn add_entries(rt: &impl Abort, memory: &Memory) -> Result<(), Error> {
+fn add_entries<A: Allocator + Copy>(rt: &impl Abort, memory: A) -> Result<(), Error> {
     let mut index = MarkedIndex::new(memory, Geometry::new(1, 256, 4)?);
     for number in 0..34u32 {
         let pair = pair_of(number)?;
@@ -80,7 +81,7 @@ fn add_entries(rt: &impl Abort, memory: &Memory) -> Result<(), Error> {
     Ok(())
 }
 
-fn use_part(rt: &impl Abort, memory: &Memory, part: u8) -> Result<(), Error> {
+fn use_part<A: Allocator + Copy>(rt: &impl Abort, memory: A, part: u8) -> Result<(), Error> {
     match part {
         0 => scan_page(rt, memory),
         1 => change_rows(memory),

@@ -3,20 +3,27 @@ use crate::values::{Memory, pair_of};
 use btree_node::{BTree, ENTRIES_MAX};
 use records::{Error, Mark, Pair};
 use refused_memory::Refusing;
+use std::alloc::{Allocator, Global};
 use std::process::Abort;
 use std::test::Fail;
 
-type Tree<'a> = BTree<&'a Memory>;
-
 // Whether the insertion of a pair that is absent can be planned.
-fn can_plan(rt: &impl Abort, tree: &Tree<'_>, pair: &Pair) -> Result<(), Error> {
+fn can_plan<A: Allocator + Copy>(
+    rt: &impl Abort,
+    tree: &BTree<A>,
+    pair: &Pair,
+) -> Result<(), Error> {
     assert!(rt; tree.len() < ENTRIES_MAX && tree.get(pair).0.is_none());
     tree.plan_insert(pair)?;
     Ok(())
 }
 
 // Puts a pair in that is absent.
-fn put(rt: &impl Abort, tree: &mut Tree<'_>, number: u32) -> Result<(), Error> {
+fn put<A: Allocator + Copy>(
+    rt: &impl Abort,
+    tree: &mut BTree<A>,
+    number: u32,
+) -> Result<(), Error> {
     let pair = pair_of(number)?;
     assert!(rt; tree.len() < ENTRIES_MAX && tree.get(&pair).0.is_none());
     let plan = tree.plan_insert(&pair)?;
@@ -25,7 +32,11 @@ fn put(rt: &impl Abort, tree: &mut Tree<'_>, number: u32) -> Result<(), Error> {
 }
 
 // Takes a pair out that is present.
-fn take(rt: &impl Abort, tree: &mut Tree<'_>, number: u32) -> Result<(), Error> {
+fn take<A: Allocator + Copy>(
+    rt: &impl Abort,
+    tree: &mut BTree<A>,
+    number: u32,
+) -> Result<(), Error> {
     let pair = pair_of(number)?;
     assert!(rt; tree.get(&pair).0.is_some());
     tree.remove(&pair);
@@ -41,16 +52,14 @@ fn levels_of(pairs: u32) -> u32 {
     }
 }
 
-#[test]
-fn the_thirty_third_pair_makes_a_second_level(rt: HostRuntime) -> Result<(), Fail> {
-    let memory = Refusing::new(rt.alloc(), u64::MAX);
-    let mut tree = BTree::new(&memory);
+fn grow_and_shrink<A: Allocator + Copy>(rt: &impl Abort, memory: A) -> Result<(), Error> {
+    let mut tree = BTree::new(memory);
     for number in 1..=33u32 {
-        put(&rt, &mut tree, number)?;
+        put(rt, &mut tree, number)?;
         assert!(rt; tree.height() == levels_of(number), "with {number} pairs");
     }
     for left in (0..=32u32).rev() {
-        take(&rt, &mut tree, left + 1)?;
+        take(rt, &mut tree, left + 1)?;
         let is_low = tree.height() == levels_of(left);
         assert!(rt; is_low || left == 32, "with {left} pairs");
     }
@@ -58,20 +67,31 @@ fn the_thirty_third_pair_makes_a_second_level(rt: HostRuntime) -> Result<(), Fai
 }
 
 #[test]
+fn the_thirty_third_pair_makes_a_second_level(rt: HostRuntime) -> Result<(), Fail> {
+    grow_and_shrink(&rt, rt.alloc())?;
+    Ok(())
+}
+
+// Puts in as many pairs as a tree may have, rising from 0 or falling from the highest.
+fn fill<A: Allocator + Copy>(rt: &impl Abort, memory: A, highest: u32) -> Result<(), Error> {
+    let mut tree = BTree::new(memory);
+    for number in 0..65_536u32 {
+        put(rt, &mut tree, number.abs_diff(highest))?;
+    }
+    assert!(rt; tree.len() == 65_536 && tree.height() <= 4);
+    Ok(())
+}
+
+#[test]
 fn many_pairs_give_few_levels(rt: HostRuntime) -> Result<(), Fail> {
     for highest in [0, 65_535] {
-        let memory = Refusing::new(rt.alloc(), u64::MAX);
-        let mut tree = BTree::new(&memory);
-        for number in 0..65_536u32 {
-            put(&rt, &mut tree, number.abs_diff(highest))?;
-        }
-        assert!(rt; tree.len() == 65_536 && tree.height() <= 4);
+        fill(&rt, rt.alloc(), highest)?;
     }
     Ok(())
 }
 
 // Whether a walk meets just the pairs of these numbers, which all are live.
-fn walks(tree: &Tree<'_>, numbers: &[u32]) -> Result<bool, Error> {
+fn walks<A: Allocator + Copy>(tree: &BTree<A>, numbers: &[u32]) -> Result<bool, Error> {
     let mut last = None;
     for number in numbers {
         let Some((pair, mark)) = tree.above(last.as_ref()) else {
@@ -87,10 +107,10 @@ fn walks(tree: &Tree<'_>, numbers: &[u32]) -> Result<bool, Error> {
 
 // Plans an insertion with each of its allocations refused in turn, and at last none. How many there were. The tree stays as it
 // was.
-fn refuse_each(
+fn refuse_each<A: Allocator + Copy>(
     rt: &impl Abort,
     memory: &Memory,
-    tree: &Tree<'_>,
+    tree: &BTree<A>,
     number: u32,
     numbers: &[u32],
 ) -> Result<u64, Fail> {
@@ -109,18 +129,22 @@ fn refuse_each(
     Err("fewer allocations of an insertion")?
 }
 
-#[test]
-fn a_refused_plan_leaves_the_tree_as_it_was(rt: HostRuntime) -> Result<(), Fail> {
-    let memory = Refusing::new(rt.alloc(), u64::MAX);
-    let mut tree = BTree::new(&memory);
-    let mut numbers = Vec::new(rt.alloc());
+// Puts numbers in, before each of which its insertion is refused. The tree takes this memory, which may refuse.
+fn refuse_and_put<A: Allocator + Copy>(
+    rt: &impl Abort,
+    alloc: Global,
+    memory: &Memory,
+    within: A,
+) -> Result<(), Fail> {
+    let mut tree = BTree::new(within);
+    let mut numbers = Vec::new(alloc);
     let mut refused: u64 = 0;
     let mut number: u32 = 0;
     for _ in 0..2_000 {
         number = (number % 2_000 + 709) % 2_000;
-        let more = refuse_each(&rt, &memory, &tree, number, &numbers)?;
+        let more = refuse_each(rt, memory, &tree, number, &numbers)?;
         refused = refused.saturating_add(more);
-        put(&rt, &mut tree, number)?;
+        put(rt, &mut tree, number)?;
         let Err(at) = numbers.binary_search(&number) else {
             return Err("a number that is there")?;
         };
@@ -128,4 +152,10 @@ fn a_refused_plan_leaves_the_tree_as_it_was(rt: HostRuntime) -> Result<(), Fail>
     }
     assert!(rt; tree.len() == 2_000 && walks(&tree, &numbers)? && 100 < refused);
     Ok(())
+}
+
+#[test]
+fn a_refused_plan_leaves_the_tree_as_it_was(rt: HostRuntime) -> Result<(), Fail> {
+    let memory = Refusing::new(rt.alloc(), u64::MAX);
+    refuse_and_put(&rt, rt.alloc(), &memory, &memory)
 }

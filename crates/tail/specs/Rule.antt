@@ -21,12 +21,15 @@ pub record IsKept (items : List RecordValue) (ends : List Knowledge) : Type 0 wh
 
 -- ---- the ends
 
+-- what is known with both ends: what was pushed, and what was popped
 abbrev pub both_ends : List RecordValue → List RecordValue → Knowledge
 both_ends pushed popped = record { pushes = true; pops = true; pushed = pushed; popped = popped }
 
+-- what the pushing end knows: what was pushed
 abbrev pub push_end : List RecordValue → Knowledge
 push_end pushed = record { pushes = true; pops = false; pushed = pushed; popped = [] }
 
+-- what the popping end knows: what was popped
 abbrev pub pop_end : List RecordValue → Knowledge
 pop_end popped = record { pushes = false; pops = true; pushed = []; popped = popped }
 
@@ -49,6 +52,7 @@ pub record IsWhole (v : Knowledge) : Type 0 where
 abbrev pub Waits : Knowledge → List RecordValue → Type 0
 Waits v items = v.pushes ≡ true → v.pops ≡ true → v.pushed ≡ v.popped ++ items
 
+-- a push adds this record
 abbrev pub Pushes : Knowledge → RecordValue → Knowledge → Type 0
 Pushes v x w = w ≡ record v { pushed = v.pushed ++ x ∷ [] }
 

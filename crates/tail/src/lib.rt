@@ -3,6 +3,10 @@
 //! Each end steps with a token that it owns and that takes no bytes: the [`Pusher`] and the [`Popper`]. The rule of the
 //! queue holds at every moment, whatever the threads do: the records that were pushed are those that were popped and
 //! then those that the queue holds, in order. A step is one push, by the pusher, or one pop, by the popper.
+//!
+//! Proved: a push adds its record, or gives it back and has pushed nothing (`ok`, `back`). Whoever has both ends knows that what
+//! was pushed is what was popped and then what waits (`JoinedQueue::join`, `RecordQueue::compare`).
+//! Neither: that a push succeeds where there is memory, or that a pop finds a record that waits while others push.
 #![tactic(auto)]
 
 mod joined;

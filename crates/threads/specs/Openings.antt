@@ -32,6 +32,7 @@ pub record OpensSoundly (image : Image) : Type 0 where
   pub opens : Opens image opened
   pub sound : CanOpen opened
 
+-- that it does, and not how
 abbrev pub IsOpenable : Image → Type 0
 IsOpenable image = ∥ OpensSoundly image ∥₁
 

@@ -2,6 +2,10 @@
 //!
 //! One call opens the store that a device holds, and gives what its threads need: what they share, a seat for each, the part of
 //! the thread that writes to the device, and the view of the one that builds the index.
+//!
+//! Proved: `open_store` opens a store as a restart does (`opened`), tells one that no core may begin with (`Unsound`), or refuses
+//! (`refused`). What threads, or a crash within the opening, leave may be opened again (the laws `left_by_threads`,
+//! `left_by_an_opening`). `OpenStore::start` hands out new seats and a flusher's part with nothing popped (`seats`, `flush`).
 #![tactic(auto)]
 
 mod openable;

@@ -337,13 +337,27 @@ fn leave_mark<B: Group, R: Wait + Clock>(
     await_ack(rt, shared, seat, &ticket)
 }
 
-/// Waits until the index is complete; a row is deleted, and the cleaner takes its entry away.
+// Drops the index, and creates another one.
+fn make_anew<B: Group, R: Wait>(
+    rt: &R,
+    shared: &Shared<B>,
+    seat: &mut Seat<B>,
+) -> Result<(), Error> {
+    shared.drop_index(rt, seat)?;
+    shared.create_index(rt, seat)?;
+    Ok(())
+}
+
+/// Waits until the index is complete, and until one that is made in its place is; a row is deleted, and the cleaner takes its entry
+/// away.
 pub fn end<B: Group, R: Wait + Clock>(
     rt: &R,
     shared: &Shared<B>,
     seat: &mut Seat<B>,
     stage: &Stage<'_, R>,
 ) -> Result<Built, Error> {
+    await_index(rt, shared, stage);
+    make_anew(rt, shared, seat)?;
     await_index(rt, shared, stage);
     leave_mark(rt, shared, seat, stage)?;
     let found = shared.find(rt, key_of(ROWS, 1)?)?;

@@ -21,6 +21,7 @@ pub record IsSoundTxn (s : TxnState) : Type 0 where
   pub few : length s.changes ≤ CHANGES_MAX
   pub held : AllHeld s.rows s.changes
 
+-- so it is of each active transaction
 abbrev pub EachSoundTxn : List (ℕ × TxnState) → Type 0
 EachSoundTxn [] = Unit {0}
 EachSoundTxn (e ∷ es) = IsSoundTxn e.1 × EachSoundTxn es

@@ -10,5 +10,5 @@ returns-then-not-wanted g c = took_more _ _ c.take.ensures.takes.0 c.take.ensure
 pub returns : goal.returns
 returns g c = took_then _ _ _ (took_more _ _ c.take.ensures.takes.0 c.take.ensures.takes.1) c.take_in.ensures.takes
 
-pub returns-then-waits : goal.returns-then-waits
-returns-then-waits g c = took_none _
+pub returns-then-passes : goal.returns-then-passes
+returns-then-passes g c = took_none _

@@ -1,7 +1,39 @@
-use Rattle.loops.proofs.Steps.{ended_why}
+use Rattle.std.proofs.Common.{◌≡◌, ◌≢◌, ◌⊎◌, ◌∙◌, ap, arith, Err}
+use Rattle.board.specs.Views.{Sighting}
+use Rattle.core_contracts.specs.Events.{Event, Refused}
+use Rattle.nsf_core.specs.Builds.{built}
+use Rattle.nsf_core.specs.declared.reply.BuildReply.TheVariants as reply
+use Rattle.nsf_core.specs.declared.parts.Ticket.{Ticket}
+use Rattle.records.specs.declared.error.Error.TheVariants.{NoMemory, Stopped}
+use Rattle.shared.specs.Served.{WasServed}
+use Rattle.loops.specs.Building.{HasPublished}
+use Rattle.loops.proofs.Steps.{attempted_on, ended_why, last_told, still_last, why_told}
 use Rattle.loops.proofs.run.build_until_end.Goals as goal
 
-pub returns : goal.returns
-returns g c =
-    let is = c.build_until-ended.ensures in
-    record { done = is.done; published = is.published; why = ended_why g.B.Site.site.opened _ c.build_until-ended.result is.why; rises = is.rises; attempted = is.attempted; board = is.board }
+pub loop-preserved : goal.loop-preserved
+loop-preserved g c =
+    let now = c.build_until.ensures in
+    let before = c.loop.invariant in
+    record {
+      rises = omega (arith, before.rises, now.rises);
+      attempted = attempted_on g.B.Site.site.opened _ _ _ now.rises before.attempted now.attempted;
+      board = now.board ∙ before.board;
+      view = ap (λ (v : Sighting). v.board) now.view ∙ before.view;
+      done = c.in-Ok.ensures.done;
+      published = c.in-Ok.ensures.published;
+    }
+
+pub returns-in-Err : goal.returns-in-Err
+returns-in-Err g c =
+    let o = g.B.Site.site.opened in
+    let now = c.build_until.ensures in
+    let before = c.loop.invariant in
+    let told = c.end_of-ended.ensures in
+    record {
+      done = last_told (λ ticket. ∥ WasServed o Event.Build (built (reply.Done ticket)) ∥₁) c.loop.completed c.in-Err.error c.end_of-ended.result told.ok before.done;
+      published = last_told (λ ticket. ∥ HasPublished o ticket c.build_until.new.build.progress ∥₁) c.loop.completed c.in-Err.error c.end_of-ended.result told.ok (still_last o c.loop.completed _ _ now.rises before.published);
+      why = why_told (λ e. (e ≡ Stopped) ⊎ ((e ≢ NoMemory) × ∥ WasServed o Event.Build (Refused e) ∥₁)) c.loop.completed c.in-Err.error c.end_of-ended.result told.err (ended_why {T = Ticket} o _ (Err c.in-Err.error) c.in-Err.ensures.why);
+      rises = omega (arith, before.rises, now.rises);
+      attempted = attempted_on o _ _ _ now.rises before.attempted now.attempted;
+      board = now.board ∙ before.board;
+    }

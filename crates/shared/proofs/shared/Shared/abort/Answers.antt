@@ -1,9 +1,10 @@
 use Rattle.std.proofs.Common.{◌∙◌, ◌⊎◌, ap, subst, sym}
-use Rattle.std.proofs.Math.Logic.{∥∥₁_map}
+use Rattle.std.proofs.Math.Logic.{∥∥₁_map₂}
 use Rattle.core_contracts.specs.Events.{Event, Refused}
 use Rattle.shared.specs.Seats.{SeatValue}
-use Rattle.shared.specs.Served.{WasServedTo, WasTakenBack}
+use Rattle.shared.specs.Served.{WasServedTo, WasTakenBack, WasUndone}
 use Rattle.shared.proofs.Backward.{back_ended, back_more, back_stays}
+use Rattle.shared.proofs.Undone.{stays_undone, step_undone}
 use Rattle.shared.proofs.shared.Shared.abort.Goals as goal
 
 pub returns-then-last-clause-ok : goal.returns-then-last-clause-ok
@@ -12,10 +13,13 @@ returns-then-last-clause-ok g c = back_ended c.args.txn c.args.seat.now.session 
 pub returns-then-last-clause-aborted : goal.returns-then-last-clause-aborted
 returns-then-last-clause-aborted g c =
     let taken = subst (λ n. ∥ WasTakenBack g.B.Site.site.opened n c.loop.seat.session c.args.txn ∥₁) (ap (λ (s : SeatValue). s.number) c.loop.invariant.seat) (c.in-Ok.ensures.taken c.if-last.true) in
-    ∥∥₁_map taken (λ t. record { last = c.loop.seat.session; back = c.loop.invariant.back; taken = t })
+    ∥∥₁_map₂ c.loop.invariant.undone taken (λ undone t. record { last = c.loop.seat.session; back = c.loop.invariant.back; undone = undone; taken = t })
 
 pub returns-in-Err-clause-err : goal.returns-in-Err-clause-err
 returns-in-Err-clause-err g c = back_stays c.args.txn c.args.seat.now.session c.loop.seat.session c.take_back.new.seat.session c.loop.invariant.back (ap (λ (s : SeatValue). s.session) c.in-Err.ensures.refused)
+
+pub returns-in-Err-clause-undone : goal.returns-in-Err-clause-undone
+returns-in-Err-clause-undone g c = stays_undone g.B.Site.site.opened c.args.seat.now.number c.args.txn c.args.seat.now.session c.loop.seat.session c.take_back.new.seat.session c.loop.invariant.undone (ap (λ (s : SeatValue). s.session) c.in-Err.ensures.refused)
 
 pub returns-in-Err-clause-served : goal.returns-in-Err-clause-served
 returns-in-Err-clause-served g c = λ own.
@@ -28,8 +32,12 @@ pub loop-preserved : goal.loop-preserved
 loop-preserved g c =
     let was = c.loop.invariant in
     let step = c.in-Ok.ensures.back c.if-last.false in
+    let o = g.B.Site.site.opened in
+    let n = c.args.seat.now.number in
+    let undone = subst (λ m. ∥ WasUndone o m c.loop.seat.session c.args.txn c.take_back.new.seat.session ∥₁) (ap (λ (s : SeatValue). s.number) was.seat) (c.in-Ok.ensures.undone c.if-last.false) in
     record {
       seat = c.in-Ok.ensures.seat ∙ ap (λ (s : SeatValue). record s { session = c.take_back.new.seat.session }) was.seat;
       own = step.active;
       back = back_more c.args.txn c.args.seat.now.session c.loop.seat.session c.take_back.new.seat.session was.back step;
+      undone = step_undone o n c.args.txn c.args.seat.now.session c.loop.seat.session c.take_back.new.seat.session was.undone undone;
     }

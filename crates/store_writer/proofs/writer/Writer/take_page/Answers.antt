@@ -4,8 +4,6 @@ use Rattle.sector_device.specs.Disk.{SameOutside}
 use Rattle.sector_device.specs.History.{RunsWithin}
 use Rattle.sector_device.proofs.Moments.{started}
 use Rattle.records.specs.GeometryValue.{GeometryValue}
-use Rattle.model.specs.Table.{Table}
-use Rattle.model.specs.Cells.{Cells}
 use Rattle.image_half.specs.Layout.{InPage}
 use Rattle.image_half.specs.Part.{HasPage}
 use Rattle.flip_image.specs.Layout.{other, header_sector, InHalf, InHalfImage}
@@ -65,9 +63,8 @@ returns-clause-writer g c = λ run handed is asked.
     let part : IsPart run half before image.base image.number c.args.page count highest life = subst (IsContent run half before image.base image.number) at there.content in
     let good = sym c.is_err.ensures.value ∙ c.if-is_err.false in
     let same : SameOutside (InPage (header_sector run.geometry half) c.args.page) before after = subst (λ (x : GeometryValue). SameOutside (InPage (header_sector x half) c.args.page) before after) is.geometry-is c.write_rows.ensures.outside in
-    let rows_are : c.rows_alone-cells.result.rows ≡ c.args.rows = ap (λ (x : Cells). x.rows) c.rows_alone-cells.ensures in
-    let has : HasPage (header_sector run.geometry half) after c.args.page c.args.rows = subst (λ (t : Table). HasPage (header_sector run.geometry half) after c.args.page t) rows_are
-    (subst (λ (x : GeometryValue). HasPage (header_sector x half) after c.args.page c.rows_alone-cells.result.rows) is.geometry-is (from_ok _ _ good c.write_rows.ensures.written)) in
+    let has : HasPage (header_sector run.geometry half) after c.args.page c.args.rows =
+    subst (λ (x : GeometryValue). HasPage (header_sector x half) after c.args.page c.args.rows) is.geometry-is (from_ok _ _ good c.write_rows.ensures.written) in
     let next : IsPart run half after image.base c.args.number (c.args.page + 1) count highest life = page_part run half before after image.base image.number c.args.number there.low there.rise chunk.later c.args.page count highest life c.args.rows part chunk.below chunk.rows-are chunk.slots same has in
     let log = written_log run.geometry half (history old.device) (history c.write_rows.new.device) stand.loose within image.log there.groups there.area-is there.stands in
     let taken : NewImage = c.with_page.result in

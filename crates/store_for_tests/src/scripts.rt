@@ -1,9 +1,9 @@
-// Requests, as the commands of a script ask for them.
+//! Requests, as the commands of a script ask for them.
+use records::Error;
 use restart::Event;
-use script::read;
+use script::{Command, read};
 use serving::Request;
 use std::alloc::Global;
-use std::test::Fail;
 
 // What is asked for, and how often: `image` is one copy, and `dump` and `crash` ask how far the index is.
 fn event_of(request: Request) -> (Event, u32) {
@@ -17,11 +17,19 @@ fn event_of(request: Request) -> (Event, u32) {
     }
 }
 
+fn asked_by(command: &Command) -> Result<(Event, u32), Error> {
+    Ok(event_of(Request::of(command)?))
+}
+
+fn commands_of(alloc: Global, script: &str) -> Result<Vec<Command>, Error> {
+    read(alloc, script.as_bytes())
+}
+
 /// The requests of a script: `image` is one copy, and `dump` asks how far the index is.
-pub(crate) fn requests(alloc: Global, script: &str) -> Result<Vec<Event>, Fail> {
+pub fn requests(alloc: Global, script: &str) -> Result<Vec<Event>, Error> {
     let mut events = Vec::new(alloc);
-    for command in read(alloc, script.as_bytes())?.iter() {
-        let (event, count) = event_of(Request::of(command)?);
+    for command in &commands_of(alloc, script)? {
+        let (event, count) = asked_by(command)?;
         for _ in 0..count {
             events.push(event)?;
         }

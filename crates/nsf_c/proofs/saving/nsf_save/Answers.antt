@@ -1,0 +1,29 @@
+use Rattle.std.proofs.Common.{◌∙◌, ap, subst}
+use Rattle.sector_device.specs.Disk.{Image}
+use Rattle.file_disk.specs.FileDisk.{history_of}
+use Rattle.serving.specs.Store as serving
+use Rattle.nsf_c.specs.Calls.{CopiesOut, IsKept, content_of}
+use Rattle.nsf_c.specs.Handles.{Disk}
+use Rattle.nsf_c.specs.declared.held.Held.{Held}
+use Rattle.nsf_c.proofs.Saved.{is_kept}
+use Rattle.nsf_c.proofs.saving.nsf_save.Goals as goal
+
+pub returns-clause-copied : goal.returns-clause-copied
+returns-clause-copied c =
+    let of_device = c.content.ensures ∙ ap (λ (d : Disk). (history_of d).disk.content) c.device.ensures.device in
+    let content_is = of_device ∙ ap (λ (h : Held). content_of h.store) c.deref.ensures in (
+      c.take-held.result.value,
+      c.take-held.ensures.taken,
+      c.put.ensures,
+      subst (λ (content : Image). CopiesOut content c.args.first c.copy_out-count.result c.args.room.now c.copy_out-count.new.room) content_is c.copy_out-count.ensures,
+    )
+
+pub returns-clause-kept : goal.returns-clause-kept
+returns-clause-kept c =
+    let held = c.deref.result.now in
+    let leaves = subst (λ (d : Disk). serving.LeavesItsRun history_of held.store d) c.device.ensures.device c.device.ensures.survives in (
+      c.take-held.result.value,
+      c.take-held.ensures.taken,
+      c.put.ensures,
+      subst (λ (h : Held). IsKept h.store (content_of h.store)) c.deref.ensures (is_kept held.store leaves),
+    )

@@ -1,0 +1,68 @@
+//! What a store holds.
+use model::Life;
+use nsf_core::Core;
+use records::{Mark, Pair, Rid, Row};
+use std::alloc::Allocator;
+
+/// An entry, or none.
+pub type Entry = Option<(Pair, Mark)>;
+
+/// What a store holds: the number of its last record, the rows of the first two places, how far the index is, and its
+/// first three entries.
+#[derive(Clone, Copy, Debug, PartialEq, Eq)]
+pub struct Contents {
+    pub last: u64,
+    pub rows: (Option<Row>, Option<Row>),
+    pub life: Life,
+    pub entries: (Entry, Entry, Entry),
+}
+
+fn row<A: Allocator + Copy>(core: &Core<A>, rid: Rid) -> Option<Row> {
+    core.get(rid)
+}
+
+// The least entry.
+fn first<A: Allocator + Copy>(core: &Core<A>) -> Entry {
+    core.above(None)
+}
+
+// The least entry above this one, if there is one.
+fn next<A: Allocator + Copy>(core: &Core<A>, entry: Entry) -> Entry {
+    match entry {
+        Some((pair, _)) => core.above(Some(&pair)),
+        None => None,
+    }
+}
+
+fn second<A: Allocator + Copy>(core: &Core<A>) -> Entry {
+    next(core, first(core))
+}
+
+fn third<A: Allocator + Copy>(core: &Core<A>) -> Entry {
+    next(core, second(core))
+}
+
+/// What a core holds.
+pub(crate) fn contents_of<A: Allocator + Copy>(core: &Core<A>) -> Contents {
+    Contents {
+        last: core.last(),
+        rows: (
+            row(core, Rid { page: 0, slot: 0 }),
+            row(core, Rid { page: 0, slot: 1 }),
+        ),
+        life: core.life(),
+        entries: (first(core), second(core), third(core)),
+    }
+}
+
+/// How many entries a core has, marked ones too; 1,000 where there are more.
+pub(crate) fn entries_of<A: Allocator + Copy>(core: &Core<A>) -> usize {
+    let mut entry = first(core);
+    for count in 0..1_000 {
+        if entry.is_none() {
+            return count;
+        }
+        entry = next(core, entry);
+    }
+    1_000
+}
