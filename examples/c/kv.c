@@ -1,7 +1,9 @@
 /* A table of keys and values in a file, whose index is built while the table is written.
  *
- *     kv FILE            makes the store in FILE, fills it, builds its index among further changes, and finds by it; then opens it again
+ *     kv FILE            makes the store in FILE, fills it, builds its index among further changes, and finds by it; then opens it again;
+ *                        and the same in memory, saved and opened from what was saved
  *     kv --time FILE     measures calls a second, in memory and in FILE */
+#define _POSIX_C_SOURCE 200809L
 #include "nsf_file.h"
 
 #include <time.h>
@@ -38,9 +40,18 @@ static void take_out(nsf_handle *store, nsf_place place)
 /* Makes a step of the builder, and tells whether the index is complete. */
 static bool build_step(nsf_handle *store)
 {
-    nsf_reply reply = NSF_NO_REPLY;
-    stop_if(nsf_ask_of(store, NSF_BUILD, 0, &reply), "build");
-    return reply.kind == NSF_DONE || reply.kind == NSF_IDLE;
+    bool is_complete;
+    stop_if(nsf_build_step(store, &is_complete), "build");
+    return is_complete;
+}
+
+/* Takes back what a transaction did. */
+static void try_and_roll_back(nsf_handle *store, nsf_place place)
+{
+    uint64_t txn;
+    stop_if(nsf_begin(store, &txn), "begin");
+    stop_if(nsf_update(store, txn, place, "wasp", 4, "a sting", 7), "update");
+    stop_if(nsf_roll_back(store, txn), "roll back");
 }
 
 static void show(nsf_handle *store, const char *key)
@@ -64,10 +75,11 @@ static void fill_and_build(nsf_handle *store)
     put(store, "ant", "six legs", &ticket);
     bee = put(store, "bee", "wings", &ticket);
     put(store, "ant", "a colony", &ticket);
-    stop_if(nsf_ask_of(store, NSF_CREATE, 0, &reply), "create");
+    stop_if(nsf_create_index(store, &ticket), "create");
     /* the table is written while the index is built */
     build_step(store);
     put(store, "cow", "four legs", &ticket);
+    try_and_roll_back(store, bee);
     take_out(store, bee);
     while (!build_step(store))
         ;
@@ -81,6 +93,23 @@ static void show_all(nsf_handle *store)
     show(store, "ant");
     show(store, "bee");
     show(store, "cow");
+}
+
+static void save_and_open(void)
+{
+    nsf_handle store = NSF_VACANT;
+    size_t length = (size_t)nsf_sectors(4, 256, 16) * NSF_SECTOR;
+    uint8_t *bytes = (uint8_t *)calloc(length, 1);
+    if (!bytes)
+        stop_if(NSF_NO_MEMORY, "save");
+    stop_if(nsf_create(&store, -1, 4, 256, 16), "create");
+    fill_and_build(&store);
+    printf("saved: %s\n", nsf_save_bytes(&store, bytes, length) == length ? "all" : "a part");
+    nsf_close(&store);
+    stop_if(nsf_open(&store, -1, bytes, length), "open");
+    free(bytes);
+    show_all(&store);
+    nsf_close(&store);
 }
 
 /* ---- calls a second */
@@ -119,7 +148,7 @@ static void time_in_memory(void)
     nsf_reply reply = NSF_NO_REPLY;
     nsf_status status;
     nsf_place place = {0, 0};
-    uint64_t found;
+    uint64_t found, ticket;
     double began;
     stop_if(nsf_create(&store, -1, 256, 65536, 256), "create");
     began = now();
@@ -131,7 +160,7 @@ static void time_in_memory(void)
         nsf_get(&store, place, &reply);
     told("get", 2000000, began);
     time_commits(&store, "commit of a row, flush each 64, memory", 12800, 64);
-    stop_if(nsf_ask_of(&store, NSF_CREATE, 0, &reply), "create");
+    stop_if(nsf_create_index(&store, &ticket), "create");
     began = now();
     while (!build_step(&store))
         ;
@@ -173,5 +202,7 @@ int main(int count, char **words)
     printf("opened again, sound: %s\n", nsf_can_open(&file.handle) ? "yes" : "no");
     show_all(&file.handle);
     nsf_file_close(&file);
+
+    save_and_open();
     return 0;
 }

@@ -6,7 +6,7 @@ here=$(cd "$(dirname "$0")" && pwd)
 . "$here/../library.sh"
 work=$(mktemp -d)
 trap 'rm -rf "$work"' EXIT
-${CC:-cc} -std=gnu11 -O2 -Wall -Wextra -I"$header" "$here/kv.c" $libraries -pthread -o "$work/kv"
+${CC:-cc} -std=c99 -O2 -Wall -Wextra -pedantic -I"$header" "$here/kv.c" $libraries -pthread -o "$work/kv"
 if [ "$1" = --time ]; then
     "$work/kv" --time "$work/bank"
 else

@@ -12,10 +12,11 @@ use std::marker::PhantomData;
 
 pub use sys::Place;
 
-/// Why a call was refused, by its number in nsf.h, or the system's error.
+/// Why a call was refused: by its number in nsf.h; as the transaction owes a step or has a change left; or by the system.
 #[derive(Debug)]
 pub enum Refused {
     Store(u32),
+    Unready,
     System(io::Error),
 }
 
@@ -77,6 +78,7 @@ mod kind {
     pub const DONE: u32 = 12;
     pub const IDLE: u32 = 13;
     pub const ROW: u32 = 22;
+    pub const SKIPPED: u32 = 29;
 }
 
 impl Store {
@@ -136,6 +138,27 @@ impl Store {
         Ok(store)
     }
 
+    /// Opens the store that the bytes hold, in memory.
+    pub fn from_bytes(bytes: &[u8]) -> Result<Store, Refused> {
+        let mut store = Store::vacant(None);
+        checked(unsafe { sys::nsf_open(&mut store.handle, -1, bytes.as_ptr(), bytes.len()) })?;
+        Ok(store)
+    }
+
+    /// The bytes that the store holds, which `from_bytes` opens: what was flushed is in them.
+    pub fn save(&mut self) -> Vec<u8> {
+        let (mut bytes, mut room) = (Vec::new(), [[0; 512]; 64]);
+        loop {
+            let first = bytes.len() as u64 / 512;
+            let count =
+                unsafe { sys::nsf_save(&mut self.handle, first, room.as_mut_ptr(), room.len()) };
+            bytes.extend(room[..count as usize].iter().flatten());
+            if count < 64 {
+                return bytes;
+            }
+        }
+    }
+
     fn ask(
         &mut self,
         event: sys::Event,
@@ -157,6 +180,20 @@ impl Store {
                 &mut reply,
             )
         })?;
+        Ok(reply)
+    }
+
+    // What a transaction that isn't ready for it is refused.
+    fn ask_ready(
+        &mut self,
+        event: sys::Event,
+        key: &[u8],
+        body: &[u8],
+    ) -> Result<sys::Reply, Refused> {
+        let reply = self.ask(event, key, body, &mut [])?;
+        if reply.kind == kind::SKIPPED {
+            return Err(Refused::Unready);
+        }
         Ok(reply)
     }
 
@@ -187,7 +224,7 @@ impl Store {
             txn,
             ..sys::Event::default()
         };
-        let reply = self.ask(event, key, body, &mut [])?;
+        let reply = self.ask_ready(event, key, body)?;
         self.finish(txn)?;
         Ok(Place {
             page: reply.page,
@@ -203,13 +240,18 @@ impl Store {
             page: place.page,
             slot: place.slot,
         };
-        self.ask(event, &[], &[], &mut [])?;
+        self.ask_ready(event, &[], &[])?;
         self.finish(txn)
     }
 
     /// Commits a transaction, and answers its ticket.
     pub fn commit(&mut self, txn: u64) -> Result<u64, Refused> {
-        Ok(self.ask_of(kind::COMMIT, txn)?.number)
+        let event = sys::Event {
+            kind: kind::COMMIT,
+            txn,
+            ..sys::Event::default()
+        };
+        Ok(self.ask_ready(event, &[], &[])?.number)
     }
 
     /// Creates the index.

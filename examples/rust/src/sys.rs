@@ -15,7 +15,7 @@ pub struct Event {
 }
 
 #[repr(C)]
-#[derive(Clone, Copy, Default)]
+#[derive(Clone, Copy, Debug, Default, PartialEq, Eq)]
 pub struct Place {
     pub page: u32,
     pub slot: u16,
@@ -51,6 +51,7 @@ extern "C" {
     pub fn nsf_sectors(pages: u32, entries: u32, slots: u32) -> u64;
     pub fn nsf_create(handle: *mut Handle, line: i32, pages: u32, entries: u32, slots: u32) -> u32;
     pub fn nsf_open(handle: *mut Handle, line: i32, bytes: *const u8, length: usize) -> u32;
+    pub fn nsf_save(handle: *mut Handle, first: u64, sectors: *mut [u8; 512], room: usize) -> u64;
     pub fn nsf_close(handle: *mut Handle);
     pub fn nsf_serve(
         handle: *mut Handle,

@@ -47,12 +47,44 @@ fn a_refusal_has_its_number() {
     let mut store = Store::in_memory(GEOMETRY).unwrap();
     assert!(matches!(store.commit(7), Err(Refused::Store(9))));
     let txn = store.begin().unwrap();
-    assert!(matches!(store.insert(txn, &[0; 25], &[]), Err(Refused::Store(14))));
-    assert!(matches!(store.insert(txn, &[], &[0; 38]), Err(Refused::Store(15))));
+    assert!(matches!(
+        store.insert(txn, &[0; 25], &[]),
+        Err(Refused::Store(14))
+    ));
+    assert!(matches!(
+        store.insert(txn, &[], &[0; 38]),
+        Err(Refused::Store(15))
+    ));
     assert!(matches!(store.find(b"key"), Err(Refused::Store(18))));
     assert!(matches!(
-        Store::in_memory(Geometry { pages: 0, ..GEOMETRY }),
+        Store::in_memory(Geometry {
+            pages: 0,
+            ..GEOMETRY
+        }),
         Err(Refused::Store(6))
+    ));
+}
+
+#[test]
+fn a_store_in_memory_is_saved() {
+    let mut store = Store::in_memory(GEOMETRY).unwrap();
+    let kept = put(&mut store, b"kept", b"row").unwrap();
+    store.create_index().unwrap();
+    build(&mut store).unwrap();
+    store.flush().unwrap();
+    let lost = put(&mut store, b"lost", b"row").unwrap();
+    let bytes = store.save();
+
+    let mut copy = Store::from_bytes(&bytes).unwrap();
+    assert!(copy.is_sound());
+    assert_eq!(copy.get(kept).unwrap().unwrap().body, b"row");
+    assert_eq!(copy.get(lost).unwrap(), None);
+    assert_eq!(copy.find(b"kept").unwrap(), [kept]);
+    // the store that was saved goes on
+    assert_eq!(store.find(b"lost").unwrap(), [lost]);
+    assert!(matches!(
+        Store::from_bytes(&bytes[..512]),
+        Err(Refused::Store(_))
     ));
 }
 

@@ -1,0 +1,92 @@
+#!/usr/bin/env python3
+"""Looks whether README.md and docs/*.md agree with the sources. Usage: tools/check_docs.py, anywhere in the repository.
+
+Each word in backticks that could name an item, a crate or a file stands in the sources. At each place FILE:LINE that a table row
+names stands what the row is about, and a block of code behind such a place begins with that line. Each relative link leads
+somewhere. A row with functions and a file names functions of that file. It prints how many words each page has, and ends with
+status 1 where something is missing.
+"""
+import fnmatch, pathlib, re, sys
+
+TOP = pathlib.Path(__file__).resolve().parent.parent
+KINDS = {".rt", ".antt", ".edit", ".h", ".c", ".rs", ".py", ".sh", ".options", ".help"}
+WORD = re.compile(r"[A-Za-z_]\w{2,}")
+BYTES = re.compile(r"(?<![\w:]):[0-9a-f]{2,}\b|\b\d\w*")
+OUTSIDE = {"libc", "synchronous"}  # names of other programs
+PLACE = re.compile(r"`([\w./-]+\.(?:rt|antt)):(\d+)`")
+
+
+def sources():
+    """The words of all sources, and the paths of all files, with each of their ends."""
+    words, ends = set(), set()
+    for path in TOP.rglob("*"):
+        parts = path.relative_to(TOP).parts
+        if ".git" in parts or "out" in parts:
+            continue
+        ends.update("/".join(parts[i:]) for i in range(len(parts)))
+        words.update(WORD.findall(" ".join(parts)))
+        if path.suffix in KINDS and path.name != "check_docs.py":
+            words.update(WORD.findall(path.read_text(errors="replace")))
+    words.update(WORD.findall((TOP / "crates.txt").read_text()))
+    return words, ends
+
+
+def line_at(file, number):
+    path = next((p for p in (TOP / file, TOP / "crates" / file) if p.is_file()), None)
+    lines = path.read_text().splitlines() if path else []
+    return lines[number - 1] if 0 < number <= len(lines) else None
+
+
+def faults(page, words, ends):
+    text = page.read_text()
+    pieces = re.split(r"^```.*$", text, flags=re.M)
+    prose = "\n".join(pieces[::2])
+    for name in re.findall(r"`([^`\n]+)`", prose):
+        file = name.split(":")[0]
+        if "/" in file and re.fullmatch(r"[\w./*-]+", file):
+            if not any(fnmatch.fnmatch(end, file.strip("./")) for end in ends):
+                yield f"no file {file}"
+        elif not name.startswith("rattle-kit"):
+            for word in WORD.findall(BYTES.sub("", name)):
+                if word not in words and word not in OUTSIDE and not word.isupper():
+                    yield f"no {word} in the sources, of `{name}`"
+    for row in prose.splitlines():
+        hop = re.match(r"\| ((?:`\w+`(?:, )?)+) \| `([\w/]+\.rt)` \|", row)
+        if hop:
+            file = TOP / "crates" / hop[2]
+            code = file.read_text() if file.is_file() else ""
+            for name in WORD.findall(hop[1]):
+                if not re.search(rf"\bfn {name}\b", code):
+                    yield f"no function {name} in {hop[2]}"
+        subject = re.match(r"\| `(\w+)`", row)
+        for file, number in PLACE.findall(row):
+            line = line_at(file, int(number))
+            if line is None:
+                yield f"no line {file}:{number}"
+            elif subject and not re.search(rf"\b{subject[1]}\b", line):
+                yield f"{file}:{number} has no {subject[1]}: {line.strip()}"
+    for before, block in zip(pieces[::2], pieces[1::2]):
+        place = PLACE.findall(before.strip().splitlines()[-1]) if before.strip() else []
+        if place and line_at(place[-1][0], int(place[-1][1])) != block.strip("\n").splitlines()[0]:
+            yield f"{place[-1][0]}:{place[-1][1]} is not the first line of its block"
+    for link in re.findall(r"\]\(([^)#]+)\)", prose):
+        if "://" not in link and not (page.parent / link).exists():
+            yield f"no {link} to link to"
+
+
+def main():
+    words, ends = sources()
+    pages = [TOP / "README.md", *sorted((TOP / "docs").glob("*.md"))]
+    wrong, total = 0, 0
+    for page in pages:
+        count = len(page.read_text().split())
+        total += count
+        print(f"{count:6} {page.relative_to(TOP)}")
+        for fault in faults(page, words, ends):
+            wrong += 1
+            print(f"       {fault}")
+    print(f"{total:6} words, {wrong} faults")
+    sys.exit(1 if wrong else 0)
+
+
+main()
