@@ -56,7 +56,7 @@ static void try_and_roll_back(nsf_handle *store, nsf_place place)
 
 static void show(nsf_handle *store, const char *key)
 {
-    nsf_place places[8];
+    nsf_place places[8] = {{0, 0}};
     uint64_t found;
     stop_if(nsf_find(store, key, strlen(key), places, 8, &found), "find");
     printf("%s: %llu\n", key, (unsigned long long)found);
@@ -146,7 +146,7 @@ static void time_in_memory(void)
 {
     nsf_handle store = NSF_VACANT;
     nsf_reply reply = NSF_NO_REPLY;
-    nsf_status status;
+    nsf_status status = {0, 0, 0, 0, 0};
     nsf_place place = {0, 0};
     uint64_t found, ticket;
     double began;

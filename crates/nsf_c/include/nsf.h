@@ -10,7 +10,8 @@
  *   - One thread at a time is in a call of a handle, and all calls of a handle are of one thread. No call is made from a signal
  *     handler, or in the child of a fork.
  *   - A pointer is not null and is aligned for its type, also where its length is 0. Behind it lie as many values as its length
- *     says, set to something. What a call may write (a handle, a reply, a stat, places) overlaps nothing else that is passed.
+ *     says, set to something. What a call may write (a handle, a reply, a stat, places, the sectors of nsf_save) overlaps nothing else
+ *     that is passed. While a call runs nobody else changes what is passed to it.
  *   - malloc and free are one allocator's, and align as the C standard asks.
  *   - Of a line (nsf_create): the descriptor is open and blocks as long as the store is open, and nothing else reads from it or
  *     writes to it. Its other end does what it is asked before it says so. Where that end may be closed before the store is, SIGPIPE
@@ -39,9 +40,10 @@ typedef struct nsf_handle {
 
 #define NSF_VACANT {0}
 
-/* What a call answers: 0, or why it was refused. A refused event changed nothing, but that a flush or a copy that was refused by 2 may
- * have written some of what it was to write; from then on each flush and copy is refused by 2, until the store is opened again. An
- * answer of 0 is not all: where what was asked for isn't met, the reply is NSF_SKIPPED, and nothing was done. */
+/* What a call answers: 0, or why it was refused. A refused event changed nothing, but that a copy may have written groups of records
+ * (nsf_stat tells the horizon), and that a flush or a copy that was refused by 2 may have written some of what it was to write; from
+ * then on each flush and copy is refused by 2, until the store is opened again. nsf_flush and nsf_image are several such steps: those
+ * before the refused one stand. An answer of 0 is not all: where what was asked for isn't met, the reply is NSF_SKIPPED, and nothing was done. */
 enum {
     NSF_OK = 0,
     NSF_NO_MEMORY = 1,
