@@ -2,6 +2,7 @@
 //!
 //! No contract rests on any of it: a sleep ends by itself after a time that its caller names, and a thread that wakes up looks
 //! again at what it waits for.
+use std::hint;
 use std::sync::Wait;
 use std::sync::atomic::{AtomicU64, Ordering};
 use std::time::Duration;
@@ -14,6 +15,8 @@ const PAUSE_EVERY: u64 = 64;
 pub struct Bell {
     rings: AtomicU64,
     sleepers: AtomicU64,
+    // How many threads look at it for longer.
+    lookers: AtomicU64,
 }
 
 impl Bell {
@@ -21,6 +24,7 @@ impl Bell {
         Bell {
             rings: AtomicU64::new(0),
             sleepers: AtomicU64::new(0),
+            lookers: AtomicU64::new(0),
         }
     }
 
@@ -35,6 +39,21 @@ impl Bell {
         if self.sleepers.load(Ordering::SeqCst) > 0 {
             self.rings.wake_all();
         }
+    }
+
+    /// Looks so often whether it rings, where no other thread does, and says whether it has: a short wait costs less so than by a
+    /// sleep, but one processor at most is to be kept busy by it.
+    pub fn look(&self, rings: u64, times: u32) -> bool {
+        let is_first = self.lookers.fetch_add(1, Ordering::SeqCst) == 0;
+        let times = if is_first { times } else { 1 };
+        for _ in 0..times {
+            if self.rings() != rings {
+                break;
+            }
+            hint::spin_loop();
+        }
+        self.lookers.fetch_sub(1, Ordering::SeqCst);
+        self.rings() != rings
     }
 
     /// Sleeps until it rings, and no longer than the limit. It returns at once where it has rung since it was read.

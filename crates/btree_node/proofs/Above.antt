@@ -42,7 +42,7 @@ not_here (x ∷ xs) ys p h = pick (is_below p x.pair) h (not_here xs ys p)
     pick false h r = r h
 
 -- ---- around a child
-around : {A : Type 0} {t u : Tree} {cs : List (Child A)} {k : ℕ} {c : Child A} {p : Pair} → IsAt t u cs k c p → entries t ≡ all_entries (take k cs) ++ (entries u ++ all_entries (drop (suc k) cs))
+pub around : {A : Type 0} {t u : Tree} {cs : List (Child A)} {k : ℕ} {c : Child A} {p : Pair} → IsAt t u cs k c p → entries t ≡ all_entries (take k cs) ++ (entries u ++ all_entries (drop (suc k) cs))
 around {u = u} {cs} {k} {c} a =
     let same : (get_or cs k c).node.value ≡ u = ap (λ x. x.node.value) (sym a.child) ∙ sym a.tree in
     ap entries a.seen ∙ entries-around cs k c a.in_range ∙ ap (λ x. all_entries (take k cs) ++ (entries x ++ all_entries (drop (suc k) cs))) same

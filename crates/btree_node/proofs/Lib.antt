@@ -5,6 +5,7 @@ pub mod Ascending
 pub mod Top
 pub mod Counting
 pub mod Above
+pub mod Fronts
 pub mod Marks
 pub mod Found
 pub mod Leaves

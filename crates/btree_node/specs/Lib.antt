@@ -4,6 +4,7 @@ pub mod Splits
 pub mod Top
 pub mod Plans
 pub mod Above
+pub mod Runs
 pub mod Without
 pub mod Mended
 pub mod Path

@@ -1,10 +1,13 @@
 //! An ordered map from pair to mark, in a B-tree that takes memory before it changes and never half way.
 //!
-//! Proved, for every allocator: the tree is the finite map of its entries (`contents`). `plan_insert` only reads, and answers
-//! `NoMemory` alone (`plan`, `no_memory`). `insert`, `set_mark` and `remove` change the named pair alone and can't fail. A look-up
-//! answers the tree's height as what it visited (`visited`), at most four (`few_visited`).
-//! Only tested (`table_tests`): plans with each allocation refused in turn; heights of full trees. Neither: that the count of
-//! visits is what the code did; speed; stack. By hand: the `unsafe impl` of an allocator that always refuses.
+//! Proved, for every allocator: the tree is the finite map of its entries (`contents`). `find_way` and `plan` only read: one walk
+//! down tells the mark of a pair (`mark`) and what its insertion takes, and `plan` answers `NoMemory` alone (`no_memory`).
+//! `insert`, `set_mark` and `remove` change the named pair alone and can't fail. A look-up answers the tree's height as what it
+//! visited (`visited`), at most four (`few_visited`).
+//! `run_above` answers entries that follow one another (`run`), and none only where none is above (`none`).
+//! Only tested (`table_tests`): plans with each allocation refused in turn; heights of full trees, and how many runs a walk over
+//! one takes. Neither: that the count of visits is what the code did; speed; stack. By hand: the `unsafe impl` of an allocator that
+//! always refuses.
 #![tactic(auto)]
 
 ghost use Rattle.std.specs.Prelude.{◌≡◌, ◌<◌, ◌≤◌, ◌↔◌, None, IfOk, IfErr, IsSome, IsTrue};
@@ -12,7 +15,7 @@ ghost use Rattle.std.specs.Option.{option_copied};
 ghost use Rattle.std.specs.FinMap as map;
 ghost use Rattle.btree_node.specs.Contents.{contents};
 ghost use Rattle.btree_node.specs.Top.{height_of, nodes_for};
-ghost use Rattle.btree_node.specs.Plans.{IsPlanFor};
+ghost use Rattle.btree_node.specs.Plans.{IsPlanFor, IsWayIn};
 ghost use Rattle.btree_node.specs.Grown.{AreExactly};
 ghost use Rattle.btree_node.specs.Above.{IsLeastAbove};
 
@@ -21,6 +24,7 @@ mod insertion;
 mod lookup;
 mod marking;
 mod removal;
+mod runs;
 mod spares;
 mod walk;
 
@@ -28,7 +32,8 @@ use inline::Inline;
 use insertion::insert_top;
 use lookup::{get_in, levels, way_to};
 use marking::set_mark_in;
-use node_parts::{Entry, Node};
+pub use node_parts::Entry;
+use node_parts::Node;
 use records::{Error, Mark, Pair};
 use removal::{remove_below, shrink};
 use smallvec::SmallVec;
@@ -42,6 +47,35 @@ pub const ENTRIES_MAX: usize = records::ENTRIES_MAX as usize;
 
 /// The most levels of a tree.
 pub const LEVELS_MAX: usize = 4;
+
+/// A pair with its way down a tree, found in one walk: how many nodes the pair's insertion takes, and its mark if it has an entry.
+#[derive(Drop)]
+pub struct Way {
+    pair: Pair,
+    path: SmallVec<usize, LEVELS_MAX, Inline>,
+    nodes: usize,
+    mark: Option<Mark>,
+}
+
+impl Model for Way {
+    ghost use Rattle.std.specs.Prelude.{◌≡◌};
+    ghost use Rattle.btree_node.specs.Plans.{Walked};
+
+    ghost Value = { Walked };
+
+    ghost view = { λ w. record { pair = w.pair; path = w.path.items; nodes = w.nodes; mark = w.mark } };
+
+    ghost invariant = { λ w. w.path.capacity ≡ 4 };
+}
+
+impl Way {
+    /// The mark of the pair, if it has an entry.
+    pub fn mark(&self) -> Option<Mark>
+        ensures { result ≡ self.now.mark }
+    {
+        self.mark
+    }
+}
 
 /// A pair to be put into a tree, with its way down from the root and every node that it takes.
 #[derive(Drop)]
@@ -82,6 +116,24 @@ impl<A: Allocator> Model for BTree<A> {
     ghost view = { λ b. tree_at b.root };
 
     ghost invariant = { λ b. IsSoundTop b.root b.len };
+}
+
+/// The nodes of entries that were taken out of a tree. To let them go frees each of them, in a time that grows with their number.
+#[derive(Drop)]
+pub struct Cleared<A: Allocator> {
+    root: Option<Box<Node<A>, A>>,
+}
+
+impl<A: Allocator> Model for Cleared<A> {
+    ghost use Rattle.node_parts.specs.Tree.{Tree, tree_code};
+
+    ghost Value = { Tree };
+
+    ghost coded = { tree_code };
+
+    ghost use Rattle.btree_node.specs.Top.{tree_at};
+
+    ghost view = { λ c. tree_at c.root };
 }
 
 impl<A: Allocator + Clone> BTree<A> {
@@ -150,6 +202,46 @@ impl<A: Allocator + Clone> BTree<A> {
         Some((entry.pair, entry.mark))
     }
 
+    /// The way of a pair down the tree. It takes no memory.
+    pub fn find_way(&self, pair: &Pair) -> Way
+        ensures pair { result.pair ≡ pair.now }
+        ensures mark { result.mark ≡ map.get (contents self.now) pair.now }
+        ensures way { IsWayIn self.now result }
+    {
+        let mut path = SmallVec::new(Inline);
+        let (nodes, mark) = match &self.root {
+            None => (1, None),
+            Some(root) => {
+                let (splits, all, found) = way_to(root, pair, &mut path);
+                (splits + usize::from(all), found)
+            }
+        };
+        Way {
+            pair: *pair,
+            path,
+            nodes,
+            mark,
+        }
+    }
+
+    /// Makes every node that the insertion of a pair takes, whose way was found, and changes nothing.
+    /// It is refused with `NoMemory` alone.
+    pub fn plan(&self, way: Way) -> Result<Plan<A>, Error>
+        requires room { map.len (contents self.now) < ENTRIES_MAX }
+        requires way { IsWayIn self.now way }
+        ensures pair { IfOk result (λ plan. plan.pair ≡ way.pair) }
+        ensures plan { IfOk result (IsPlanFor self.now) }
+        ensures nodes { IfOk result (λ plan. AreExactly (nodes_for self.now way.pair) plan.spares) }
+        ensures no_memory { IfErr result (λ e. e ≡ Error.NoMemory) }
+    {
+        let spares = Spares::new(&self.alloc, way.nodes)?;
+        Ok(Plan {
+            pair: way.pair,
+            path: way.path,
+            spares,
+        })
+    }
+
     /// Makes every node that the insertion of a pair takes, a new root included, and changes nothing.
     /// It is refused with `NoMemory` alone.
     pub fn plan_insert(&self, pair: &Pair) -> Result<Plan<A>, Error>
@@ -159,19 +251,7 @@ impl<A: Allocator + Clone> BTree<A> {
         ensures nodes { IfOk result (λ plan. AreExactly (nodes_for self.now pair.now) plan.spares) }
         ensures no_memory { IfErr result (λ e. e ≡ Error.NoMemory) }
     {
-        let mut path = SmallVec::new(Inline);
-        let count = match &self.root {
-            None => 1,
-            Some(root) => {
-                let (splits, all) = way_to(root, pair, &mut path);
-                splits + usize::from(all)
-            }
-        };
-        Ok(Plan {
-            pair: *pair,
-            path,
-            spares: Spares::new(&self.alloc, count)?,
-        })
+        self.plan(self.find_way(pair))
     }
 
     /// Puts a planned pair in with a mark. It takes no memory and succeeds.
@@ -212,6 +292,18 @@ impl<A: Allocator + Clone> BTree<A> {
     {
         self.root = None;
         self.len = 0;
+    }
+
+    /// Takes every entry out at once, in nodes that are not freed yet. It takes no memory and succeeds.
+    pub fn take(&mut self) -> Cleared<A>
+        ensures empty { contents self.new ≡ map.empty }
+        ensures height { height_of self.new ≡ 0 }
+        ensures taken { result ≡ self.old }
+    {
+        self.len = 0;
+        Cleared {
+            root: self.root.take(),
+        }
     }
 
     /// Takes the entry of a pair out. It takes no memory and succeeds.

@@ -62,12 +62,12 @@ pub fn levels<A: Allocator>(node: &Node<A>) -> u32
 }
 
 /// Notes the places on the way to where a pair belongs, and counts the nodes that its insertion splits.
-/// Beside the count, whether the top node is among them.
+/// Beside the count, whether the top node is among them, and the mark of the pair.
 pub fn way_to<A: Allocator>(
     node: &Node<A>,
     pair: &Pair,
     path: &mut SmallVec<usize, LEVELS_MAX, Inline>,
-) -> (usize, bool)
+) -> (usize, bool, Option<Mark>)
     requires ascending { IsAscending (entries node.now) }
     requires tree { IsTree (depth node.now) node.now }
     requires some { 0 < length (entries node.now) }
@@ -78,18 +78,19 @@ pub fn way_to<A: Allocator>(
     ensures splits { result.0 ≡ splits node.now pair.now }
     ensures few { result.0 ≤ depth node.now }
     ensures all { result.1 ≡ (splits node.now pair.now == depth node.now) }
+    ensures found { result.2 ≡ mark_in (entries node.now) pair.now }
 {
     let at = node.place(pair);
     path.push_reserved(at);
     match &node.parts {
         Parts::Leaf(row) => {
             let full = row.len() == FULL;
-            (usize::from(full), full)
+            (usize::from(full), full, mark_at(row, at, pair))
         }
         Parts::Inner(row) => {
-            let (below, all) = way_to(&row[at].node, pair, path);
+            let (below, all, found) = way_to(&row[at].node, pair, path);
             let full = all && row.len() == FULL;
-            (below + usize::from(full), full)
+            (below + usize::from(full), full, found)
         }
     }
 }

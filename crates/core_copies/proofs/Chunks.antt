@@ -46,6 +46,10 @@ last_pushed (z ∷ xs) x = last_pushed xs x
 pub longer : (xs : List Entry) (x : Entry) (new : List Entry) → new ≡ xs ++ x ∷ [] → length new ≡ length xs + 1
 longer xs x new is = ap length is ∙ length-append xs (x ∷ [])
 
+pub no_more : {X : Type 0} (xs : List X) → length xs ≡ 0 → xs ≡ []
+no_more [] e = refl
+no_more (x ∷ xs) e = absurd (omega (arith, e))
+
 -- these entries are those above one pair and up to another, the last of them
 pub record AreCopied (all : Index) (above last : Option Pair) (items : List Entry) : Type 0 where
   pub more : Index
@@ -63,12 +67,8 @@ none_yet all above items none = subst (AreCopied all above above) (sym none) (re
   ends = λ e at. absurd (no_entry e at);
 })
   where
-    nothing : (es : List Entry) → length es ≡ 0 → es ≡ []
-    nothing [] e = refl
-    nothing (x ∷ es) e = absurd (omega (arith, e))
-
     no_entries : entries (empty {X = Mark} {R = pair_cmp}) ≡ []
-    no_entries = nothing (entries (empty {X = Mark} {R = pair_cmp})) (sym (len-entries (empty {X = Mark} {R = pair_cmp})) ∙ len-empty pair_cmp Mark)
+    no_entries = no_more (entries (empty {X = Mark} {R = pair_cmp})) (sym (len-entries (empty {X = Mark} {R = pair_cmp})) ∙ len-empty pair_cmp Mark)
 
 module _ (all : Index) (above last : Option Pair) (items : List Entry) (h : AreCopied all above last items) (e : Entry) (least : IsLeastAbove all last (Some e)) where
   -- the map with only this entry

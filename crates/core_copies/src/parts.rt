@@ -1,9 +1,9 @@
 //! The parts of a copy: lists, rows and entries.
-ghost use Rattle.std.specs.Prelude.{◌≡◌, ◌≤◌, ◌<◌, ℕ, length, slice_get, Some, None, IsSome, OnOk, IfOk, IfErr};
+ghost use Rattle.std.specs.Prelude.{◌≡◌, ◌≤◌, ℕ, [], length, None, IsSome, OnOk, IfOk, IfErr};
 ghost use Rattle.std.specs.FinMap as map;
 ghost use Rattle.records.specs.Values.{Place};
-ghost use Rattle.records.specs.declared.rid.TheConstants.{SLOTS_PER_PAGE};
 ghost use Rattle.btree_node.specs.Above.{IsLeastAbove};
+ghost use Rattle.btree_node.specs.Runs.{IsRunAbove};
 ghost use Rattle.heap_pages.specs.Pages.{IsPlaceInside};
 ghost use Rattle.nsf_core.specs.Moves.{txn_shown};
 ghost use Rattle.nsf_core.specs.Value.{value_of};
@@ -11,10 +11,11 @@ ghost use Rattle.core_copies.specs.Pieces.{AreEntriesOf, IsPageOf};
 ghost use Rattle.core_copies.specs.Private.{HasListPut, HasPagePut, unlisted};
 ghost use Rattle.core_copies.specs.Shown.{list_shown};
 
+use btree_node::Entry;
 use image_model::{CHUNK_ENTRIES, PageRows};
-use model::{EntryMap, ListMap, ROWS_PER_PAGE, RowMap};
+use model::{EntryMap, ListMap, RowMap};
 use nsf_core::Core;
-use records::{Error, Mark, Pair, Rid, Row, SLOTS_PER_PAGE, Txn};
+use records::{Error, Mark, Pair, Rid, SLOTS_PER_PAGE, Txn};
 use std::alloc::Allocator;
 
 // Adds the list that the log has of the transaction, if it has one.
@@ -74,17 +75,6 @@ fn put_page<A: Allocator + Copy>(
     Ok(())
 }
 
-// The rows of the page, by their slots.
-fn page_slots<A: Allocator + Copy>(core: &Core<A>, page: u32) -> [Option<Row>; ROWS_PER_PAGE]
-    ensures { (slot : ℕ) → slot < SLOTS_PER_PAGE → slice_get result slot ≡ Some (map.get (value_of core.now).heap.rows (record { page = page; slot = slot })) }
-{
-    let mut slots = [None; ROWS_PER_PAGE];
-    for slot in 0..SLOTS_PER_PAGE {
-        slots[slot as usize] = core.get(Rid { page, slot });
-    }
-    slots
-}
-
 /// The rows of the page.
 pub(crate) fn page_rows<A: Allocator + Copy>(
     alloc: A,
@@ -95,7 +85,7 @@ pub(crate) fn page_rows<A: Allocator + Copy>(
     ensures no_memory { IfErr result (λ e. e ≡ Error.NoMemory) }
 {
     let _pages = core.pages();
-    let slots = page_slots(core, page);
+    let slots = core.page_slots(page);
     let rows = PageRows::new(alloc, page, slots)?;
     Ok(rows)
 }
@@ -136,6 +126,23 @@ pub(crate) fn all_entries<A: Allocator + Copy>(
     Ok(entries)
 }
 
+// What is left of a run of entries above the pair, or the next run where nothing is left.
+fn left_or_next<'a, A: Allocator + Copy>(
+    core: &'a Core<A>,
+    run: &'a [Entry],
+    above: Option<Pair>,
+) -> &'a [Entry]
+    requires run { IsRunAbove (value_of core.now).index.entries above run.now }
+    ensures run { IsRunAbove (value_of core.now).index.entries above result.now }
+    ensures none { result.now ≡ [] → IsLeastAbove (value_of core.now).index.entries above None }
+{
+    if run.is_empty() {
+        core.run_above(above.as_ref())
+    } else {
+        run
+    }
+}
+
 /// The next entries above the pair: `CHUNK_ENTRIES` at most, fewer where no more are left.
 pub(crate) fn next_entries<A: Allocator + Copy>(
     alloc: A,
@@ -148,12 +155,14 @@ pub(crate) fn next_entries<A: Allocator + Copy>(
     let _pages = core.pages();
     let mut entries = Vec::new(alloc);
     let mut last = above;
+    let mut run: &[Entry] = &[];
     while entries.len() < CHUNK_ENTRIES {
-        let Some(entry) = entry_above(core, last) else {
+        let Some((entry, rest)) = left_or_next(core, run, last).split_first() else {
             return Ok(entries);
         };
-        last = Some(entry.0);
-        entries.push(entry)?;
+        last = Some(entry.pair);
+        run = rest;
+        entries.push((entry.pair, entry.mark))?;
     }
     Ok(entries)
 }

@@ -1,5 +1,5 @@
 //! The pages of the heap.
-ghost use Rattle.std.specs.Prelude.{◌≡◌, ◌≢◌, ◌<◌, ◌≤◌, ◌↔◌, map, length, All, Contains, IfOk, IfErr, IsErr, IsSome};
+ghost use Rattle.std.specs.Prelude.{◌≡◌, ◌≢◌, ◌<◌, ◌≤◌, ◌↔◌, ℕ, map, length, slice_get, Some, All, Contains, IfOk, IfErr, IsErr, IsSome};
 ghost use Rattle.std.specs.List.Sorted.{IsStrictlyIncreasing};
 ghost use Rattle.std.specs.declared.cmp.Ordering.{Ordering};
 ghost use Rattle.std.specs.FinMap.{get, empty};
@@ -7,9 +7,10 @@ ghost use Rattle.records.specs.Values.{Place};
 ghost use Rattle.records.specs.Orders.{rid_cmp};
 ghost use Rattle.records.specs.Maps.{set_at};
 ghost use Rattle.records.specs.declared.pair.Pair.{Pair};
+ghost use Rattle.records.specs.declared.rid.TheConstants.{SLOTS_PER_PAGE};
 ghost use Rattle.heap_pages.specs.Pages.{IsPlaceInside, IsEmptyAndUnheld, IsPairOnPage, page_rows, pairs_of};
 
-use crate::page::{HeapPage, held_slots};
+use crate::page::{HeapPage, SLOTS, held_slots};
 use records::{Error, Pair, Rid, Row, SLOTS_PER_PAGE};
 use std::alloc::Allocator;
 use std::marker::Model;
@@ -72,6 +73,16 @@ impl<A: Allocator + Copy> Heap<A> {
         match self.pages.get(rid.page as usize) {
             Some(page) => page.get(rid.slot),
             None => None,
+        }
+    }
+
+    /// The rows of the page, by their slots: none where a slot is empty, and in each slot of a page that the heap does not have.
+    pub fn page_slots(&self, page: u32) -> [Option<Row>; SLOTS]
+        ensures { (slot : ℕ) → slot < SLOTS_PER_PAGE → slice_get result slot ≡ Some (get self.now.rows (record { page = page; slot = slot })) }
+    {
+        match self.pages.get(page as usize) {
+            Some(found) => found.rows(),
+            None => HeapPage::new().rows(),
         }
     }
 

@@ -7,7 +7,8 @@ ghost use Rattle.heap_pages.specs.Slots.{is_among, IsFirstFree, NoneFree};
 use records::{Rid, Row, SLOTS_PER_PAGE};
 use std::marker::Model;
 
-const SLOTS: usize = SLOTS_PER_PAGE as usize;
+/// How many slots a page has.
+pub(crate) const SLOTS: usize = SLOTS_PER_PAGE as usize;
 
 /// A page of `SLOTS_PER_PAGE` slots, each with a row or none.
 #[derive(Drop)]
@@ -77,6 +78,15 @@ impl HeapPage {
             Some(row) => *row,
             None => None,
         }
+    }
+
+    /// The row in each slot.
+    pub(crate) fn rows(&self) -> [Option<Row>; SLOTS]
+        ensures { (s : ℕ) → s < SLOTS_PER_PAGE → slice_get result s ≡ Some (get self.now s) }
+    {
+        let mut rows = [None; SLOTS];
+        rows.copy_from_slice(&self.slots);
+        rows
     }
 
     /// Puts the row into the slot, or empties it. Every other slot stays as it was.

@@ -38,7 +38,7 @@ use crate::seat::SeatPart;
 use crate::site::Site;
 use image_model::{Chunk, CopyPlace};
 use model::Life;
-use nsf_core::{BuildReply, CleanReply, Core, Ticket, Undone};
+use nsf_core::{BuildReply, CleanReply, Cleared, Core, Ticket, Undone};
 use records::{Body, Error, Key, Rid, Row, Txn};
 use register::each_number;
 use registry::{Half, Registry};
@@ -325,6 +325,13 @@ impl<B: Site> Locked<B> {
         let dropped = seat.session.drop_index(&mut self.core);
         registry.change(&mut seat.half, &mut self.book[seat.number], &seat.session);
         dropped
+    }
+
+    /// What the entries of an index that was dropped still have of memory, for the caller to let go, best behind the lock.
+    pub fn take_cleared(&mut self) -> Option<Cleared<Global>>
+        ensures { locked_of self.new ≡ locked_of self.old }
+    {
+        self.core.take_cleared()
     }
 
     /// Makes the step that a transaction of the seat owes.

@@ -1,5 +1,7 @@
 -- Where the copying of an image is (no public clause cites these).
-use Rattle.std.specs.Prelude.{◌≡◌, ℕ, Option, false}
+use Rattle.std.specs.Prelude.{◌≡◌, ◌+◌, ◌/◌, ℕ, Option, false}
+use Rattle.image_model.specs.declared.chunk.TheConstants.{CHUNK_ENTRIES}
+use Rattle.records.specs.GeometryValue.{GeometryValue}
 use Rattle.flusher.specs.Images.{IsAt}
 use Rattle.flusher.specs.Part.{FlushValue}
 use Rattle.store_writer.specs.Parts.{halves_of, has_failed, image_of}
@@ -16,3 +18,7 @@ IsCopying pages GivenUp image = Unit {0}
 -- so it is of the flusher's image, unless its device failed
 abbrev pub StandsBy : {D : Type 0} → Copying → FlushValue D → Type 0
 StandsBy copying f = has_failed f.writer ≡ false → IsCopying (halves_of f.writer).geometry.pages copying (image_of f.writer)
+
+-- the steps of an image of a full store: its beginning, each page, each full chunk of entries, what is behind them, and the flip
+abbrev pub steps_of_image : GeometryValue → ℕ
+steps_of_image g = g.pages + g.entries / CHUNK_ENTRIES + 3

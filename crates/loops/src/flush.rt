@@ -1,5 +1,5 @@
 //! The loop that writes the records and takes images.
-ghost use Rattle.std.specs.Prelude.{◌≡◌, true, false, IsTrue, None, OnOk, IfOk, IfErr};
+ghost use Rattle.std.specs.Prelude.{◌≡◌, ◌<◌, ◌≤◌, ◌-◌, ◌*◌, ◌/◌, true, false, IsTrue, None, OnOk, IfOk, IfErr};
 ghost use Rattle.records.specs.declared.error.Error.TheVariants.{DeviceFailed};
 ghost use Rattle.store_writer.specs.Parts.{halves_of, has_failed, image_of};
 ghost use Rattle.store_writer.specs.Places.{IsAtPiece};
@@ -7,7 +7,7 @@ ghost use Rattle.store_writer.specs.Writer.{IsChunk, MustStartAgain};
 ghost use Rattle.flusher.specs.Images.{IsDue};
 ghost use Rattle.flusher.specs.Going.{GoesOn, TakesIn};
 ghost use Rattle.flusher.specs.Part.{run_of};
-ghost use Rattle.loops.specs.Copying.{StandsBy};
+ghost use Rattle.loops.specs.Copying.{StandsBy, steps_of_image};
 ghost use Rattle.loops.specs.Through.{RunsThrough};
 ghost use Rattle.loops.specs.declared.flush.Copying.{Copying as CopyingValue};
 
@@ -158,10 +158,13 @@ fn round<B: Group, D: Device, R: Wait, G: Gate>(
 }
 
 // How many steps of an image are made a round: so many that an image, also of a full index, is whole before a quarter of the log's
-// slots are written behind its beginning.
-fn steps_a_round(geometry: Geometry) -> u32 {
+// slots are written behind its beginning; and no more.
+fn steps_a_round(geometry: Geometry) -> u32
+    ensures in_time { steps_of_image geometry < geometry.slots / 4 * result }
+    ensures no_more { geometry.slots / 4 * (result - 1) ≤ steps_of_image geometry }
+{
     let steps = geometry.pages + geometry.entries / CHUNK_ENTRIES as u32 + 3;
-    steps / (geometry.slots / 4).max(1) + 1
+    steps / (geometry.slots / 4) + 1
 }
 
 // Makes some steps of an image, where as many are due.

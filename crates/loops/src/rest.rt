@@ -4,8 +4,8 @@ ghost use Rattle.std.specs.Prelude.{◌≡◌, None, false};
 use board::Bell;
 use shared::{Group, Shared};
 use std::sync::Wait;
+use std::thread;
 use std::time::Duration;
-use std::{hint, thread};
 
 // The shortest and the longest sleep of a loop that found nothing to do, in microseconds.
 const SHORTEST: u64 = 125;
@@ -16,7 +16,7 @@ const LONGEST: u64 = 8_000;
 const LOOKS: u32 = 16;
 
 // So often the flusher looks behind a group whether records were made meanwhile, before it sleeps.
-const RING_LOOKS: u32 = 200;
+const RING_LOOKS: u32 = 4_000;
 
 // How many microseconds the flusher sleeps where nothing waits, at first, and where an image is copied; and the builder where it leaves
 // room for the others.
@@ -96,13 +96,9 @@ pub(crate) fn rest_flusher<R: Wait>(
 
 // Looks a few times whether the bell has rung, and then sleeps until it rings.
 fn await_ring<R: Wait>(rt: &R, bell: &Bell, rings: u64) {
-    for _ in 0..RING_LOOKS {
-        if bell.rings() != rings {
-            return;
-        }
-        hint::spin_loop();
+    if !bell.look(rings, RING_LOOKS) {
+        bell.sleep(rt, rings, Duration::from_micros(FLUSHER_SLEEP));
     }
-    bell.sleep(rt, rings, Duration::from_micros(FLUSHER_SLEEP));
 }
 
 /// A pause of the builder, so that the seats get the lock, where it has made so many steps since the last one. Answers how many it has

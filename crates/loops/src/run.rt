@@ -30,14 +30,17 @@ pub struct Ended<B: Group, D: Device, X> {
     pub build: BuildView,
     /// How the flusher ended.
     pub flushed: Result<(), Error>,
-    /// The ticket of the index that was completed last meanwhile; else why none was, which is `Stopped` where the clients ended first
-    /// or there was nothing to build. A later build that was refused is told in its place.
+    /// The ticket of an index that was completed meanwhile, of several that of the last one (which of them, no clause says); else why
+    /// none was, which is `Stopped` where the clients ended first or there was nothing to build. A later build that was refused is told
+    /// in its place.
     pub built: Result<Ticket, Error>,
 }
 
 /// Runs flusher, cleaner and builder beside the clients, each in a thread of its own, until the clients have ended; then it ends the
 /// three, and waits for that. A build that is under way is carried on, and so is each that a client begins, also where it dropped an index
-/// that was complete; where the index is complete, or there is none, the builder waits. With what comes back it may be called again.
+/// that was complete; where the index is complete, or there is none, the builder waits. A refusal other than for want of
+/// memory, as where the index is full, ends the builder: what is to be built then waits for the next run. With what comes back it may
+/// be called again.
 ///
 /// Of the board the seat has seen no more than before, and its view may have another name (`seen`). Flusher and builder end as
 /// `flush_loop` and `build_loop` do, or with the clients.

@@ -1,6 +1,7 @@
 -- What the actions leave as it was, and how many entries there are after one.
 use Rattle.std.proofs.Common.{Result, Ok, Err, OnOk, OnErr, ◌<◌, ◌≡◌, ℕ, ◌+◌, ◌-◌, ◌≤◌, Bool, true, false, cond, Option, Some, None, is_some, refl, sym, ap, subst, ◌∙◌, arith}
 use Rattle.std.specs.FinMap as map
+use Rattle.std.specs.Prelude.{IsTrue, ◌↔◌}
 use Rattle.records.specs.Maps.{set_at, set_at-get, pair_exact}
 use Rattle.records.specs.Orders.{pair_cmp_total}
 use Rattle.records.specs.declared.pair.Pair.{Pair}
@@ -11,7 +12,7 @@ use Rattle.model.specs.KeyActions.{after_action}
 use Rattle.model.specs.Table.{Index}
 use Rattle.records.specs.declared.geometry.TheConstants.{ENTRIES_MAX}
 use Rattle.records.specs.declared.error.Error.{Error}
-use Rattle.marked_index.specs.Index.{IndexValue, IsWithinCapacity, entries_after}
+use Rattle.marked_index.specs.Index.{IndexValue, IsFull, IsWithinCapacity, entries_after}
 
 -- to set what is there changes nothing
 as_it_was : (m : Index) (p : Pair) (o : Option Mark) → map.get m p ≡ o → set_at m p o ≡ m
@@ -75,3 +76,10 @@ room_added m n p x j c fits most absent e = record { within = omega (arith, len_
 pub room_tried : (m n : Index) (p : Pair) (x : Mark) (k c : ℕ) (r : Result (Unit {0}) Error) → IsWithinCapacity (record { entries = m; pledged = k; capacity = c }) → map.len m + k < c → map.get m p ≡ None → OnOk r (n ≡ map.insert m p x) → OnErr r (n ≡ m) → IsWithinCapacity (record { entries = n; pledged = k; capacity = c })
 room_tried m n p x k c (Ok u) room fits absent done left = room_added m n p x k c (omega arith) room.most absent done
 room_tried m n p x k c (Err e) room fits absent done left = record { within = omega (arith, ap map.len left, room.within); most = room.most }
+
+-- what is not full has room for one entry more
+pub room_left : (v : IndexValue) (full : Bool) → (IsTrue full ↔ IsFull v) → full ≡ false → map.len v.entries + v.pledged < v.capacity
+room_left v full is free = omega (arith, not_full)
+  where
+    not_full : (v.capacity ≤ map.len v.entries + v.pledged) → ⊥
+    not_full h = let yes : full ≡ true = is.1 h in absurd (cc (yes, free))

@@ -1,5 +1,5 @@
 //! The index.
-ghost use Rattle.std.specs.Prelude.{◌≡◌, ◌⊎◌, ◌+◌, ◌-◌, ◌<◌, ◌≤◌, ◌↔◌, None, Some, Contains, IfOk, IfErr, IsErr, IsOk, IsSome, IsTrue, OnErr, OnOk};
+ghost use Rattle.std.specs.Prelude.{◌≡◌, ◌⊎◌, [], ◌+◌, ◌-◌, ◌<◌, ◌≤◌, ◌↔◌, None, Some, Contains, IfOk, IfErr, IsErr, IsOk, IsSome, IsTrue, OnErr, OnOk};
 ghost use Rattle.std.specs.FinMap as map;
 ghost use Rattle.std.specs.List.{AllPairs};
 ghost use Rattle.std.specs.Option.{option_copied};
@@ -10,10 +10,12 @@ ghost use Rattle.records.specs.Values.{Place};
 ghost use Rattle.model.specs.declared.key_action.KeyAction.{KeyAction};
 ghost use Rattle.btree_node.specs.Above.{IsLeastAbove};
 ghost use Rattle.btree_node.specs.Contents.{contents};
+ghost use Rattle.btree_node.specs.Plans.{IsWayIn};
+ghost use Rattle.btree_node.specs.Runs.{IsRunAbove};
 ghost use Rattle.marked_index.specs.Index.{IsWithinCapacity, IsFull, IsAbsent, entries_after, pledges_used, after_txn_action};
 ghost use Rattle.marked_index.specs.Shown.{IsNextOf, mark_at};
 
-use btree_node::{BTree, ENTRIES_MAX};
+use btree_node::{BTree, Cleared, ENTRIES_MAX, Entry, Way};
 use records::{Error, Geometry, Key, Mark, PLACES_PER_CHANGE, Pair, Rid};
 use std::alloc::Allocator;
 use std::marker::Model;
@@ -50,6 +52,8 @@ pub struct MarkedIndex<A: Allocator> {
     pledged: usize,
     // how many entries there is room for
     capacity: usize,
+    // the nodes of the entries that were taken out last, until they are asked for
+    cleared: Option<Cleared<A>>,
 }
 
 impl<A: Allocator> Model for MarkedIndex<A> {
@@ -65,15 +69,16 @@ impl<A: Allocator> Model for MarkedIndex<A> {
     ghost invariant = { λ i. IsWithinCapacity (record { entries = contents i.tree; pledged = i.pledged; capacity = i.capacity }) };
 }
 
-/// Puts an absent pair into a tree with a mark. The one error is `NoMemory`.
-fn plant<A: Allocator + Clone>(tree: &mut BTree<A>, pair: &Pair, mark: Mark) -> Result<(), Error>
+/// Puts the absent pair of a way into the tree with a mark. The one error is `NoMemory`.
+fn plant<A: Allocator + Clone>(tree: &mut BTree<A>, way: Way, mark: Mark) -> Result<(), Error>
     requires room { map.len (contents tree.old) < ENTRIES_MAX }
-    requires absent { IsAbsent (contents tree.old) pair.now }
-    ensures planted { OnOk result (contents tree.new ≡ map.insert (contents tree.old) pair.now mark) }
+    requires way { IsWayIn tree.old way }
+    requires absent { IsAbsent (contents tree.old) way.pair }
+    ensures planted { OnOk result (contents tree.new ≡ map.insert (contents tree.old) way.pair mark) }
     ensures no_memory { IfErr result (λ e. e ≡ Error.NoMemory) }
     ensures unchanged { OnErr result (contents tree.new ≡ contents tree.old) }
 {
-    let plan = tree.plan_insert(pair)?;
+    let plan = tree.plan(way)?;
     tree.insert(plan, mark);
     Ok(())
 }
@@ -89,6 +94,7 @@ impl<A: Allocator + Clone> MarkedIndex<A> {
             tree: BTree::new(alloc),
             pledged: 0,
             capacity: geometry.entries as usize,
+            cleared: None,
         }
     }
 
@@ -129,6 +135,15 @@ impl<A: Allocator + Clone> MarkedIndex<A> {
         self.tree.above(pair)
     }
 
+    /// The next entries above the pair, or the first of all: some that stand together, in order. There is none only where none
+    /// is above.
+    pub fn run_above(&self, pair: Option<&Pair>) -> &[Entry]
+        ensures run { IsRunAbove self.now.entries (option_copied pair.entry) result.now }
+        ensures none { result.now ≡ [] → IsLeastAbove self.now.entries (option_copied pair.entry) None }
+    {
+        self.tree.run_above(pair)
+    }
+
     /// Sets the entry of a pair, or takes it out, as a restart does with what it reads.
     ///
     /// `IndexFull` where it would add an entry and every place is taken or pledged, else
@@ -142,12 +157,15 @@ impl<A: Allocator + Clone> MarkedIndex<A> {
             × ((e ≡ Error.IndexFull) ⊎ (e ≡ Error.NoMemory))) }
         ensures unchanged { OnErr result (self.new ≡ self.old) }
     {
-        let is_there = self.get(pair).is_some();
+        let is_full = self.is_full();
+        let way = self.tree.find_way(pair);
+        let is_there = way.mark().is_some();
         match mark {
             None if is_there => self.tree.remove(pair),
             None => {}
             Some(mark) if is_there => self.tree.set_mark(pair, mark),
-            Some(mark) => self.add(pair, mark)?,
+            Some(_) if is_full => return Err(Error::IndexFull),
+            Some(mark) => plant(&mut self.tree, way, mark)?,
         }
         Ok(())
     }
@@ -191,11 +209,12 @@ impl<A: Allocator + Clone> MarkedIndex<A> {
         ensures no_memory { IfErr result (λ e. (e ≡ Error.NoMemory) × IsAbsent self.old.entries pair.now) }
         ensures unchanged { OnErr result (self.new ≡ self.old) }
     {
-        if self.get(pair).is_some() {
+        let way = self.tree.find_way(pair);
+        if way.mark().is_some() {
             self.tree.set_mark(pair, mark);
             return Ok(Stepped::Found);
         }
-        plant(&mut self.tree, pair, mark)?;
+        plant(&mut self.tree, way, mark)?;
         self.pledged -= 1;
         Ok(Stepped::Added)
     }
@@ -214,10 +233,15 @@ impl<A: Allocator + Clone> MarkedIndex<A> {
             × ((e ≡ Error.IndexFull) ⊎ (e ≡ Error.NoMemory))) }
         ensures unchanged { OnErr result (self.new ≡ self.old) }
     {
-        if self.get(pair).is_some() {
+        let is_full = self.is_full();
+        let way = self.tree.find_way(pair);
+        if way.mark().is_some() {
             return Ok(Built::Rejected);
         }
-        self.add(pair, Mark::Live)?;
+        if is_full {
+            return Err(Error::IndexFull);
+        }
+        plant(&mut self.tree, way, Mark::Live)?;
         Ok(Built::Placed)
     }
 
@@ -227,21 +251,6 @@ impl<A: Allocator + Clone> MarkedIndex<A> {
         ensures room { IsWithinCapacity self.now }
     {
         self.len() + self.pledged
-    }
-
-    // Adds the entry of an absent pair, in a place that is not pledged.
-    fn add(&mut self, pair: &Pair, mark: Mark) -> Result<(), Error>
-        requires absent { IsAbsent self.old.entries pair.now }
-        ensures ok { OnOk result (self.new ≡
-            record self.old { entries = map.insert self.old.entries pair.now mark }) }
-        ensures full { (result ≡ Err Error.IndexFull) ↔ IsFull self.old }
-        ensures refused { IfErr result (λ e. (e ≡ Error.IndexFull) ⊎ (e ≡ Error.NoMemory)) }
-        ensures unchanged { OnErr result (self.new ≡ self.old) }
-    {
-        if self.taken() >= self.capacity {
-            return Err(Error::IndexFull);
-        }
-        plant(&mut self.tree, pair, mark)
     }
 
     /// Takes the entry of a pair out where it is marked and that is allowed, as the cleaner does,
@@ -262,13 +271,21 @@ impl<A: Allocator + Clone> MarkedIndex<A> {
         takes_out
     }
 
-    /// Takes every entry out; the places that are pledged stay so.
+    /// Takes every entry out; the places that are pledged stay so. The memory of the entries is kept until `take_cleared`, or until
+    /// the next call.
     ///
     /// It takes no memory.
     pub fn clear(&mut self)
         ensures { self.new ≡ record self.old { entries = map.empty } }
     {
-        self.tree.clear();
+        self.cleared = Some(self.tree.take());
+    }
+
+    /// What the entries that were taken out last still have of memory, for the caller to let go.
+    pub fn take_cleared(&mut self) -> Option<Cleared<A>>
+        ensures { self.new ≡ self.old }
+    {
+        self.cleared.take()
     }
 
     /// Whether there is room for the places of one more change, so that `pledge` won't refuse.

@@ -1,5 +1,5 @@
 -- Where a halving search ends.
-use Rattle.std.proofs.Common.{◌≡◌, ℕ, ◌-◌, ◌<◌, ◌≤◌, Bool, true, false, not, List, [], ◌∷◌, ◌++◌, length, get_or, Some, refl, ap, subst, ◌∙◌, arith, zero, suc}
+use Rattle.std.proofs.Common.{◌≡◌, ℕ, ◌-◌, ◌<◌, ◌≤◌, Bool, true, false, not, List, [], ◌∷◌, ◌++◌, length, get_or, Some, refl, sym, ap, subst, ◌∙◌, arith, zero, suc}
 use Rattle.std.specs.List.{position_or_len, prefix_len}
 use Rattle.std.specs.List.Sorted.{IsPartitionPoint, IsPartitionedBy}
 use Rattle.records.specs.declared.pair.Pair.{Pair}
@@ -22,6 +22,12 @@ prefix_len-partition p (x ∷ xs) (suc n) h k =
     let passes : p x ≡ true = k.0 0 x (omega arith) (omega arith) in
     let rest : n ≡ prefix_len p xs = prefix_len-partition p xs n (omega arith) ((λ i d l m. k.0 (suc i) d (omega arith) (omega arith)), (λ i d l m. k.1 (suc i) d (omega arith) (omega arith))) in
     rw passes (omega (arith, rest))
+
+-- where the last one passes, each does
+pub prefix_len-all : {X : Type 0} (p : X → Bool) (xs : List X) (last : X) → IsPartitionedBy p xs → 0 < length xs → ((d : X) → last ≡ get_or xs (length xs - 1) d) → p last ≡ true → length xs ≡ prefix_len p xs
+prefix_len-all p xs last parted some at passes =
+    prefix_len-partition p xs (length xs) (omega arith)
+    ((λ i d l m. parted i (length xs - 1) d (omega arith) (omega (arith, some)) (ap p (sym (at d)) ∙ passes)), (λ i d l m. absurd (omega arith)))
 
 above_at : (q : Pair) (xs : List Entry) (k : ℕ) (d : Entry) → AllAbove q xs → k < length xs → is_below q (get_or xs k d).pair ≡ true
 above_at q [] k d a l = absurd (omega arith)

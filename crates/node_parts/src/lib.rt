@@ -117,7 +117,7 @@ impl<A: Allocator> Node<A> {
     }
 
     /// Where a pair belongs: in a leaf the place of the first entry that does not come before it, in an inner
-    /// node the last child that does not begin after it, or the first child. Found by halving.
+    /// node the last child that does not begin after it, or the first child. Found by a look at the last, and then by halving.
     pub fn place(&self, pair: &Pair) -> usize
         requires ascending { IsAscending (entries self.now) }
         ensures { result ≡ place_in self.now pair.now }

@@ -9,7 +9,7 @@ use Rattle.std.specs.List.{Contains}
 use Rattle.std.specs.Option.{IfSome}
 use Rattle.std.specs.Ordering.{eq_by_cmp, nat_cmp}
 use Rattle.std.specs.Prelude.{Err, IfErr, IfOk, Ok, OnErr, Result, min, ◌-◌, ◌^◌, ◌↔◌}
-use Rattle.records.specs.Maps.{key_is, pair_exact, same_key, set_at, set_at-get}
+use Rattle.records.specs.Maps.{key_is, pair_exact, same_key, set_at, set_at-again, set_at-get}
 use Rattle.records.specs.Orders.{pair_cmp_total}
 use Rattle.records.specs.declared.error.Error.{Error}
 use Rattle.records.specs.declared.limits.TheConstants.{ATTEMPTS_PER_CHECKPOINT}
@@ -19,10 +19,11 @@ use Rattle.records.specs.declared.row.Row.{Row}
 use Rattle.heap_pages.specs.Pages.{IsPairOnPage, Rows}
 use Rattle.model.specs.Following.{IsBuilding}
 use Rattle.model.specs.KeyActions.{after_action}
+use Rattle.model.specs.Table.{Index}
 use Rattle.model.specs.declared.key_action.KeyAction.TheVariants.{BuildPut}
 use Rattle.model.specs.declared.life.Life.{Life}
 use Rattle.model.specs.declared.life.Life.TheVariants.{Absent, Building, Complete}
-use Rattle.marked_index.specs.Index.{IsAbsent, IsFull}
+use Rattle.marked_index.specs.Index.{IndexValue, IsAbsent, IsFull, entries_after}
 use Rattle.sorted_scan.specs.Pairs.{is_above, is_among}
 use Rattle.sorted_scan.specs.Runs.{HandedOut, IsAtEnd, IsSteady, MayHandOut, ScanRun, Took, is_given, is_missed, is_taken, last_pair, taken_in_a_row, with_step}
 use Rattle.sorted_scan.specs.Scans.{HasRun, ScanValue}
@@ -36,7 +37,7 @@ use Rattle.core_contracts.specs.Events.{Event, Refused, Reply, Standing, standin
 use Rattle.core_contracts.specs.Replies.{HasNoPlace, IsBetween, IsDue, IsFirst, IsNextPair, accepted, refusals, refused, refused_last}
 use Rattle.nsf_core.specs.View.{Answers, CoreValue, IsSafe, IsScan, IsState, Serves, Shows}
 use Rattle.nsf_core.specs.Builds as builds
-use Rattle.nsf_core.specs.Private.{HasAttempted, HasPassed, HasTaken, HasNextNumber, IsUnplaced, IsUnrecorded, checkpointed, completed, placed}
+use Rattle.nsf_core.specs.Private.{HasAttempted, HasPassed, HasTaken, HasNextNumber, IsUnplaced, IsUnrecorded, checkpointed, completed, placed, without_entry}
 use Rattle.nsf_core.specs.Replies.{reply_by}
 use Rattle.nsf_core.specs.declared.parts.Ticket.{Ticket}
 use Rattle.nsf_core.specs.declared.reply.BuildReply.{BuildReply}
@@ -101,6 +102,21 @@ module _ (v : CoreValue) (s : State) (k : Standing) (h : Shows v s k) where
 -- ---- an attempt is counted, as far as the code counts
 one_attempt : (next now all most : ℕ) → next ≡ min (now + 1) most → now ≡ min all most → next ≡ min (all + 1) most
 one_attempt next now all most e f = omega (arith, e, f)
+
+-- ---- an entry that was there before, and one that was placed and is taken out again
+pub put_there : (i now : IndexValue) (p : Pair) → get i.entries p ≢ None → now ≡ record i { entries = entries_after i.entries BuildPut p } → now ≡ i
+put_there i now p there put = put ∙ ap (λ (m : Index). record i { entries = m }) (of_mark (get i.entries p) refl)
+  where
+    of_mark : (o : Option Mark) → get i.entries p ≡ o → set_at i.entries p (after_action BuildPut o) ≡ i.entries
+    of_mark None e = absurd (there e)
+    of_mark (Some mark) e = ap (set_at i.entries p) (build_put_some mark ∙ sym e) ∙ set_at-get pair_exact i.entries p
+
+pub put_back : (v : CoreValue) (i : IndexValue) (back : CoreValue) (p : Pair) → IsAbsent v.index.entries p
+    → i ≡ record v.index { entries = entries_after v.index.entries BuildPut p } → back ≡ without_entry (record v { index = i }) p → back ≡ v
+put_back v i back p absent put taken =
+    taken ∙ ap (λ (w : IndexValue). without_entry (record v { index = w }) p) put
+    ∙ ap (λ (m : Index). record v { index = record v.index { entries = m } })
+    (set_at-again pair_exact v.index.entries p (after_action BuildPut (get v.index.entries p)) None ∙ ap (set_at v.index.entries p) (sym absent) ∙ set_at-get pair_exact v.index.entries p)
 
 -- ---- a page that was taken
 module _ (rows : Rows) (page : ℕ) (pairs : List Pair) (each : (p : Pair) → Contains pairs p ↔ IsPairOnPage rows page p) (p : Pair) where

@@ -39,6 +39,8 @@ use Rattle.model.specs.declared.key_action.KeyAction.{KeyAction}
 use Rattle.sorted_scan.specs.Scans.{begun, HasRun}
 use Rattle.sorted_scan.specs.Runs.{HandedOut, ScanRun, Took, with_step}
 use Rattle.marked_index.specs.Index.{pledges_used, IsAbsent, IsFull, entries_after}
+use Rattle.marked_index.specs.declared.index.Built.{Built}
+use Rattle.marked_index.specs.declared.index.Built.TheVariants as built
 use Rattle.core_model.specs.Steps.{places_of, IsPassed}
 use Rattle.nsf_core.specs.View.{CoreValue}
 use Rattle.nsf_core.specs.declared.reply.BuildReply.{BuildReply}
@@ -239,6 +241,15 @@ pub record HasPassed (v : CoreValue) (p : Pair) (v' : CoreValue) : Type 0 where
 -- the builder's entry is there, with its record
 abbrev pub placed : CoreValue → Pair → CoreValue
 placed v p = with_record (record v { index = record v.index { entries = entries_after v.index.entries KeyAction.BuildPut p } }) (OfIndex (index_action.BuildPlace p))
+
+-- the core without the entry of this pair
+abbrev pub without_entry : CoreValue → Pair → CoreValue
+without_entry v p = record v { index = record v.index { entries = set_at v.index.entries p None } }
+
+-- the pair was given an entry, with its record, or it had one and all is as before
+abbrev pub HasPut : CoreValue → Pair → Built → CoreValue → Type 0
+HasPut v p built.Rejected v' = (get v.index.entries p ≢ None) × (v' ≡ v)
+HasPut v p built.Placed v' = IsAbsent v.index.entries p × (IsFull v.index → ⊥) × HasNextNumber v × (v' ≡ placed v p)
 
 -- the pair was placed, or it had an entry and was rejected
 abbrev pub HasAttempted : CoreValue → Pair → BuildReply → CoreValue → Type 0

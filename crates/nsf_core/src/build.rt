@@ -1,22 +1,23 @@
 //! The steps of the builder.
 ghost use Rattle.std.specs.Prelude.{◌≡◌, ◌≢◌, ◌≤◌, ◌<◌, ◌+◌, ◌++◌, ◌∷◌, ◌⊎◌, [], None, Some, IfOk, IfErr, IfSome, IfNone, OnOk, OnErr};
 ghost use Rattle.std.specs.FinMap as map;
+ghost use Rattle.records.specs.Maps.{set_at};
 ghost use Rattle.records.specs.declared.number.TheConstants.{LAST_NUMBER};
 ghost use Rattle.records.specs.declared.pair.Pair.{Pair};
 ghost use Rattle.records.specs.declared.record.IndexAction.TheVariants as action;
 ghost use Rattle.model.specs.Following.{IsBuilding};
 ghost use Rattle.model.specs.declared.life.Life.TheVariants as life;
-ghost use Rattle.marked_index.specs.Index.{IsAbsent, IsFull};
 ghost use Rattle.sorted_scan.specs.Scans.{next_of};
 ghost use Rattle.core_contracts.specs.Events.{Event};
 ghost use Rattle.nsf_core.specs.View.{IsSafe, Serves};
 ghost use Rattle.nsf_core.specs.Replies.{reply_by};
 ghost use Rattle.nsf_core.specs.Parts.{parts_of};
 ghost use Rattle.nsf_core.specs.Builds.{built};
-ghost use Rattle.nsf_core.specs.Private.{with_record, HasAttempted, HasPassed, HasTaken, HasNextNumber, IsUnplaced, IsUnrecorded, checkpointed, completed, placed};
+ghost use Rattle.nsf_core.specs.Private.{with_record, HasAttempted, HasPassed, HasPut, HasTaken, HasNextNumber, IsUnplaced, IsUnrecorded, checkpointed, completed, without_entry};
 
 use crate::parts::{Parts, Ticket};
 use crate::reply::BuildReply;
+use marked_index::{Built, MarkedIndex};
 use model::Life;
 use records::{ATTEMPTS_PER_CHECKPOINT, Action, Error, IndexAction, Pair, Record, RecordNumber};
 use std::alloc::Allocator;
@@ -44,6 +45,15 @@ fn ticket_of(number: RecordNumber) -> Ticket
         record: number,
         commit: None,
     }
+}
+
+// Takes the entry of a pair out again.
+fn take_out<A: Allocator + Clone>(index: &mut MarkedIndex<A>, pair: &Pair)
+    ensures { index.new ≡ record index.old { entries = set_at index.old.entries pair.now None } }
+{
+    let Ok(()) = index.load(pair, None) else {
+        unreachable!()
+    };
 }
 
 impl<A: Allocator + Copy> Parts<A> {
@@ -96,41 +106,65 @@ impl<A: Allocator + Copy> Parts<A> {
         self.attempts = self.attempts.saturating_add(1);
     }
 
-    // Why an attempt of a pair that has no entry is refused, but for want of memory, or the number
-    // of its record.
-    fn may_place(&self) -> Result<RecordNumber, Error>
-        ensures number { IfOk result (λ n. n ≡ (parts_of self.now).last + 1) }
-        ensures roomy { OnOk result (IsFull (parts_of self.now).index → ⊥) }
-        ensures left { OnOk result (HasNextNumber (parts_of self.now)) }
-        ensures refused { IfErr result (λ e. ((e ≡ Error.IndexFull) × IsFull (parts_of self.now).index)
-            ⊎ ((IsFull (parts_of self.now).index → ⊥) × (e ≡ Error.Exhausted) × (LAST_NUMBER ≤ (parts_of self.now).last))) }
+    // Attempts a pair where there is no number for its record: one that has an entry is rejected, and
+    // another is refused.
+    fn reject(&self, pair: &Pair) -> Result<Built, Error>
+        requires exhausted { LAST_NUMBER ≤ (parts_of self.now).last }
+        ensures rejected { IfOk result (λ built. HasPut (parts_of self.now) pair.now built (parts_of self.now)) }
+        ensures refused { IfErr result (IsUnplaced (parts_of self.now) pair.now) }
     {
+        if self.index.get(pair).is_some() {
+            return Ok(Built::Rejected);
+        }
         if self.index.is_full() {
             return Err(Error::IndexFull);
         }
-        self.next_number()
+        Err(Error::Exhausted)
     }
 
-    // Gives the pair an entry, with its record.
-    fn place(&mut self, number: RecordNumber, pair: Pair) -> Result<(), Error>
+    // Makes the record of the pair's new entry, or takes the entry out again.
+    fn record_placed(&mut self, number: RecordNumber, pair: Pair) -> Result<(), Error>
         requires number { number ≡ (parts_of self.old).last + 1 }
         requires left { HasNextNumber (parts_of self.old) }
-        requires absent { IsAbsent (parts_of self.old).index.entries pair }
-        requires roomy { IsFull (parts_of self.old).index → ⊥ }
-        ensures ok { OnOk result (parts_of self.new ≡ placed (parts_of self.old) pair) }
-        ensures unchanged { OnErr result (parts_of self.new ≡ parts_of self.old) }
+        ensures ok { OnOk result (parts_of self.new ≡ with_record (parts_of self.old) (Action.OfIndex (action.BuildPlace pair))) }
+        ensures taken_out { OnErr result (parts_of self.new ≡ without_entry (parts_of self.old) pair) }
         ensures no_memory { IfErr result (λ e. e ≡ Error.NoMemory) }
     {
-        let action = Action::OfIndex {
-            action: IndexAction::BuildPlace { pair },
-        };
-        self.outbox.push_back(Record { number, action })?;
-        if let Err(error) = self.index.build_put(&pair) {
-            self.outbox.pop_back();
+        let action = IndexAction::BuildPlace { pair };
+        if let Err(error) = self.record_index(number, action) {
+            take_out(&mut self.index, &pair);
             return Err(error);
         }
-        self.last += 1;
         Ok(())
+    }
+
+    // Gives the pair an entry, with its record, unless it has one.
+    fn place(&mut self, number: RecordNumber, pair: Pair) -> Result<Built, Error>
+        requires number { number ≡ (parts_of self.old).last + 1 }
+        requires left { HasNextNumber (parts_of self.old) }
+        ensures put { IfOk result (λ built. HasPut (parts_of self.old) pair built (parts_of self.new)) }
+        ensures refused { IfErr result (IsUnplaced (parts_of self.old) pair) }
+        ensures unchanged { OnErr result (parts_of self.new ≡ parts_of self.old) }
+    {
+        match self.index.build_put(&pair)? {
+            Built::Rejected => Ok(Built::Rejected),
+            Built::Placed => {
+                self.record_placed(number, pair)?;
+                Ok(Built::Placed)
+            }
+        }
+    }
+
+    // Gives the pair an entry, with its record, unless it has one, as far as there is a number.
+    fn put(&mut self, pair: Pair) -> Result<Built, Error>
+        ensures put { IfOk result (λ built. HasPut (parts_of self.old) pair built (parts_of self.new)) }
+        ensures refused { IfErr result (IsUnplaced (parts_of self.old) pair) }
+        ensures unchanged { OnErr result (parts_of self.new ≡ parts_of self.old) }
+    {
+        match self.next_number() {
+            Ok(number) => self.place(number, pair),
+            Err(_) => self.reject(&pair),
+        }
     }
 
     // Attempts the pair that the scan has next.
@@ -141,14 +175,12 @@ impl<A: Allocator + Copy> Parts<A> {
         ensures refused { IfErr result (IsUnplaced (parts_of self.old) pair) }
         ensures unchanged { OnErr result (parts_of self.new ≡ parts_of self.old) }
     {
-        if self.index.get(&pair).is_some() {
-            self.pass(pair);
-            return Ok(BuildReply::Rejected(pair));
-        }
-        let number = self.may_place()?;
-        self.place(number, pair)?;
+        let built = self.put(pair)?;
         self.pass(pair);
-        Ok(BuildReply::Placed(pair))
+        Ok(match built {
+            Built::Placed => BuildReply::Placed(pair),
+            Built::Rejected => BuildReply::Rejected(pair),
+        })
     }
 
     // The index's life is this now, as the record says.

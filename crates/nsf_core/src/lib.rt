@@ -23,6 +23,7 @@ mod step;
 mod store;
 mod undo;
 
+pub use btree_node::Cleared;
 pub use laws::{each_answer, each_change, refused_calls, skipped_events};
 pub use parts::Ticket;
 pub use reply::{BuildReply, CleanReply, Owed, Undone};

@@ -1,10 +1,12 @@
 //! The core.
-ghost use Rattle.std.specs.Prelude.{◌≡◌, ◌<◌, ◌≤◌, ◌+◌, ◌-◌, ◌⊎◌, ◌↔◌, Err, Some, is_some, length, option_and_then, option_map, slice_get, ℕ, IsSome, IsTrue, IfOk, IfErr, OnOk, OnErr};
+ghost use Rattle.std.specs.Prelude.{◌≡◌, ◌<◌, ◌≤◌, ◌+◌, ◌-◌, ◌⊎◌, ◌↔◌, [], Err, None, Some, is_some, length, option_and_then, option_map, slice_get, ℕ, IsSome, IsTrue, IfOk, IfErr, OnOk, OnErr};
 ghost use Rattle.std.specs.FinMap as map;
 ghost use Rattle.std.specs.Option.{option_copied};
 ghost use Rattle.records.specs.Maps.{set_at};
+ghost use Rattle.records.specs.declared.rid.TheConstants.{SLOTS_PER_PAGE};
 ghost use Rattle.records.specs.declared.row.Row.{Row};
 ghost use Rattle.btree_node.specs.Above.{IsLeastAbove};
+ghost use Rattle.btree_node.specs.Runs.{IsRunAbove};
 ghost use Rattle.core_contracts.specs.Events.{Event, Reply};
 ghost use Rattle.nsf_core.specs.View.{IsSafe, Serves};
 ghost use Rattle.nsf_core.specs.Moves.{OwesOrNone, HasNoChange, IsReadyOrNone, fresh, txn_shown};
@@ -26,7 +28,8 @@ ghost use Rattle.records.specs.Values.{Place};
 
 use crate::parts::{Parts, Ticket};
 use crate::reply::{BuildReply, CleanReply, Owed, Undone};
-use model::Life;
+use btree_node::{Cleared, Entry};
+use model::{Life, ROWS_PER_PAGE};
 use records::{Body, Change, Error, Geometry, Key, LAST_NUMBER, Mark, Pair, Rid, Row, Sink, Txn};
 use std::alloc::Allocator;
 use txn_table::Progress;
@@ -100,6 +103,13 @@ impl<A: Allocator + Copy> Core<A> {
         self.parts.heap.get(rid)
     }
 
+    /// The rows of a page, by their slots: none where a slot is empty, and in each slot of a page that the store does not have.
+    pub fn page_slots(&self, page: u32) -> [Option<Row>; ROWS_PER_PAGE]
+        ensures { (slot : ℕ) → slot < SLOTS_PER_PAGE → slice_get result slot ≡ Some (map.get (value_of self.now).heap.rows (record { page = page; slot = slot })) }
+    {
+        self.parts.heap.page_slots(page)
+    }
+
     /// How far the index is.
     pub fn life(&self) -> Life
         ensures life { result ≡ (value_of self.now).life }
@@ -152,6 +162,15 @@ impl<A: Allocator + Copy> Core<A> {
         ensures { IsLeastAbove (value_of self.now).index.entries (option_copied pair.entry) result }
     {
         self.parts.index.above(pair)
+    }
+
+    /// The next entries above the pair, or the first of all: some that stand together, in order. There is none only where none
+    /// is above.
+    pub fn run_above(&self, pair: Option<&Pair>) -> &[Entry]
+        ensures run { IsRunAbove (value_of self.now).index.entries (option_copied pair.entry) result.now }
+        ensures none { result.now ≡ [] → IsLeastAbove (value_of self.now).index.entries (option_copied pair.entry) None }
+    {
+        self.parts.index.run_above(pair)
     }
 
     /// Whether the transaction has begun, and neither committed nor ended.
@@ -415,7 +434,23 @@ impl<A: Allocator + Copy> Core<A> {
     pub fn drop_index(&mut self) -> Result<Ticket, Error>
         ensures { Serves (value_of self.old) Event.Drop (reply_by reply_of_ticket result) (value_of self.new) }
     {
+        let dropped = self.parts.drop_index();
+        drop(self.take_cleared());
+        dropped
+    }
+
+    /// Drops the index as `drop_index` does, in a short time: what its entries had of memory is kept for `take_cleared`.
+    pub fn detach_index(&mut self) -> Result<Ticket, Error>
+        ensures { Serves (value_of self.old) Event.Drop (reply_by reply_of_ticket result) (value_of self.new) }
+    {
         self.parts.drop_index()
+    }
+
+    /// What the entries of an index that was detached still have of memory, for the caller to let go.
+    pub fn take_cleared(&mut self) -> Option<Cleared<A>>
+        ensures { value_of self.new ≡ value_of self.old }
+    {
+        self.parts.index.take_cleared()
     }
 
     /// Makes a step of the builder, the first of these that applies. Where the index is complete:

@@ -233,7 +233,7 @@ impl Session {
     {
         core.check_drop()?;
         self.turns.reserve(1)?;
-        let ticket = core.drop_index()?;
+        let ticket = core.detach_index()?;
         self.turns.push_reserved(Turn::Dropped(ticket.record));
         Ok(ticket)
     }

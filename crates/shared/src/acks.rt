@@ -16,6 +16,9 @@ use std::time::Duration;
 // A seat looks so often for the horizon before it sleeps, and no sleep is longer than so many microseconds.
 const LOOKS: u32 = 128;
 
+// Where it is the only one, it looks so often for a ring before that.
+const RING_LOOKS: u32 = 4_000;
+
 const LONGEST_SLEEP: u64 = 1_000;
 
 impl<B: Group> Shared<B> {
@@ -106,8 +109,10 @@ impl<B: Group> Shared<B> {
     fn look_or_sleep<R: Wait>(&self, rt: &R, looks: u32, rings: u64) {
         if looks < LOOKS {
             hint::spin_loop();
-        } else {
-            let published = &self.board.waits().published;
+            return;
+        }
+        let published = &self.board.waits().published;
+        if !published.look(rings, RING_LOOKS) {
             published.sleep(rt, rings, Duration::from_micros(LONGEST_SLEEP));
         }
     }

@@ -71,8 +71,8 @@ impl<B: Group> Shared<B> {
         created
     }
 
-    /// Drops the index, be it complete or not, and keeps the number of its record with the seat. Its entries are freed under the
-    /// lock.
+    /// Drops the index, be it complete or not, and keeps the number of its record with the seat. Its entries are freed behind
+    /// the lock.
     ///
     /// The refusals are those of the core's `drop_index`. After a refusal the seat is as before.
     pub fn drop_index<R: Wait>(&self, rt: &R, seat: &mut Seat<B>) -> Result<Ticket, Error>
@@ -83,8 +83,10 @@ impl<B: Group> Shared<B> {
         let mut locked = self.hold(rt);
         locked.push_outbox(rt, &self.queue);
         let dropped = locked.drop_index(&self.registry, &mut seat.part);
+        let cleared = locked.take_cleared();
         locked.push_outbox(rt, &self.queue);
         drop(locked);
+        drop(cleared);
         self.wake_flusher();
         self.board.waits().resting.ring();
         dropped

@@ -72,18 +72,35 @@ fn the_thirty_third_pair_makes_a_second_level(rt: HostRuntime) -> Result<(), Fai
     Ok(())
 }
 
-// Puts in as many pairs as a tree may have, rising from 0 or falling from the highest.
+// How many runs of entries a walk over a tree takes, and how many entries it meets.
+fn runs_of<A: Allocator + Copy>(tree: &BTree<A>) -> (usize, usize) {
+    let mut last = None;
+    let mut met = 0usize;
+    for runs in 0..tree.len() {
+        let run = tree.run_above(last.as_ref());
+        let Some(entry) = run.last() else {
+            return (runs, met);
+        };
+        last = Some(entry.pair);
+        met = met.saturating_add(run.len());
+    }
+    (tree.len(), met)
+}
+
+// Puts in as many pairs as a tree may have, rising from 0 or falling from the highest. A run has 16 entries or more.
 fn fill<A: Allocator + Copy>(rt: &impl Abort, memory: A, highest: u32) -> Result<(), Error> {
     let mut tree = BTree::new(memory);
     for number in 0..65_536u32 {
         put(rt, &mut tree, number.abs_diff(highest))?;
     }
     assert!(rt; tree.len() == 65_536 && tree.height() <= 4);
+    let (runs, met) = runs_of(&tree);
+    assert!(rt; runs <= 4_096 && met == 65_536, "{runs} runs met {met}");
     Ok(())
 }
 
 #[test]
-fn many_pairs_give_few_levels(rt: HostRuntime) -> Result<(), Fail> {
+fn many_pairs_give_few_levels_and_few_runs(rt: HostRuntime) -> Result<(), Fail> {
     for highest in [0, 65_535] {
         fill(&rt, rt.alloc(), highest)?;
     }

@@ -1,16 +1,15 @@
 use Rattle.std.proofs.Common.{rules, arith, ◌∙◌, sym, ap, subst, ◌++◌, ◌≡◌, ◌+◌, ◌^◌, ◌<◌, ℕ, length}
 use Rattle.node_parts.specs.Tree.{entries, depth}
-use Rattle.node_parts.specs.Order.{IsAscending}
+use Rattle.node_parts.specs.Order.{mark_in}
 use Rattle.node_parts.proofs.Balance.{at_most_four}
-use Rattle.btree_node.specs.Grown.{AreEnough}
 use Rattle.btree_node.specs.Path.{top_path, path_of}
 use Rattle.btree_node.specs.Splits.{splits}
 use Rattle.btree_node.specs.Top.{tree_at, IsWhole, nodes_for}
 use Rattle.btree_node.proofs.Counting.{bool_byte_small, bool_byte_is}
 use Rattle.btree_node.proofs.Top.{root_some, nodes_counted, top_path-some}
-use Rattle.btree_node.proofs.Contents.{len-contents}
-use Rattle.btree_node.proofs.BTree.plan_insert.Goals as goal
-use Rattle.btree_node.proofs.BTree.plan_insert.Goals.{in-None, in-Some}
+use Rattle.btree_node.proofs.Contents.{get-contents}
+use Rattle.btree_node.proofs.BTree.find_way.Goals as goal
+use Rattle.btree_node.proofs.BTree.find_way.Goals.{in-None, in-Some}
 
 pub way_to-splits-requires-clause-some : goal.way_to-splits-requires-clause-some
 way_to-splits-requires-clause-some g c =
@@ -29,17 +28,16 @@ way_to-splits-requires-clause-room g c =
     let few = at_most_four _ _ whole (omega (arith, c.self.invariant.counted, c.self.invariant.few, ap (λ r. length (entries (tree_at r))) c.in-Some.is)) in
     rw c.deref.ensures (omega (arith, few, ap length c.new-path.ensures.items, c.new-path.ensures.capacity))
 
-pub overflow_add-count : goal.overflow_add-count
-overflow_add-count g c =
+pub overflow_add-nodes : goal.overflow_add-nodes
+overflow_add-nodes g c =
     let whole = subst IsWhole c.in-Some.is c.self.invariant.whole in
     let few = at_most_four _ _ whole (omega (arith, c.self.invariant.counted, c.self.invariant.few, ap (λ r. length (entries (tree_at r))) c.in-Some.is)) in
     let same : depth c.deref.result.now ≡ depth c.in-Some.root.value = ap depth c.deref.ensures in
     let small : c.way_to-splits.result.0 + c.from.result < 2 ^ 64 = omega (arith, few, same, c.way_to-splits.ensures.few, c.from.ensures, bool_byte_small c.way_to-splits.result.1) in
     search (rules, small)
 
-pub returns-clause-plan : goal.returns-clause-plan
-returns-clause-plan g c =
-    let up : IsAscending (entries c.args.self.now) = subst (λ t. IsAscending (entries t)) c.self.view_is c.self.invariant.ascending in
+pub returns-clause-way : goal.returns-clause-way
+returns-clause-way g c =
     let way : c.match-self.path.items ≡ top_path c.args.self.now c.args.pair.now =
     elim c.match-self.branch [
       | in-None w ↦
@@ -50,18 +48,21 @@ returns-clause-plan g c =
           let top = w.deref.ensures ∙ sym (ap tree_at w.in-Some.is) ∙ c.self.view_is in
           ap (λ p. p.items) w.path-is ∙ w.way_to-splits.ensures.path ∙ ap (λ xs. xs ++ path_of w.deref.result.now c.args.pair.now) c.new-path.ensures.items ∙ sym (top_path-some _ c.args.pair.now some) ∙ ap (λ t. top_path t c.args.pair.now) top
     ] in
-    let count : c.match-self.count ≡ nodes_for c.args.self.now c.args.pair.now =
+    let count : c.match-self.nodes.0 ≡ nodes_for c.args.self.now c.args.pair.now =
     elim c.match-self.branch [
-      | in-None w ↦ w.count-is ∙ ap (λ t. nodes_for t c.args.pair.now) (sym (ap tree_at w.in-None.is) ∙ c.self.view_is)
+      | in-None w ↦ ap (λ n. n.0) w.nodes-is ∙ ap (λ t. nodes_for t c.args.pair.now) (sym (ap tree_at w.in-None.is) ∙ c.self.view_is)
       | in-Some w ↦
           let whole = subst IsWhole w.in-Some.is c.self.invariant.whole in
           let some : 0 < length (entries w.deref.result.now) = rw w.deref.ensures (root_some _ _ whole) in
           let top = w.deref.ensures ∙ sym (ap tree_at w.in-Some.is) ∙ c.self.view_is in
-          w.count-is ∙ ap (λ (n : ℕ). n + w.from.result) w.way_to-splits.ensures.splits ∙ ap (λ (n : ℕ). splits w.deref.result.now c.args.pair.now + n) (w.from.ensures ∙ bool_byte_is w.way_to-splits.result.1)
+          ap (λ n. n.0) w.nodes-is ∙ ap (λ (n : ℕ). n + w.from.result) w.way_to-splits.ensures.splits ∙ ap (λ (n : ℕ). splits w.deref.result.now c.args.pair.now + n) (w.from.ensures ∙ bool_byte_is w.way_to-splits.result.1)
           ∙ nodes_counted _ c.args.pair.now w.way_to-splits.result.1 some w.way_to-splits.ensures.all ∙ ap (λ t. nodes_for t c.args.pair.now) top
     ] in
-    record {
-      room = omega (arith, c.requires.room, len-contents c.args.self.now up);
-      way = way;
-      enough = subst (λ n. AreEnough n c.in_ok-new.field-0) count c.in_ok-new.ensures.enough;
-    }
+    record { places = way; counted = count }
+
+pub returns-clause-mark : goal.returns-clause-mark
+returns-clause-mark g c =
+    elim c.match-self.branch [
+      | in-None w ↦ ap (λ n. n.1) w.nodes-is ∙ ap (λ t. mark_in (entries t) c.args.pair.now) (sym (ap tree_at w.in-None.is) ∙ c.self.view_is) ∙ sym (get-contents _ _)
+      | in-Some w ↦ ap (λ n. n.1) w.nodes-is ∙ w.way_to-splits.ensures.found ∙ ap (λ t. mark_in (entries t) c.args.pair.now) (w.deref.ensures ∙ sym (ap tree_at w.in-Some.is) ∙ c.self.view_is) ∙ sym (get-contents _ _)
+    ]
