@@ -71,7 +71,8 @@
 //! invariant-loop-key g l = l.seat.number ≡ l.fn.seat.number
 //! ```
 //!
-//! A program that starts threads itself opens the store by `open_store`, and calls a function that is generic in the group with
+//! A program that starts threads itself opens the store by `open_store`, or by `open_engine` where an engine served it before: its
+//! device isn't read again, and nothing that the engine holds is lost. It calls a function that is generic in the group with
 //! `Brand`. It says in its `Invariants.antt` what the group's names are, as here for a function `work`:
 //!
 //! ```antt
@@ -109,4 +110,4 @@ pub use restart::{Engine, Event, Reply, restart};
 pub use sector_device::{Device, Failed, Fate, FaultDisk, MemDisk, Which};
 pub use sessions::Commit;
 pub use shared::{Ack, Change, Group, Seat, Shared};
-pub use threads::{OpenError, OpenStore, Parts, format_store, open_store};
+pub use threads::{OpenError, OpenStore, Parts, format_store, open_engine, open_store};

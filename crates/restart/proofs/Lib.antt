@@ -32,3 +32,4 @@ mod Reopened
 mod Storied
 mod Grouped
 mod Checkpoints
+mod Settled

@@ -7,9 +7,9 @@ pub mod Handing
 pub mod Parted
 pub mod Lawful
 pub mod Ran
-pub mod Lives
 pub mod Building
 pub mod Reopening
 pub mod Story
 pub mod Groups
 pub mod Repeated
+pub mod Settling

@@ -4,7 +4,9 @@
 //! acknowledged before (`any_crash`, `at_end`: of an engine that is where a run left it). Each reply is lawful (`lawful`).
 //! `restart` opens what a crash of such a run left, and is refused there only for want of memory or by a device that fails
 //! (`recovers`, `readable`). With no transaction active, an `Ok` of `build_to_end` over such a store leaves the visible entries
-//! just the pairs of the rows (`whole`). `copies_flip`: so many copies make an image current.
+//! just the pairs of the rows (`whole`). `copies_flip`: so many copies make an image current. With none active an engine that served
+//! is left as a restart would leave it, and its device isn't read: `into_writer` gives the writer, with all that the engine holds
+//! synced (`written`), and `fresh_core` a core over it (`fresh`).
 //! Only tested (`store_tests`): each allocation refused, and each call of the device failing, in turn; that calls succeed where
 //! there is memory. Neither: time.
 #![tactic(auto)]
@@ -18,12 +20,13 @@ mod lives;
 mod parts;
 mod reopen;
 mod repeat;
+mod settling;
 mod sound;
 mod story;
 
 pub use copying::{copies_flip, copies_flip_between};
 pub use engine::Engine;
 pub use event::{Event, Reply};
-pub use lives::{any_lives, nothing_opens};
+pub use lives::nothing_opens;
 pub use reopen::restart;
 pub use story::{come_by_a_run, every_story, last_checkpoint};

@@ -1,3 +1,4 @@
 mod Again
 mod Opened
 mod Turned
+mod Engines

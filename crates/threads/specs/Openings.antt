@@ -1,21 +1,28 @@
 -- What a store is opened with, and what its threads begin with.
 use Rattle.std.specs.FinMap.{len}
-use Rattle.std.specs.Prelude.{[], false, None, ℕ, ◌≡◌, ◌≤◌}
+use Rattle.std.specs.Prelude.{[], false, None, ℕ, ◌≡◌, ◌≤◌, ◌⊎◌}
 use Rattle.std.specs.declared.alloc.Global.{Global}
 use Rattle.atomic_table.specs.Seated.{TableId}
 use Rattle.records.specs.GeometryValue.{GeometryValue}
+use Rattle.records.specs.declared.error.Error.{Error}
+use Rattle.records.specs.declared.error.Error.TheVariants.{NoMemory, TxnsActive}
 use Rattle.model.specs.Given.{Given, opening_cells}
 use Rattle.core_model.specs.Histories.{CanOpen, Opened}
+use Rattle.nsf_core.specs.Loading.{IsQuiet}
+use Rattle.nsf_core.specs.Opening.{opened_of}
 use Rattle.sector_device.specs.Disk.{Disk, Image, IsCrashImage, IsSynced}
-use Rattle.sector_device.specs.History.{History}
+use Rattle.sector_device.specs.History.{History, LeavesOnly}
 use Rattle.store_reader.specs.Contents.{Gives}
 use Rattle.store_writer.specs.declared.writer.Writer.{Writer}
 use Rattle.store_writer.specs.Parts.{halves_of, has_failed, image_of, log_of, synced_of}
 use Rattle.store_writer.specs.Writer.{IsWriter, opened_run}
 use Rattle.flusher.specs.Part.{FlushValue}
 use Rattle.locked_core.specs.Names.{Names}
+use Rattle.restart.specs.Parts.{core_of, device_of}
 use Rattle.restart.specs.Reopening.{IsNotOpened, IsTurned}
-use Rattle.restart.specs.Store.{over}
+use Rattle.restart.specs.Settling.{IsNotWritten}
+use Rattle.restart.specs.Store.{IsAt, Past, Survives, acknowledged_by, over}
+use Rattle.restart.specs.declared.parts.Parts.{Parts}
 use Rattle.threads.specs.declared.refusal.OpenError.{OpenError}
 use Rattle.threads.specs.declared.refusal.OpenError.TheVariants.{Refused, Unsound}
 
@@ -93,3 +100,27 @@ pub record IsUnsound {D : Type 0} (history : D → History) (failures : D → �
 abbrev pub IsNotShared : {D : Type 0} → (D → History) → (D → ℕ) → D → D → OpenError → Type 0
 IsNotShared history failures before after (Refused e) = IsNotOpened history failures before after e
 IsNotShared history failures before after Unsound = IsUnsound history failures before after
+
+-- So many seats are open over what the engine held, with no transaction active: the same rows and entries, the index as far as it was,
+-- after the same last record. It is sound, and all of it is synced: a crash of the device leaves what opens with it. A crash at any
+-- moment of the call leaves a prefix of whatever run the engine served, with everything acknowledged; no call of the device failed.
+pub record IsOpenedFrom {D : Type 0} (history : D → History) (failures : D → ℕ) (engine : Parts D Global) (count : ℕ) (s : StoreValue D) : Type 0 where
+  pub seats : s.site.seats ≡ count
+  pub quiet : IsQuiet (core_of engine)
+  pub opened : s.site.opened ≡ opened_of (core_of engine)
+  pub sound : CanOpen s.site.opened
+  pub stays : (image : Image) → IsCrashImage (history s.device).disk image → Opens image s.site.opened
+  pub survives : (past : Past Global) → IsAt history past engine → LeavesOnly (history (device_of engine)) (history s.device) (Survives past (acknowledged_by past))
+  pub well : failures s.device ≡ failures (device_of engine)
+
+-- A transaction is active, and the engine is as it was. Or none is, and what the engine holds is sound: then there was no memory, and
+-- it is as it was; or what it holds could not be written, and its run goes on.
+abbrev pub IsRefusedFrom : {D : Type 0} → (D → History) → (D → ℕ) → Parts D Global → Parts D Global → Error → Type 0
+IsRefusedFrom history failures old new e =
+    ((e ≡ TxnsActive) × (IsQuiet (core_of old) → ⊥) × (new ≡ old))
+    ⊎ (IsQuiet (core_of old) × CanOpen (opened_of (core_of old)) × (((e ≡ NoMemory) × (new ≡ old)) ⊎ IsNotWritten history failures old new e))
+
+-- why no engine was shared; it is given back
+abbrev pub IsNotOpenedFrom : {D : Type 0} → (D → History) → (D → ℕ) → Parts D Global → Parts D Global → OpenError → Type 0
+IsNotOpenedFrom history failures old new (Refused e) = IsRefusedFrom history failures old new e
+IsNotOpenedFrom history failures old new Unsound = IsQuiet (core_of old) × (CanOpen (opened_of (core_of old)) → ⊥) × (new ≡ old)

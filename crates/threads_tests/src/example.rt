@@ -1,5 +1,5 @@
 //! README's example: a row is put while other threads build the index, clean it and write to the device, and then another one; the
-//! power fails, and the rows are there, with their entries.
+//! power fails, and the rows are there, with their entries. So it is of a store that an engine served before.
 ghost use Rattle.std.specs.Prelude.{◌≡◌};
 
 use board::BuildView;
@@ -7,6 +7,7 @@ use demonstration::{Found, look};
 use flusher::FlushPart;
 use loops::{Ended, NoGate, run_beside};
 use records::{Body, Error, Geometry, Key};
+use restart::{Engine, Event, Reply, restart};
 use sector_device::{Device, Fate, MemDisk};
 use shared::{Group, Seat, Shared};
 use std::alloc::Global;
@@ -14,7 +15,7 @@ use std::marker::Brand;
 use std::sync::Wait;
 use std::test::Fail;
 use std::thread::Threads;
-use threads::{OpenError, OpenStore, Parts, format_store, open_store};
+use threads::{OpenError, OpenStore, Parts, format_store, open_engine, open_store};
 
 // What the threads have while they are at rest.
 #[derive(Drop)]
@@ -211,6 +212,18 @@ fn open_and_serve<D: Device + Send + Drop, R: Threads + Wait + Sync>(
     }
 }
 
+fn share_and_serve<D: Device + Send + Drop, R: Threads + Wait + Sync>(
+    rt: &R,
+    alloc: Global,
+    engine: Engine<D, Global>,
+    keys: (Key, Key),
+) -> Result<D, OpenError> {
+    match open_engine(alloc, engine, 2) {
+        Ok(store) => Ok(serve::<Brand, D, R>(rt, store, keys)?),
+        Err((error, _)) => Err(error),
+    }
+}
+
 /// A disk in memory with a new store, and with room to record so many writes and syncs.
 pub fn formatted(
     alloc: Global,
@@ -231,6 +244,30 @@ fn put_and_look<R: Threads + Wait + Sync>(rt: &R, alloc: Global) -> Result<Found
     Ok(look(alloc, disk)?)
 }
 
+// An engine over a new store that has put a row and committed it, and flushed nothing.
+fn served(alloc: Global) -> Result<Engine<MemDisk<Global>, Global>, Error> {
+    let disk = formatted(alloc, Geometry::new(1, 64, 4)?, 1_000)?;
+    let mut engine = match restart(alloc, disk) {
+        Ok(engine) => engine,
+        Err((error, _)) => return Err(error),
+    };
+    let Reply::Txn(txn) = engine.serve(Event::Begin) else {
+        return Err(Error::NoSuchTxn);
+    };
+    let (key, body) = (Key::new(b"cat")?, Body::new(b"")?);
+    engine.serve(Event::Insert { txn, key, body });
+    engine.serve(Event::Commit { txn });
+    Ok(engine)
+}
+
+// Puts two rows beside the one that the engine has, and tells what is found behind a crash.
+fn share_and_look<R: Threads + Wait + Sync>(rt: &R, alloc: Global) -> Result<Found, OpenError> {
+    let keys = (Key::new(b"ant")?, Key::new(b"bee")?);
+    let mut disk = share_and_serve(rt, alloc, served(alloc)?, keys)?;
+    disk.crash(&[Fate::Junk]);
+    Ok(look(alloc, disk)?)
+}
+
 #[test]
 fn the_rows_are_there_with_their_entries(rt: HostRuntime) -> Result<(), Fail> {
     let both = Found {
@@ -239,5 +276,11 @@ fn the_rows_are_there_with_their_entries(rt: HostRuntime) -> Result<(), Fail> {
         same: true,
     };
     assert_eq!(&rt; put_and_look(&rt, rt.alloc())?, both);
+    let all = Found {
+        rows: 3,
+        shown: 3,
+        same: true,
+    };
+    assert_eq!(&rt; share_and_look(&rt, rt.alloc())?, all);
     Ok(())
 }

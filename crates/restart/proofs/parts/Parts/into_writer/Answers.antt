@@ -1,0 +1,19 @@
+use Rattle.std.proofs.Common.{subst, ⊎_elim}
+use Rattle.restart.specs.Settling.{CopiesAnew}
+use Rattle.restart.specs.declared.event.Reply.{Reply}
+use Rattle.restart.proofs.Settled.{whole_or_refused, written_whole}
+use Rattle.restart.proofs.parts.Parts.into_writer.Goals as goal
+
+pub unreachable-requires : goal.unreachable-requires
+unreachable-requires g c =
+    ⊎_elim (λ n. c.in_default.not-Flipped n.0 n.1) (λ e. c.in_default.not-Refused e.0 e.1)
+    (whole_or_refused g.D.Device.failures c.copy_anew.result c.args.self c.copy_anew.new.self c.copy_anew.ensures.copies.answer)
+
+pub returns-in-Flipped-clause-written : goal.returns-in-Flipped-clause-written
+returns-in-Flipped-clause-written g c =
+    written_whole g.D.Device.history g.D.Device.failures c.copy_anew.result _ c.args.self c.copy_anew.new.self c.in-Flipped.is c.copy_anew.ensures.copies c.copy_anew.ensures.can_run c.requires.quiet c.active_txns-txns.ensures.sound
+    c.each_list.ensures.shown c.one_copy.ensures
+
+pub returns-in-Refused-clause-refused : goal.returns-in-Refused-clause-refused
+returns-in-Refused-clause-refused g c =
+    subst (λ (r : Reply g.row.A.Denot). CopiesAnew g.D.Device.history g.D.Device.failures r c.args.self c.copy_anew.new.self) c.in-Refused.is c.copy_anew.ensures.copies

@@ -1,0 +1,67 @@
+-- An engine that is left as a restart would leave it, without its device being read.
+use Rattle.std.specs.FinMap.{len}
+use Rattle.std.specs.Prelude.{◌≡◌, ◌≤◌, ℕ, false, None}
+use Rattle.records.specs.GeometryValue.{GeometryValue}
+use Rattle.records.specs.declared.error.Error.{Error}
+use Rattle.model.specs.Given.{opening_cells}
+use Rattle.core_contracts.specs.Events.{standing_at}
+use Rattle.core_loader.specs.Loaded.{holding}
+use Rattle.core_model.specs.Histories.{Opened, opened}
+use Rattle.nsf_core.specs.Opening.{opened_of}
+use Rattle.nsf_core.specs.View.{CoreValue, IsState}
+use Rattle.sector_device.specs.Disk.{Image, IsCrashImage}
+use Rattle.sector_device.specs.History.{History, LeavesOnly}
+use Rattle.store_reader.specs.Contents.{Gives}
+use Rattle.store_writer.specs.Parts as parts
+use Rattle.store_writer.specs.Parts.{halves_of, image_of, log_of, synced_of}
+use Rattle.store_writer.specs.Writer.{IsWriter, opened_run}
+use Rattle.store_writer.specs.declared.writer.Writer.{Writer}
+use Rattle.restart.specs.declared.copying.Copying.TheVariants.{GivenUp}
+use Rattle.restart.specs.declared.event.Event.TheVariants.{Copy}
+use Rattle.restart.specs.declared.event.Reply.{Reply}
+use Rattle.restart.specs.declared.event.Reply.TheVariants.{Refused}
+use Rattle.restart.specs.declared.parts.Parts.{Parts}
+use Rattle.restart.specs.Copies.{IsCopyAnswer}
+use Rattle.restart.specs.Parts.{core_of, device_of}
+use Rattle.restart.specs.Store.{IsAt, Past, ServesOn, Survives, acknowledged_by}
+
+-- A core over the rows, the entries, the index's life and the last record's number that another holds, as a restart makes one: no
+-- transaction was begun in it, and it has built and cleaned nothing.
+pub record IsFresh (old new : CoreValue) : Type 0 where
+  pub geometry : GeometryValue
+  pub made : new ≡ holding geometry (opened_of old).given
+  pub same : opened_of new ≡ opened_of old
+  pub stands : IsState new (opened (opened_of old)) (standing_at old.last)
+
+-- A writer that has got no record since its store held this, all of which is synced: a crash of the device leaves what gives it. No
+-- slot of the log is open, and no image is under way.
+pub record IsSettled {D M : Type 0} (history : D → History) (o : Opened) (w : Writer D M) : Type 0 where
+  pub writer : IsWriter history (opened_run (halves_of w) o.given.last (opening_cells o.given)) o.given.last w
+  pub gives : (image : Image) → IsCrashImage (history (parts.device_of w)).disk image → Gives image (halves_of w).geometry o.given
+  pub pages : (halves_of w).geometry.pages ≡ o.pages
+  pub places : (halves_of w).geometry.entries ≡ o.places
+  pub fits : len o.given.entries ≤ o.places
+  pub synced : synced_of w ≡ o.given.last
+  pub sound : parts.has_failed w ≡ false
+  pub empty : (log_of w).open_slots ≡ 0
+  pub idle : image_of w ≡ None
+
+-- an image under way is given up, and a whole one is to be taken at once
+abbrev pub giving_up : {D M : Type 0} → Parts D M → Parts D M
+giving_up engine = record engine { copying = GivenUp }
+
+-- An image under way was given up, and the copy that takes a whole one at once had this reply.
+pub record CopiesAnew {D M : Type 0} (history : D → History) (failures : D → ℕ) (reply : Reply M) (old new : Parts D M) : Type 0 where
+  pub answer : IsCopyAnswer failures reply (giving_up old) new
+  pub runs : ServesOn history Copy reply old new
+
+-- All that the engine holds was written as a whole image, which is current: its records that weren't synced are in it. No call of the
+-- device failed, and a crash at any moment leaves a prefix of whatever run the engine served, with everything acknowledged.
+pub record WritesWhole {D M : Type 0} (history : D → History) (failures : D → ℕ) (engine : Parts D M) (w : Writer D M) : Type 0 where
+  pub settled : IsSettled history (opened_of (core_of engine)) w
+  pub quiet : failures (parts.device_of w) ≡ failures (device_of engine)
+  pub survives : (past : Past M) → IsAt history past engine → LeavesOnly (history (device_of engine)) (history (parts.device_of w)) (Survives past (acknowledged_by past))
+
+-- there was no memory for it, or the device failed: the engine's run goes on, by a copy that was refused so
+abbrev pub IsNotWritten : {D M : Type 0} → (D → History) → (D → ℕ) → Parts D M → Parts D M → Error → Type 0
+IsNotWritten history failures old new e = CopiesAnew history failures (Refused e) old new

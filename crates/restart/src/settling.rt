@@ -1,0 +1,112 @@
+//! An engine with no transaction active is left as a restart would leave it, and its device is not read.
+ghost use Rattle.std.specs.Prelude.{◌≡◌, IfErr, IfOk};
+ghost use Rattle.nsf_core.specs.Loading.{IsQuiet};
+ghost use Rattle.nsf_core.specs.Value.{value_of};
+ghost use Rattle.restart.specs.Parts.{core_of};
+ghost use Rattle.restart.specs.Settling.{CopiesAnew, IsFresh, IsNotWritten, WritesWhole};
+ghost use Rattle.restart.specs.Store.{CanRun};
+
+use crate::copying::Copying;
+use crate::parts::Parts;
+use crate::{Engine, Reply};
+use core_copies::{copy_whole, each_list, one_copy};
+use core_loader::load;
+use image_model::{Chunk, Piece};
+use model::CellMaps;
+use nsf_core::Core;
+use records::Error;
+use redo::Restored;
+use sector_device::Device;
+use std::alloc::Allocator;
+use store_writer::StoreWriter;
+
+impl<D: Device, A: Allocator + Copy> Parts<D, A> {
+    // A core over what this engine's core holds, as a restart makes one.
+    fn fresh_core(&self) -> Result<Core<A>, Error>
+        requires can_run { CanRun D.history self.now }
+        requires quiet { IsQuiet (core_of self.now) }
+        ensures fresh { IfOk result (λ core. IsFresh (core_of self.now) (value_of core)) }
+        ensures no_memory { IfErr result (λ e. e ≡ Error.NoMemory) }
+    {
+        let Chunk { number, piece } = copy_whole(self.alloc, &self.core)?;
+        let Piece::Whole { cells } = piece else {
+            unreachable!()
+        };
+        let CellMaps {
+            rows,
+            entries,
+            life,
+            ..
+        } = cells;
+        let found = Restored {
+            geometry: self.geometry,
+            rows,
+            entries,
+            life,
+            last: number,
+        };
+        load(self.alloc, found)
+    }
+
+    // Gives an image under way up, and takes a whole one at once.
+    fn copy_anew(&mut self) -> Reply<A>
+        requires { CanRun D.history self.old }
+        ensures copies { CopiesAnew D.history D.failures result self.old self.new }
+        ensures can_run { CanRun D.history self.new }
+    {
+        self.copying = Copying::GivenUp;
+        self.copy()
+    }
+
+    // The writer, behind a whole image.
+    fn into_writer(mut self) -> Result<StoreWriter<D, A>, (Error, Self)>
+        requires can_run { CanRun D.history self }
+        requires quiet { IsQuiet (core_of self) }
+        ensures written { IfOk result (WritesWhole D.history D.failures self) }
+        ensures refused { IfErr result (λ r. IsNotWritten D.history D.failures self r.1 r.0) }
+        ensures can_run { IfErr result (λ r. CanRun D.history r.1) }
+    {
+        each_list();
+        one_copy();
+        let _txns = self.core.active_txns();
+        match self.copy_anew() {
+            Reply::Flipped(_) => {
+                let Parts { writer, .. } = self;
+                Ok(writer)
+            }
+            Reply::Refused(error) => Err((error, self)),
+            _ => unreachable!(),
+        }
+    }
+}
+
+impl<D: Device, A: Allocator + Copy> Engine<D, A> {
+    /// A core over the rows, the entries and the index's life that the engine holds while no transaction is active, as a restart
+    /// makes one. It is made in memory; a build goes on above the pair checkpointed last.
+    ///
+    /// The one error is `NoMemory`.
+    pub fn fresh_core(&self) -> Result<Core<A>, Error>
+        requires { IsQuiet (core_of self.now) }
+        ensures fresh { IfOk result (λ core. IsFresh (core_of self.now) (value_of core)) }
+        ensures no_memory { IfErr result (λ e. e ≡ Error.NoMemory) }
+    {
+        self.parts.fresh_core()
+    }
+
+    /// The writer that owns the device, once all that the engine holds was written to it as a whole image, while no transaction is
+    /// active. Every record made is in the image, those too that weren't flushed: they are synced with it. An image under way is
+    /// given up.
+    ///
+    /// `NoMemory`, and `DeviceFailed` as of a copy, give the engine back, and its run goes on: no record is lost. The next copy takes
+    /// a whole image.
+    pub fn into_writer(self) -> Result<StoreWriter<D, A>, (Error, Self)>
+        requires { IsQuiet (core_of self) }
+        ensures written { IfOk result (WritesWhole D.history D.failures self) }
+        ensures refused { IfErr result (λ r. IsNotWritten D.history D.failures self r.1 r.0) }
+    {
+        match self.parts.into_writer() {
+            Ok(writer) => Ok(writer),
+            Err((error, parts)) => Err((error, Engine { parts })),
+        }
+    }
+}
