@@ -30,7 +30,7 @@ pub const VERSION: &str = "0.1.0";
 pub const SECTORS_MAX: u32 = 100_000;
 
 const ABOUT: &str =
-    "Runs a script of commands on a store of a simulated disk, and prints each answer";
+    "Runs a script of commands on a store of a simulated disk, and prints each answer; with --crash-map [--svg FILE], what a stop at each write and sync leaves";
 
 const PAGES_HELP: &str = "Pages of the table, 1 to 256 [default: 1]";
 

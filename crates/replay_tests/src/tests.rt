@@ -1,7 +1,12 @@
 //! Allocations that are refused: the tests of this file hold whichever one is.
+use crash_map::{CrashMap, write_table};
+use replay_values::Arguments;
+use sector_device::Fate;
 use session::run;
 use std::alloc::{AllocError, Global};
+use std::io;
 use std::process::Abort;
+use std::str::from_utf8;
 
 // Room for what a test expects: the output takes no memory while the program runs.
 const OUTPUT_MAX: usize = 4096;
@@ -68,6 +73,31 @@ const INDEX: [&str; 24] = [
     "clean",
 ];
 
+// A commit that is flushed. A flush makes seven writes, a sync, the write of the gate, and a sync.
+const FLUSHED: &[u8] = b"begin\ninsert 1 =ant =x\ncommit 1\nflush\n";
+
+const FLUSHED_MAP: &str = "call\told\tnew\tzero\ta5\tjunk
+1 to 8\t0\t0\t0\t0\t0
+9 to 10\t0\t1\t0\t1\t0
+prefix 0
+  restart none
+  life none
+prefix 1
+  restart none
+  row 0.0 :616e74 :78
+  life none
+";
+
+// The least store.
+const LEAST: Arguments = Arguments {
+    pages: 1,
+    entries: 64,
+    slots: 4,
+    sectors: None,
+    stop: None,
+    fate: Fate::Old,
+};
+
 // The lines that the program prints for the commands but for one, and its status.
 fn lines_without(
     alloc: Global,
@@ -86,7 +116,7 @@ fn lines_without(
     let mut errors = Vec::new(alloc);
     let status = run(alloc, &["nsf-replay"], &mut input, &mut output, &mut errors);
     let mut lines = Vec::new(alloc);
-    for line in std::str::from_utf8(&output).unwrap_or("no text").lines() {
+    for line in from_utf8(&output).unwrap_or("no text").lines() {
         lines.push(String::from_str(alloc, line)?)?;
     }
     Ok((lines, status))
@@ -132,4 +162,20 @@ fn a_refused_step_of_a_rollback_changes_nothing(rt: HostRuntime) {
 #[test]
 fn a_refused_step_of_an_index_changes_nothing(rt: HostRuntime) {
     let _ = compare(&rt, &INDEX);
+}
+
+// The map of the script, as it is printed.
+fn map_of(alloc: Global, script: &[u8]) -> io::Result<String> {
+    let map = CrashMap::new(alloc, &LEAST, script)?;
+    let mut output = Vec::new(alloc);
+    write_table(&mut output, &map)?;
+    let text = from_utf8(&output).unwrap_or("no text");
+    Ok(String::from_str(alloc, text)?)
+}
+
+#[test]
+fn a_stop_leaves_a_commit_or_nothing(rt: HostRuntime) {
+    if let Ok(map) = map_of(rt.alloc(), FLUSHED) {
+        assert_eq!(rt; map.as_str(), FLUSHED_MAP);
+    }
 }
