@@ -79,8 +79,10 @@ static inline void *nsf_file_serve(void *at)
             break;
         uint8_t answer = done ? 0 : 1;
         while (write(f->line[1], &answer, 1) < 0)
-            if (errno != EINTR)
+            if (errno != EINTR) {
+                shutdown(f->line[1], SHUT_RDWR); /* so that the store doesn't wait for the answer */
                 return NULL;
+            }
     }
     return NULL;
 }

@@ -5,7 +5,6 @@ use Rattle.records.specs.declared.rid.TheConstants.{SLOTS_PER_PAGE}
 use Rattle.records.specs.declared.key.TheConstants.{KEY_MAX, BODY_MAX}
 use Rattle.restart.specs.declared.event.Event.{Event}
 use Rattle.restart.specs.declared.event.Event.TheVariants.{Begin, Insert, Delete, Update, Step, Undo, End, Commit, Create, Drop, Build, Clean, Flush, Copy, Get, Find, Life}
-use Rattle.nsf_c.specs.declared.kind.TheConstants as kind
 use Rattle.nsf_c.specs.declared.asked.Asked.{Asked}
 
 -- the place that is asked about
@@ -14,43 +13,43 @@ place_of a = record { page = a.page; slot = a.slot }
 
 -- whether what is asked for is this event, with this key and this body
 abbrev pub Asks : Asked → List ℕ → List ℕ → Event → Type 0
-Asks a key body Begin = a.kind ≡ kind.BEGIN
-Asks a key body (Insert txn k b) = (a.kind ≡ kind.INSERT) × (txn ≡ a.txn) × (k ≡ key) × (b ≡ body)
-Asks a key body (Delete txn rid) = (a.kind ≡ kind.DELETE) × (txn ≡ a.txn) × (rid ≡ place_of a)
-Asks a key body (Update txn rid k b) = (a.kind ≡ kind.UPDATE) × (txn ≡ a.txn) × (rid ≡ place_of a) × (k ≡ key) × (b ≡ body)
-Asks a key body (Step txn) = (a.kind ≡ kind.STEP) × (txn ≡ a.txn)
-Asks a key body (Undo txn) = (a.kind ≡ kind.UNDO) × (txn ≡ a.txn)
-Asks a key body (End txn) = (a.kind ≡ kind.END) × (txn ≡ a.txn)
-Asks a key body (Commit txn) = (a.kind ≡ kind.COMMIT) × (txn ≡ a.txn)
-Asks a key body Create = a.kind ≡ kind.CREATE
-Asks a key body Drop = a.kind ≡ kind.DROP
-Asks a key body Build = a.kind ≡ kind.BUILD
-Asks a key body Clean = a.kind ≡ kind.CLEAN
-Asks a key body Flush = a.kind ≡ kind.FLUSH
-Asks a key body Copy = a.kind ≡ kind.COPY
-Asks a key body (Get rid) = (a.kind ≡ kind.GET) × (rid ≡ place_of a)
-Asks a key body (Find k) = (a.kind ≡ kind.FIND) × (k ≡ key)
-Asks a key body Life = a.kind ≡ kind.LIFE
+Asks a key body Begin = a.kind ≡ 1
+Asks a key body (Insert txn k b) = (a.kind ≡ 2) × (txn ≡ a.txn) × (k ≡ key) × (b ≡ body)
+Asks a key body (Delete txn rid) = (a.kind ≡ 3) × (txn ≡ a.txn) × (rid ≡ place_of a)
+Asks a key body (Update txn rid k b) = (a.kind ≡ 4) × (txn ≡ a.txn) × (rid ≡ place_of a) × (k ≡ key) × (b ≡ body)
+Asks a key body (Step txn) = (a.kind ≡ 5) × (txn ≡ a.txn)
+Asks a key body (Undo txn) = (a.kind ≡ 6) × (txn ≡ a.txn)
+Asks a key body (End txn) = (a.kind ≡ 7) × (txn ≡ a.txn)
+Asks a key body (Commit txn) = (a.kind ≡ 8) × (txn ≡ a.txn)
+Asks a key body Create = a.kind ≡ 9
+Asks a key body Drop = a.kind ≡ 17
+Asks a key body Build = a.kind ≡ 10
+Asks a key body Clean = a.kind ≡ 11
+Asks a key body Flush = a.kind ≡ 12
+Asks a key body Copy = a.kind ≡ 13
+Asks a key body (Get rid) = (a.kind ≡ 14) × (rid ≡ place_of a)
+Asks a key body (Find k) = (a.kind ≡ 15) × (k ≡ key)
+Asks a key body Life = a.kind ≡ 16
 
 -- whether this kind is asked of a transaction: to insert, delete, update, step, undo, end or commit
 abbrev pub IsOfTxn : ℕ → Type 0
-IsOfTxn k = (kind.INSERT ≤ k) × (k ≤ kind.COMMIT)
+IsOfTxn k = (2 ≤ k) × (k ≤ 8)
 
 -- whether it names a place
 abbrev pub NamesPlace : ℕ → Type 0
-NamesPlace k = (k ≡ kind.DELETE) ⊎ (k ≡ kind.UPDATE) ⊎ (k ≡ kind.GET)
+NamesPlace k = (k ≡ 3) ⊎ (k ≡ 4) ⊎ (k ≡ 14)
 
 -- whether a key comes with it
 abbrev pub NamesKey : ℕ → Type 0
-NamesKey k = (k ≡ kind.INSERT) ⊎ (k ≡ kind.UPDATE) ⊎ (k ≡ kind.FIND)
+NamesKey k = (k ≡ 2) ⊎ (k ≡ 4) ⊎ (k ≡ 15)
 
 -- whether a body comes with it
 abbrev pub NamesBody : ℕ → Type 0
-NamesBody k = (k ≡ kind.INSERT) ⊎ (k ≡ kind.UPDATE)
+NamesBody k = (k ≡ 2) ⊎ (k ≡ 4)
 
 -- whether no event has it
 abbrev pub IsNoKind : ℕ → Type 0
-IsNoKind k = (k < kind.BEGIN) ⊎ (kind.DROP < k)
+IsNoKind k = (k < 1) ⊎ (17 < k)
 
 -- it is asked of a transaction, and names none
 abbrev pub LacksTxn : Asked → Type 0
@@ -71,4 +70,4 @@ IsBad a key body n =
     ⊎ ((n ≡ 10) × LacksSlot a × (¬ LacksTxn a))
     ⊎ ((n ≡ 14) × HasLongKey a key × (¬ LacksTxn a) × (¬ LacksSlot a))
     ⊎ ((n ≡ 15) × NamesBody a.kind × (BODY_MAX < length body) × (¬ LacksTxn a) × (¬ LacksSlot a) × (¬ HasLongKey a key))
-    ⊎ ((n ≡ kind.NO_SUCH_EVENT) × IsNoKind a.kind)
+    ⊎ ((n ≡ 23) × IsNoKind a.kind)

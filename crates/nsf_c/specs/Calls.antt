@@ -131,6 +131,10 @@ pub record IsRefusedOn (P : Image → Type 0) (status : ℕ) : Type 0 where
   pub refused : IsRefused disk error
   pub status_is : status ≡ number_of error
 
+-- a store of this geometry as it is made, in as many sectors as it needs
+abbrev pub IsMade : GeometryValue → Image → Type 0
+IsMade g content = IsFormatted g content × (length content ≡ geometry.sectors_of g)
+
 -- a content of just these sectors
 abbrev pub Is : Image → Image → Type 0
 Is sectors content = content ≡ sectors
@@ -143,4 +147,4 @@ IsNotOpened sectors status = (status ≡ number_of NoMemory) ⊎ IsRefusedOn (Is
 -- restart on the store just made refused
 abbrev pub IsNotMade : GeometryValue → ℕ → Type 0
 IsNotMade g status = ((¬ IsGeometry g) × (status ≡ number_of BadGeometry))
-    ⊎ (IsGeometry g × ((status ≡ number_of NoMemory) ⊎ (status ≡ number_of DeviceFailed) ⊎ IsRefusedOn (IsFormatted g) status))
+    ⊎ (IsGeometry g × ((status ≡ number_of NoMemory) ⊎ (status ≡ number_of DeviceFailed) ⊎ IsRefusedOn (IsMade g) status))

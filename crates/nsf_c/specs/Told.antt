@@ -16,7 +16,6 @@ use Rattle.nsf_core.specs.declared.reply.CleanReply.{CleanReply}
 use Rattle.nsf_core.specs.declared.reply.CleanReply.TheVariants as clean
 use Rattle.restart.specs.declared.event.Reply.{Reply}
 use Rattle.restart.specs.declared.event.Reply.TheVariants as reply
-use Rattle.nsf_c.specs.declared.kind.TheConstants as kind
 use Rattle.nsf_c.specs.declared.told.Told.{Told}
 
 -- the bytes, and zeros behind them
@@ -55,30 +54,30 @@ rowed k row = record (plain k 0) {
 
 -- what C is told of a step of the builder
 abbrev pub built_told : BuildReply → Told
-built_told (build.Scanned page) = record (plain kind.SCANNED 0) { page = page }
-built_told (build.Placed pair) = paired kind.PLACED 0 pair
-built_told (build.Rejected pair) = paired kind.REJECTED 0 pair
-built_told (build.Marked pair ticket) = paired kind.MARKED ticket.record pair
-built_told (build.Done ticket) = plain kind.DONE ticket.record
-built_told build.Idle = plain kind.IDLE 0
+built_told (build.Scanned page) = record (plain 8 0) { page = page }
+built_told (build.Placed pair) = paired 9 0 pair
+built_told (build.Rejected pair) = paired 10 0 pair
+built_told (build.Marked pair ticket) = paired 11 ticket.record pair
+built_told (build.Done ticket) = plain 12 ticket.record
+built_told build.Idle = plain 13 0
 
 -- of a step of the cleaner
 abbrev pub cleaned_told : CleanReply → Told
-cleaned_told (clean.Cleaned pair) = paired kind.CLEANED 0 pair
-cleaned_told (clean.Kept pair) = paired kind.KEPT 0 pair
-cleaned_told clean.Wrapped = plain kind.WRAPPED 0
+cleaned_told (clean.Cleaned pair) = paired 14 0 pair
+cleaned_told (clean.Kept pair) = paired 15 0 pair
+cleaned_told clean.Wrapped = plain 16 0
 
 -- of the index's life
 abbrev pub life_told : Life → Told
-life_told life.Absent = plain kind.ABSENT 0
-life_told (life.Building None) = plain kind.BUILDING 0
-life_told (life.Building (Some pair)) = paired kind.BUILDING_AT 0 pair
-life_told life.Complete = plain kind.COMPLETE 0
+life_told life.Absent = plain 25 0
+life_told (life.Building None) = plain 26 0
+life_told (life.Building (Some pair)) = paired 27 0 pair
+life_told life.Complete = plain 28 0
 
 -- of a row that was looked for
 abbrev pub row_told : Option Row → Told
-row_told (Some row) = rowed kind.ROW row
-row_told None = plain kind.NO_ROW 0
+row_told (Some row) = rowed 22 row
+row_told None = plain 23 0
 
 -- the sector that is damaged, and 0 for any other refusal
 abbrev pub sector_of : Error → ℕ
@@ -87,25 +86,25 @@ sector_of e = 0
 
 -- of any reply
 abbrev pub told_of : Reply Global → Told
-told_of (reply.Txn txn) = plain kind.TXN txn
-told_of (reply.Rid rid) = placed kind.RID 0 rid
-told_of reply.Stepped = plain kind.STEPPED 0
-told_of reply.Undone = plain kind.UNDONE 0
-told_of reply.Empty = plain kind.EMPTY 0
-told_of reply.Ended = plain kind.ENDED 0
-told_of (reply.Ticket ticket) = plain kind.TICKET ticket.record
+told_of (reply.Txn txn) = plain 1 txn
+told_of (reply.Rid rid) = placed 2 0 rid
+told_of reply.Stepped = plain 3 0
+told_of reply.Undone = plain 4 0
+told_of reply.Empty = plain 5 0
+told_of reply.Ended = plain 6 0
+told_of (reply.Ticket ticket) = plain 7 ticket.record
 told_of (reply.Built built) = built_told built
 told_of (reply.Cleaned cleaned) = cleaned_told cleaned
-told_of (reply.Horizon number) = plain kind.HORIZON number
-told_of reply.LogFull = plain kind.LOG_FULL 0
-told_of reply.Copied = plain kind.COPIED 0
-told_of (reply.Flipped number) = plain kind.FLIPPED number
-told_of reply.Again = plain kind.AGAIN 0
+told_of (reply.Horizon number) = plain 17 number
+told_of reply.LogFull = plain 18 0
+told_of reply.Copied = plain 19 0
+told_of (reply.Flipped number) = plain 20 number
+told_of reply.Again = plain 21 0
 told_of (reply.Row row) = row_told row
-told_of (reply.Found rids) = plain kind.FOUND (length rids.items)
+told_of (reply.Found rids) = plain 24 (length rids.items)
 told_of (reply.Life life) = life_told life
-told_of reply.Skipped = plain kind.SKIPPED 0
-told_of (reply.Refused e) = plain kind.REFUSED (sector_of e)
+told_of reply.Skipped = plain 29 0
+told_of (reply.Refused e) = plain 0 (sector_of e)
 
 -- what a call answers: the number of the refusal, or 0
 abbrev pub status_of : Reply Global → ℕ

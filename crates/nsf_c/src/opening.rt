@@ -2,9 +2,8 @@
 ghost use Rattle.std.specs.Prelude.{◌≡◌, ◌≢◌, ◌⊎◌, Some, IfOk, IfErr};
 ghost use Rattle.records.specs.Refusals.{number_of};
 ghost use Rattle.file_disk.specs.FileDisk.{history_of};
-ghost use Rattle.flip_image.specs.Store.{IsFormatted};
 ghost use Rattle.serving.specs.Store.{OpensOn};
-ghost use Rattle.nsf_c.specs.Calls.{Is, IsNeeded, IsNotMade, IsNotOpened, IsOpenedOn, IsRefused, sectors_of};
+ghost use Rattle.nsf_c.specs.Calls.{Is, IsMade, IsNeeded, IsNotMade, IsNotOpened, IsOpenedOn, IsRefused, sectors_of};
 ghost use Rattle.nsf_c.specs.Handles.{Holds, IsOpen, IsVacant};
 
 use crate::below::Below;
@@ -59,7 +58,7 @@ fn open_sectors(alloc: Global, line: i32, sectors: &[[u8; SECTOR_SIZE]]) -> Resu
 
 // Makes a store and opens it.
 fn make(alloc: Global, line: i32, geometry: Geometry) -> Result<Box<Held>, Error>
-    ensures ok { IfOk result (λ held. IsOpenedOn (IsFormatted geometry) held.value.store) }
+    ensures ok { IfOk result (λ held. IsOpenedOn (IsMade geometry) held.value.store) }
     ensures err { IfErr result (λ e. IsNotMade geometry (number_of e)) }
 {
     let mut disk = FileDisk::new(alloc, below(line), geometry.sectors() as usize)?;
@@ -94,7 +93,7 @@ pub extern "C" fn nsf_create(
     slots: u32,
 ) -> u32
     requires { IsVacant handle.old }
-    ensures made { result ≡ 0 → Holds (IsOpenedOn (IsFormatted (record { pages = pages; entries = entries; slots = slots }))) handle.new }
+    ensures made { result ≡ 0 → Holds (IsOpenedOn (IsMade (record { pages = pages; entries = entries; slots = slots }))) handle.new }
     ensures refused { result ≢ 0 → IsVacant handle.new × IsNotMade (record { pages = pages; entries = entries; slots = slots }) result }
 {
     match Geometry::new(pages, entries, slots) {

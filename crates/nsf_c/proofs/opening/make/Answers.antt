@@ -1,14 +1,16 @@
 use Rattle.std.proofs.Common.{rules, ◌≡◌, ◌⊎◌, inl, inr, refl, ap, ◌∙◌}
 use Rattle.records.specs.GeometryValue.{IsGeometry}
 use Rattle.records.specs.Refusals.{number_of}
-use Rattle.flip_image.specs.Store.{IsFormatted}
-use Rattle.nsf_c.specs.Calls.{IsDisk}
+use Rattle.std.proofs.lemmas.List.{length-replicate}
+use Rattle.std.specs.Prelude.{ℕ, List, length}
+use Rattle.sector_device.specs.Values.{zero_sector}
+use Rattle.nsf_c.specs.Calls.{IsDisk, IsMade}
 use Rattle.nsf_c.proofs.Opened.{ok_map, err_map}
 use Rattle.nsf_c.proofs.opening.make.Goals as goal
 
-made : (c : goal.After-open_on) → IsDisk (IsFormatted c.args.geometry) c.format.new.device
+made : (c : goal.After-open_on) → IsDisk (IsMade c.args.geometry) c.format.new.device
 made c = record {
-  content = c.in_ok-format.ensures.formatted;
+  content = (c.in_ok-format.ensures.formatted, c.in_ok-format.ensures.outside.sectors ∙ ap (λ (image : List (List ℕ)). length image) c.in_ok-disk.ensures.zeros ∙ length-replicate {A = List ℕ} _ zero_sector ∙ c.sectors.ensures);
   synced = c.in_ok-format.ensures.synced;
   failures = c.in_ok-format.ensures.quiet ∙ c.in_ok-disk.ensures.failures;
 }

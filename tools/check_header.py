@@ -1,0 +1,139 @@
+#!/usr/bin/env python3
+"""Looks whether nsf.h declares what the library has. Usage: tools/check_header.py, anywhere in the repository.
+
+The header's numbers of events and replies are those of kind.rt, and its refusals those of `number_of`, each with a text; its
+limits are the constants of the sources; its structs have the fields of the library's, and its functions the parameters of the
+exports, in order and by type. It ends with status 1 where something differs.
+"""
+import pathlib, re, sys
+
+CRATES = pathlib.Path(__file__).resolve().parent.parent / "crates"
+TYPES = {"uint32_t": "u32", "uint64_t": "u64", "uint16_t": "u16", "uint8_t": "u8", "int32_t": "i32", "bool": "bool",
+         "void": "None", "size_t": "usize", "void *": "*mut u8"}
+STRUCTS = {"nsf_event": ("asked", "Asked"), "nsf_place": ("spot", "Spot"), "nsf_reply": ("told", "Told"),
+           "nsf_status": ("told", "Stat"), "nsf_handle": ("handle", "Handle")}
+# The names of parameters that are others in the header.
+NAMES = {"asked": "event", "told": "reply", "stat": "status", "spots": "places", "room": "sectors"}
+LIMITS = {"NSF_KEY_MAX": "records/src/key.rt", "NSF_BODY_MAX": "records/src/key.rt", "NSF_SLOTS_PER_PAGE": "records/src/rid.rt"}
+
+
+def text(path):
+    return (CRATES / path).read_text()
+
+
+def numbers(header, word):
+    """The numbers of the header's list that has this word, by their names without NSF_."""
+    block = next(b for b in re.findall(r"enum \{([^}]*)\}", header) if f"{word} " in b)
+    return {name: int(number) for name, number in re.findall(r"NSF_(\w+)\s*=\s*(\d+)", block)}
+
+
+def snake(name):
+    return re.sub(r"(?<!^)([A-Z])", r"_\1", name).upper()
+
+
+def number_faults(header):
+    kinds = re.findall(r"pub const (\w+): u32 = (\d+);", text("nsf_c/src/kind.rt"))
+    at = [name for name, _ in kinds].index("NO_SUCH_EVENT")
+    lists = [("NSF_BEGIN", kinds[:at]), ("NSF_REFUSED", kinds[at + 1:])]
+    for word, wanted in lists:
+        if numbers(header, word) != {name: int(number) for name, number in wanted}:
+            yield f"the numbers from {word} on differ"
+    refusals = numbers(header, "NSF_OK")
+    spec = re.findall(r"^number_of \(?(\w+)[^=]*= (\d+)", text("records/specs/Refusals.antt"), flags=re.M)
+    wanted = {snake(name): int(number) for name, number in spec if name != "BadScript"}
+    wanted.update({"OK": 0, "NO_SUCH_EVENT": int(kinds[at][1]), "UNREADY": refusals.get("UNREADY")})
+    if refusals != wanted:
+        yield f"refusals differ: {set(refusals.items()) ^ set(wanted.items())}"
+    texts = set(re.findall(r"case NSF_(\w+): return", header))
+    if texts != set(refusals):
+        yield f"refusals and texts differ: {texts ^ set(refusals)}"
+    for name, path in LIMITS.items():
+        found = re.search(rf"const {name[4:]}: \w+ = (\d+)", text(path))[1]
+        if not re.search(rf"\b{name} = {found}\b", header):
+            yield f"{name} is not {found}"
+    size = re.search(r"SECTOR_SIZE: usize = (\d+)", "".join(p.read_text() for p in CRATES.glob("sector_device/src/*.rt")))[1]
+    if f"NSF_SECTOR = {size} " not in header:
+        yield f"NSF_SECTOR is not {size}"
+
+
+def c_type(declared):
+    """A C type as Rust has it, of a field or of a parameter with its name."""
+    words = re.sub(r"\s+", " ", declared.strip())
+    parts = re.fullmatch(r"(const )?(\w+) (\*?)\(?\*?(\w+)\)?(\[\w+\])?", words)
+    const, base, star, name, room = parts.groups()
+    kind = STRUCTS[base][1] if base in STRUCTS else TYPES.get(f"{base} *" if star and base == "void" else base)
+    if room:
+        kind = f"[{kind};{room[1:-1].replace('NSF_', '')}]"
+    return name, kind, bool(const), bool(star) or "(*" in words
+
+
+def struct_faults(header):
+    for name, (file, struct) in STRUCTS.items():
+        body = re.search(rf"typedef struct {name} \{{(.*?)\}} {name};", header, flags=re.S)[1]
+        there = [c_type(field)[:2] for field in body.split(";") if field.strip()]
+        source = re.sub(r"//[^\n]*", "", text(f"nsf_c/src/{file}.rt"))
+        body = re.search(rf"#\[repr\(C\)\](?:\s*#\[[^\]]*\])*\s*pub struct {struct} \{{(.*?)\n\}}", source, flags=re.S)[1]
+        body = re.sub(r"\s*(?:pub )?ghost[^\n]*", "", body)
+        fields = re.findall(r"(\w+): ([^,\n]+),", body)
+        wanted = [(field, re.sub(r"\s", "", kind).replace("*mutu8", "*mut u8")) for field, kind in fields]
+        if there != wanted:
+            yield f"{name}: {there}, but {struct}: {wanted}"
+
+
+def parameters(listed):
+    """The export's parameters as C has them: a slice is a pointer and a length."""
+    for parameter in re.split(r",\s*(?![^\[]*\])", listed.strip().rstrip(",")):
+        name, kind = parameter.strip().split(": ", 1)
+        if kind == "Global":
+            continue
+        name = NAMES.get(name, name)
+        mutable = kind.startswith("&mut ")
+        inner = kind.removeprefix("&mut ").removeprefix("&")
+        slice_of = re.fullmatch(r"\[(.*)\]", inner) if kind.startswith("&") else None
+        if slice_of and ";" not in re.sub(r"\[[^\]]*\]", "", slice_of[1]):
+            yield f"{name}[]", slice_of[1].replace(" ", "").replace("SECTOR_SIZE", "SECTOR"), mutable
+        else:
+            yield name, inner, mutable
+
+
+def declared(listed):
+    """The header's parameters in the same form: a pointer before a length is a slice."""
+    found = [c_type(p) for p in listed.split(",")]
+    at = 0
+    while at < len(found):
+        name, kind, const, pointer = found[at]
+        if at + 1 < len(found) and pointer and found[at + 1][1] == "usize":
+            yield f"{name}[]", kind, not const
+            at += 2
+        else:
+            yield name, kind, pointer and not const
+            at += 1
+
+
+def export_faults(header):
+    files = ("opening", "saving", "serving_calls")
+    source = "".join(re.sub(r"//[^\n]*", "", text(f"nsf_c/src/{file}.rt")) for file in files)
+    exports = re.findall(r'pub extern "C" fn (\w+)\((.*?)\)(?: -> (\w+))?\s*(?:requires|ensures|\{)', source, flags=re.S)
+    for name, listed, result in exports:
+        there = re.search(rf"^(\w+) {name}\((.*?)\);", header, flags=re.S | re.M)
+        if not there:
+            yield f"no {name} in the header"
+        elif TYPES[there[1]] != (result or "None") or list(declared(there[2])) != list(parameters(listed)):
+            yield f"{name}: {list(declared(there[2]))}, but the export: {list(parameters(listed))}"
+    names = {name for name, _, _ in exports}
+    for name in re.findall(r"^\w+ (nsf_\w+)\([^;{]*\);", header, flags=re.M):
+        if name not in names:
+            yield f"no export {name}"
+
+
+def main():
+    header = text("nsf_c/include/nsf.h")
+    code = re.sub(r"/\*.*?\*/", "", header, flags=re.S)
+    faults = [*number_faults(code), *struct_faults(code), *export_faults(code)]
+    for fault in faults:
+        print(fault)
+    print(f"nsf.h: {len(faults)} faults")
+    sys.exit(1 if faults else 0)
+
+
+main()
