@@ -1,8 +1,9 @@
 //! The calls of a seat, each with a test before it.
 use model::Life;
 use nsf_core::Ticket;
-use records::{Body, Error, Key, Rid, SLOTS_PER_PAGE, Txn};
+use records::{Body, Error, Key, PAGES_MAX, Rid, SLOTS_PER_PAGE, Txn};
 use shared::{Group, Seat, Shared};
+use std::ops::Range;
 use std::sync::Wait;
 
 fn begin<B: Group, R: Wait>(rt: &R, shared: &Shared<B>, seat: &mut Seat<B>) -> Result<Txn, Error> {
@@ -119,20 +120,61 @@ pub(crate) fn turn<B: Group, R: Wait>(
     Ok(then)
 }
 
-// Puts a row in each slot of a page, with keys in no order, and waits until that is safe.
-fn fill_page<B: Group, R: Wait>(
+// The key of this number, in no order.
+fn mixed(number: u32) -> u32 {
+    number % 65_537 * 75 % 65_537
+}
+
+/// Puts a row in each slot of a page, with keys in no order.
+pub(crate) fn fill_page<B: Group, R: Wait>(
     rt: &R,
     shared: &Shared<B>,
     seat: &mut Seat<B>,
     page: u16,
-) -> Result<(), Error> {
+) -> Result<Ticket, Error> {
     let txn = begin(rt, shared, seat)?;
     for slot in 0..SLOTS_PER_PAGE {
-        let place = u32::from(page) * 64 + u32::from(slot);
-        put(rt, shared, seat, txn, place % 65_537 * 75 % 65_537)?;
+        let place = u32::from(page) * u32::from(SLOTS_PER_PAGE) + u32::from(slot);
+        put(rt, shared, seat, txn, mixed(place))?;
     }
-    let ticket = commit(rt, shared, seat, txn)?;
-    await_ack(rt, shared, seat, ticket)
+    commit(rt, shared, seat, txn)
+}
+
+// Gives a row the key of this number.
+fn rekey<B: Group, R: Wait>(
+    rt: &R,
+    shared: &Shared<B>,
+    seat: &mut Seat<B>,
+    txn: Txn,
+    number: u32,
+) -> Result<(), Error> {
+    let slots = u32::from(SLOTS_PER_PAGE);
+    let rid = Rid {
+        page: number / slots % PAGES_MAX,
+        slot: (number % slots) as u16,
+    };
+    let key = Key::new(&mixed(number).to_be_bytes())?;
+    match shared
+        .update_if_ready(rt, seat, txn, rid, key, Body::new(b"row")?)?
+        .rest
+    {
+        Some(error) => Err(error),
+        None => Ok(()),
+    }
+}
+
+/// Gives rows of 256 full pages the keys of these numbers, in one transaction.
+pub(crate) fn rekey_some<B: Group, R: Wait>(
+    rt: &R,
+    shared: &Shared<B>,
+    seat: &mut Seat<B>,
+    numbers: Range<u32>,
+) -> Result<Ticket, Error> {
+    let txn = begin(rt, shared, seat)?;
+    for number in numbers {
+        rekey(rt, shared, seat, txn, number)?;
+    }
+    commit(rt, shared, seat, txn)
 }
 
 /// Puts a row in each slot of so many pages, by a transaction for each page.
@@ -143,7 +185,8 @@ pub(crate) fn fill<B: Group, R: Wait>(
     pages: u16,
 ) -> Result<(), Error> {
     for page in 0..pages {
-        fill_page(rt, shared, seat, page)?;
+        let ticket = fill_page(rt, shared, seat, page)?;
+        await_ack(rt, shared, seat, ticket)?;
     }
     Ok(())
 }

@@ -1,6 +1,7 @@
 //! What the threads of a store do: commits a second of writers, quiet and beside a build, how long they wait, and what an idle store
 //! costs. Without arguments it lets two writers commit beside a small build, and says whether there were commits and the build ended;
-//! `table` prints figures, of one number of writers where one is given; `picture FILE` draws commits a second over time, beside a build.
+//! `table` prints figures, of one number of writers where one is given; `drop` says how long a drop of a full index takes, and others
+//! wait for it; `picture FILE` draws commits a second over time, beside a build.
 //!
 //! Proved: that it is safe, and meets what the calls below ask. Neither proved nor tested: that a figure is right.
 #![tactic(auto)]
@@ -8,6 +9,7 @@
 mod calls;
 mod clients;
 mod clock;
+mod dropping;
 mod picture;
 mod rounds;
 mod table;
@@ -58,6 +60,7 @@ fn run<R: Print + Alloc<A = Global> + Threads + Wait + Clock + CpuClock + Files 
         "quiet" => table::quiet(rt, given.parse().unwrap_or(4)),
         "beside" => table::beside(rt, given.parse().unwrap_or(4)),
         "idle" => table::idle(rt, given.parse().unwrap_or(8)),
+        "drop" => dropping::drop_full(rt),
         "picture" => picture::draw(rt, 4, given),
         "table" => {
             for writers in [1, 2, 4, 8] {

@@ -16,8 +16,8 @@ use std::thread::Threads;
 use std::time::CpuClock;
 use threads::{OpenError, OpenStore, Parts, format_store, open_store};
 
-// A disk in memory.
-type Disk = FileDisk<Detached, Global>;
+/// A disk in memory.
+pub(crate) type Disk = FileDisk<Detached, Global>;
 
 /// A round: its commits, and the times.
 #[derive(Drop)]
@@ -26,8 +26,8 @@ pub(crate) struct Round {
     pub times: Times,
 }
 
-// A disk in memory with a new store of 256 pages.
-fn formatted(alloc: Global) -> Result<Disk, Error> {
+/// A disk in memory with a new store of 256 pages.
+pub(crate) fn formatted(alloc: Global) -> Result<Disk, Error> {
     let geometry = Geometry::new(256, 65_536, 256)?;
     let mut disk = FileDisk::new(alloc, Detached, geometry.sectors() as usize)?;
     format_store(&mut disk, geometry)?;
