@@ -1,13 +1,13 @@
 //! An ordered map from pair to mark, in a B-tree that takes memory before it changes and never half way.
 //!
-//! Proved, for every allocator: the tree is the finite map of its entries (`contents`). `find_way` and `plan` only read: one walk
-//! down tells the mark of a pair (`mark`) and what its insertion takes, and `plan` answers `NoMemory` alone (`no_memory`).
-//! `insert`, `set_mark` and `remove` change the named pair alone and can't fail. A look-up answers the tree's height as what it
-//! visited (`visited`), at most four (`few_visited`).
+//! Proved, for every allocator: the tree is the finite map of its entries (`contents`). `find_way` and `plan` only read: a way
+//! tells the mark of a pair (`mark`) and serves its insertion (`way`), and `plan` answers `NoMemory` alone (`no_memory`).
+//! `insert`, `set_mark`, `remove`, `clear` and `take` can't fail; the first three change the named pair alone, and `take` answers
+//! what the tree held (`taken`). A look-up answers the tree's height as what it visited (`visited`), at most four (`few_visited`).
 //! `run_above` answers entries that follow one another (`run`), and none only where none is above (`none`).
 //! Only tested (`table_tests`): plans with each allocation refused in turn; heights of full trees, and how many runs a walk over
-//! one takes. Neither: that the count of visits is what the code did; speed; stack. By hand: the `unsafe impl` of an allocator that
-//! always refuses.
+//! one takes. Neither: that the count of visits is what the code did, and that a way is one walk down; when memory is freed; speed;
+//! stack. By hand: the `unsafe impl` of an allocator that always refuses.
 #![tactic(auto)]
 
 ghost use Rattle.std.specs.Prelude.{◌≡◌, ◌<◌, ◌≤◌, ◌↔◌, None, IfOk, IfErr, IsSome, IsTrue};

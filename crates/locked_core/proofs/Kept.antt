@@ -16,10 +16,11 @@ use Rattle.txn_table.specs.Table.{TxnState}
 use Rattle.txn_table.specs.declared.progress.Progress.{Progress}
 use Rattle.txn_table.specs.declared.progress.Progress.TheVariants.{OwesEntry, OwesRow, Ready, Rolling, UndoesEntry, UndoesRow}
 use Rattle.nsf_core.specs.Outbox.{HandsOn}
-use Rattle.nsf_core.specs.Replies.{reply_by, reply_of_ticket}
+use Rattle.nsf_core.specs.Replies.{reply_by, reply_of_detached, reply_of_ticket}
 use Rattle.nsf_core.specs.View.{CoreValue, Serves}
 use Rattle.nsf_core.specs.Moves.{IsReadyOrNone, txn_shown}
 use Rattle.nsf_core.specs.Undoing.{undone_reply}
+use Rattle.nsf_core.specs.declared.parts.Detached.{Detached}
 use Rattle.nsf_core.specs.declared.parts.Ticket.{Ticket}
 use Rattle.nsf_core.specs.declared.reply.Undone.{Undone}
 use Rattle.registry.specs.Halves.{HalfValue, IsBook, IsNew, shown}
@@ -97,9 +98,9 @@ module _ (o : Opened) (core new : CoreValue) (pushed : List RecordValue) (book :
       stepped (subst (λ x. IsRegister o pushed new (slice_set book k x)) (sym ok) (create_agreed o shared.opens pushed core book shared.register k p there ticket new is))
   create_kept (Err e) is ok err = refused Event.Create e is err
 
-  pub drop_kept : (result : Result Ticket Error) → Serves core Event.Drop (reply_by reply_of_ticket result) new → IfOk result (λ ticket. q ≡ with_turn p (Turn.Dropped ticket.«record»)) → OnErr result (q ≡ p) → IsShared o new pushed (slice_set book k q)
-  drop_kept (Ok ticket) is ok err =
-      stepped (subst (λ x. IsRegister o pushed new (slice_set book k x)) (sym ok) (drop_agreed o shared.opens pushed core book shared.register k p there ticket new is))
+  pub drop_kept : {A : Type 0} (result : Result (Detached A) Error) → Serves core Event.Drop (reply_by reply_of_detached result) new → IfOk result (λ d. q ≡ with_turn p (Turn.Dropped d.ticket.«record»)) → OnErr result (q ≡ p) → IsShared o new pushed (slice_set book k q)
+  drop_kept (Ok dropped) is ok err =
+      stepped (subst (λ x. IsRegister o pushed new (slice_set book k x)) (sym ok) (drop_agreed o shared.opens pushed core book shared.register k p there dropped.ticket new is))
   drop_kept (Err e) is ok err = refused Event.Drop e is err
 
   pub begin_kept : (result : Result ℕ Error) → Serves core Event.Begin (reply_by Reply.Txn result) new → IfOk result (λ txn. q ≡ begun p txn) → OnErr result (q ≡ p) → IsShared o new pushed (slice_set book k q)

@@ -8,8 +8,9 @@ use Rattle.records.specs.declared.error.Error.TheVariants.{NoSuchTxn}
 use Rattle.records.specs.declared.record.Action.{Action}
 use Rattle.core_contracts.specs.Events.{Event}
 use Rattle.core_model.specs.Histories.{Opened}
-use Rattle.nsf_core.specs.Replies.{reply_by, reply_of_ticket}
+use Rattle.nsf_core.specs.Replies.{reply_by, reply_of_detached, reply_of_ticket}
 use Rattle.nsf_core.specs.View.{CoreValue, Serves}
+use Rattle.nsf_core.specs.declared.parts.Detached.{Detached}
 use Rattle.nsf_core.specs.declared.parts.Ticket.{Ticket}
 use Rattle.sessions.specs.Values.{SessionValue}
 use Rattle.register.specs.Register.{IsKept}
@@ -28,6 +29,10 @@ module _ (o : Opened) (core new : CoreValue) (pushed : List RecordValue) (book :
   pub recorded : (result : Result Ticket Error) → Serves core event (reply_by reply_of_ticket result) new → IfOk result (IsRecorded core new action)
   recorded (Ok ticket) serves = ∥∥₁_elim shared (Coded-set (coded_list coded_record) _ _) (λ (all : IsShared o core pushed book). law all.register.kept ticket serves)
   recorded (Err e) serves = tt
+
+  pub recorded_drop : {A : Type 0} (result : Result (Detached A) Error) → Serves core event (reply_by reply_of_detached result) new → IfOk result (λ d. IsRecorded core new action d.ticket)
+  recorded_drop (Ok dropped) serves = recorded (Ok dropped.ticket) serves
+  recorded_drop (Err e) serves = tt
 
   -- a call for a transaction, which is unknown where it isn't the seat's
   pub recorded_own : (own : Bool) (result : Result Ticket Error) → (own ≡ false → (result ≡ Err NoSuchTxn) × (new ≡ core)) → (own ≡ true → Serves core event (reply_by reply_of_ticket result) new) → IfOk result (IsRecorded core new action)

@@ -18,7 +18,8 @@ ghost use Rattle.nsf_core.specs.Builds.{built};
 ghost use Rattle.nsf_core.specs.Cleaning.{cleaner};
 ghost use Rattle.nsf_core.specs.Moves.{HasNoChange, txn_shown};
 ghost use Rattle.nsf_core.specs.Outbox.{HandsOn};
-ghost use Rattle.nsf_core.specs.Replies.{reply_by, reply_of_ticket};
+ghost use Rattle.nsf_core.specs.Replies.{reply_by, reply_of_detached, reply_of_ticket};
+ghost use Rattle.nsf_core.specs.Detached.{entries_of};
 ghost use Rattle.nsf_core.specs.Undoing.{undone_reply};
 ghost use Rattle.nsf_core.specs.View.{Serves};
 ghost use Rattle.nsf_core.specs.Value.{value_of};
@@ -38,7 +39,7 @@ use crate::seat::SeatPart;
 use crate::site::Site;
 use image_model::{Chunk, CopyPlace};
 use model::Life;
-use nsf_core::{BuildReply, CleanReply, Cleared, Core, Ticket, Undone};
+use nsf_core::{BuildReply, CleanReply, Core, Detached, Ticket, Undone};
 use records::{Body, Error, Key, Rid, Row, Txn};
 use register::each_number;
 use registry::{Half, Registry};
@@ -303,19 +304,21 @@ impl<B: Site> Locked<B> {
     }
 
     /// Drops the index, be it complete or not, and keeps the number of its record with the seat. The record that is made is the
-    /// dropping, with the ticket's number.
+    /// dropping, with the ticket's number. The entries that the index had are answered, for the caller to let go, best behind the
+    /// lock.
     ///
     /// The refusals are those of the core's `drop_index`. After a refusal all is as before.
     pub fn drop_index(
         &mut self,
         registry: &Registry,
         seat: &mut SeatPart<B>,
-    ) -> Result<Ticket, Error>
+    ) -> Result<Detached<Global>, Error>
         requires { registry.now ≡ B.site.table }
         ensures before { slice_get (locked_of self.old).book seat.old.number ≡ Some seat.old.session }
-        ensures served { Serves (locked_of self.old).core Event.Drop (reply_by reply_of_ticket result) (locked_of self.new).core }
-        ensures ok { IfOk result (λ ticket. seat.new.session ≡ with_turn seat.old.session (Dropped ticket.«record»)) }
-        ensures recorded { IfOk result (λ ticket. (locked_of self.new).core.outbox ≡ (locked_of self.old).core.outbox ++ record { number = ticket.«record»; action = OfIndex IndexAction.Drop } ∷ []) }
+        ensures served { Serves (locked_of self.old).core Event.Drop (reply_by reply_of_detached result) (locked_of self.new).core }
+        ensures taken { IfOk result (λ d. entries_of d ≡ (locked_of self.old).core.index.entries) }
+        ensures ok { IfOk result (λ d. seat.new.session ≡ with_turn seat.old.session (Dropped d.ticket.«record»)) }
+        ensures recorded { IfOk result (λ d. (locked_of self.new).core.outbox ≡ (locked_of self.old).core.outbox ++ record { number = d.ticket.«record»; action = OfIndex IndexAction.Drop } ∷ []) }
         ensures refused { OnErr result (seat.new.session ≡ seat.old.session) }
         ensures number { seat.new.number ≡ seat.old.number }
         ensures book { (locked_of self.new).book ≡ slice_set (locked_of self.old).book seat.old.number seat.new.session }
@@ -325,13 +328,6 @@ impl<B: Site> Locked<B> {
         let dropped = seat.session.drop_index(&mut self.core);
         registry.change(&mut seat.half, &mut self.book[seat.number], &seat.session);
         dropped
-    }
-
-    /// What the entries of an index that was dropped still have of memory, for the caller to let go, best behind the lock.
-    pub fn take_cleared(&mut self) -> Option<Cleared<Global>>
-        ensures { locked_of self.new ≡ locked_of self.old }
-    {
-        self.core.take_cleared()
     }
 
     /// Makes the step that a transaction of the seat owes.

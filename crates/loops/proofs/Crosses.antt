@@ -29,7 +29,6 @@ use Rattle.nsf_core.below.node_parts.specs.declared.Node.TheDeep as deep
 use Rattle.nsf_core.below.node_parts.specs.contracts.Node as Node
 use Rattle.nsf_core.below.node_parts.specs.contracts.Node.TheKnot as knot
 use Rattle.nsf_core.below.btree_node.specs.contracts.BTree as BTree
-use Rattle.nsf_core.below.btree_node.specs.contracts.Cleared as Cleared
 use Rattle.nsf_core.below.marked_index.specs.contracts.index.MarkedIndex as MarkedIndex
 use Rattle.nsf_core.below.heap_pages.proofs.heap.Heap.TheSendSync as pages
 use Rattle.nsf_core.below.txn_table.proofs.table.TxnTable.TheSendSync as table
@@ -94,15 +93,9 @@ tree_send =
     let w : IsSend (BTree.TheInside.the_row H ghosts) = recorded_send (BTree.TheInside.the_field H ghosts).row _ _ (BTree.TheInside.the_type H ghosts).to_one f in
     search view_send depth 3
 
-cleared_send : IsSend (Cleared.the_row H ghosts)
-cleared_send =
-    let f : IsSend (Cleared.TheInside.the_field H ghosts).row = struct_send (shape (Cleared.TheInside.the_type H ghosts)) (option.the_field_send _ (Box-send _ node_send), tt) in
-    let w : IsSend (Cleared.TheInside.the_row H ghosts) = recorded_send (Cleared.TheInside.the_field H ghosts).row _ _ (Cleared.TheInside.the_type H ghosts).to_one f in
-    search view_send depth 3
-
 index_send : IsSend (MarkedIndex.the_row H ghosts)
 index_send =
-    let f : IsSend (MarkedIndex.TheInside.the_field H ghosts).row = struct_send (shape (MarkedIndex.TheInside.the_type H ghosts)) (tree_send, (search sendable depth 6, (search sendable depth 6, (option.the_field_send _ cleared_send, tt)))) in
+    let f : IsSend (MarkedIndex.TheInside.the_field H ghosts).row = struct_send (shape (MarkedIndex.TheInside.the_type H ghosts)) (tree_send, (search sendable depth 6, (search sendable depth 6, tt))) in
     let w : IsSend (MarkedIndex.TheInside.the_row H ghosts) = recorded_send (MarkedIndex.TheInside.the_field H ghosts).row _ _ (MarkedIndex.TheInside.the_type H ghosts).to_one f in
     search view_send depth 3
 

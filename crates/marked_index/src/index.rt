@@ -52,8 +52,6 @@ pub struct MarkedIndex<A: Allocator> {
     pledged: usize,
     // how many entries there is room for
     capacity: usize,
-    // the nodes of the entries that were taken out last, until they are asked for
-    cleared: Option<Cleared<A>>,
 }
 
 impl<A: Allocator> Model for MarkedIndex<A> {
@@ -94,7 +92,6 @@ impl<A: Allocator + Clone> MarkedIndex<A> {
             tree: BTree::new(alloc),
             pledged: 0,
             capacity: geometry.entries as usize,
-            cleared: None,
         }
     }
 
@@ -271,21 +268,15 @@ impl<A: Allocator + Clone> MarkedIndex<A> {
         takes_out
     }
 
-    /// Takes every entry out; the places that are pledged stay so. The memory of the entries is kept until `take_cleared`, or until
-    /// the next call.
+    /// Takes every entry out; the places that are pledged stay so. The entries are answered, in the memory that they have: it is
+    /// freed where the caller lets them go.
     ///
     /// It takes no memory.
-    pub fn clear(&mut self)
-        ensures { self.new ≡ record self.old { entries = map.empty } }
+    pub fn clear(&mut self) -> Cleared<A>
+        ensures cleared { self.new ≡ record self.old { entries = map.empty } }
+        ensures taken { contents result ≡ self.old.entries }
     {
-        self.cleared = Some(self.tree.take());
-    }
-
-    /// What the entries that were taken out last still have of memory, for the caller to let go.
-    pub fn take_cleared(&mut self) -> Option<Cleared<A>>
-        ensures { self.new ≡ self.old }
-    {
-        self.cleared.take()
+        self.tree.take()
     }
 
     /// Whether there is room for the places of one more change, so that `pledge` won't refuse.

@@ -14,9 +14,9 @@ use Rattle.core_contracts.specs.Replies.{IsDue, IsFirst, refusals, refused}
 use Rattle.nsf_core.specs.Asked.{IsFine, IsRefused}
 use Rattle.records.specs.declared.number.TheConstants.{LAST_NUMBER}
 use Rattle.nsf_core.specs.View.{Answers, AreOne, CoreValue, IsState, Serves, Shows}
-use Rattle.nsf_core.specs.Replies.{reply_by, reply_of_ticket}
+use Rattle.nsf_core.specs.Replies.{reply_by, reply_of_detached}
 use Rattle.nsf_core.specs.Private.{HasNextNumber, IsUnrecorded, IsUndroppable, index_dropped}
-use Rattle.nsf_core.specs.declared.parts.Ticket.{Ticket}
+use Rattle.nsf_core.specs.declared.parts.Detached.{Detached}
 use Rattle.nsf_core.proofs.Creating.{some_state}
 use Rattle.nsf_core.proofs.Due.{made, no_number, refusal, ticket_answers, wants_memory}
 
@@ -98,9 +98,9 @@ module _ (v : CoreValue) (some : v.life ≢ Absent) (quiet : v.txns.active ≡ [
   pub drop_fine : HasNextNumber v → IsFine v Event.Drop
   drop_fine left s k st = drop_refused v s k st some quiet Error.NoMemory (inr (refl, left))
 
-pub dropping_serves : (v : CoreValue) → v.life ≢ Absent → v.txns.active ≡ [] → (result : Result Ticket Error) (v' : CoreValue) → OnOk result (v' ≡ index_dropped v) → OnOk result (HasRun (begun None v.heap.pages) (begun_run None v.heap.pages)) → OnOk result (HasNextNumber v)
-    → IfOk result (λ t. t.record ≡ v.last + 1) → IfOk result (λ t. t.commit ≡ None) → IfErr result (IsUnrecorded v) → OnErr result (v' ≡ v) → Serves v Event.Drop (reply_by reply_of_ticket result) v'
-dropping_serves v some quiet (Ok ticket) v' is run left number no_commit why same s k st =
-    ticket_answers v s k Event.Drop Reply.Ticketed ticket v' number no_commit
+pub dropping_serves : {A : Type 0} (v : CoreValue) → v.life ≢ Absent → v.txns.active ≡ [] → (result : Result (Detached A) Error) (v' : CoreValue) → OnOk result (v' ≡ index_dropped v) → OnOk result (HasRun (begun None v.heap.pages) (begun_run None v.heap.pages)) → OnOk result (HasNextNumber v)
+    → IfOk result (λ d. d.ticket.record ≡ v.last + 1) → IfOk result (λ d. d.ticket.commit ≡ None) → IfErr result (IsUnrecorded v) → OnErr result (v' ≡ v) → Serves v Event.Drop (reply_by reply_of_detached result) v'
+dropping_serves v some quiet (Ok dropped) v' is run left number no_commit why same s k st =
+    ticket_answers v s k Event.Drop Reply.Ticketed dropped.ticket v' number no_commit
     (subst (Answers v s k Event.Drop (Reply.Ticketed (v.last + 1))) (sym is) (drop_made v s k st some quiet run left))
 dropping_serves v some quiet (Err error) v' is run left number no_commit why same s k st = subst (Answers v s k Event.Drop (Refused error)) (sym same) (drop_refused v s k st some quiet error why)

@@ -3,6 +3,7 @@ use Rattle.std.specs.Prelude.{Err, None, Ok, Option, Result, Some, ℕ}
 use Rattle.records.specs.declared.error.Error.{Error}
 use Rattle.core_contracts.specs.Events.{Refused, Reply}
 use Rattle.nsf_core.specs.declared.parts.Ticket.{Ticket}
+use Rattle.nsf_core.specs.declared.parts.Detached.{Detached}
 
 -- a result as a reply
 abbrev pub reply_by : {T : Type 0} → (T → Reply) → Result T Error → Reply
@@ -21,3 +22,7 @@ ticketed other ticket = ticket_by other ticket.record ticket.commit
 -- and without, here, of a creation or of a dropping
 abbrev pub reply_of_ticket : Ticket → Reply
 reply_of_ticket ticket = ticketed Reply.Ticketed ticket
+
+-- a dropped index as a reply
+abbrev pub reply_of_detached : {A : Type 0} → Detached A → Reply
+reply_of_detached dropped = reply_of_ticket dropped.ticket

@@ -3,8 +3,10 @@
 //!
 //! Proved of each call: its reply is one that `core_contracts` allows, its step the abstract core's, and its record waits behind
 //! the others (`Serves`). A refusal leaves the value as it was (`refused_calls`). `take_outbox` hands records on in order
-//! (`handed`, `most`). `can_open` is true just where a core may begin with what this one holds (`opened_of`).
-//! Only tested (`store_tests`, `replay_rows`): that calls succeed where there is memory, and worked examples.
+//! (`handed`, `most`). `can_open` is true just where a core may begin with what this one holds (`opened_of`). `detach_index` drops
+//! the index and answers its entries (`taken`). `page_slots` and `run_above` read a page's rows and the entries, some at once.
+//! Only tested (`store_tests`, `replay_rows`): that calls succeed where there is memory, and worked examples. Neither: when memory
+//! is freed.
 #![tactic(auto)]
 
 mod build;
@@ -25,6 +27,6 @@ mod undo;
 
 pub use btree_node::Cleared;
 pub use laws::{each_answer, each_change, refused_calls, skipped_events};
-pub use parts::Ticket;
+pub use parts::{Detached, Ticket};
 pub use reply::{BuildReply, CleanReply, Owed, Undone};
 pub use store::Core;

@@ -20,6 +20,7 @@ ghost use Rattle.nsf_core.specs.Private.{IsUnchangeable, entry_in, first_made, m
 ghost use Rattle.txn_table.specs.Sound.{IsSound};
 ghost use Rattle.nsf_core.specs.Parts.{parts_of};
 
+use btree_node::Cleared;
 use core_steps::{Cell, Step};
 use heap_pages::Heap;
 use marked_index::{MarkedIndex, Stepped};
@@ -40,6 +41,16 @@ pub struct Ticket {
     pub record: RecordNumber,
     /// The number of the commit since the core was made, from 1; none for a step that is no commit.
     pub commit: Option<u64>,
+}
+
+/// An index that was dropped: the record that tells of it, and the entries, in the memory that they have. It is freed where this
+/// is let go, in a time that grows with their number.
+#[derive(Drop)]
+pub struct Detached<A: Allocator> {
+    /// The record of the dropping.
+    pub ticket: Ticket,
+    /// The entries that the index had, live and marked.
+    pub entries: Cleared<A>,
 }
 
 /// The rows, the active transactions, the index with its builder and cleaner, and the records that

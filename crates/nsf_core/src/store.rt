@@ -10,7 +10,8 @@ ghost use Rattle.btree_node.specs.Runs.{IsRunAbove};
 ghost use Rattle.core_contracts.specs.Events.{Event, Reply};
 ghost use Rattle.nsf_core.specs.View.{IsSafe, Serves};
 ghost use Rattle.nsf_core.specs.Moves.{OwesOrNone, HasNoChange, IsReadyOrNone, fresh, txn_shown};
-ghost use Rattle.nsf_core.specs.Replies.{reply_by, reply_of_ticket};
+ghost use Rattle.nsf_core.specs.Replies.{reply_by, reply_of_detached, reply_of_ticket};
+ghost use Rattle.nsf_core.specs.Detached.{entries_of};
 ghost use Rattle.nsf_core.specs.Parts.{parts_of};
 ghost use Rattle.nsf_core.specs.Loading.{IsLifeInside, IsQuiet, IsPairInside, entry_loaded, life_loaded};
 ghost use Rattle.marked_index.specs.Index.{IsAbsent, IsFull};
@@ -26,9 +27,9 @@ ghost use Rattle.txn_table.specs.Table.{holds_rows};
 ghost use Rattle.heap_pages.specs.Pages.{IsPlaceInside};
 ghost use Rattle.records.specs.Values.{Place};
 
-use crate::parts::{Parts, Ticket};
+use crate::parts::{Detached, Parts, Ticket};
 use crate::reply::{BuildReply, CleanReply, Owed, Undone};
-use btree_node::{Cleared, Entry};
+use btree_node::Entry;
 use model::{Life, ROWS_PER_PAGE};
 use records::{Body, Change, Error, Geometry, Key, LAST_NUMBER, Mark, Pair, Rid, Row, Sink, Txn};
 use std::alloc::Allocator;
@@ -434,23 +435,16 @@ impl<A: Allocator + Copy> Core<A> {
     pub fn drop_index(&mut self) -> Result<Ticket, Error>
         ensures { Serves (value_of self.old) Event.Drop (reply_by reply_of_ticket result) (value_of self.new) }
     {
-        let dropped = self.parts.drop_index();
-        drop(self.take_cleared());
-        dropped
+        Ok(self.detach_index()?.ticket)
     }
 
-    /// Drops the index as `drop_index` does, in a short time: what its entries had of memory is kept for `take_cleared`.
-    pub fn detach_index(&mut self) -> Result<Ticket, Error>
-        ensures { Serves (value_of self.old) Event.Drop (reply_by reply_of_ticket result) (value_of self.new) }
+    /// Drops the index as `drop_index` does, and answers the entries that it had, in the memory that they have: the caller lets
+    /// them go where it has the time.
+    pub fn detach_index(&mut self) -> Result<Detached<A>, Error>
+        ensures serves { Serves (value_of self.old) Event.Drop (reply_by reply_of_detached result) (value_of self.new) }
+        ensures taken { IfOk result (λ d. entries_of d ≡ (value_of self.old).index.entries) }
     {
         self.parts.drop_index()
-    }
-
-    /// What the entries of an index that was detached still have of memory, for the caller to let go.
-    pub fn take_cleared(&mut self) -> Option<Cleared<A>>
-        ensures { value_of self.new ≡ value_of self.old }
-    {
-        self.parts.index.take_cleared()
     }
 
     /// Makes a step of the builder, the first of these that applies. Where the index is complete:

@@ -5,7 +5,8 @@ ghost use Rattle.core_contracts.specs.Events.{Event, Reply};
 ghost use Rattle.nsf_core.specs.Value.{value_of};
 ghost use Rattle.nsf_core.specs.View.{Serves};
 ghost use Rattle.nsf_core.specs.Moves.{HasNoChange, IsReadyOrNone, OwesOrNone, txn_shown};
-ghost use Rattle.nsf_core.specs.Replies.{reply_by, reply_of_ticket};
+ghost use Rattle.nsf_core.specs.Replies.{reply_by, reply_of_detached, reply_of_ticket};
+ghost use Rattle.nsf_core.specs.Detached.{entries_of};
 ghost use Rattle.nsf_core.specs.Undoing.{undone_reply};
 ghost use Rattle.sessions.specs.Values.{is_active};
 ghost use Rattle.sessions.specs.Steps.{begun, changed, committed, with_turn, ended, stepped, rolling_back};
@@ -18,7 +19,7 @@ use crate::commit::Commit;
 use crate::session::Session;
 use crate::turn::Turn;
 use model::Write;
-use nsf_core::{Core, Ticket, Undone};
+use nsf_core::{Core, Detached, Ticket, Undone};
 use records::{Body, Error, Key, Rid, Row, Txn};
 use std::alloc::Global;
 
@@ -222,19 +223,22 @@ impl Session {
         Ok(ticket)
     }
 
-    /// Drops the index, be it complete or not, and keeps the number of the record that tells of it.
+    /// Drops the index, be it complete or not, and keeps the number of the record that tells of it. The entries that the index had
+    /// are answered, for the caller to let go.
     ///
     /// The refusals are those of the core's `drop_index`, `NoMemory` the last of them; it comes also where there is none
     /// for the session's part. After a refusal both are as before.
-    pub fn drop_index(&mut self, core: &mut Core<Global>) -> Result<Ticket, Error>
-        ensures served { Serves (value_of core.old) Event.Drop (reply_by reply_of_ticket result) (value_of core.new) }
-        ensures ok { IfOk result (λ ticket. self.new ≡ with_turn self.old (Dropped ticket.«record»)) }
+    pub fn drop_index(&mut self, core: &mut Core<Global>) -> Result<Detached<Global>, Error>
+        ensures served { Serves (value_of core.old) Event.Drop (reply_by reply_of_detached result) (value_of core.new) }
+        ensures taken { IfOk result (λ d. entries_of d ≡ (value_of core.old).index.entries) }
+        ensures ok { IfOk result (λ d. self.new ≡ with_turn self.old (Dropped d.ticket.«record»)) }
         ensures unchanged { OnErr result (self.new ≡ self.old) }
     {
         core.check_drop()?;
         self.turns.reserve(1)?;
-        let ticket = core.detach_index()?;
-        self.turns.push_reserved(Turn::Dropped(ticket.record));
-        Ok(ticket)
+        let detached = core.detach_index()?;
+        self.turns
+            .push_reserved(Turn::Dropped(detached.ticket.record));
+        Ok(detached)
     }
 }

@@ -83,13 +83,11 @@ impl<B: Group> Shared<B> {
         let mut locked = self.hold(rt);
         locked.push_outbox(rt, &self.queue);
         let dropped = locked.drop_index(&self.registry, &mut seat.part);
-        let cleared = locked.take_cleared();
         locked.push_outbox(rt, &self.queue);
         drop(locked);
-        drop(cleared);
         self.wake_flusher();
         self.board.waits().resting.ring();
-        dropped
+        Ok(dropped?.ticket)
     }
 
     /// The row at the place, as it is now, also before its transaction's commit. If a transaction of the seat holds the place,

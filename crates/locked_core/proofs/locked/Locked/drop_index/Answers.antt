@@ -10,7 +10,7 @@ use Rattle.locked_core.specs.Names.{IsShared}
 use Rattle.locked_core.specs.Seats.{SeatValue}
 use Rattle.locked_core.proofs.Book.{book_set, count_set, shown_at, shown_set}
 use Rattle.locked_core.proofs.Kept.{drop_kept}
-use Rattle.locked_core.proofs.Recorded.{recorded}
+use Rattle.locked_core.proofs.Recorded.{recorded_drop}
 use Rattle.locked_core.proofs.locked.Locked.drop_index.Goals as goal
 
 pub invariant_of-self : goal.invariant_of-self
@@ -58,6 +58,6 @@ returns-clause-recorded g c =
     let o = g.B.Site.site.opened in
     let was = c.args.self.now in
     let new = value_of c.drop_index-dropped.new.core in
-    recorded o (value_of was.core) new was.pusher.records (map shown was.book.items) was.shared Event.Drop (OfIndex IndexAction.Drop)
+    recorded_drop o (value_of was.core) new was.pusher.records (map shown was.book.items) was.shared Event.Drop (OfIndex IndexAction.Drop)
     (λ kept ticket serves. c.each_number.ensures.drop_record o was.pusher.records (value_of was.core) kept ticket new serves)
     c.drop_index-dropped.result c.drop_index-dropped.ensures.served
