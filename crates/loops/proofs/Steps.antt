@@ -1,8 +1,8 @@
 -- What a step of the builder means to the loop.
-use Rattle.std.proofs.Common.{◌≡◌, ◌≢◌, ◌⊎◌, IfErr, IfOk, IfSome, Option, None, Some, ◌<◌, ◌≤◌, ℕ, Bool, true, false, nat_lt, refl, Result, Ok, Err, inl, inr, sym, subst, max, arith, ltb-true, ltb-false}
+use Rattle.std.proofs.Common.{◌≡◌, ◌≢◌, ◌⊎◌, IfErr, IfOk, IfSome, is_some, Option, None, Some, ◌<◌, ◌≤◌, ℕ, Bool, true, false, nat_lt, refl, Result, Ok, Err, inl, inr, sym, subst, max, arith, ltb-true, ltb-false}
 use Rattle.std.proofs.Math.Logic.{∥∥₁_map}
 use Rattle.records.specs.declared.error.Error.{Error}
-use Rattle.records.specs.declared.error.Error.TheVariants.{NoMemory, Stopped}
+use Rattle.records.specs.declared.error.Error.TheVariants.{NoIndex, NoMemory, Stopped}
 use Rattle.records.specs.declared.pair.Pair.{Pair}
 use Rattle.core_contracts.specs.Events.{Event, Refused}
 use Rattle.core_model.specs.Histories.{Opened}
@@ -52,10 +52,16 @@ raised o first was attempts new is before now more = by (nat_lt was attempts) re
         at was same (before (omega (arith, same, more)))
 
 -- why a builder ended that is ended with its clients
-pub ended_why : {T : Type 0} (o : Opened) (P : Type 0) (result : Result T Error) → IfErr result (λ e. ((e ≡ Stopped) × P) ⊎ ((e ≢ NoMemory) × ∥ WasServed o Event.Build (Refused e) ∥₁)) → IfErr result (λ e. (e ≡ Stopped) ⊎ ((e ≢ NoMemory) × ∥ WasServed o Event.Build (Refused e) ∥₁))
+pub ended_why : {T : Type 0} (o : Opened) (P : Type 0) (result : Result T Error) → IfErr result (λ e. ((e ≡ Stopped) × P) ⊎ ((e ≢ NoMemory) × (true ≡ true → e ≢ NoIndex) × ∥ WasServed o Event.Build (Refused e) ∥₁)) → IfErr result (λ e. (e ≡ Stopped) ⊎ ((e ≢ NoMemory) × (e ≢ NoIndex) × ∥ WasServed o Event.Build (Refused e) ∥₁))
 ended_why o P (Ok x) why = tt
 ended_why o P (Err e) (inl stopped) = inl stopped.0
-ended_why o P (Err e) (inr refused) = inr refused
+ended_why o P (Err e) (inr refused) = inr (refused.0, refused.1 refl, refused.2)
+
+-- why a builder ended that is ended by the stop flag alone
+pub looked_why : {T : Type 0} (o : Opened) (P : Type 0) (run : Option ℕ) → run ≡ None → (result : Result T Error) → IfErr result (λ e. ((e ≡ Stopped) × (run ≡ None → P)) ⊎ ((e ≢ NoMemory) × (is_some run ≡ true → e ≢ NoIndex) × ∥ WasServed o Event.Build (Refused e) ∥₁)) → IfErr result (λ e. ((e ≡ Stopped) × P) ⊎ ((e ≢ NoMemory) × ∥ WasServed o Event.Build (Refused e) ∥₁))
+looked_why o P run none (Ok x) why = tt
+looked_why o P run none (Err e) (inl stopped) = inl (stopped.0, stopped.1 none)
+looked_why o P run none (Err e) (inr refused) = inr (refused.0, refused.2)
 
 -- ---- one index behind another
 

@@ -31,11 +31,11 @@ pub record HasPublished (o : Opened) (ticket : Ticket) (progress : ℕ) : Type 0
   pub told : attempts ≤ progress
 
 -- A builder that is ended with its clients has gone on so: it completed the index, and has published all attempts; or it was ended, or a
--- step was refused, but not for want of memory. What it publishes never goes back, and is the number of attempts then.
+-- step was refused, but not for want of memory or of an index. What it publishes never goes back, and is the number of attempts then.
 pub record BuildsOn (o : Opened) (old : BuilderCount) (result : Result Ticket Error) (new : BuilderCount) : Type 0 where
   pub done : IfOk result (λ ticket. ∥ WasServed o Event.Build (built (reply.Done ticket)) ∥₁)
   pub published : IfOk result (λ ticket. ∥ HasPublished o ticket new.progress ∥₁)
-  pub why : IfErr result (λ e. (e ≡ Stopped) ⊎ ((e ≢ NoMemory) × ∥ WasServed o Event.Build (Refused e) ∥₁))
+  pub why : IfErr result (λ e. (e ≡ Stopped) ⊎ ((e ≢ NoMemory) × (e ≢ NoIndex) × ∥ WasServed o Event.Build (Refused e) ∥₁))
   pub rises : old.progress ≤ new.progress
   pub attempted : old.progress < new.progress → ∥ HasAttempted o new.progress ∥₁
   pub board : new.board ≡ old.board

@@ -1,6 +1,6 @@
 //! The loop that builds the index.
-ghost use Rattle.std.specs.Prelude.{◌≡◌, ◌≢◌, ◌⊎◌, ◌<◌, ◌≤◌, IsTrue, IfOk, IfErr, None};
-ghost use Rattle.records.specs.declared.error.Error.TheVariants.{NoMemory, Stopped};
+ghost use Rattle.std.specs.Prelude.{◌≡◌, ◌≢◌, ◌⊎◌, ◌<◌, ◌≤◌, IsTrue, IfOk, IfErr, None, is_some, true};
+ghost use Rattle.records.specs.declared.error.Error.TheVariants.{NoIndex, NoMemory, Stopped};
 ghost use Rattle.core_contracts.specs.Events.{Event, Refused};
 ghost use Rattle.nsf_core.specs.Builds.{built};
 ghost use Rattle.nsf_core.specs.Replies.{reply_by};
@@ -72,7 +72,7 @@ pub(crate) fn build_until<B: Group, R: Wait, G: Gate>(
     requires view { view.old.board ≡ B.board }
     ensures done { IfOk result (λ ticket. ∥ WasServed B.site.opened Event.Build (built (reply.Done ticket)) ∥₁) }
     ensures published { IfOk result (λ ticket. ∥ HasPublished B.site.opened ticket build.new.progress ∥₁) }
-    ensures why { IfErr result (λ e. ((e ≡ Stopped) × (run ≡ None → IsTrue view.new.stopped)) ⊎ ((e ≢ NoMemory) × ∥ WasServed B.site.opened Event.Build (Refused e) ∥₁)) }
+    ensures why { IfErr result (λ e. ((e ≡ Stopped) × (run ≡ None → IsTrue view.new.stopped)) ⊎ ((e ≢ NoMemory) × (is_some run ≡ true → e ≢ NoIndex) × ∥ WasServed B.site.opened Event.Build (Refused e) ∥₁)) }
     ensures rises { build.old.progress ≤ build.new.progress }
     ensures attempted { build.old.progress < build.new.progress → ∥ HasAttempted B.site.opened build.new.progress ∥₁ }
     ensures board { build.new.board ≡ build.old.board }

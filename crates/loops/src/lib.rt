@@ -9,8 +9,9 @@
 //! where the device failed (`stopped`, `failed`); over all its rounds no record is lost and no horizon falls (`goes_on`).
 //! `build_loop` ends with a ticket only where some core that may lie under the lock answers that it completed the index (`done`).
 //! `run_beside` keeps what the clients promise (`clients`).
-//! Neither: that a thread is started or a call returns, that the builder or the cleaner makes a step, when an image is taken, and
-//! that a gate is called.
+//! Neither: that a thread is started or a call returns, that the builder or the cleaner makes a step, that the flusher writes, when an
+//! image is taken, that progress is told before the end of a build, that a refusal ends the builder, that a run lasts as long as its
+//! clients, and that a gate is called.
 #![tactic(auto)]
 
 mod build;

@@ -37,13 +37,14 @@ pub struct Ended<B: Group, D: Device, X> {
 }
 
 /// Runs flusher, cleaner and builder beside the clients, each in a thread of its own, until the clients have ended; then it ends the
-/// three, and waits for that. A build that is under way is carried on, and so is each that a client begins, also where it dropped an index
-/// that was complete; where the index is complete, or there is none, the builder waits. A refusal other than for want of
-/// memory, as where the index is full, ends the builder: what is to be built then waits for the next run. With what comes back it may
-/// be called again.
+/// three, and waits for that. With what comes back it may be called again.
 ///
 /// Of the board the seat has seen no more than before, and its view may have another name (`seen`). Flusher and builder end as
-/// `flush_loop` and `build_loop` do, or with the clients.
+/// `flush_loop` and `build_loop` do, or with the clients; and that there is no index is no reason to end (`builder`).
+///
+/// Not proved: that a build under way is carried on, and each that a client begins, also where it dropped an index that was complete;
+/// that the builder waits where the index is complete or there is none; and that a refusal other than for want of memory, as where the
+/// index is full, ends it, so that what is to be built then waits for the next run.
 pub fn run_beside<
     B: Group + Send + Sync,
     D: Device + Send + Drop,

@@ -71,9 +71,9 @@
 //! invariant-loop-key g l = l.seat.number ≡ l.fn.seat.number
 //! ```
 //!
-//! A program that starts threads itself opens the store by `open_store`, or by `open_engine` where an engine served it before: its
-//! device isn't read again, and nothing that the engine holds is lost. It calls a function that is generic in the group with
-//! `Brand`. It says in its `Invariants.antt` what the group's names are, as here for a function `work`:
+//! A program that starts threads itself opens the store by `open_store`, or by `open_engine` where an engine served it before: nothing
+//! that the engine holds is lost. It calls a function that is generic in the group with `Brand`. It says in its `Invariants.antt` what
+//! the group's names are, as here for a function `work`:
 //!
 //! ```antt
 //! abbrev pub ghosts-work-B-Site : goal.ghosts-work-B-Site

@@ -352,4 +352,5 @@ written_whole history failures r n old new is told can quiet txns shown one =
           (subst IsSound (sym (ap (λ (v : CoreValue). v.txns) core_is)) txns) shown one);
       quiet = well.quiet;
       survives = λ past is. weaker (history (device_of old)) (history (device_of new)) _ (Survives past (acknowledged_by past)) (survives_without past (reply.Flipped n) is.answered (acknowledged_by past)) (copies.runs past is).1;
+      around = copies.around;
     }

@@ -1,4 +1,4 @@
--- An engine that is left as a restart would leave it, without its device being read.
+-- An engine that is left as a restart would leave it.
 use Rattle.std.specs.FinMap.{len}
 use Rattle.std.specs.Prelude.{◌≡◌, ◌≤◌, ℕ, false, None}
 use Rattle.records.specs.GeometryValue.{GeometryValue}
@@ -14,7 +14,7 @@ use Rattle.sector_device.specs.History.{History, LeavesOnly}
 use Rattle.store_reader.specs.Contents.{Gives}
 use Rattle.store_writer.specs.Parts as parts
 use Rattle.store_writer.specs.Parts.{halves_of, image_of, log_of, synced_of}
-use Rattle.store_writer.specs.Writer.{IsWriter, opened_run}
+use Rattle.store_writer.specs.Writer.{IsWriter, WritesOnly, opened_run}
 use Rattle.store_writer.specs.declared.writer.Writer.{Writer}
 use Rattle.restart.specs.declared.copying.Copying.TheVariants.{GivenUp}
 use Rattle.restart.specs.declared.event.Event.TheVariants.{Copy}
@@ -22,8 +22,8 @@ use Rattle.restart.specs.declared.event.Reply.{Reply}
 use Rattle.restart.specs.declared.event.Reply.TheVariants.{Refused}
 use Rattle.restart.specs.declared.parts.Parts.{Parts}
 use Rattle.restart.specs.Copies.{IsCopyAnswer}
-use Rattle.restart.specs.Parts.{core_of, device_of}
-use Rattle.restart.specs.Store.{IsAt, Past, ServesOn, Survives, acknowledged_by}
+use Rattle.restart.specs.Parts.{core_of, device_of, writer_of}
+use Rattle.restart.specs.Store.{CopiesAround, InCopy, IsAt, Past, ServesOn, Survives, acknowledged_by}
 
 -- A core over the rows, the entries, the index's life and the last record's number that another holds, as a restart makes one: no
 -- transaction was begun in it, and it has built and cleaned nothing.
@@ -50,17 +50,21 @@ pub record IsSettled {D M : Type 0} (history : D → History) (o : Opened) (w : 
 abbrev pub giving_up : {D M : Type 0} → Parts D M → Parts D M
 giving_up engine = record engine { copying = GivenUp }
 
--- An image under way was given up, and the copy that takes a whole one at once had this reply.
+-- An image under way was given up, and the copy that takes a whole one at once had this reply, and wrote no sector but those that a
+-- copy writes.
 pub record CopiesAnew {D M : Type 0} (history : D → History) (failures : D → ℕ) (reply : Reply M) (old new : Parts D M) : Type 0 where
   pub answer : IsCopyAnswer failures reply (giving_up old) new
   pub runs : ServesOn history Copy reply old new
+  pub around : CopiesAround history old new
 
 -- All that the engine holds was written as a whole image, which is current: its records that weren't synced are in it. No call of the
--- device failed, and a crash at any moment leaves a prefix of whatever run the engine served, with everything acknowledged.
+-- device failed, and a crash at any moment leaves a prefix of whatever run the engine served, with everything acknowledged. No sector
+-- was written but those that a copy writes.
 pub record WritesWhole {D M : Type 0} (history : D → History) (failures : D → ℕ) (engine : Parts D M) (w : Writer D M) : Type 0 where
   pub settled : IsSettled history (opened_of (core_of engine)) w
   pub quiet : failures (parts.device_of w) ≡ failures (device_of engine)
   pub survives : (past : Past M) → IsAt history past engine → LeavesOnly (history (device_of engine)) (history (parts.device_of w)) (Survives past (acknowledged_by past))
+  pub around : WritesOnly history (InCopy (halves_of (writer_of engine))) (device_of engine) (parts.device_of w)
 
 -- there was no memory for it, or the device failed: the engine's run goes on, by a copy that was refused so
 abbrev pub IsNotWritten : {D M : Type 0} → (D → History) → (D → ℕ) → Parts D M → Parts D M → Error → Type 0

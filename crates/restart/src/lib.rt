@@ -5,10 +5,10 @@
 //! `restart` opens what a crash of such a run left, and is refused there only for want of memory or by a device that fails
 //! (`recovers`, `readable`). With no transaction active, an `Ok` of `build_to_end` over such a store leaves the visible entries
 //! just the pairs of the rows (`whole`). `copies_flip`: so many copies make an image current. With none active an engine that served
-//! is left as a restart would leave it, and its device isn't read: `into_writer` gives the writer, with all that the engine holds
-//! synced (`written`), and `fresh_core` a core over it (`fresh`).
+//! is left as a restart would leave it: `into_writer` gives the writer, with all that the engine holds synced (`written`), and
+//! `fresh_core` a core over it (`fresh`).
 //! Only tested (`store_tests`): each allocation refused, and each call of the device failing, in turn; that calls succeed where
-//! there is memory. Neither: time.
+//! there is memory. Neither: time; that an engine is left so without its device being read, or with each sector written once at most.
 #![tactic(auto)]
 
 mod asking;

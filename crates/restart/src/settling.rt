@@ -1,4 +1,4 @@
-//! An engine with no transaction active is left as a restart would leave it, and its device is not read.
+//! An engine with no transaction active is left as a restart would leave it. (That its device isn't read, no clause says.)
 ghost use Rattle.std.specs.Prelude.{◌≡◌, IfErr, IfOk};
 ghost use Rattle.nsf_core.specs.Loading.{IsQuiet};
 ghost use Rattle.nsf_core.specs.Value.{value_of};
@@ -82,7 +82,7 @@ impl<D: Device, A: Allocator + Copy> Parts<D, A> {
 
 impl<D: Device, A: Allocator + Copy> Engine<D, A> {
     /// A core over the rows, the entries and the index's life that the engine holds while no transaction is active, as a restart
-    /// makes one. It is made in memory; a build goes on above the pair checkpointed last.
+    /// makes one. A build goes on in it above the pair checkpointed last.
     ///
     /// The one error is `NoMemory`.
     pub fn fresh_core(&self) -> Result<Core<A>, Error>
@@ -95,10 +95,10 @@ impl<D: Device, A: Allocator + Copy> Engine<D, A> {
 
     /// The writer that owns the device, once all that the engine holds was written to it as a whole image, while no transaction is
     /// active. Every record made is in the image, those too that weren't flushed: they are synced with it. An image under way is
-    /// given up.
+    /// given up. No sector is written but those that a copy writes (`written`).
     ///
-    /// `NoMemory`, and `DeviceFailed` as of a copy, give the engine back, and its run goes on: no record is lost. The next copy takes
-    /// a whole image.
+    /// `NoMemory`, and `DeviceFailed` as of a copy, give the engine back, and its run goes on: no record is lost. After `NoMemory` the
+    /// next copy takes a whole image, and after `DeviceFailed` each is refused so (`refused`).
     pub fn into_writer(self) -> Result<StoreWriter<D, A>, (Error, Self)>
         requires { IsQuiet (core_of self) }
         ensures written { IfOk result (WritesWhole D.history D.failures self) }

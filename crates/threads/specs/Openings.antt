@@ -15,13 +15,13 @@ use Rattle.sector_device.specs.History.{History, LeavesOnly}
 use Rattle.store_reader.specs.Contents.{Gives}
 use Rattle.store_writer.specs.declared.writer.Writer.{Writer}
 use Rattle.store_writer.specs.Parts.{halves_of, has_failed, image_of, log_of, synced_of}
-use Rattle.store_writer.specs.Writer.{IsWriter, opened_run}
+use Rattle.store_writer.specs.Writer.{IsWriter, WritesOnly, opened_run}
 use Rattle.flusher.specs.Part.{FlushValue}
 use Rattle.locked_core.specs.Names.{Names}
-use Rattle.restart.specs.Parts.{core_of, device_of}
+use Rattle.restart.specs.Parts.{core_of, device_of, writer_of}
 use Rattle.restart.specs.Reopening.{IsNotOpened, IsTurned}
 use Rattle.restart.specs.Settling.{IsNotWritten}
-use Rattle.restart.specs.Store.{IsAt, Past, Survives, acknowledged_by, over}
+use Rattle.restart.specs.Store.{InCopy, IsAt, Past, Survives, acknowledged_by, over}
 use Rattle.restart.specs.declared.parts.Parts.{Parts}
 use Rattle.threads.specs.declared.refusal.OpenError.{OpenError}
 use Rattle.threads.specs.declared.refusal.OpenError.TheVariants.{Refused, Unsound}
@@ -104,6 +104,7 @@ IsNotShared history failures before after Unsound = IsUnsound history failures b
 -- So many seats are open over what the engine held, with no transaction active: the same rows and entries, the index as far as it was,
 -- after the same last record. It is sound, and all of it is synced: a crash of the device leaves what opens with it. A crash at any
 -- moment of the call leaves a prefix of whatever run the engine served, with everything acknowledged; no call of the device failed.
+-- No sector was written but those that a copy writes.
 pub record IsOpenedFrom {D : Type 0} (history : D → History) (failures : D → ℕ) (engine : Parts D Global) (count : ℕ) (s : StoreValue D) : Type 0 where
   pub seats : s.site.seats ≡ count
   pub quiet : IsQuiet (core_of engine)
@@ -112,6 +113,7 @@ pub record IsOpenedFrom {D : Type 0} (history : D → History) (failures : D →
   pub stays : (image : Image) → IsCrashImage (history s.device).disk image → Opens image s.site.opened
   pub survives : (past : Past Global) → IsAt history past engine → LeavesOnly (history (device_of engine)) (history s.device) (Survives past (acknowledged_by past))
   pub well : failures s.device ≡ failures (device_of engine)
+  pub around : WritesOnly history (InCopy (halves_of (writer_of engine))) (device_of engine) s.device
 
 -- A transaction is active, and the engine is as it was. Or none is, and what the engine holds is sound: then there was no memory, and
 -- it is as it was; or what it holds could not be written, and its run goes on.

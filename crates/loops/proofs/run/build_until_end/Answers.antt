@@ -4,7 +4,7 @@ use Rattle.core_contracts.specs.Events.{Event, Refused}
 use Rattle.nsf_core.specs.Builds.{built}
 use Rattle.nsf_core.specs.declared.reply.BuildReply.TheVariants as reply
 use Rattle.nsf_core.specs.declared.parts.Ticket.{Ticket}
-use Rattle.records.specs.declared.error.Error.TheVariants.{NoMemory, Stopped}
+use Rattle.records.specs.declared.error.Error.TheVariants.{NoIndex, NoMemory, Stopped}
 use Rattle.shared.specs.Served.{WasServed}
 use Rattle.loops.specs.Building.{HasPublished}
 use Rattle.loops.proofs.Steps.{attempted_on, ended_why, last_told, still_last, why_told}
@@ -32,7 +32,7 @@ returns-in-Err g c =
     record {
       done = last_told (λ ticket. ∥ WasServed o Event.Build (built (reply.Done ticket)) ∥₁) c.loop.completed c.in-Err.error c.end_of-ended.result told.ok before.done;
       published = last_told (λ ticket. ∥ HasPublished o ticket c.build_until.new.build.progress ∥₁) c.loop.completed c.in-Err.error c.end_of-ended.result told.ok (still_last o c.loop.completed _ _ now.rises before.published);
-      why = why_told (λ e. (e ≡ Stopped) ⊎ ((e ≢ NoMemory) × ∥ WasServed o Event.Build (Refused e) ∥₁)) c.loop.completed c.in-Err.error c.end_of-ended.result told.err (ended_why {T = Ticket} o _ (Err c.in-Err.error) c.in-Err.ensures.why);
+      why = why_told (λ e. (e ≡ Stopped) ⊎ ((e ≢ NoMemory) × (e ≢ NoIndex) × ∥ WasServed o Event.Build (Refused e) ∥₁)) c.loop.completed c.in-Err.error c.end_of-ended.result told.err (ended_why {T = Ticket} o _ (Err c.in-Err.error) c.in-Err.ensures.why);
       rises = omega (arith, before.rises, now.rises);
       attempted = attempted_on o _ _ _ now.rises before.attempted now.attempted;
       board = now.board ∙ before.board;

@@ -37,6 +37,7 @@ returns-in-Ok-into_writer-clause-opened g c =
       stays = λ image crash. subst (Opens image) (sym now) (stays_settled h _ c.in-Ok-into_writer.writer written.settled image crash);
       survives = written.survives;
       well = written.quiet;
+      around = written.around;
     }
 
 pub returns-then-active_txns-gt0-clause-refused : goal.returns-then-active_txns-gt0-clause-refused
