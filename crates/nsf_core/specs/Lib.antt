@@ -2,6 +2,7 @@ pub mod View
 pub mod Moves
 pub mod Parts
 pub mod Replies
+pub mod Detached
 pub mod Value
 pub mod Builds
 pub mod Cleaning

@@ -3,12 +3,12 @@ use Rattle.nsf_core.specs.Parts.{parts_of}
 use Rattle.nsf_core.proofs.Dropping.{dropping_serves, no_dropping}
 use Rattle.nsf_core.proofs.parts.Parts.drop_index.Goals as goal
 
-pub returns-in_err-may_drop : goal.returns-in_err-may_drop
-returns-in_err-may_drop g c =
+pub returns-in_err-may_drop-clause-serves : goal.returns-in_err-may_drop-clause-serves
+returns-in_err-may_drop-clause-serves g c =
     let p = err_from_is_err_and c.from_residual.result c.from_residual.ensures.1 in
     rw (p.1, p.2) (no_dropping (parts_of c.args.self.now) _ c.in_err-may_drop.ensures.refused)
 
-pub returns : goal.returns
-returns g c =
+pub returns-clause-serves : goal.returns-clause-serves
+returns-clause-serves g c =
     let e = c.take_away.ensures in
     dropping_serves (parts_of c.args.self.now) c.in_ok-may_drop.ensures.there c.in_ok-may_drop.ensures.quiet _ _ e.ok e.run e.left e.ticket e.no_commit e.refused e.unchanged
