@@ -5,10 +5,9 @@ use crate::calls::{create_index, fill_page, rekey_some};
 use crate::clock::{now, sleep};
 use crate::rounds::{Disk, formatted};
 use anyhow::Result;
-use board::BuildView;
 use loops::{NoGate, build_loop};
 use records::{ENTRIES_MAX, Error, PAGES_MAX, Rid, SLOTS_PER_PAGE};
-use shared::{Group, Seat, Shared};
+use shared::{BuildPart, Group, Seat, Shared};
 use std::alloc::Global;
 use std::marker::Brand;
 use std::rt::Clock;
@@ -42,10 +41,8 @@ fn fill<B: Group, R: Wait>(
     rt: &R,
     shared: &Shared<B>,
     seat: &mut Seat<B>,
-    mut build: BuildView,
-) -> Result<(), Error>
-    requires { build.board ≡ B.board }
-{
+    mut build: BuildPart<B>,
+) -> Result<(), Error> {
     for page in 0..PAGES_MAX as u16 {
         fill_page(rt, shared, seat, page)?;
     }
@@ -163,9 +160,7 @@ fn play_with<B: Group + Send + Sync, R: Threads + Wait + Clock + Sync>(
     alloc: Global,
     shared: &Shared<B>,
     parts: Parts<B, Disk>,
-) -> Result<(u64, u64), Error>
-    requires { parts.build.board ≡ B.board }
-{
+) -> Result<(u64, u64), Error> {
     let Parts { seats, build, .. } = parts;
     let mut parties = parties_of(alloc, seats)?;
     if let Some(party) = parties.first_mut() {
@@ -181,7 +176,6 @@ fn begin<B: Group + Send + Sync, R: Threads + Wait + Clock + Sync>(
     store: OpenStore<Disk>,
 ) -> Result<(u64, u64), Error>
     requires names { store.site ≡ B.site }
-    requires board { store.board ≡ B.board }
 {
     match store.start::<B>() {
         Ok((shared, parts)) => play_with(rt, alloc, &shared, parts),

@@ -2,12 +2,11 @@
 ghost use Rattle.std.specs.Prelude.{◌≡◌};
 
 use crate::clients::{Client, Commit, Plan, Times, work_all};
-use board::BuildView;
 use file_disk::{Detached, FileDisk};
 use flusher::FlushPart;
 use loops::{Ended, NoGate, run_beside};
 use records::{Error, Geometry};
-use shared::{Group, Seat, Shared};
+use shared::{BuildPart, Group, Seat, Shared};
 use std::alloc::Global;
 use std::marker::Brand;
 use std::rt::Clock;
@@ -77,13 +76,10 @@ fn run_loops<B: Group + Send + Sync, R: Threads + Wait + Clock + CpuClock + Sync
     shared: &Shared<B>,
     last: Seat<B>,
     flush: FlushPart<B, Disk>,
-    build: BuildView,
+    build: BuildPart<B>,
     clients: Vec<Client<B>>,
     plan: Plan,
-) -> Ended<B, Disk, Vec<Client<B>>>
-    requires flush { flush.published.board ≡ B.board }
-    requires build { build.board ≡ B.board }
-{
+) -> Ended<B, Disk, Vec<Client<B>>> {
     run_beside(
         rt,
         shared,
@@ -103,10 +99,7 @@ fn work<B: Group + Send + Sync, R: Threads + Wait + Clock + CpuClock + Sync>(
     parts: Parts<B, Disk>,
     count: usize,
     plan: Plan,
-) -> Result<Round, Error>
-    requires flush { parts.flush.published.board ≡ B.board }
-    requires build { parts.build.board ≡ B.board }
-{
+) -> Result<Round, Error> {
     let Parts {
         mut seats,
         flush,
@@ -130,7 +123,6 @@ fn begin<B: Group + Send + Sync, R: Threads + Wait + Clock + CpuClock + Sync>(
     plan: Plan,
 ) -> Result<Round, Error>
     requires names { store.site ≡ B.site }
-    requires board { store.board ≡ B.board }
 {
     match store.start::<B>() {
         Ok((shared, parts)) => work(rt, alloc, &shared, parts, count, plan),

@@ -42,8 +42,7 @@ fn settle_all<B: Group, D: Device>(
     flush: &mut FlushPart<B, D>,
     acks: Vec<Ack<B>>,
 )
-    requires board { board.now ≡ B.board }
-    requires flush { flush.old.published.board ≡ B.board }
+    requires board { board.now ≡ B.site.board }
     ensures same { flush.new ≡ flush.old }
     ensures reached { All (λ a. a.ticket.«record» ≤ synced_of flush.old.writer) acks.items }
 {
@@ -63,7 +62,7 @@ fn close<B: Group, D: Device, R: Wait>(
     flush: &mut FlushPart<B, D>,
 ) -> Result<Vec<Commit>, Error>
     requires queue { queue.now ≡ B.site.queue }
-    requires board { board.now ≡ flush.old.published.board }
+    requires board { board.now ≡ B.site.board }
     ensures writes { WritesOn D.history D.failures B.site.opened flush.old flush.new }
     ensures beginning { flush.new.handed ≡ take (length flush.new.handed) (locked_of locked.new).pushed }
     ensures popped { popped_by flush.old ≡ take (length (popped_by flush.old)) (locked_of locked.new).pushed }
@@ -108,7 +107,6 @@ pub fn finish<B: Group, D: Device, R: Wait>(
     acks: Vec<Ack<B>>,
 ) -> Result<Closed<D>, (Error, D)>
     requires seats { AreAllSeats B.site.seats seats.items }
-    requires flush { flush.published.board ≡ B.board }
     ensures commits { IfOk result (λ c. ∥ AreCommitsOf seats.items c.commits.items ∥₁) }
     ensures core { IfOk result (λ c. ∥ IsCoreOf B.site.opened seats.items (popped_by flush) (value_of c.core) c.commits.items ∥₁) }
     ensures device { IfOk result (λ c. (image : Image) → IsCrashImage (D.history c.device).disk image → ∥ GivesAll B.site.opened (halves_of flush.writer).geometry (value_of c.core) c.commits.items image ∥₁) }

@@ -9,7 +9,7 @@ ghost use Rattle.closing.specs.Written.{HasTaken, WritesOn};
 use board::Board;
 use flusher::FlushPart;
 use image_model::CopyPlace;
-use locked_core::{Locked, Site};
+use locked_core::{Group, Locked};
 use records::Error;
 use sector_device::Device;
 use std::alloc::Global;
@@ -19,7 +19,7 @@ use tail::RecordQueue;
 
 // Hands in what was popped, pushes the records that wait in the core, and pops and hands in those that wait in the queue, until the
 // writer has got every record that was made.
-fn hand_in_all<B: Site, D: Device, R: Wait>(
+fn hand_in_all<B: Group, D: Device, R: Wait>(
     rt: &R,
     alloc: Global,
     queue: &RecordQueue,
@@ -53,13 +53,13 @@ fn hand_in_all<B: Site, D: Device, R: Wait>(
 }
 
 // Takes an image of all cells, and makes it current.
-fn write_image<B: Site, D: Device>(
+fn write_image<B: Group, D: Device>(
     alloc: Global,
     board: &Board<Global>,
     locked: &Locked<B>,
     flush: &mut FlushPart<B, D>,
 ) -> Result<(), Error>
-    requires board { board.now ≡ flush.old.published.board }
+    requires board { board.now ≡ B.site.board }
     requires all { flush.old.handed ≡ (locked_of locked.now).pushed }
     requires none_waits { (locked_of locked.now).core.outbox ≡ [] }
     ensures writes { WritesOn D.history D.failures B.site.opened flush.old flush.new }
@@ -77,13 +77,13 @@ fn write_image<B: Site, D: Device>(
 }
 
 // Writes groups until every record that the writer has got is synced; or, once the log is full, an image.
-fn write_groups<B: Site, D: Device>(
+fn write_groups<B: Group, D: Device>(
     alloc: Global,
     board: &Board<Global>,
     locked: &Locked<B>,
     flush: &mut FlushPart<B, D>,
 ) -> Result<(), Error>
-    requires board { board.now ≡ flush.old.published.board }
+    requires board { board.now ≡ B.site.board }
     requires all { flush.old.handed ≡ (locked_of locked.now).pushed }
     requires none_waits { (locked_of locked.now).core.outbox ≡ [] }
     ensures writes { WritesOn D.history D.failures B.site.opened flush.old flush.new }
@@ -103,7 +103,7 @@ fn write_groups<B: Site, D: Device>(
 }
 
 // Writes every record out that was made.
-pub(crate) fn write_out<B: Site, D: Device, R: Wait>(
+pub(crate) fn write_out<B: Group, D: Device, R: Wait>(
     rt: &R,
     alloc: Global,
     queue: &RecordQueue,
@@ -112,7 +112,7 @@ pub(crate) fn write_out<B: Site, D: Device, R: Wait>(
     flush: &mut FlushPart<B, D>,
 ) -> Result<(), Error>
     requires queue { queue.now ≡ B.site.queue }
-    requires board { board.now ≡ flush.old.published.board }
+    requires board { board.now ≡ B.site.board }
     ensures writes { WritesOn D.history D.failures B.site.opened flush.old flush.new }
     ensures beginning { flush.new.handed ≡ take (length flush.new.handed) (locked_of locked.new).pushed }
     ensures popped { popped_by flush.old ≡ take (length (popped_by flush.old)) (locked_of locked.new).pushed }

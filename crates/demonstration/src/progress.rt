@@ -1,9 +1,6 @@
 //! A line that says how far the builder is.
-ghost use Rattle.std.specs.Prelude.{◌≡◌};
-
-use board::View;
 use model::Life;
-use shared::{Group, Shared};
+use shared::{Group, GroupView, Shared};
 use std::io::Write;
 use std::rt::Clock;
 use std::sync::Wait;
@@ -43,15 +40,13 @@ impl<E: Write> Progress<E> {
 pub(crate) fn watch<B: Group, R: Wait + Clock, E: Write + Drop>(
     rt: &R,
     shared: &Shared<B>,
-    mut view: View,
+    mut view: GroupView<B>,
     mut progress: Progress<E>,
-) -> io::Result<()>
-    requires { view.board ≡ B.board }
-{
+) -> io::Result<()> {
     let mut shown = 0;
     for _ in rt.forever() {
         let life = shared.life(rt);
-        let tried = shared.board().progress(&mut view);
+        let tried = view.progress(shared);
         if tried > shown {
             progress.show(tried)?;
             shown = tried;

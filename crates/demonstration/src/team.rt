@@ -7,20 +7,19 @@ ghost use Rattle.closing.specs.Gathered.{AreAllSeats};
 ghost use Rattle.sector_device.specs.Disk.{Image, IsCrashImage};
 ghost use Rattle.shared.specs.Seats.{AreNewSeats};
 ghost use Rattle.core_model.specs.Histories.{Opened};
-ghost use Rattle.threads.specs.Openings.{IsNewFlusher, Opens};
+ghost use Rattle.threads.specs.Openings.{Opens};
 ghost use Rattle.demonstration.specs.Kept.{KeepsAll};
 ghost use Rattle.demonstration.specs.Private.{AllTell, GoesOn};
 
 use crate::progress::{Progress, watch};
 use crate::rows::set_up;
 use crate::writer::{Acknowledged, Writer, write};
-use board::{BuildView, View};
 use closing::finish;
 use flusher::FlushPart;
 use loops::{Ended, Gate, run_beside};
 use records::Error;
 use sector_device::Device;
-use shared::{Ack, Group, Seat, Shared};
+use shared::{Ack, BuildPart, Group, GroupView, Seat, Shared};
 use std::alloc::{AllocError, Global};
 use std::io::Write;
 use std::marker::Brand;
@@ -128,11 +127,9 @@ fn write_all<B: Group + Send + Sync, R: Threads + Wait + Sync>(
 fn show_progress<B: Group, R: Wait + Clock, E: Write + Drop>(
     rt: &R,
     shared: &Shared<B>,
-    view: View,
+    view: GroupView<B>,
     progress: Progress<E>,
-)
-    requires { view.board ≡ B.board }
-{
+) {
     let _ = watch(rt, shared, view, progress);
 }
 
@@ -146,10 +143,9 @@ fn write_and_watch<
     shared: &Shared<B>,
     writers: Vec<Writer<B>>,
     changes: u16,
-    view: View,
+    view: GroupView<B>,
     progress: Option<Progress<E>>,
 ) -> Vec<Writer<B>>
-    requires { view.board ≡ B.board }
     ensures len { vec_len result ≡ vec_len writers }
     ensures wrote { (k : ℕ) (w : _) → k < vec_len writers → GoesOn (slice_index_or writers.items k w).seat (slice_index_or writers.items k w).acks.items (slice_index_or writers.items k w).acknowledged.items (slice_index_or result.items k w).seat (slice_index_or result.items k w).acks.items (slice_index_or result.items k w).acknowledged.items }
 {
@@ -158,9 +154,7 @@ fn write_and_watch<
         Some(progress) => {
             let ((), written) = join(
                 rt,
-                move ||
-                    requires { view.board ≡ B.board }
-                { show_progress(rt, shared, view, progress) },
+                move || show_progress(rt, shared, view, progress),
                 move || write_all(rt, shared, writers, changes),
             );
             written
@@ -249,7 +243,6 @@ fn close<B: Group, D: Device, R: Wait>(
     acks: Vec<Ack<B>>,
 ) -> (D, Option<Error>)
     requires seats { AreAllSeats B.site.seats seats.items }
-    requires flush { flush.published.board ≡ B.board }
     ensures some { (image : Image) → IsCrashImage (D.history result.0).disk image → ∥ GivesSome B.site.opened (halves_of flush.writer).geometry seats.items (popped_by flush) (synced_of flush.writer) image ∥₁ }
     ensures acked { All (λ a. a.ticket.«record» ≤ synced_of flush.writer) acks.items }
 {
@@ -270,7 +263,6 @@ fn take_back<B: Group, D: Device + Drop, R: Wait>(
     before: Refusals,
 ) -> Worked<D>
     requires seats { AreAllSeats B.site.seats (map (λ w. w.seat) writers.items ++ last ∷ []) }
-    requires flush { flush.published.board ≡ B.board }
     requires told { AllTell (λ w. w.seat) (λ w. w.acks.items) (λ w. w.acknowledged.items) writers.items }
     ensures { KeepsAll D.history B.site.opened result.device result.acknowledged.items }
 {
@@ -300,7 +292,6 @@ fn end<B: Group, D: Device + Drop, R: Wait>(
     ended: Ended<B, D, Vec<Writer<B>>>,
 ) -> Worked<D>
     requires seats { AreAllSeats B.site.seats (map (λ w. w.seat) ended.clients.items ++ ended.seat ∷ []) }
-    requires flush { ended.flush.published.board ≡ B.board }
     requires told { AllTell (λ w. w.seat) (λ w. w.acks.items) (λ w. w.acknowledged.items) ended.clients.items }
     ensures { KeepsAll D.history B.site.opened result.device result.acknowledged.items }
 {
@@ -337,14 +328,11 @@ fn run_all<
     writers: Vec<Writer<B>>,
     mut last: Seat<B>,
     flush: FlushPart<B, D>,
-    build: BuildView,
+    build: BuildPart<B>,
 ) -> Ended<B, D, Vec<Writer<B>>>
-    requires flush { flush.published.board ≡ B.board }
-    requires build { build.board ≡ B.board }
     ensures len { vec_len result.clients ≡ vec_len writers }
     ensures wrote { (k : ℕ) (w : _) → k < vec_len writers → GoesOn (slice_index_or writers.items k w).seat (slice_index_or writers.items k w).acks.items (slice_index_or writers.items k w).acknowledged.items (slice_index_or result.clients.items k w).seat (slice_index_or result.clients.items k w).acks.items (slice_index_or result.clients.items k w).acknowledged.items }
     ensures last { result.seat.number ≡ last.number }
-    ensures board { result.flush.published.board ≡ B.board }
 {
     let Team {
         rt,
@@ -361,9 +349,7 @@ fn run_all<
         flush,
         build,
         gate,
-        move ||
-            requires { view.board ≡ B.board }
-        { write_and_watch(rt, shared, writers, changes, view, progress) },
+        move || write_and_watch(rt, shared, writers, changes, view, progress),
     )
 }
 
@@ -375,9 +361,7 @@ fn work_together<
     G: Gate + Sync,
     E: Write + Send + Drop,
 >(team: Team<'_, R, G, E>, shared: Shared<B>, parts: Parts<B, D>) -> Worked<D>
-    requires seats { AreNewSeats B.board B.site.seats parts.seats.items }
-    requires flush { IsNewFlusher B.board B.site.opened parts.flush }
-    requires build { parts.build.board ≡ B.board }
+    requires seats { AreNewSeats B.site.board B.site.seats parts.seats.items }
     ensures { KeepsAll D.history B.site.opened result.device result.acknowledged.items }
 {
     let rt = team.rt;
@@ -409,7 +393,6 @@ fn begin<
     E: Write + Send + Drop,
 >(store: OpenStore<D>, team: Team<'_, R, G, E>) -> Result<Worked<D>, (OpenError, D)>
     requires names { store.site ≡ B.site }
-    requires board { store.board ≡ B.board }
     ensures { IfOk result (λ worked. KeepsAll D.history B.site.opened worked.device worked.acknowledged.items) }
 {
     match store.start::<B>() {

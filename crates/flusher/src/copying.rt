@@ -11,14 +11,14 @@ ghost use Rattle.flusher.specs.Images.{IsDue, IsNearlyFull, TakesNext};
 
 use crate::part::FlushPart;
 use image_model::{Chunk, CopyPlace};
-use locked_core::{Locked, Site};
+use locked_core::{Group, Locked};
 use records::{Error, Geometry};
 use sector_device::Device;
 use std::alloc::Global;
 use std::sync::Wait;
 use tail::RecordQueue;
 
-impl<B: Site, D: Device> FlushPart<B, D> {
+impl<B: Group, D: Device> FlushPart<B, D> {
     ghost use Rattle.locked_core.specs.Locked.{locked_of};
     ghost use Rattle.locked_core.specs.Made.{IsAllOf};
     ghost use Rattle.locked_core.specs.Made as made;

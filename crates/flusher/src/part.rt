@@ -18,7 +18,7 @@ ghost use Rattle.store_writer.specs.Writer.{CanFlip, HasFailed, InOpenedSlots, I
 use crate::ends::FlushEnds;
 use board::{Board, FlushView};
 use image_model::Chunk;
-use locked_core::{Locked, Site};
+use locked_core::{Group, Locked};
 use records::{Error, Record};
 use sector_device::Device;
 use std::alloc::Global;
@@ -32,10 +32,10 @@ use tail::{Popper, RecordQueue};
 /// `FlushValue`.
 ///
 /// Its type keeps that the records that were popped are those that the writer has got and then those that are held, in order,
-/// each once; that the writer stands for the ones that it got, over what was opened; and that no number is published above the
-/// last synced one.
+/// each once; that the writer stands for the ones that it got, over what was opened; that no number is published above the
+/// last synced one; and that all is published on the group's board.
 #[derive(Drop)]
-pub struct FlushPart<B: Site, D: Device> {
+pub struct FlushPart<B: Group, D: Device> {
     pub(crate) alloc: Global,
     popper: Popper,
     // The records that were popped, and that the writer doesn't have yet.
@@ -47,7 +47,7 @@ pub struct FlushPart<B: Site, D: Device> {
     site: PhantomData<B>,
 }
 
-impl<B: Site, D: Device> Model for FlushPart<B, D> {
+impl<B: Group, D: Device> Model for FlushPart<B, D> {
     ghost use Rattle.std.specs.Prelude.{◌≡◌, ◌++◌};
     ghost use Rattle.std.specs.Coded.{codes};
     ghost use Rattle.std.specs.FinMap as map;
@@ -59,7 +59,7 @@ impl<B: Site, D: Device> Model for FlushPart<B, D> {
 
     ghost view = { λ p. flush_value p.popper.records p.held.items p.writer p.view };
 
-    ghost invariant = { λ p. (p.popper.queue ≡ B.site.queue) × (p.popper.records ≡ popped_by (flush_value p.popper.records p.held.items p.writer p.view)) × IsFlusher D.history B.site.opened (flush_value p.popper.records p.held.items p.writer p.view) × (p.last ≡ last_handed B.site.opened (flush_value p.popper.records p.held.items p.writer p.view)) };
+    ghost invariant = { λ p. (p.popper.queue ≡ B.site.queue) × (p.popper.records ≡ popped_by (flush_value p.popper.records p.held.items p.writer p.view)) × IsFlusher D.history B.site.opened (flush_value p.popper.records p.held.items p.writer p.view) × (p.last ≡ last_handed B.site.opened (flush_value p.popper.records p.held.items p.writer p.view)) × (p.view.board ≡ B.site.board) };
 }
 
 // Publishes how far the writer has synced, and whether its device failed.
@@ -75,13 +75,14 @@ fn publish<D: Device>(board: &Board<Global>, view: &mut FlushView, writer: &Stor
     }
 }
 
-impl<B: Site, D: Device> FlushPart<B, D> {
+impl<B: Group, D: Device> FlushPart<B, D> {
     ghost use Rattle.locked_core.specs.Locked.{locked_of};
     ghost use Rattle.flusher.specs.Part.{HasGot, IsFlusher, IsLeft, Publishes, last_handed, popped_by, run_of};
 
     /// The part of a flusher that has popped nothing, with a writer over what was opened.
     pub fn new(alloc: Global, ends: FlushEnds, writer: StoreWriter<D, Global>) -> FlushPart<B, D>
         requires popper { ends.popper ≡ record { queue = B.site.queue; records = [] } }
+        requires board { ends.published.board ≡ B.site.board }
         requires writer { IsWriter D.history (opened_run (halves_of writer) B.site.opened.given.last (opening_cells B.site.opened.given)) B.site.opened.given.last writer }
         requires pages { (halves_of writer).geometry.pages ≡ B.site.opened.pages }
         requires places { (halves_of writer).geometry.entries ≡ B.site.opened.places }
@@ -170,7 +171,7 @@ impl<B: Site, D: Device> FlushPart<B, D> {
     ///
     /// The answers and refusals are those of the writer's `flush_group`; a failed device is told on the board.
     pub fn flush(&mut self, board: &Board<Global>) -> Result<FlushReply, Error>
-        requires { board.now ≡ self.old.published.board }
+        requires { board.now ≡ B.site.board }
         ensures publishes { Publishes self.old self.new }
         ensures images { LeavesOnly (D.history (device_of self.old.writer)) (D.history (device_of self.new.writer)) (IsLeft B.site.opened self.old) }
         ensures flushed { IfOk result (λ reply. IsFlushReply reply self.old.writer self.new.writer) }
@@ -201,7 +202,7 @@ impl<B: Site, D: Device> FlushPart<B, D> {
         board: &Board<Global>,
         chunk: Chunk<Global>,
     ) -> Result<StepReply, Error>
-        requires board { board.now ≡ self.old.published.board }
+        requires board { board.now ≡ B.site.board }
         requires chunk { IsChunk (run_of B.site.opened self.old) self.old.writer chunk.number chunk.piece }
         ensures publishes { Publishes self.old self.new }
         ensures images { LeavesOnly (D.history (device_of self.old.writer)) (D.history (device_of self.new.writer)) (IsLeft B.site.opened self.old) }
@@ -226,7 +227,7 @@ impl<B: Site, D: Device> FlushPart<B, D> {
     ///
     /// The answers and refusals are those of the writer's `checkpoint_flip`; a failed device is told on the board.
     pub fn flip(&mut self, board: &Board<Global>) -> Result<FlipReply, Error>
-        requires { board.now ≡ self.old.published.board }
+        requires { board.now ≡ B.site.board }
         ensures publishes { Publishes self.old self.new }
         ensures images { LeavesOnly (D.history (device_of self.old.writer)) (D.history (device_of self.new.writer)) (IsLeft B.site.opened self.old) }
         ensures flipped { IfOk result (λ reply. IsFlipReply (last_handed B.site.opened self.old) reply self.old.writer self.new.writer) }

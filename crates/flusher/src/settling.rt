@@ -4,16 +4,16 @@ ghost use Rattle.store_writer.specs.Parts.{has_failed, synced_of};
 
 use crate::part::FlushPart;
 use board::{Board, View};
-use locked_core::Site;
+use locked_core::Group;
 use sector_device::Device;
 use std::alloc::Global;
 
-impl<B: Site, D: Device> FlushPart<B, D> {
+impl<B: Group, D: Device> FlushPart<B, D> {
     /// Compares what another thread has seen of the board with what was published: no horizon that it has seen is above the last
     /// synced record, and a failed flag that it has seen is true. Nothing changes but the view, which has now seen the horizon and
     /// the failed flag that were published.
     pub fn settle(&mut self, board: &Board<Global>, view: &mut View)
-        requires board { board.now ≡ self.old.published.board }
+        requires board { board.now ≡ B.site.board }
         requires view { view.old.board ≡ board.now }
         ensures same { self.new ≡ self.old }
         ensures horizon { view.old.horizon ≤ self.old.published.horizon }

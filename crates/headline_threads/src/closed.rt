@@ -30,7 +30,6 @@ fn finish_device<B: Group, D: Device, R: Wait>(
     acks: Vec<Ack<B>>,
 ) -> D
     requires seats { AreAllSeats B.site.seats seats.items }
-    requires flush { flush.published.board ≡ B.board }
     ensures some { (image : Image) → IsCrashImage (D.history result).disk image → ∥ GivesSome B.site.opened (halves_of flush.writer).geometry seats.items (popped_by flush) (synced_of flush.writer) image ∥₁ }
     ensures acked { All (λ a. a.ticket.«record» ≤ synced_of flush.writer) acks.items }
 {
@@ -54,7 +53,6 @@ pub fn finish_and_open<B: Group, D: Mortal, R: Wait>(
     acks: Vec<Ack<B>>,
 ) -> Result<Engine<D, Global>, Error>
     requires seats { AreAllSeats B.site.seats seats.items }
-    requires flush { flush.published.board ≡ B.board }
     ensures holds { IfOk result (λ engine. ∥ HoldsSeats B.site.opened.given.table seats.items acks.items (core_of engine) ∥₁) }
     ensures refused { IfErr result (λ e. (e ≡ NoMemory) ⊎ (e ≡ DeviceFailed)) }
 {

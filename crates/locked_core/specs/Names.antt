@@ -12,10 +12,11 @@ use Rattle.sessions.specs.Values.{SessionValue}
 use Rattle.register.specs.Agreement.{IsRegister}
 use Rattle.register.specs.History.{ShowsCommits}
 
--- the queue to the flusher, the registry of the sessions, how many seats there are, and what the core began with
+-- the queue to the flusher, the registry of the sessions, the board, how many seats there are, and what the core began with
 pub record Names : Type 0 where
   pub queue : SegId Global
   pub table : TableId
+  pub board : TableId
   pub seats : ℕ
   pub opened : Opened
 
@@ -28,6 +29,7 @@ abbrev pub no_names : Names
 no_names = record {
   queue = record { web = (0, 0); heap = record { memory = record { seal = tt } } };
   table = no_table;
+  board = no_table;
   seats = 0;
   opened = record { given = record { table = map.empty; entries = map.empty; life = Absent; last = 0 }; pages = 0; places = 0 };
 }

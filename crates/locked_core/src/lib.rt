@@ -12,11 +12,11 @@
 //! Neither: that a record is pushed where the queue would take it.
 #![tactic(auto)]
 
+mod group;
 mod locked;
 mod outbox;
 mod seat;
-mod site;
 
+pub use group::Group;
 pub use locked::Locked;
 pub use seat::SeatPart;
-pub use site::Site;

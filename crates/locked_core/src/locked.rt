@@ -34,9 +34,9 @@ ghost use Rattle.locked_core.specs.Following.{FitPlaces, FollowOpening};
 ghost use Rattle.locked_core.specs.Names.{IsShared};
 ghost use Rattle.registry.specs.Halves.{IsBook, IsNew, shown};
 
+use crate::group::Group;
 use crate::outbox::QueueSink;
 use crate::seat::SeatPart;
-use crate::site::Site;
 use image_model::{Chunk, CopyPlace};
 use model::Life;
 use nsf_core::{BuildReply, CleanReply, Core, Detached, Ticket, Undone};
@@ -51,7 +51,7 @@ use tail::{Popper, Pusher, RecordQueue};
 /// What lies under the lock: the core, the end of the queue that its records go to, and a half of each seat's session. To
 /// a contract it is a `LockedValue`.
 #[derive(Drop)]
-pub struct Locked<B: Site> {
+pub struct Locked<B: Group> {
     core: Core<Global>,
     pusher: Pusher,
     book: Vec<Half>,
@@ -62,7 +62,7 @@ pub struct Locked<B: Site> {
     ghost shared: { ∥ IsShared B.site.opened (value_of core) pusher.records (map shown book.items) ∥₁ },
 }
 
-impl<B: Site> Locked<B> {
+impl<B: Group> Locked<B> {
     ghost use Rattle.locked_core.specs.Locked.{locked_of};
     ghost use Rattle.locked_core.specs.Made.{IsAllOf, run_of};
 

@@ -1,7 +1,7 @@
 //! The sink that pushes to the queue.
 ghost use Rattle.std.specs.Prelude.{◌≡◌};
 
-use crate::site::Site;
+use crate::group::Group;
 use records::{Record, Sink};
 use std::marker::PhantomData;
 use std::sync::Wait;
@@ -9,7 +9,7 @@ use tail::{Pusher, RecordQueue};
 
 // Pushes what it takes to the queue of the seats.
 #[derive(Drop)]
-pub(crate) struct QueueSink<'a, B: Site, R: Wait> {
+pub(crate) struct QueueSink<'a, B: Group, R: Wait> {
     pub(crate) rt: &'a R,
     pub(crate) queue: &'a RecordQueue,
     pub(crate) pusher: &'a mut Pusher,
@@ -18,7 +18,7 @@ pub(crate) struct QueueSink<'a, B: Site, R: Wait> {
     ghost pusher_is: { pusher.now.queue ≡ B.site.queue },
 }
 
-impl<B: Site, R: Wait> Sink for QueueSink<'_, B, R> {
+impl<B: Group, R: Wait> Sink for QueueSink<'_, B, R> {
     ghost taken = { λ s. s.pusher.now.records };
 
     ghost room = { λ s. 0 };

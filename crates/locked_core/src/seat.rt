@@ -2,7 +2,7 @@
 ghost use Rattle.std.specs.Prelude.{◌≡◌, ◌<◌};
 ghost use Rattle.sessions.specs.Values.{empty_session, is_active, is_ready, is_unfinished};
 
-use crate::site::Site;
+use crate::group::Group;
 use records::Txn;
 use registry::Half;
 use sessions::Session;
@@ -11,14 +11,14 @@ use std::marker::{Model, PhantomData};
 
 /// A seat's session, with the half of it that is tied to the one under the lock. To a contract it is a `SeatValue`.
 #[derive(Drop)]
-pub struct SeatPart<B: Site> {
+pub struct SeatPart<B: Group> {
     pub(crate) number: usize,
     pub(crate) session: Session,
     pub(crate) half: Half,
     pub(crate) site: PhantomData<B>,
 }
 
-impl<B: Site> Model for SeatPart<B> {
+impl<B: Group> Model for SeatPart<B> {
     ghost use Rattle.std.specs.Prelude.{◌≡◌, ◌<◌};
     ghost use Rattle.locked_core.specs.Seats.{SeatValue};
 
@@ -29,7 +29,7 @@ impl<B: Site> Model for SeatPart<B> {
     ghost invariant = { λ s. (s.half ≡ record { table = B.site.table; number = s.number; session = s.session }) × (s.number < B.site.seats) };
 }
 
-impl<B: Site> SeatPart<B> {
+impl<B: Group> SeatPart<B> {
     /// The seat of this number, with nothing in its session.
     pub fn new(alloc: Global, number: usize, half: Half) -> SeatPart<B>
         requires half { half ≡ record { table = B.site.table; number = number; session = empty_session } }

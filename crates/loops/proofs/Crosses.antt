@@ -41,9 +41,8 @@ use Rattle.registry.specs.contracts.half.Half as Half
 use Rattle.registry.proofs.half.Half.TheSendSync as half
 use Rattle.registry.proofs.table.Registry.TheSendSync as registry
 use Rattle.board.proofs.board.Board.TheSendSync as board
-use Rattle.locked_core.specs.declared.site.Site as site
+use Rattle.locked_core.specs.declared.group.Group as group
 use Rattle.locked_core.specs.contracts.locked.Locked as Locked
-use Rattle.shared.specs.declared.site.Group as group
 use Rattle.shared.specs.contracts.shared.Shared as Shared
 
 abbrev H : RattleType
@@ -125,15 +124,14 @@ core_parts_send =
 core_send : IsSend (Core.the_field H ghosts).row
 core_send = struct_send (shape (Core.the_type H ghosts)) (core_parts_send, tt)
 
-module _ (B : RattleType) (s : site.Ghosts B.Denot) where
-  locked_send : IsSend (Locked.the_row B s)
-  locked_send = recorded_send (Locked.the_field B s).row _ _ (Locked.the_type B s).to_one (
-      struct_send (shape (Locked.the_type B s)) (core_send, (pusher.the_send, (Vec-send Half.the_row half.the_send, (search sendable depth 6, tt))))
+module _ (B : RattleType) (g : group.Ghosts B.Denot) where
+  locked_send : IsSend (Locked.the_row B g)
+  locked_send = recorded_send (Locked.the_field B g).row _ _ (Locked.the_type B g).to_one (
+      struct_send (shape (Locked.the_type B g)) (core_send, (pusher.the_send, (Vec-send Half.the_row half.the_send, (search sendable depth 6, tt))))
       )
 
-  module _ (g : group.Ghosts B.Denot) where
-    pub shared_sync : IsSync (Shared.the_row B g s)
-    shared_sync = let l = locked_send in
-        recorded_sync (Shared.the_field B g s).row _ _ (Shared.the_type B g s).to_one (
-        struct_sync (shape (Shared.the_type B g s)) (search (crosses, sendable) depth 8, (queue.the_sync, (registry.the_sync, (board.the_sync H ghosts send sync frees, (search sendable depth 6, tt)))))
-        )
+  pub shared_sync : IsSync (Shared.the_row B g)
+  shared_sync = let l = locked_send in
+      recorded_sync (Shared.the_field B g).row _ _ (Shared.the_type B g).to_one (
+      struct_sync (shape (Shared.the_type B g)) (search (crosses, sendable) depth 8, (queue.the_sync, (registry.the_sync, (board.the_sync H ghosts send sync frees, (search sendable depth 6, tt)))))
+      )

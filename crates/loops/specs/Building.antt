@@ -3,7 +3,6 @@ use Rattle.std.specs.Prelude.{◌≡◌, ◌≢◌, ◌⊎◌, ◌<◌, ◌≤�
 use Rattle.records.specs.declared.error.Error.{Error}
 use Rattle.records.specs.declared.error.Error.TheVariants.{NoIndex, NoMemory, Stopped}
 use Rattle.records.specs.declared.pair.Pair.{Pair}
-use Rattle.board.specs.Views.{BuilderCount}
 use Rattle.core_contracts.specs.Events.{Built, Event, Refused, Reply}
 use Rattle.core_contracts.specs.Events as events
 use Rattle.core_model.specs.Histories.{Opened}
@@ -11,6 +10,7 @@ use Rattle.nsf_core.specs.Builds.{built}
 use Rattle.nsf_core.specs.declared.parts.Ticket.{Ticket}
 use Rattle.nsf_core.specs.declared.reply.BuildReply.{BuildReply}
 use Rattle.nsf_core.specs.declared.reply.BuildReply.TheVariants as reply
+use Rattle.shared.specs.Seats.{BuildValue}
 use Rattle.shared.specs.Served.{WasServed}
 use Rattle.loops.specs.declared.build.Outcome.{Outcome}
 use Rattle.loops.specs.declared.build.Outcome.TheVariants.{Done, Refused, Scanned, Attempted, Marked, Nothing}
@@ -32,13 +32,12 @@ pub record HasPublished (o : Opened) (ticket : Ticket) (progress : ℕ) : Type 0
 
 -- A builder that is ended with its clients has gone on so: it completed the index, and has published all attempts; or it was ended, or a
 -- step was refused, but not for want of memory or of an index. What it publishes never goes back, and is the number of attempts then.
-pub record BuildsOn (o : Opened) (old : BuilderCount) (result : Result Ticket Error) (new : BuilderCount) : Type 0 where
+pub record BuildsOn (o : Opened) (old : BuildValue) (result : Result Ticket Error) (new : BuildValue) : Type 0 where
   pub done : IfOk result (λ ticket. ∥ WasServed o Event.Build (built (reply.Done ticket)) ∥₁)
   pub published : IfOk result (λ ticket. ∥ HasPublished o ticket new.progress ∥₁)
   pub why : IfErr result (λ e. (e ≡ Stopped) ⊎ ((e ≢ NoMemory) × (e ≢ NoIndex) × ∥ WasServed o Event.Build (Refused e) ∥₁))
   pub rises : old.progress ≤ new.progress
   pub attempted : old.progress < new.progress → ∥ HasAttempted o new.progress ∥₁
-  pub board : new.board ≡ old.board
 
 -- What a step means to a loop that waits for an index where there is none, or to one that doesn't: the loop ends where the step completed the
 -- index, or where it was refused, but for want of memory, and for want of an index only where the loop doesn't wait for one. (No public clause

@@ -10,10 +10,9 @@ ghost use Rattle.loops.specs.Building.{HasAttempted, HasPublished, HasStepped, I
 
 use crate::gate::{Gate, Point};
 use crate::rest::{Rest, has_ended, leave_room};
-use board::{BuildView, View};
 use nsf_core::{BuildReply, Ticket};
 use records::Error;
-use shared::{Group, Shared};
+use shared::{BuildPart, Group, GroupView, Shared};
 use std::sync::Wait;
 
 /// What a step of the builder means to the loop.
@@ -42,18 +41,15 @@ pub(crate) enum Outcome {
 pub fn build_loop<B: Group, R: Wait, G: Gate>(
     rt: &R,
     shared: &Shared<B>,
-    build: &mut BuildView,
-    view: &mut View,
+    build: &mut BuildPart<B>,
+    view: &mut GroupView<B>,
     gate: &G,
 ) -> Result<Ticket, Error>
-    requires build { build.old.board ≡ B.board }
-    requires view { view.old.board ≡ B.board }
     ensures done { IfOk result (λ ticket. ∥ WasServed B.site.opened Event.Build (built (reply.Done ticket)) ∥₁) }
     ensures published { IfOk result (λ ticket. ∥ HasPublished B.site.opened ticket build.new.progress ∥₁) }
     ensures why { IfErr result (λ e. ((e ≡ Stopped) × IsTrue view.new.stopped) ⊎ ((e ≢ NoMemory) × ∥ WasServed B.site.opened Event.Build (Refused e) ∥₁)) }
     ensures rises { build.old.progress ≤ build.new.progress }
     ensures attempted { build.old.progress < build.new.progress → ∥ HasAttempted B.site.opened build.new.progress ∥₁ }
-    ensures board { build.new.board ≡ build.old.board }
     ensures view { view.new ≡ record view.old { stopped = view.new.stopped } }
 {
     build_until(rt, shared, build, view, gate, None)
@@ -63,19 +59,16 @@ pub fn build_loop<B: Group, R: Wait, G: Gate>(
 pub(crate) fn build_until<B: Group, R: Wait, G: Gate>(
     rt: &R,
     shared: &Shared<B>,
-    build: &mut BuildView,
-    view: &mut View,
+    build: &mut BuildPart<B>,
+    view: &mut GroupView<B>,
     gate: &G,
     run: Option<u64>,
 ) -> Result<Ticket, Error>
-    requires build { build.old.board ≡ B.board }
-    requires view { view.old.board ≡ B.board }
     ensures done { IfOk result (λ ticket. ∥ WasServed B.site.opened Event.Build (built (reply.Done ticket)) ∥₁) }
     ensures published { IfOk result (λ ticket. ∥ HasPublished B.site.opened ticket build.new.progress ∥₁) }
     ensures why { IfErr result (λ e. ((e ≡ Stopped) × (run ≡ None → IsTrue view.new.stopped)) ⊎ ((e ≢ NoMemory) × (is_some run ≡ true → e ≢ NoIndex) × ∥ WasServed B.site.opened Event.Build (Refused e) ∥₁)) }
     ensures rises { build.old.progress ≤ build.new.progress }
     ensures attempted { build.old.progress < build.new.progress → ∥ HasAttempted B.site.opened build.new.progress ∥₁ }
-    ensures board { build.new.board ≡ build.old.board }
     ensures view { view.new ≡ record view.old { stopped = view.new.stopped } }
 {
     let bell = &shared.board().waits().resting;
@@ -86,13 +79,13 @@ pub(crate) fn build_until<B: Group, R: Wait, G: Gate>(
         if has_ended(shared, run) {
             return Err(Error::Stopped);
         }
-        if shared.board().stopped(view) {
+        if view.stopped(shared) {
             return Err(Error::Stopped);
         }
         let (step, attempts) = build_step(rt, shared);
         match outcome_of(step, run.is_some()) {
             Outcome::Done(ticket) => {
-                shared.board().raise_progress(build, attempts);
+                build.raise_progress(shared, attempts);
                 return Ok(ticket);
             }
             Outcome::Refused(error) => return Err(error),
@@ -101,7 +94,7 @@ pub(crate) fn build_until<B: Group, R: Wait, G: Gate>(
                 steps = leave_room(rt, shared, rings, steps);
             }
             Outcome::Attempted => {
-                shared.board().raise_progress(build, attempts);
+                build.raise_progress(shared, attempts);
                 gate.at(Point::BuildAttempt);
                 steps = leave_room(rt, shared, rings, steps);
             }

@@ -7,17 +7,20 @@ ghost use Rattle.shared.specs.Served.{WasServed};
 
 use crate::gate::{Gate, Point};
 use crate::rest::{Rest, has_ended, pause_cleaner};
-use board::View;
 use nsf_core::CleanReply;
 use records::Error;
-use shared::{Group, Shared};
+use shared::{Group, GroupView, Shared};
 use std::sync::Wait;
 
 /// Makes steps of the cleaner, each under the lock anew, until the stop flag is read. What is refused it passes over. After some
 /// steps that removed nothing it leaves room for the others by a pause, and behind a round through the index that removed nothing it
 /// sleeps, longer each time.
-pub fn clean_loop<B: Group, R: Wait, G: Gate>(rt: &R, shared: &Shared<B>, view: &mut View, gate: &G)
-    requires { view.old.board ≡ B.board }
+pub fn clean_loop<B: Group, R: Wait, G: Gate>(
+    rt: &R,
+    shared: &Shared<B>,
+    view: &mut GroupView<B>,
+    gate: &G,
+)
     ensures { view.new ≡ record view.old { stopped = true } }
 {
     clean_until(rt, shared, view, gate, None);
@@ -27,11 +30,10 @@ pub fn clean_loop<B: Group, R: Wait, G: Gate>(rt: &R, shared: &Shared<B>, view: 
 pub(crate) fn clean_until<B: Group, R: Wait, G: Gate>(
     rt: &R,
     shared: &Shared<B>,
-    view: &mut View,
+    view: &mut GroupView<B>,
     gate: &G,
     run: Option<u64>,
 )
-    requires { view.old.board ≡ B.board }
     ensures view { view.new ≡ record view.old { stopped = view.new.stopped } }
     ensures stopped { run ≡ None → view.new.stopped ≡ true }
 {
@@ -43,7 +45,7 @@ pub(crate) fn clean_until<B: Group, R: Wait, G: Gate>(
         if has_ended(shared, run) {
             return;
         }
-        let is_stopped = shared.board().stopped(view);
+        let is_stopped = view.stopped(shared);
         if is_stopped {
             return;
         }

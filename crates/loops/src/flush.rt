@@ -13,12 +13,11 @@ ghost use Rattle.loops.specs.declared.flush.Copying.{Copying as CopyingValue};
 
 use crate::gate::{Gate, Point};
 use crate::rest::{Found, has_ended, rest_flusher};
-use board::View;
 use flusher::FlushPart;
 use image_model::{CHUNK_ENTRIES, Chunk, CopyPlace};
 use records::{Error, Geometry};
 use sector_device::Device;
-use shared::{Group, Shared};
+use shared::{Group, GroupView, Shared};
 use std::alloc::Global;
 use std::sync::Wait;
 use store_writer::{FlipReply, FlushReply, StepReply, kept_place};
@@ -49,11 +48,9 @@ pub fn flush_loop<B: Group, D: Device, R: Wait, G: Gate>(
     rt: &R,
     shared: &Shared<B>,
     part: &mut FlushPart<B, D>,
-    view: &mut View,
+    view: &mut GroupView<B>,
     gate: &G,
 ) -> Result<(), Error>
-    requires part { part.old.published.board ≡ B.board }
-    requires view { view.old.board ≡ B.board }
     ensures goes_on { GoesOn D.history D.failures B.site.opened part.old part.new }
     ensures through { RunsThrough D.history D.failures B.site.opened part.old part.new }
     ensures stopped { OnOk result (IsTrue view.new.stopped × (has_failed part.new.writer ≡ false)) }
@@ -68,12 +65,10 @@ pub(crate) fn flush_until<B: Group, D: Device, R: Wait, G: Gate>(
     rt: &R,
     shared: &Shared<B>,
     part: &mut FlushPart<B, D>,
-    view: &mut View,
+    view: &mut GroupView<B>,
     gate: &G,
     run: Option<u64>,
 ) -> Result<(), Error>
-    requires part { part.old.published.board ≡ B.board }
-    requires view { view.old.board ≡ B.board }
     ensures goes_on { GoesOn D.history D.failures B.site.opened part.old part.new }
     ensures through { RunsThrough D.history D.failures B.site.opened part.old part.new }
     ensures stopped { OnOk result ((run ≡ None → IsTrue view.new.stopped) × (has_failed part.new.writer ≡ false)) }
@@ -94,7 +89,7 @@ pub(crate) fn flush_until<B: Group, D: Device, R: Wait, G: Gate>(
         if has_ended(shared, run) {
             return Ok(());
         }
-        if shared.board().stopped(view) {
+        if view.stopped(shared) {
             return Ok(());
         }
         rounds = rounds.wrapping_add(1);
@@ -146,7 +141,6 @@ fn round<B: Group, D: Device, R: Wait, G: Gate>(
     looks: bool,
     gate: &G,
 ) -> Result<(), Error>
-    requires part { part.old.published.board ≡ B.board }
     requires copying { StandsBy copying.old part.old }
     ensures goes_on { GoesOn D.history D.failures B.site.opened part.old part.new }
     ensures through { RunsThrough D.history D.failures B.site.opened part.old part.new }
@@ -176,7 +170,6 @@ fn copy_some<B: Group, D: Device, R: Wait, G: Gate>(
     is_full: bool,
     gate: &G,
 ) -> Result<(), Error>
-    requires part { part.old.published.board ≡ B.board }
     requires copying { StandsBy copying.old part.old }
     ensures goes_on { GoesOn D.history D.failures B.site.opened part.old part.new }
     ensures through { RunsThrough D.history D.failures B.site.opened part.old part.new }
@@ -239,7 +232,6 @@ fn write<B: Group, D: Device, G: Gate>(
     part: &mut FlushPart<B, D>,
     gate: &G,
 ) -> Result<bool, Error>
-    requires { part.old.published.board ≡ B.board }
     ensures goes_on { GoesOn D.history D.failures B.site.opened part.old part.new }
     ensures through { RunsThrough D.history D.failures B.site.opened part.old part.new }
     ensures copying { (copying : CopyingValue) → StandsBy copying part.old → StandsBy copying part.new }
@@ -265,7 +257,6 @@ fn copy<B: Group, D: Device, R: Wait, G: Gate>(
     is_full: bool,
     gate: &G,
 ) -> Result<(), Error>
-    requires part { part.old.published.board ≡ B.board }
     requires copying { StandsBy copying.old part.old }
     ensures goes_on { GoesOn D.history D.failures B.site.opened part.old part.new }
     ensures through { RunsThrough D.history D.failures B.site.opened part.old part.new }
@@ -298,7 +289,6 @@ fn copy_piece<B: Group, D: Device, R: Wait, G: Gate>(
     place: CopyPlace,
     gate: &G,
 ) -> Result<(), Error>
-    requires part { part.old.published.board ≡ B.board }
     requires copying { StandsBy copying.old part.old }
     requires due { has_failed part.old.writer ≡ false → IsDue (halves_of part.old.writer).geometry.pages place (image_of part.old.writer) }
     ensures goes_on { GoesOn D.history D.failures B.site.opened part.old part.new }
@@ -318,7 +308,6 @@ fn copy_all<B: Group, D: Device, R: Wait, G: Gate>(
     copying: &mut Copying,
     gate: &G,
 ) -> Result<(), Error>
-    requires part { part.old.published.board ≡ B.board }
     requires copying { StandsBy copying.old part.old }
     ensures goes_on { GoesOn D.history D.failures B.site.opened part.old part.new }
     ensures through { RunsThrough D.history D.failures B.site.opened part.old part.new }
@@ -378,7 +367,6 @@ fn take_chunk<B: Group, D: Device>(
     copying: &mut Copying,
     chunk: Chunk<Global>,
 ) -> Result<(), Error>
-    requires part { part.old.published.board ≡ B.board }
     requires copying { StandsBy copying.old part.old }
     requires chunk { IsChunk (run_of B.site.opened part.old) part.old.writer chunk.number chunk.piece }
     requires at { ¬ MustStartAgain chunk.piece part.old.writer → IsAtPiece (halves_of part.old.writer).geometry.pages chunk.piece (image_of part.old.writer) }
@@ -407,7 +395,6 @@ fn flip<B: Group, D: Device>(
     copying: &mut Copying,
     is_full: bool,
 ) -> Result<(), Error>
-    requires part { part.old.published.board ≡ B.board }
     requires copying { StandsBy copying.old part.old }
     ensures goes_on { GoesOn D.history D.failures B.site.opened part.old part.new }
     ensures through { RunsThrough D.history D.failures B.site.opened part.old part.new }

@@ -10,12 +10,11 @@ use crate::build::build_until;
 use crate::clean::clean_until;
 use crate::flush::flush_until;
 use crate::gate::Gate;
-use board::{BuildView, View};
 use flusher::FlushPart;
 use nsf_core::Ticket;
 use records::Error;
 use sector_device::Device;
-use shared::{Group, Seat, Shared};
+use shared::{BuildPart, Group, GroupView, Seat, Shared};
 use std::sync::Wait;
 use std::thread::{Threads, join};
 
@@ -27,7 +26,7 @@ pub struct Ended<B: Group, D: Device, X> {
     /// The seat that the loops had their views from.
     pub seat: Seat<B>,
     pub flush: FlushPart<B, D>,
-    pub build: BuildView,
+    pub build: BuildPart<B>,
     /// How the flusher ended.
     pub flushed: Result<(), Error>,
     /// The ticket of an index that was completed meanwhile, of several that of the last one (which of them, no clause says); else why
@@ -57,12 +56,10 @@ pub fn run_beside<
     shared: &Shared<B>,
     mut seat: Seat<B>,
     flush: FlushPart<B, D>,
-    build: BuildView,
+    build: BuildPart<B>,
     gate: &G,
     clients: F,
 ) -> Ended<B, D, X>
-    requires flush { flush.published.board ≡ B.board }
-    requires build { build.board ≡ B.board }
     requires clients { F.pre clients }
     ensures clients { F.post clients result.clients }
     ensures number { result.seat.number ≡ seat.number }
@@ -82,9 +79,6 @@ pub fn run_beside<
         rt,
         move || flush_until_end(rt, shared, flush, flush_view, gate, run),
         move ||
-            requires build { build.board ≡ B.board }
-            requires clean_view { clean_view.board ≡ B.board }
-            requires build_view { build_view.board ≡ B.board }
             requires clients { F.pre clients }
         {
             clean_beside(
@@ -121,12 +115,10 @@ fn flush_until_end<B: Group, D: Device, R: Wait, G: Gate>(
     rt: &R,
     shared: &Shared<B>,
     mut flush: FlushPart<B, D>,
-    mut view: View,
+    mut view: GroupView<B>,
     gate: &G,
     run: u64,
 ) -> Flushed<B, D>
-    requires flush { flush.published.board ≡ B.board }
-    requires view { view.board ≡ B.board }
     ensures goes_on { GoesOn D.history D.failures B.site.opened flush result.flush }
     ensures through { RunsThrough D.history D.failures B.site.opened flush result.flush }
     ensures sound { OnOk result.ended (has_failed result.flush.writer ≡ false) }
@@ -137,8 +129,8 @@ fn flush_until_end<B: Group, D: Device, R: Wait, G: Gate>(
 }
 
 // How builder and clients ended.
-struct Built<X> {
-    build: BuildView,
+struct Built<B: Group, X> {
+    build: BuildPart<B>,
     ended: Result<Ticket, Error>,
     clients: X,
 }
@@ -153,16 +145,13 @@ fn clean_beside<
 >(
     rt: &R,
     shared: &Shared<B>,
-    build: BuildView,
-    clean_view: View,
-    build_view: View,
+    build: BuildPart<B>,
+    clean_view: GroupView<B>,
+    build_view: GroupView<B>,
     gate: &G,
     run: u64,
     clients: F,
-) -> Built<X>
-    requires build { build.board ≡ B.board }
-    requires clean_view { clean_view.board ≡ B.board }
-    requires build_view { build_view.board ≡ B.board }
+) -> Built<B, X>
     requires clients { F.pre clients }
     ensures clients { F.post clients result.clients }
     ensures builder { BuildsOn B.site.opened build result.ended result.build }
@@ -171,8 +160,6 @@ fn clean_beside<
         rt,
         move || clean_until_end(rt, shared, clean_view, gate, run),
         move ||
-            requires build { build.board ≡ B.board }
-            requires view { build_view.board ≡ B.board }
             requires clients { F.pre clients }
         { build_beside(rt, shared, build, build_view, gate, run, clients) },
     );
@@ -182,12 +169,10 @@ fn clean_beside<
 fn clean_until_end<B: Group, R: Wait, G: Gate>(
     rt: &R,
     shared: &Shared<B>,
-    mut view: View,
+    mut view: GroupView<B>,
     gate: &G,
     run: u64,
-)
-    requires { view.board ≡ B.board }
-{
+) {
     clean_until(rt, shared, &mut view, gate, Some(run));
 }
 
@@ -201,14 +186,12 @@ fn build_beside<
 >(
     rt: &R,
     shared: &Shared<B>,
-    build: BuildView,
-    view: View,
+    build: BuildPart<B>,
+    view: GroupView<B>,
     gate: &G,
     run: u64,
     clients: F,
-) -> Built<X>
-    requires build { build.board ≡ B.board }
-    requires view { view.board ≡ B.board }
+) -> Built<B, X>
     requires clients { F.pre clients }
     ensures clients { F.post clients result.clients }
     ensures builder { BuildsOn B.site.opened build result.ended result.build }
@@ -240,21 +223,19 @@ fn call_and_end<B: Group, X, F: FnOnce() -> X>(shared: &Shared<B>, clients: F) -
 }
 
 // How the builder ended.
-struct Building {
-    build: BuildView,
+struct Building<B: Group> {
+    build: BuildPart<B>,
     ended: Result<Ticket, Error>,
 }
 
 fn build_until_end<B: Group, R: Wait, G: Gate>(
     rt: &R,
     shared: &Shared<B>,
-    mut build: BuildView,
-    mut view: View,
+    mut build: BuildPart<B>,
+    mut view: GroupView<B>,
     gate: &G,
     run: u64,
-) -> Building
-    requires build { build.board ≡ B.board }
-    requires view { view.board ≡ B.board }
+) -> Building<B>
     ensures { BuildsOn B.site.opened build result.ended result.build }
 {
     let mut completed = None;

@@ -5,18 +5,17 @@ ghost use Rattle.core_model.specs.Histories.{Opened};
 ghost use Rattle.store_writer.specs.Parts.{device_of};
 ghost use Rattle.shared.specs.Seats.{AreNewSeats};
 ghost use Rattle.closing.specs.Gathered.{AreAllSeats};
-ghost use Rattle.threads.specs.Openings.{IsNewFlusher, IsNotShared, Opens};
+ghost use Rattle.threads.specs.Openings.{IsNotShared, Opens};
 ghost use Rattle.threads.specs.declared.refusal.OpenError.TheVariants.{Refused};
 ghost use Rattle.nsf.specs.Serving.{HasRoom, KeepsSeat, LeavesCommits};
 
-use board::BuildView;
 use closing::finish;
 use flusher::FlushPart;
 use loops::{Ended, NoGate, run_beside};
 use nsf_core::Ticket;
 use records::Error;
 use sector_device::Device;
-use shared::{Group, Seat, Shared};
+use shared::{BuildPart, Group, Seat, Shared};
 use std::alloc::{AllocError, Global};
 use std::marker::Brand;
 use std::sync::Wait;
@@ -81,7 +80,6 @@ fn begin<
     clients: Vec<C>,
 ) -> Result<Served<C, D>, (OpenError, D)>
     requires names { store.site ≡ B.site }
-    requires board { store.board ≡ B.board }
     requires some { 0 < B.site.seats }
     ensures leaves { IfOk result (λ s. LeavesCommits D.history B.site.opened s.device s.written) }
     ensures clients { IfOk result (λ s. vec_len s.clients ≡ vec_len clients) }
@@ -206,14 +204,11 @@ fn run_all<
     desks: Vec<Desk<B, C>>,
     last: Seat<B>,
     flush: FlushPart<B, D>,
-    build: BuildView,
+    build: BuildPart<B>,
 ) -> Ended<B, D, Vec<Desk<B, C>>>
-    requires flush { flush.published.board ≡ B.board }
-    requires build { build.board ≡ B.board }
     ensures len { vec_len result.clients ≡ vec_len desks }
     ensures seats { (k : ℕ) (d : _) → k < vec_len desks → KeepsSeat (slice_index_or desks.items k d).seat (slice_index_or result.clients.items k d).seat }
     ensures last { result.seat.number ≡ last.number }
-    ensures board { result.flush.published.board ≡ B.board }
 {
     run_beside(
         rt,
@@ -238,7 +233,6 @@ fn close<B: Group, D: Device, R: Wait>(
     flush: FlushPart<B, D>,
 ) -> (D, Result<(), Error>)
     requires seats { AreAllSeats B.site.seats seats.items }
-    requires flush { flush.published.board ≡ B.board }
     ensures { LeavesCommits D.history B.site.opened result.0 result.1 }
 {
     match finish(rt, alloc, shared, seats, flush, Vec::new(alloc)) {
@@ -256,7 +250,6 @@ fn end<B: Group, C: Drop, D: Device, R: Wait>(
     room: Room<B, C>,
 ) -> Served<C, D>
     requires seats { AreAllSeats B.site.seats (map (λ d. d.seat) ended.clients.items ++ ended.seat ∷ []) }
-    requires flush { ended.flush.published.board ≡ B.board }
     requires room { HasRoom room.clients (vec_len ended.clients) }
     requires places { HasRoom room.seats (vec_len ended.clients + 1) }
     ensures leaves { LeavesCommits D.history B.site.opened result.device result.written }
@@ -308,10 +301,8 @@ fn seat_all<
     parts: Parts<B, D>,
     clients: Vec<C>,
 ) -> Result<Served<C, D>, D>
-    requires seats { AreNewSeats B.board B.site.seats parts.seats.items }
+    requires seats { AreNewSeats B.site.board B.site.seats parts.seats.items }
     requires some { 0 < B.site.seats }
-    requires flush { IsNewFlusher B.board B.site.opened parts.flush }
-    requires build { parts.build.board ≡ B.board }
     ensures leaves { IfOk result (λ s. LeavesCommits D.history B.site.opened s.device s.written) }
     ensures clients { IfOk result (λ s. vec_len s.clients ≡ vec_len clients) }
     ensures back { IfErr result (λ d. d ≡ device_of parts.flush.writer) }

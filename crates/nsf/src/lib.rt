@@ -76,11 +76,8 @@
 //! the group's names are, as here for a function `work`:
 //!
 //! ```antt
-//! abbrev pub ghosts-work-B-Site : goal.ghosts-work-B-Site
-//! ghosts-work-B-Site g a = record { site = a.store.site }
-//!
-//! abbrev pub ghosts-work-B-Group : goal.ghosts-work-B-Group
-//! ghosts-work-B-Group g a = record { board = a.store.board }
+//! abbrev pub ghosts-work : goal.ghosts-work
+//! ghosts-work g a = record { site = a.store.site }
 //! ```
 //!
 //! That what is shared may go to other threads is `Rattle.nsf.proofs.Crosses.shared_sync`.
@@ -95,7 +92,6 @@
 
 mod clients;
 
-pub use board::{BuildView, View};
 pub use clients::{Client, Served, serve};
 pub use closing::{Closed, finish};
 pub use file_disk as file;
@@ -109,5 +105,5 @@ pub use records::{
 pub use restart::{Engine, Event, Reply, restart};
 pub use sector_device::{Device, Failed, Fate, FaultDisk, MemDisk, Which};
 pub use sessions::Commit;
-pub use shared::{Ack, Change, Group, Seat, Shared};
+pub use shared::{Ack, BuildPart, Change, Group, GroupView, Seat, Shared};
 pub use threads::{OpenError, OpenStore, Parts, format_store, open_engine, open_store};

@@ -24,7 +24,7 @@ pub record IsJustOpened (v : CoreValue) : Type 0 where
 
 -- the names of what is made for the seats
 abbrev pub names_of : Opening → Names
-names_of o = record { queue = o.queue; table = o.registry; seats = length o.book.items; opened = opened_of (value_of o.core) }
+names_of o = record { queue = o.queue; table = o.registry; board = o.board; seats = length o.book.items; opened = opened_of (value_of o.core) }
 
 -- so many sessions, with nothing in them, the queue with nothing pushed or popped, and the views of the board with nothing seen
 pub record IsOpening (count : ℕ) (o : Opening) : Type 0 where

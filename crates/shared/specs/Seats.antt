@@ -1,4 +1,4 @@
--- What contracts see of a seat and of an acknowledgement.
+-- What contracts see of a seat, of an acknowledgement, and of the builder's part.
 use Rattle.std.specs.Prelude.{[], List, slice_get, Some, length, ℕ, ◌≡◌}
 use Rattle.atomic_table.specs.Seated.{TableId}
 use Rattle.board.specs.Views.{nothing_seen, Sighting}
@@ -15,6 +15,10 @@ pub record SeatValue : Type 0 where
 pub record AckValue : Type 0 where
   pub ticket : Ticket
   pub sight : Sighting
+
+-- the builder's part: how many attempts it has published
+pub record BuildValue : Type 0 where
+  pub progress : ℕ
 
 -- the view of a board, whatever its name, has seen nothing
 abbrev pub HasSeenNothing : TableId → Sighting → Type 0

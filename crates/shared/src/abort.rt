@@ -9,7 +9,7 @@ ghost use Rattle.shared.specs.Served.{HasUndone, WasAborted, WasServedTo, WasTak
 
 use crate::seat::Seat;
 use crate::shared::Shared;
-use crate::site::Group;
+use locked_core::Group;
 use records::{Error, Txn};
 use std::sync::Wait;
 

@@ -5,7 +5,7 @@ ghost use Rattle.shared.specs.Waits.{HasReadWhy};
 
 use crate::seat::{Ack, Seat};
 use crate::shared::Shared;
-use crate::site::Group;
+use locked_core::Group;
 use nsf_core::Ticket;
 use records::Error;
 use std::hint;

@@ -12,7 +12,7 @@ ghost use Rattle.shared.specs.Served.{WasServed, WasServedTo};
 
 use crate::seat::Seat;
 use crate::shared::Shared;
-use crate::site::Group;
+use locked_core::Group;
 use model::Life;
 use nsf_core::Ticket;
 use records::{Error, Key, Rid, Row, Txn};

@@ -10,7 +10,7 @@ ghost use Rattle.shared.specs.Served.{WasChanged, WasServedTo};
 
 use crate::seat::Seat;
 use crate::shared::Shared;
-use crate::site::Group;
+use locked_core::Group;
 use records::{Body, Error, Key, Rid, Txn};
 use std::sync::Wait;
 

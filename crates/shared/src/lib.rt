@@ -13,20 +13,22 @@
 
 mod abort;
 mod acks;
+mod builder;
 mod calls;
 mod changes;
 mod laws;
 mod opening;
 mod seat;
 mod shared;
-mod site;
 mod taken_back;
 mod tested;
 mod views;
 
+pub use builder::BuildPart;
 pub use changes::Change;
 pub use laws::each_refusal;
+pub use locked_core::Group;
 pub use opening::{Opening, Parts, open};
 pub use seat::{Ack, Seat};
 pub use shared::Shared;
-pub use site::Group;
+pub use views::GroupView;

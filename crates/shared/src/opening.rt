@@ -7,12 +7,12 @@ ghost use Rattle.registry.specs.Halves.{IsNew};
 ghost use Rattle.shared.specs.Openings.{IsJustOpened, IsOpening, names_of};
 ghost use Rattle.shared.specs.Seats.{AreNewSeats};
 
+use crate::builder::BuildPart;
 use crate::seat::Seat;
 use crate::shared::Shared;
-use crate::site::Group;
 use board::{Board, BuildView, FlushView, View};
 use flusher::FlushEnds;
-use locked_core::{Locked, SeatPart};
+use locked_core::{Group, Locked, SeatPart};
 use nsf_core::Core;
 use records::Error;
 use registry::{Half, Registry};
@@ -38,12 +38,12 @@ pub struct Opening {
     pub(crate) view: View,
 }
 
-/// What the threads are given: the seats, what the flusher's part is made of, and the builder's view.
+/// What the threads are given: the seats, what the flusher's part is made of, and the builder's part.
 #[derive(Drop)]
 pub struct Parts<B: Group> {
     pub seats: Vec<Seat<B>>,
     pub ends: FlushEnds,
-    pub build: BuildView,
+    pub build: BuildPart<B>,
 }
 
 /// Makes what so many threads with a seat each share.
@@ -79,13 +79,12 @@ impl Opening {
     /// The one error is `NoMemory`.
     pub fn start<B: Group>(self) -> Result<(Shared<B>, Parts<B>), Error>
         requires names { names_of self ≡ B.site }
-        requires board { self.board ≡ B.board }
         requires made { IsOpening B.site.seats self }
         requires opened { IsJustOpened (value_of self.core) }
-        ensures seats { IfOk result (λ r. AreNewSeats B.board B.site.seats r.1.seats.items) }
+        ensures seats { IfOk result (λ r. AreNewSeats B.site.board B.site.seats r.1.seats.items) }
         ensures popper { IfOk result (λ r. r.1.ends.popper ≡ record { queue = B.site.queue; records = [] }) }
-        ensures flush { IfOk result (λ r. r.1.ends.published ≡ record { board = B.board; horizon = 0; failed = false }) }
-        ensures build { IfOk result (λ r. r.1.build ≡ record { board = B.board; progress = 0 }) }
+        ensures flush { IfOk result (λ r. r.1.ends.published ≡ record { board = B.site.board; horizon = 0; failed = false }) }
+        ensures build { IfOk result (λ r. r.1.build ≡ record { progress = 0 }) }
         ensures no_memory { IfErr result (λ e. e ≡ NoMemory) }
     {
         let Opening {
@@ -114,7 +113,10 @@ impl Opening {
         let parts = Parts {
             seats,
             ends: FlushEnds::new(popper, flush),
-            build,
+            build: BuildPart {
+                view: build,
+                site: PhantomData,
+            },
         };
         Ok((shared, parts))
     }
@@ -127,11 +129,11 @@ fn seats_of<B: Group>(
     mut view: View,
     halves: Vec<Half>,
 ) -> Result<Vec<Seat<B>>, Error>
-    requires board { board.now ≡ B.board }
-    requires view { view ≡ nothing_seen B.board }
+    requires board { board.now ≡ B.site.board }
+    requires view { view ≡ nothing_seen B.site.board }
     requires counted { length halves.items ≡ B.site.seats }
     requires halves { IsNew B.site.table halves.items }
-    ensures seats { IfOk result (λ v. AreNewSeats B.board B.site.seats v.items) }
+    ensures seats { IfOk result (λ v. AreNewSeats B.site.board B.site.seats v.items) }
     ensures no_memory { IfErr result (λ e. e ≡ NoMemory) }
 {
     let mut seats = Vec::with_capacity(alloc, halves.len())?;

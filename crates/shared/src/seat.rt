@@ -1,9 +1,8 @@
 //! A seat, and what it is given for a ticket.
 ghost use Rattle.std.specs.Prelude.{◌≡◌};
 
-use crate::site::Group;
 use board::View;
-use locked_core::SeatPart;
+use locked_core::{Group, SeatPart};
 use nsf_core::Ticket;
 use records::Txn;
 use std::marker::{Model, PhantomData};
@@ -23,7 +22,7 @@ impl<B: Group> Model for Seat<B> {
 
     ghost view = { λ s. record { number = s.part.number; session = s.part.session; sight = s.view } };
 
-    ghost invariant = { λ s. s.view.board ≡ B.board };
+    ghost invariant = { λ s. s.view.board ≡ B.site.board };
 }
 
 /// Says that the record of a ticket is safe on the device. To a contract it is an `AckValue`.
@@ -42,7 +41,7 @@ impl<B: Group> Model for Ack<B> {
 
     ghost view = { λ a. record { ticket = a.ticket; sight = a.view } };
 
-    ghost invariant = { λ a. (a.view.board ≡ B.board) × (a.ticket.«record» ≤ a.view.horizon) };
+    ghost invariant = { λ a. (a.view.board ≡ B.site.board) × (a.ticket.«record» ≤ a.view.horizon) };
 }
 
 impl<B: Group> Seat<B> {

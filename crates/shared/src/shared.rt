@@ -1,9 +1,8 @@
 //! What the threads share.
 ghost use Rattle.std.specs.Prelude.{◌≡◌};
 
-use crate::site::Group;
 use board::Board;
-use locked_core::Locked;
+use locked_core::{Group, Locked};
 use registry::Registry;
 use std::alloc::Global;
 use std::marker::PhantomData;
@@ -29,7 +28,7 @@ pub struct Shared<B: Group> {
     pub(crate) site: PhantomData<B>,
     ghost queue_is: { queue ≡ B.site.queue },
     ghost registry_is: { registry ≡ B.site.table },
-    ghost board_is: { board ≡ B.board },
+    ghost board_is: { board ≡ B.site.board },
 }
 
 impl<B: Group> Shared<B> {
@@ -47,7 +46,7 @@ impl<B: Group> Shared<B> {
 
     /// The board.
     pub fn board(&self) -> &Board<Global>
-        ensures { result.now ≡ B.board }
+        ensures { result.now ≡ B.site.board }
     {
         &self.board
     }
@@ -104,7 +103,7 @@ impl<B: Group> Shared<B> {
     pub fn into_parts(self) -> (Locked<B>, RecordQueue, Registry, Board<Global>)
         ensures queue { result.1 ≡ B.site.queue }
         ensures registry { result.2 ≡ B.site.table }
-        ensures board { result.3 ≡ B.board }
+        ensures board { result.3 ≡ B.site.board }
     {
         let Shared {
             locked,

@@ -3,9 +3,8 @@ ghost use Rattle.std.specs.Prelude.{◌≡◌, ◌≤◌, Some, slice_get};
 ghost use Rattle.locked_core.specs.Locked.{locked_of};
 
 use crate::seat::{Ack, Seat};
-use crate::site::Group;
 use board::View;
-use locked_core::Locked;
+use locked_core::{Group, Locked};
 use registry::Registry;
 use sessions::Session;
 
@@ -33,7 +32,7 @@ impl<B: Group> Ack<B> {
     /// The view of the board that saw a horizon which reached the ticket's record.
     pub fn into_view(self) -> View
         ensures view { result ≡ self.sight }
-        ensures board { result.board ≡ B.board }
+        ensures board { result.board ≡ B.site.board }
         ensures reached { self.ticket.«record» ≤ result.horizon }
     {
         let Ack {

@@ -11,7 +11,7 @@ ghost use Rattle.shared.specs.Served.{WasChanged, WasServedTo};
 use crate::changes::Change;
 use crate::seat::Seat;
 use crate::shared::Shared;
-use crate::site::Group;
+use locked_core::Group;
 use nsf_core::Ticket;
 use records::{Body, Error, Key, Rid, Txn};
 use std::sync::Wait;

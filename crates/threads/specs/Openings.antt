@@ -69,11 +69,10 @@ pub record IsNewWriter {D : Type 0} (history : D → History) (o : Opened) (w : 
   pub empty : (log_of w).open_slots ≡ 0
   pub idle : image_of w ≡ None
 
--- A store that is open, before its threads have it: what its seats, its queue and their table are called, with what it was opened
--- with; what its board is called; and its device.
+-- A store that is open, before its threads have it: what its seats, its queue, their table and its board are called, with what it
+-- was opened with; and its device.
 pub record StoreValue (D : Type 0) : Type 0 where
   pub site : Names
-  pub board : TableId
   pub device : D
 
 -- So many seats are open over what the device gave, which is sound, and was written back as a restart does it; no call of the device

@@ -54,16 +54,15 @@ pub fn open_store<D: Device>(
 
 impl<D: Device> OpenStore<D> {
     /// What the threads share, and what each of them has: new seats, each at its number; the part of the flusher, which has popped
-    /// nothing, over the device with all of it synced, an empty log and no image under way; and the builder's view.
+    /// nothing, over the device with all of it synced, an empty log and no image under way; and the builder's part.
     ///
     /// The one error is `NoMemory`, and the device is given back then, as it is.
     pub fn start<B: Group>(self) -> Result<(Shared<B>, Parts<B, D>), (Error, D)>
         requires names { self.site ≡ B.site }
-        requires board { self.board ≡ B.board }
-        ensures seats { IfOk result (λ r. AreNewSeats B.board B.site.seats r.1.seats.items) }
-        ensures flush { IfOk result (λ r. IsNewFlusher B.board B.site.opened r.1.flush) }
+        ensures seats { IfOk result (λ r. AreNewSeats B.site.board B.site.seats r.1.seats.items) }
+        ensures flush { IfOk result (λ r. IsNewFlusher B.site.board B.site.opened r.1.flush) }
         ensures device { IfOk result (λ r. device_of r.1.flush.writer ≡ self.device) }
-        ensures build { IfOk result (λ r. r.1.build ≡ record { board = B.board; progress = 0 }) }
+        ensures build { IfOk result (λ r. r.1.build ≡ record { progress = 0 }) }
         ensures no_memory { IfErr result (λ r. r.0 ≡ NoMemory) }
         ensures back { IfErr result (λ r. r.1 ≡ self.device) }
     {

@@ -1,13 +1,12 @@
 //! What the threads are given, each its part.
-use board::BuildView;
 use flusher::FlushPart;
 use sector_device::Device;
-use shared::{Group, Seat};
+use shared::{BuildPart, Group, Seat};
 
-/// The seats, the part of the flusher, which owns the device, and the builder's view of the board.
+/// The seats, the part of the flusher, which owns the device, and the builder's.
 #[derive(Drop)]
 pub struct Parts<B: Group, D: Device> {
     pub seats: Vec<Seat<B>>,
     pub flush: FlushPart<B, D>,
-    pub build: BuildView,
+    pub build: BuildPart<B>,
 }

@@ -28,7 +28,7 @@ impl<D: Device> Model for OpenStore<D> {
 
     ghost coded = { Prim.hlevel (codes, map.code) };
 
-    ghost view = { λ s. record { site = names_of s.opening; board = s.opening.board; device = device_of s.writer } };
+    ghost view = { λ s. record { site = names_of s.opening; device = device_of s.writer } };
 
     ghost invariant = { λ s. IsOpening (length s.opening.book.items) s.opening × IsJustOpened (value_of s.opening.core) × IsNewWriter D.history (opened_of (value_of s.opening.core)) s.writer };
 }

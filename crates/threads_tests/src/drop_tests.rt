@@ -2,13 +2,12 @@
 ghost use Rattle.std.specs.Prelude.{◌≡◌};
 
 use crate::example::formatted;
-use board::BuildView;
 use demonstration::set_up;
 use loops::{Gate, Point, build_loop};
 use nsf_core::Ticket;
 use records::{Error, Geometry};
 use sector_device::{Device, MemDisk};
-use shared::{Group, Seat, Shared};
+use shared::{BuildPart, Group, Seat, Shared};
 use std::alloc::Global;
 use std::cell::Cell;
 use std::marker::Brand;
@@ -45,10 +44,8 @@ fn build<B: Group, R: Wait>(
     rt: &R,
     shared: &Shared<B>,
     mut seat: Seat<B>,
-    mut build: BuildView,
-) -> Result<Ended, Error>
-    requires { build.board ≡ B.board }
-{
+    mut build: BuildPart<B>,
+) -> Result<Ended, Error> {
     set_up(rt, shared, &mut seat)?;
     let mut view = shared.another_view(&mut seat);
     let gate = DropsIndex {
@@ -65,9 +62,7 @@ fn build_with<B: Group, D: Device + Drop, R: Wait>(
     rt: &R,
     shared: &Shared<B>,
     parts: Parts<B, D>,
-) -> Result<Ended, Error>
-    requires { parts.build.board ≡ B.board }
-{
+) -> Result<Ended, Error> {
     let Parts {
         mut seats,
         build: view,
@@ -84,7 +79,6 @@ fn build_in<B: Group, D: Device + Drop, R: Wait>(
     store: OpenStore<D>,
 ) -> Result<Ended, Error>
     requires names { store.site ≡ B.site }
-    requires board { store.board ≡ B.board }
 {
     match store.start::<B>() {
         Ok((shared, parts)) => build_with(rt, &shared, parts),

@@ -2,14 +2,13 @@
 //! power fails, and the rows are there, with their entries. So it is of a store that an engine served before.
 ghost use Rattle.std.specs.Prelude.{◌≡◌};
 
-use board::BuildView;
 use demonstration::{Found, look};
 use flusher::FlushPart;
 use loops::{Ended, NoGate, run_beside};
 use records::{Body, Error, Geometry, Key};
 use restart::{Engine, Event, Reply, restart};
 use sector_device::{Device, Fate, MemDisk};
-use shared::{Group, Seat, Shared};
+use shared::{BuildPart, Group, Seat, Shared};
 use std::alloc::Global;
 use std::marker::Brand;
 use std::sync::Wait;
@@ -23,7 +22,7 @@ struct AtRest<B: Group, D: Device> {
     seat: Seat<B>,
     client: Seat<B>,
     flush: FlushPart<B, D>,
-    build: BuildView,
+    build: BuildPart<B>,
 }
 
 // The seat that put a row, and whether it was refused something.
@@ -69,12 +68,7 @@ fn put_beside<B: Group + Send + Sync, D: Device + Send + Drop, R: Threads + Wait
     shared: &Shared<B>,
     threads: AtRest<B, D>,
     key: Key,
-) -> Ended<B, D, Client<B>>
-    requires flush { threads.flush.published.board ≡ B.board }
-    requires build { threads.build.board ≡ B.board }
-    ensures flush { result.flush.published.board ≡ B.board }
-    ensures build { result.build.board ≡ B.board }
-{
+) -> Ended<B, D, Client<B>> {
     let AtRest {
         seat,
         client,
@@ -104,10 +98,7 @@ fn put_both<B: Group + Send + Sync, D: Device + Send + Drop, R: Threads + Wait +
     shared: &Shared<B>,
     threads: AtRest<B, D>,
     keys: (Key, Key),
-) -> Result<D, Error>
-    requires flush { threads.flush.published.board ≡ B.board }
-    requires build { threads.build.board ≡ B.board }
-{
+) -> Result<D, Error> {
     let (first, second) = keys;
     let Ended {
         clients: Client { seat: client, done },
@@ -163,10 +154,7 @@ fn work<B: Group + Send + Sync, D: Device + Send + Drop, R: Threads + Wait + Syn
     shared: &Shared<B>,
     parts: Parts<B, D>,
     keys: (Key, Key),
-) -> Result<D, Error>
-    requires flush { parts.flush.published.board ≡ B.board }
-    requires build { parts.build.board ≡ B.board }
-{
+) -> Result<D, Error> {
     let Parts {
         mut seats,
         flush,
@@ -192,7 +180,6 @@ fn serve<B: Group + Send + Sync, D: Device + Send + Drop, R: Threads + Wait + Sy
     keys: (Key, Key),
 ) -> Result<D, Error>
     requires names { store.site ≡ B.site }
-    requires board { store.board ≡ B.board }
 {
     match store.start::<B>() {
         Ok((shared, parts)) => work(rt, &shared, parts, keys),

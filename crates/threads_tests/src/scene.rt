@@ -4,12 +4,11 @@ ghost use Rattle.std.specs.Prelude.{◌≡◌};
 use crate::found::{behind_crash, failing};
 use crate::seats::{Built, Cast, Told, Writer, cast_of, end, gather, write_all};
 use crate::stage::{HeldDisk, Stage};
-use board::BuildView;
 use flusher::FlushPart;
 use loops::{Ended, run_beside};
 use records::Error;
 use sector_device::Device;
-use shared::{Group, Seat, Shared};
+use shared::{BuildPart, Group, Seat, Shared};
 use std::alloc::Global;
 use std::marker::Brand;
 use std::rt::Clock;
@@ -89,12 +88,9 @@ fn run_loops<B: Group + Send + Sync, D: Device + Send + Drop, R: Threads + Wait 
     shared: &Shared<B>,
     cast: Cast<B>,
     flush: FlushPart<B, D>,
-    build: BuildView,
+    build: BuildPart<B>,
     stage: &Stage<'_, R>,
-) -> Ended<B, D, Result<Played, Error>>
-    requires flush { flush.published.board ≡ B.board }
-    requires build { build.board ≡ B.board }
-{
+) -> Ended<B, D, Result<Played, Error>> {
     let Cast {
         writers,
         seat,
@@ -127,10 +123,7 @@ fn play_with<B: Group + Send + Sync, D: Device + Send + Drop, R: Threads + Wait 
     shared: &Shared<B>,
     parts: Parts<B, D>,
     stage: &Stage<'_, R>,
-) -> Result<Left<D>, Error>
-    requires flush { parts.flush.published.board ≡ B.board }
-    requires build { parts.build.board ≡ B.board }
-{
+) -> Result<Left<D>, Error> {
     let Parts {
         mut seats,
         flush,
@@ -154,7 +147,6 @@ fn play_in<B: Group + Send + Sync, D: Device + Send + Drop, R: Threads + Wait + 
     stage: &Stage<'_, R>,
 ) -> Result<Left<D>, Error>
     requires names { store.site ≡ B.site }
-    requires board { store.board ≡ B.board }
 {
     match store.start::<B>() {
         Ok((shared, parts)) => play_with(rt, alloc, &shared, parts, stage),

@@ -9,5 +9,5 @@ use Rattle.bench_threads.proofs.rounds.run_loops.Goals as goal
 pub run_beside-requires-send-F : goal.run_beside-requires-send-F
 run_beside-requires-send-F g c κs within =
     let r = c.type_bounds.sync-R in
-    let s = shared_sync (param 0 g.row.B) g.B.Site g.B.Group in
+    let s = shared_sync (param 0 g.row.B) g.B.Group in
     search (client.the_send, plan.the_send, sendable, crosses) depth 20

@@ -15,7 +15,7 @@ pub returns-in-Ok-clause-commits : goal.returns-in-Ok-clause-commits
 returns-in-Ok-clause-commits g c =
     let history = g.D.Device.history in
     let failures = g.D.Device.failures in
-    let z = g.B.Site.site in
+    let z = g.B.Group.site in
     let old = c.args.flush in
     let f = c.close.new.flush in
     let seats = c.args.seats.items in
@@ -35,7 +35,7 @@ pub returns-in-Ok-clause-core : goal.returns-in-Ok-clause-core
 returns-in-Ok-clause-core g c =
     let history = g.D.Device.history in
     let failures = g.D.Device.failures in
-    let z = g.B.Site.site in
+    let z = g.B.Group.site in
     let old = c.args.flush in
     let f = c.close.new.flush in
     let seats = c.args.seats.items in
@@ -55,7 +55,7 @@ pub returns-in-Ok-clause-device : goal.returns-in-Ok-clause-device
 returns-in-Ok-clause-device g c =
     let history = g.D.Device.history in
     let failures = g.D.Device.failures in
-    let z = g.B.Site.site in
+    let z = g.B.Group.site in
     let old = c.args.flush in
     let f = c.close.new.flush in
     let seats = c.args.seats.items in
@@ -76,7 +76,7 @@ pub returns-in-Ok-clause-horizon : goal.returns-in-Ok-clause-horizon
 returns-in-Ok-clause-horizon g c =
     let history = g.D.Device.history in
     let failures = g.D.Device.failures in
-    let z = g.B.Site.site in
+    let z = g.B.Group.site in
     let old = c.args.flush in
     let f = c.close.new.flush in
     let seats = c.args.seats.items in
@@ -94,7 +94,7 @@ returns-in-Ok-clause-horizon g c =
 
 pub returns-in-Ok-clause-sound : goal.returns-in-Ok-clause-sound
 returns-in-Ok-clause-sound g c =
-    let z = g.B.Site.site in
+    let z = g.B.Group.site in
     let writes : WritesOn g.D.Device.history g.D.Device.failures z.opened c.args.flush c.close.new.flush =
     subst (λ (x : FlushValue _). WritesOn g.D.Device.history g.D.Device.failures z.opened x c.close.new.flush) c.settle_all.ensures.same c.close.ensures.writes in
     writes.stays c.in-Ok.ensures.sound
@@ -103,7 +103,7 @@ pub returns-in-Ok-clause-images : goal.returns-in-Ok-clause-images
 returns-in-Ok-clause-images g c =
     let history = g.D.Device.history in
     let failures = g.D.Device.failures in
-    let z = g.B.Site.site in
+    let z = g.B.Group.site in
     let old = c.args.flush in
     let f = c.close.new.flush in
     let seats = c.args.seats.items in
@@ -120,7 +120,7 @@ pub returns-in-Err-clause-left : goal.returns-in-Err-clause-left
 returns-in-Err-clause-left g c =
     let history = g.D.Device.history in
     let failures = g.D.Device.failures in
-    let z = g.B.Site.site in
+    let z = g.B.Group.site in
     let old = c.args.flush in
     let f = c.close.new.flush in
     let seats = c.args.seats.items in
@@ -137,7 +137,7 @@ pub returns-in-Err-clause-err : goal.returns-in-Err-clause-err
 returns-in-Err-clause-err g c =
     let history = g.D.Device.history in
     let failures = g.D.Device.failures in
-    let z = g.B.Site.site in
+    let z = g.B.Group.site in
     let old = c.args.flush in
     let f = c.close.new.flush in
     let seats = c.args.seats.items in
@@ -152,7 +152,7 @@ returns-in-Err-clause-err g c =
 
 pub returns-in-Err-clause-later : goal.returns-in-Err-clause-later
 returns-in-Err-clause-later g c =
-    let z = g.B.Site.site in
+    let z = g.B.Group.site in
     let writes : WritesOn g.D.Device.history g.D.Device.failures z.opened c.args.flush c.close.new.flush =
     subst (λ (x : FlushValue _). WritesOn g.D.Device.history g.D.Device.failures z.opened x c.close.new.flush) c.settle_all.ensures.same c.close.ensures.writes in
     subst (λ d. g.D.Device.failures (device_of c.args.flush.writer) ≤ g.D.Device.failures d) (sym c.into_parts-rest.ensures.device) writes.later

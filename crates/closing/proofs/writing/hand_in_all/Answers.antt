@@ -15,7 +15,7 @@ returns-then-all-clause-all g c =
     let now = locked_of c.loop.locked in
     let same : now ≡ was = c.loop.invariant.same in
     let none : was.core.outbox ≡ [] = c.push_outbox.ensures.none_waits.0 c.if-not-push_outbox.false in
-    let made : was.core.last ≡ g.B.Site.site.opened.given.last + length (now.pushed ++ now.core.outbox) =
-    c.each_hold.ensures.last (halves_of c.loop.flush.writer).geometry ∙ sym (ap (λ (l : LockedValue). g.B.Site.site.opened.given.last + length (l.pushed ++ l.core.outbox)) same) in
-    begins_all c.loop.flush.handed now.pushed now.core.outbox g.B.Site.site.opened.given.last _ c.loop.invariant.begins (ap (λ (l : LockedValue). l.core.outbox) same ∙ none) (c.in_ok-last.ensures.number ∙ made)
+    let made : was.core.last ≡ g.B.Group.site.opened.given.last + length (now.pushed ++ now.core.outbox) =
+    c.each_hold.ensures.last (halves_of c.loop.flush.writer).geometry ∙ sym (ap (λ (l : LockedValue). g.B.Group.site.opened.given.last + length (l.pushed ++ l.core.outbox)) same) in
+    begins_all c.loop.flush.handed now.pushed now.core.outbox g.B.Group.site.opened.given.last _ c.loop.invariant.begins (ap (λ (l : LockedValue). l.core.outbox) same ∙ none) (c.in_ok-last.ensures.number ∙ made)
     (sym c.last_handed.ensures ∙ c.if-all.true)

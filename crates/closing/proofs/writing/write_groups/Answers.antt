@@ -6,13 +6,13 @@ use Rattle.closing.proofs.Going.{quiet_flush, writes_by_call, writes_nothing, wr
 use Rattle.closing.proofs.writing.write_groups.Goals as goal
 
 pub loop-flush-init : goal.loop-flush-init
-loop-flush-init g c = record { writes = writes_nothing g.D.Device.history g.D.Device.failures g.B.Site.site.opened c.args.flush.now c.stands.ensures; handed = refl }
+loop-flush-init g c = record { writes = writes_nothing g.D.Device.history g.D.Device.failures g.B.Group.site.opened c.args.flush.now c.stands.ensures; handed = refl }
 
 pub returns-in_err-flush-clause-writes : goal.returns-in_err-flush-clause-writes
 returns-in_err-flush-clause-writes g c =
     let history = g.D.Device.history in
     let failures = g.D.Device.failures in
-    let o = g.B.Site.site.opened in
+    let o = g.B.Group.site.opened in
     let old = c.loop-flush.flush in
     let new = c.flush.new.self in
     let is = c.flush.ensures in
@@ -24,7 +24,7 @@ pub loop-flush-preserved : goal.loop-flush-preserved
 loop-flush-preserved g c =
     let history = g.D.Device.history in
     let failures = g.D.Device.failures in
-    let o = g.B.Site.site.opened in
+    let o = g.B.Group.site.opened in
     let old = c.loop-flush.flush in
     let new = c.flush.new.self in
     let is = c.flush.ensures in record {
@@ -39,7 +39,7 @@ pub returns-in-LogFull-clause-writes : goal.returns-in-LogFull-clause-writes
 returns-in-LogFull-clause-writes g c =
     let history = g.D.Device.history in
     let failures = g.D.Device.failures in
-    let o = g.B.Site.site.opened in
+    let o = g.B.Group.site.opened in
     let old = c.loop-flush.flush in
     let new = c.flush.new.self in
     let is = c.flush.ensures in

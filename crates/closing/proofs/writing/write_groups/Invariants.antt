@@ -6,9 +6,9 @@ use Rattle.closing.proofs.writing.write_groups.Given as goal
 
 abbrev pub invariant-loop-flush : goal.invariant-loop-flush
 invariant-loop-flush g l = record {
-  writes : WritesOn g.D.Device.history g.D.Device.failures g.B.Site.site.opened l.fn.flush l.flush;
+  writes : WritesOn g.D.Device.history g.D.Device.failures g.B.Group.site.opened l.fn.flush l.flush;
   handed : l.flush.handed ≡ l.fn.flush.handed;
 }
 
 abbrev pub decreases-loop-flush : goal.decreases-loop-flush
-decreases-loop-flush g l = last_handed g.B.Site.site.opened l.flush - synced_of l.flush.writer
+decreases-loop-flush g l = last_handed g.B.Group.site.opened l.flush - synced_of l.flush.writer

@@ -10,11 +10,11 @@ use Rattle.closing.proofs.Pieces.{all_synced, image_taken, number_is, whole_chun
 use Rattle.closing.proofs.writing.write_image.Goals as goal
 
 pub returns-in_err-chunk-clause-writes : goal.returns-in_err-chunk-clause-writes
-returns-in_err-chunk-clause-writes g c = writes_nothing g.D.Device.history g.D.Device.failures g.B.Site.site.opened c.args.flush.now c.stands.ensures
+returns-in_err-chunk-clause-writes g c = writes_nothing g.D.Device.history g.D.Device.failures g.B.Group.site.opened c.args.flush.now c.stands.ensures
 
 pub take_piece-requires-clause-chunk : goal.take_piece-requires-clause-chunk
 take_piece-requires-clause-chunk g c =
-    whole_chunk g.D.Device.history g.B.Site.site.opened c.args.flush.now c.stands.ensures (locked_of c.args.locked.now) c.requires.all c.requires.none_waits c.each_hold.ensures.last c.in_ok-chunk.chunk.number c.in_ok-chunk.ensures.number
+    whole_chunk g.D.Device.history g.B.Group.site.opened c.args.flush.now c.stands.ensures (locked_of c.args.locked.now) c.requires.all c.requires.none_waits c.each_hold.ensures.last c.in_ok-chunk.chunk.number c.in_ok-chunk.ensures.number
     c.each_hold.ensures.store c.in_ok-chunk.chunk.piece (c.in_ok-chunk.ensures.whole (halves_of c.args.flush.now.writer).geometry)
 
 pub returns-in_err-take_piece-clause-writes : goal.returns-in_err-take_piece-clause-writes
@@ -22,14 +22,14 @@ returns-in_err-take_piece-clause-writes g c =
     let old = c.args.flush.now in
     let new = c.take_piece.new.self in
     let is = c.take_piece.ensures in
-    writes_by_call g.D.Device.history g.D.Device.failures g.B.Site.site.opened old new is.publishes (step_geometry old.writer new.writer c.in_ok-chunk.chunk.number c.in_ok-chunk.chunk.piece c.take_piece.result is.stepped is.left) (omega (arith, is.kept)) is.images is.later
+    writes_by_call g.D.Device.history g.D.Device.failures g.B.Group.site.opened old new is.publishes (step_geometry old.writer new.writer c.in_ok-chunk.chunk.number c.in_ok-chunk.chunk.piece c.take_piece.result is.stepped is.left) (omega (arith, is.kept)) is.images is.later
     (counted_by_call g.D.Device.failures old.writer new.writer c.take_piece.result is.sound is.err) (still_sound g.D.Device.failures old.writer new.writer c.take_piece.result is.sound is.err) (quiet_call g.D.Device.failures old.writer new.writer c.take_piece.result is.quiet is.err)
 
 pub returns-in_err-flip-clause-writes : goal.returns-in_err-flip-clause-writes
 returns-in_err-flip-clause-writes g c =
     let history = g.D.Device.history in
     let failures = g.D.Device.failures in
-    let o = g.B.Site.site.opened in
+    let o = g.B.Group.site.opened in
     let old = c.args.flush.now in
     let mid = c.take_piece.new.self in
     let new = c.flip.new.self in
@@ -45,7 +45,7 @@ pub returns-clause-writes : goal.returns-clause-writes
 returns-clause-writes g c =
     let history = g.D.Device.history in
     let failures = g.D.Device.failures in
-    let o = g.B.Site.site.opened in
+    let o = g.B.Group.site.opened in
     let old = c.args.flush.now in
     let mid = c.take_piece.new.self in
     let new = c.flip.new.self in
@@ -59,7 +59,7 @@ returns-clause-writes g c =
 
 pub returns-clause-synced : goal.returns-clause-synced
 returns-clause-synced g c =
-    let o = g.B.Site.site.opened in
+    let o = g.B.Group.site.opened in
     let old = c.args.flush.now in
     let mid = c.take_piece.new.self in
     let new = c.flip.new.self in

@@ -1,7 +1,4 @@
 use Rattle.demonstration.proofs.team.work_on.Given as goal
 
-abbrev pub ghosts-begin-B-Site : goal.ghosts-begin-B-Site
-ghosts-begin-B-Site g a = record { site = a.store.site }
-
-abbrev pub ghosts-begin-B-Group : goal.ghosts-begin-B-Group
-ghosts-begin-B-Group g a = record { board = a.store.board }
+abbrev pub ghosts-begin : goal.ghosts-begin
+ghosts-begin g a = record { site = a.store.site }

@@ -7,9 +7,9 @@ use Rattle.demonstration.proofs.team.work_together.Goals as goal
 pub end-requires-clause-seats : goal.end-requires-clause-seats
 end-requires-clause-seats g c =
     let seats : List SeatValue = c.pop.new.self.items in
-    let parted = all_but_last g.B.Group.board g.B.Site.site.seats seats c.in-Some.last
-    (subst (λ (items : List SeatValue). AreNewSeats g.B.Group.board g.B.Site.site.seats items) c.in-Some.ensures.items c.requires.seats) in
-    all_left (λ w. w.seat) g.B.Site.site.seats (length seats) c.in-Ok.writers c.run_all-ended.result.clients c.run_all-ended.result.seat
+    let parted = all_but_last g.B.Group.site.board g.B.Group.site.seats seats c.in-Some.last
+    (subst (λ (items : List SeatValue). AreNewSeats g.B.Group.site.board g.B.Group.site.seats items) c.in-Some.ensures.items c.requires.seats) in
+    all_left (λ w. w.seat) g.B.Group.site.seats (length seats) c.in-Ok.writers c.run_all-ended.result.clients c.run_all-ended.result.seat
     (subst (λ (items : List SeatValue). AreAllSeats (length seats) items) (sym c.in-Ok.ensures.seats) parted.0)
     (c.run_all-ended.ensures.last ∙ (c.set_up.ensures ∙ parted.1)) parted.2 c.run_all-ended.ensures.len (λ k w within. (c.run_all-ended.ensures.wrote k w within).number)
 

@@ -1,7 +1,7 @@
 use denote.Param.{param}
 use denote.Param.Send.{sendable}
 use Rattle.std.proofs.Crossing.{crosses}
-use Rattle.board.proofs.views.View.TheSendSync as view
+use Rattle.shared.proofs.views.GroupView.TheSendSync as view
 use Rattle.loops.proofs.Crosses.{shared_sync}
 use Rattle.demonstration.proofs.progress.Progress.TheSendSync as progress
 use Rattle.demonstration.proofs.team.write_and_watch.Goals as goal
@@ -10,5 +10,5 @@ pub join-written-requires-send-F : goal.join-written-requires-send-F
 join-written-requires-send-F g c κs within =
     let r = c.type_bounds.sync-R in
     let e = c.type_bounds.send-E in
-    let s = shared_sync (param 0 g.row.B) g.B.Site g.B.Group in
+    let s = shared_sync (param 0 g.row.B) g.B.Group in
     search (progress.the_send, view.the_send, sendable, crosses) depth 20

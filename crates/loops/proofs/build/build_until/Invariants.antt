@@ -5,7 +5,6 @@ use Rattle.loops.proofs.build.build_until.Given as goal
 abbrev pub invariant-loop : goal.invariant-loop
 invariant-loop g l = record {
   rises : l.fn.build.progress ≤ l.build.progress;
-  attempted : l.fn.build.progress < l.build.progress → ∥ HasAttempted g.B.Site.site.opened l.build.progress ∥₁;
-  board : l.build.board ≡ l.fn.build.board;
+  attempted : l.fn.build.progress < l.build.progress → ∥ HasAttempted g.B.Group.site.opened l.build.progress ∥₁;
   view : l.view ≡ record l.fn.view { stopped = l.view.stopped };
 }

@@ -5,7 +5,7 @@ use Rattle.loops.proofs.flush.copy_some.Given as goal
 
 abbrev pub invariant-loop : goal.invariant-loop
 invariant-loop g l = record {
-  goes_on : GoesOn g.D.Device.history g.D.Device.failures g.B.Site.site.opened l.fn.part l.part;
-  through : RunsThrough g.D.Device.history g.D.Device.failures g.B.Site.site.opened l.fn.part l.part;
+  goes_on : GoesOn g.D.Device.history g.D.Device.failures g.B.Group.site.opened l.fn.part l.part;
+  through : RunsThrough g.D.Device.history g.D.Device.failures g.B.Group.site.opened l.fn.part l.part;
   copying : StandsBy l.copying l.part;
 }

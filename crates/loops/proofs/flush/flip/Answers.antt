@@ -8,7 +8,7 @@ pub returns-in_err-flip-clause-goes_on : goal.returns-in_err-flip-clause-goes_on
 returns-in_err-flip-clause-goes_on g c =
     let history = g.D.Device.history in
     let failures = g.D.Device.failures in
-    let o = g.B.Site.site.opened in
+    let o = g.B.Group.site.opened in
     let old = c.args.part.now in
     let new = c.flip.new.self in
     let is = c.flip.ensures in
@@ -18,7 +18,7 @@ pub returns-in_err-flip-clause-through : goal.returns-in_err-flip-clause-through
 returns-in_err-flip-clause-through g c =
     let history = g.D.Device.history in
     let failures = g.D.Device.failures in
-    let o = g.B.Site.site.opened in
+    let o = g.B.Group.site.opened in
     let old = c.args.part.now in
     let new = c.flip.new.self in
     let is = c.flip.ensures in
@@ -28,7 +28,7 @@ pub returns-in-Flipped-clause-goes_on : goal.returns-in-Flipped-clause-goes_on
 returns-in-Flipped-clause-goes_on g c =
     let history = g.D.Device.history in
     let failures = g.D.Device.failures in
-    let o = g.B.Site.site.opened in
+    let o = g.B.Group.site.opened in
     let old = c.args.part.now in
     let new = c.flip.new.self in
     let is = c.flip.ensures in
@@ -38,7 +38,7 @@ pub returns-in-Flipped-clause-through : goal.returns-in-Flipped-clause-through
 returns-in-Flipped-clause-through g c =
     let history = g.D.Device.history in
     let failures = g.D.Device.failures in
-    let o = g.B.Site.site.opened in
+    let o = g.B.Group.site.opened in
     let old = c.args.part.now in
     let new = c.flip.new.self in
     let is = c.flip.ensures in
@@ -48,7 +48,7 @@ pub returns-then-may_wait-clause-goes_on : goal.returns-then-may_wait-clause-goe
 returns-then-may_wait-clause-goes_on g c =
     let history = g.D.Device.history in
     let failures = g.D.Device.failures in
-    let o = g.B.Site.site.opened in
+    let o = g.B.Group.site.opened in
     let old = c.args.part.now in
     let new = c.flip.new.self in
     let is = c.flip.ensures in
@@ -58,7 +58,7 @@ pub returns-then-may_wait-clause-through : goal.returns-then-may_wait-clause-thr
 returns-then-may_wait-clause-through g c =
     let history = g.D.Device.history in
     let failures = g.D.Device.failures in
-    let o = g.B.Site.site.opened in
+    let o = g.B.Group.site.opened in
     let old = c.args.part.now in
     let new = c.flip.new.self in
     let is = c.flip.ensures in
@@ -68,7 +68,7 @@ pub returns-else-may_wait-clause-goes_on : goal.returns-else-may_wait-clause-goe
 returns-else-may_wait-clause-goes_on g c =
     let history = g.D.Device.history in
     let failures = g.D.Device.failures in
-    let o = g.B.Site.site.opened in
+    let o = g.B.Group.site.opened in
     let old = c.args.part.now in
     let new = c.flip.new.self in
     let is = c.flip.ensures in
@@ -78,7 +78,7 @@ pub returns-else-may_wait-clause-through : goal.returns-else-may_wait-clause-thr
 returns-else-may_wait-clause-through g c =
     let history = g.D.Device.history in
     let failures = g.D.Device.failures in
-    let o = g.B.Site.site.opened in
+    let o = g.B.Group.site.opened in
     let old = c.args.part.now in
     let new = c.flip.new.self in
     let is = c.flip.ensures in
@@ -89,5 +89,5 @@ returns-in_err-flip-clause-copying g c = stands_failed c.args.copying.now c.args
 
 pub returns-then-may_wait-clause-copying : goal.returns-then-may_wait-clause-copying
 returns-then-may_wait-clause-copying g c =
-    let o = g.B.Site.site.opened in
+    let o = g.B.Group.site.opened in
     stands_behind c.args.part.now c.flip.new.self c.args.copying.now (last_handed o c.args.part.now) c.flip.result (c.in_ok-flip.was ∙ ap Ok c.in-Behind.is) c.flip.ensures.flipped c.requires.copying

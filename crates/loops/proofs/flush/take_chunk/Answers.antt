@@ -8,7 +8,7 @@ pub returns-in_err-take_piece-clause-goes_on : goal.returns-in_err-take_piece-cl
 returns-in_err-take_piece-clause-goes_on g c =
     let history = g.D.Device.history in
     let failures = g.D.Device.failures in
-    let o = g.B.Site.site.opened in
+    let o = g.B.Group.site.opened in
     let old = c.args.part.now in
     let new = c.take_piece.new.self in
     let is = c.take_piece.ensures in
@@ -18,7 +18,7 @@ pub returns-in_err-take_piece-clause-through : goal.returns-in_err-take_piece-cl
 returns-in_err-take_piece-clause-through g c =
     let history = g.D.Device.history in
     let failures = g.D.Device.failures in
-    let o = g.B.Site.site.opened in
+    let o = g.B.Group.site.opened in
     let old = c.args.part.now in
     let new = c.take_piece.new.self in
     let is = c.take_piece.ensures in
@@ -28,7 +28,7 @@ pub returns-in-Taken-clause-goes_on : goal.returns-in-Taken-clause-goes_on
 returns-in-Taken-clause-goes_on g c =
     let history = g.D.Device.history in
     let failures = g.D.Device.failures in
-    let o = g.B.Site.site.opened in
+    let o = g.B.Group.site.opened in
     let old = c.args.part.now in
     let new = c.take_piece.new.self in
     let is = c.take_piece.ensures in
@@ -38,7 +38,7 @@ pub returns-in-Taken-clause-through : goal.returns-in-Taken-clause-through
 returns-in-Taken-clause-through g c =
     let history = g.D.Device.history in
     let failures = g.D.Device.failures in
-    let o = g.B.Site.site.opened in
+    let o = g.B.Group.site.opened in
     let old = c.args.part.now in
     let new = c.take_piece.new.self in
     let is = c.take_piece.ensures in
@@ -48,7 +48,7 @@ pub returns-in-StartAgain-clause-goes_on : goal.returns-in-StartAgain-clause-goe
 returns-in-StartAgain-clause-goes_on g c =
     let history = g.D.Device.history in
     let failures = g.D.Device.failures in
-    let o = g.B.Site.site.opened in
+    let o = g.B.Group.site.opened in
     let old = c.args.part.now in
     let new = c.take_piece.new.self in
     let is = c.take_piece.ensures in
@@ -58,7 +58,7 @@ pub returns-in-StartAgain-clause-through : goal.returns-in-StartAgain-clause-thr
 returns-in-StartAgain-clause-through g c =
     let history = g.D.Device.history in
     let failures = g.D.Device.failures in
-    let o = g.B.Site.site.opened in
+    let o = g.B.Group.site.opened in
     let old = c.args.part.now in
     let new = c.take_piece.new.self in
     let is = c.take_piece.ensures in

@@ -4,16 +4,16 @@ use Rattle.loops.proofs.Through.{by_flush, goes_by, through_call, through_none}
 use Rattle.loops.proofs.flush.write.Goals as goal
 
 pub returns-then-synced-last_handed-clause-goes_on : goal.returns-then-synced-last_handed-clause-goes_on
-returns-then-synced-last_handed-clause-goes_on g c = goes_nowhere g.D.Device.history g.D.Device.failures g.B.Site.site.opened c.args.part.now c.stands.ensures
+returns-then-synced-last_handed-clause-goes_on g c = goes_nowhere g.D.Device.history g.D.Device.failures g.B.Group.site.opened c.args.part.now c.stands.ensures
 
 pub returns-then-synced-last_handed-clause-through : goal.returns-then-synced-last_handed-clause-through
-returns-then-synced-last_handed-clause-through g c = through_none g.D.Device.history g.D.Device.failures g.B.Site.site.opened c.args.part.now
+returns-then-synced-last_handed-clause-through g c = through_none g.D.Device.history g.D.Device.failures g.B.Group.site.opened c.args.part.now
 
 pub returns-in_err-reply-clause-goes_on : goal.returns-in_err-reply-clause-goes_on
 returns-in_err-reply-clause-goes_on g c =
     let history = g.D.Device.history in
     let failures = g.D.Device.failures in
-    let o = g.B.Site.site.opened in
+    let o = g.B.Group.site.opened in
     let old = c.args.part.now in
     let new = c.flush-flushed.new.self in
     let is = c.flush-flushed.ensures in
@@ -23,7 +23,7 @@ pub returns-in_err-reply-clause-through : goal.returns-in_err-reply-clause-throu
 returns-in_err-reply-clause-through g c =
     let history = g.D.Device.history in
     let failures = g.D.Device.failures in
-    let o = g.B.Site.site.opened in
+    let o = g.B.Group.site.opened in
     let old = c.args.part.now in
     let new = c.flush-flushed.new.self in
     let is = c.flush-flushed.ensures in
@@ -33,7 +33,7 @@ pub returns-clause-goes_on : goal.returns-clause-goes_on
 returns-clause-goes_on g c =
     let history = g.D.Device.history in
     let failures = g.D.Device.failures in
-    let o = g.B.Site.site.opened in
+    let o = g.B.Group.site.opened in
     let old = c.args.part.now in
     let new = c.flush-flushed.new.self in
     let is = c.flush-flushed.ensures in
@@ -43,7 +43,7 @@ pub returns-clause-through : goal.returns-clause-through
 returns-clause-through g c =
     let history = g.D.Device.history in
     let failures = g.D.Device.failures in
-    let o = g.B.Site.site.opened in
+    let o = g.B.Group.site.opened in
     let old = c.args.part.now in
     let new = c.flush-flushed.new.self in
     let is = c.flush-flushed.ensures in

@@ -1,5 +1,4 @@
 use Rattle.std.proofs.Common.{◌≡◌, ◌≢◌, ◌⊎◌, ◌∙◌, ap, arith, Err}
-use Rattle.board.specs.Views.{Sighting}
 use Rattle.core_contracts.specs.Events.{Event, Refused}
 use Rattle.nsf_core.specs.Builds.{built}
 use Rattle.nsf_core.specs.declared.reply.BuildReply.TheVariants as reply
@@ -16,16 +15,14 @@ loop-preserved g c =
     let before = c.loop.invariant in
     record {
       rises = omega (arith, before.rises, now.rises);
-      attempted = attempted_on g.B.Site.site.opened _ _ _ now.rises before.attempted now.attempted;
-      board = now.board ∙ before.board;
-      view = ap (λ (v : Sighting). v.board) now.view ∙ before.view;
+      attempted = attempted_on g.B.Group.site.opened _ _ _ now.rises before.attempted now.attempted;
       done = c.in-Ok.ensures.done;
       published = c.in-Ok.ensures.published;
     }
 
 pub returns-in-Err : goal.returns-in-Err
 returns-in-Err g c =
-    let o = g.B.Site.site.opened in
+    let o = g.B.Group.site.opened in
     let now = c.build_until.ensures in
     let before = c.loop.invariant in
     let told = c.end_of-ended.ensures in
@@ -35,5 +32,4 @@ returns-in-Err g c =
       why = why_told (λ e. (e ≡ Stopped) ⊎ ((e ≢ NoMemory) × (e ≢ NoIndex) × ∥ WasServed o Event.Build (Refused e) ∥₁)) c.loop.completed c.in-Err.error c.end_of-ended.result told.err (ended_why {T = Ticket} o _ (Err c.in-Err.error) c.in-Err.ensures.why);
       rises = omega (arith, before.rises, now.rises);
       attempted = attempted_on o _ _ _ now.rises before.attempted now.attempted;
-      board = now.board ∙ before.board;
     }

@@ -9,9 +9,7 @@ use Rattle.loops.proofs.run.build_until_end.Given as goal
 abbrev pub invariant-loop : goal.invariant-loop
 invariant-loop g l = record {
   rises : l.fn.build.progress ≤ l.build.progress;
-  attempted : l.fn.build.progress < l.build.progress → ∥ HasAttempted g.B.Site.site.opened l.build.progress ∥₁;
-  board : l.build.board ≡ l.fn.build.board;
-  view : l.view.board ≡ l.fn.view.board;
-  done : IfSome l.completed (λ ticket. ∥ WasServed g.B.Site.site.opened Event.Build (built (reply.Done ticket)) ∥₁);
-  published : IfSome l.completed (λ ticket. ∥ HasPublished g.B.Site.site.opened ticket l.build.progress ∥₁);
+  attempted : l.fn.build.progress < l.build.progress → ∥ HasAttempted g.B.Group.site.opened l.build.progress ∥₁;
+  done : IfSome l.completed (λ ticket. ∥ WasServed g.B.Group.site.opened Event.Build (built (reply.Done ticket)) ∥₁);
+  published : IfSome l.completed (λ ticket. ∥ HasPublished g.B.Group.site.opened ticket l.build.progress ∥₁);
 }

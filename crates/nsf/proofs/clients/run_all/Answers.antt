@@ -9,5 +9,5 @@ pub run_beside-requires-send-F : goal.run_beside-requires-send-F
 run_beside-requires-send-F g c κs within =
     let r = c.type_bounds.sync-R in
     let d = c.type_bounds.send-C in
-    let s = shared_sync (param 0 g.row.B) g.B.Site g.B.Group in
+    let s = shared_sync (param 0 g.row.B) g.B.Group in
     search (desk.the_send, sendable, crosses) depth 20

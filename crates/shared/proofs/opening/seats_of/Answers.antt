@@ -5,17 +5,17 @@ use Rattle.shared.proofs.Seats.{first_half, more_seats, rest_halves, sees_nothin
 use Rattle.shared.proofs.opening.seats_of.Goals as goal
 
 pub new-part-requires-clause-half : goal.new-part-requires-clause-half
-new-part-requires-clause-half g c = first_half g.B.Site.site.table c.loop-half.number _ _ c.in-Some.half c.loop-half.invariant.halves c.in-Some.ensures.steps.0
+new-part-requires-clause-half g c = first_half g.B.Group.site.table c.loop-half.number _ _ c.in-Some.half c.loop-half.invariant.halves c.in-Some.ensures.steps.0
 
 pub loop-half-preserved : goal.loop-half-preserved
 loop-half-preserved g c =
     let was = c.loop-half.invariant in
     let is = c.new-part.ensures in
     record {
-      seats = more_seats g.B.Group.board c.loop-half.number c.loop-half.seats.items c.push.new.self.items _ was.seats
-          (ap (λ (s : SeatValue). s.number) is, ap (λ (s : SeatValue). s.session) is, sees_nothing g.B.Group.board c.loop-half.view _ _ was.nothing c.another-view.ensures.leaves) c.in_ok-push.ensures.items;
+      seats = more_seats g.B.Group.site.board c.loop-half.number c.loop-half.seats.items c.push.new.self.items _ was.seats
+          (ap (λ (s : SeatValue). s.number) is, ap (λ (s : SeatValue). s.session) is, sees_nothing g.B.Group.site.board c.loop-half.view _ _ was.nothing c.another-view.ensures.leaves) c.in_ok-push.ensures.items;
       board = ap (λ (v : Sighting). v.board) c.another-view.ensures.stays ∙ was.board;
-      nothing = stays_blind g.B.Group.board c.loop-half.view _ _ was.nothing c.another-view.ensures.stays;
+      nothing = stays_blind g.B.Group.site.board c.loop-half.view _ _ was.nothing c.another-view.ensures.stays;
       left = omega (arith, was.left, ap length c.in-Some.ensures.steps.0);
-      halves = rest_halves g.B.Site.site.table c.loop-half.number _ _ c.in-Some.half was.halves c.in-Some.ensures.steps.0;
+      halves = rest_halves g.B.Group.site.table c.loop-half.number _ _ c.in-Some.half was.halves c.in-Some.ensures.steps.0;
     }

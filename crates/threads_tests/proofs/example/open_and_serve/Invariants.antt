@@ -1,7 +1,4 @@
 use Rattle.threads_tests.proofs.example.open_and_serve.Given as goal
 
-abbrev pub ghosts-serve-B-Site : goal.ghosts-serve-B-Site
-ghosts-serve-B-Site g a = record { site = a.store.site }
-
-abbrev pub ghosts-serve-B-Group : goal.ghosts-serve-B-Group
-ghosts-serve-B-Group g a = record { board = a.store.board }
+abbrev pub ghosts-serve : goal.ghosts-serve
+ghosts-serve g a = record { site = a.store.site }

@@ -13,7 +13,7 @@ returns-clause-number g c =
     let told = c.in_ok-chunk.ensures.number in
     let last = c.each_hold.ensures.last in
     let all : now.pushed ++ now.core.outbox ≡ f.handed = all_made f.handed now.pushed now.core.outbox c.in_ok-take_in.ensures.beginning (omega (arith, told, last (halves_of f.writer).geometry, c.if-last_handed-chunk.false, c.last_handed.ensures)) in
-    number_is g.D.Device.history g.B.Site.site.opened f c.stands.ensures now all last c.each_hold.ensures.store c.in_ok-chunk.chunk.number told
+    number_is g.D.Device.history g.B.Group.site.opened f c.stands.ensures now all last c.each_hold.ensures.store c.in_ok-chunk.chunk.number told
 
 pub returns-clause-chunk : goal.returns-clause-chunk
 returns-clause-chunk g c =
@@ -26,7 +26,7 @@ returns-clause-chunk g c =
     let sound : has_failed f.writer ≡ false = got.failed ∙ c.requires.sound in
     let due : IsDue (halves_of f.writer).geometry.pages c.args.place (image_of f.writer) =
     subst (λ i. IsDue (halves_of f.writer).geometry.pages c.args.place i) (sym got.image) (subst (λ (h : HalvesValue). IsDue h.geometry.pages c.args.place (image_of c.args.self.now.writer)) (sym got.halves) c.requires.due) in
-    piece_chunk g.D.Device.history g.B.Site.site.opened f c.stands.ensures now all last c.each_hold.ensures.store c.in_ok-chunk.chunk.number told sound c.next_pieces.ensures c.args.place c.in_ok-chunk.chunk.piece due (c.in_ok-chunk.ensures.piece (halves_of f.writer).geometry)
+    piece_chunk g.D.Device.history g.B.Group.site.opened f c.stands.ensures now all last c.each_hold.ensures.store c.in_ok-chunk.chunk.number told sound c.next_pieces.ensures c.args.place c.in_ok-chunk.chunk.piece due (c.in_ok-chunk.ensures.piece (halves_of f.writer).geometry)
 
 pub returns-clause-at : goal.returns-clause-at
 returns-clause-at g c =

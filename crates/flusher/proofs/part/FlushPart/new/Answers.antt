@@ -13,5 +13,6 @@ invariant_of-result g c =
     let records = ap (λ (e : EndsValue). e.popper.records) same ∙ ap (λ (p : Handed). p.records) is.popper in
     let horizon = subst (λ (e : EndsValue). e.published.horizon ≤ synced_of c.args.writer) (sym same) is.horizon in
     let failed = subst (λ (e : EndsValue). e.published.failed ≡ has_failed c.args.writer) (sym same) is.failed in
-    let kept = kept_at_first g.D.Device.history g.B.Site.site.opened _ _ c.args.writer c.ends.inside.view c.synced-last.result records c.new.ensures.items is.writer is.pages is.places is.fits horizon failed c.synced-last.ensures in
-    (queue, kept.0.0, kept.0.1, kept.1)
+    let kept = kept_at_first g.D.Device.history g.B.Group.site.opened _ _ c.args.writer c.ends.inside.view c.synced-last.result records c.new.ensures.items is.writer is.pages is.places is.fits horizon failed c.synced-last.ensures in
+    let board = ap (λ (e : EndsValue). e.published.board) same ∙ is.board in
+    (queue, kept.0.0, kept.0.1, kept.1, board)

@@ -5,7 +5,7 @@ use Rattle.flusher.proofs.part.FlushPart.next_pieces.Goals as goal
 
 pub returns : goal.returns
 returns g c =
-    let o = g.B.Site.site.opened in
+    let o = g.B.Group.site.opened in
     let is = c.self.invariant.2 in
     let inside = c.self.inside in
     let f = flush_value inside.popper.records inside.held.items inside.writer inside.view in

@@ -5,9 +5,10 @@ use Rattle.flusher.proofs.part.FlushPart.take.Given as goal
 
 abbrev pub invariant-loop : goal.invariant-loop
 invariant-loop g l =
-    (l.self-inside.popper.queue ≡ g.B.Site.site.queue)
+    (l.self-inside.popper.queue ≡ g.B.Group.site.queue)
+    × (l.self-inside.view.board ≡ g.B.Group.site.board)
     × (l.self-inside.writer ≡ l.fn.self.writer)
     × (l.self-inside.view ≡ l.fn.self.published)
-    × IsFlusher g.D.Device.history g.B.Site.site.opened l.fn.self
-    × (l.self-inside.last ≡ last_handed g.B.Site.site.opened l.fn.self)
+    × IsFlusher g.D.Device.history g.B.Group.site.opened l.fn.self
+    × (l.self-inside.last ≡ last_handed g.B.Group.site.opened l.fn.self)
     × ((more : List RecordValue) × (l.self-inside.popper.records ≡ l.fn.self.handed ++ (l.fn.self.held ++ more)) × (l.self-inside.held.items ≡ l.fn.self.held ++ more))

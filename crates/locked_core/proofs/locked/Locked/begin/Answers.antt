@@ -11,7 +11,7 @@ use Rattle.locked_core.proofs.locked.Locked.begin.Goals as goal
 
 pub invariant_of-self : goal.invariant_of-self
 invariant_of-self g c =
-    let z = g.B.Site.site in
+    let z = g.B.Group.site in
     let items = c.args.self.now.book.items in
     let n = c.seat.inside.number in
     let old = c.index_mut.result.now in
@@ -33,7 +33,7 @@ invariant_of-self g c =
 
 pub returns-clause-before : goal.returns-clause-before
 returns-clause-before g c =
-    let z = g.B.Site.site in
+    let z = g.B.Group.site in
     let items = c.args.self.now.book.items in
     ap (λ (s : SeatValue). slice_get (map shown items) s.number) (sym c.seat.view_is)
     ∙ (shown_at z.table z.seats items c.seat.inside.number c.index_mut.result.now c.args.self.now.seats c.seat.invariant.1 c.index_mut.ensures.value
@@ -41,7 +41,7 @@ returns-clause-before g c =
 
 pub returns-clause-book : goal.returns-clause-book
 returns-clause-book g c =
-    let z = g.B.Site.site in
+    let z = g.B.Group.site in
     let items = c.args.self.now.book.items in
     shown_set z.table z.seats items c.seat.inside.number c.index_mut.result.now c.args.self.now.seats c.seat.invariant.1 c.index_mut.ensures.value c.args.self.now.halves c.change.new.theirs c.begin-begun.new.self c.change.ensures.theirs
     ∙ ap (λ (s : SeatValue). slice_set (map shown items) s.number c.begin-begun.new.self) c.seat.view_is

@@ -16,14 +16,14 @@ use Rattle.locked_core.proofs.locked.Locked.commit.Goals as goal
 
 pub commit-committed-requires : goal.commit-committed-requires
 commit-committed-requires g c =
-    let z = g.B.Site.site in
+    let z = g.B.Group.site in
     let is = there z.table z.seats c.args.self.now.book.items c.seat.inside.number c.index_mut.result.now c.args.self.now.seats c.seat.invariant.1 c.index_mut.ensures.value c.args.self.now.halves c.change.new.theirs c.seat.inside.session (c.change.ensures.agree ∙ ap (λ (h : HalfValue). h.session) c.seat.invariant.0) c.change.ensures.theirs in
     λ own. ready_now z.opened (value_of c.args.self.now.core) c.args.self.now.pusher.records (map shown c.args.self.now.book.items) c.seat.inside.number c.seat.inside.session is c.args.self.now.shared c.args.txn
     (ap (λ (s : SeatValue). is_ready s.session c.args.txn) c.seat.view_is ∙ c.requires.ready (ap (λ (s : SeatValue). is_active s.session c.args.txn) (sym c.seat.view_is) ∙ own))
 
 pub change-requires-2-clause-theirs : goal.change-requires-2-clause-theirs
 change-requires-2-clause-theirs g c =
-    let z = g.B.Site.site in
+    let z = g.B.Group.site in
     let items = c.args.self.now.book.items in
     let n = c.seat.inside.number in
     let old = c.index_mut.result.now in
@@ -37,7 +37,7 @@ change-requires-2-clause-theirs g c =
 
 pub change-requires-2-clause-number : goal.change-requires-2-clause-number
 change-requires-2-clause-number g c =
-    let z = g.B.Site.site in
+    let z = g.B.Group.site in
     let items = c.args.self.now.book.items in
     let n = c.seat.inside.number in
     let old = c.index_mut.result.now in
@@ -52,7 +52,7 @@ change-requires-2-clause-number g c =
 
 pub invariant_of-self : goal.invariant_of-self
 invariant_of-self g c =
-    let z = g.B.Site.site in
+    let z = g.B.Group.site in
     let items = c.args.self.now.book.items in
     let n = c.seat.inside.number in
     let p = c.seat.inside.session in
@@ -79,7 +79,7 @@ invariant_of-self g c =
 
 pub returns-clause-before : goal.returns-clause-before
 returns-clause-before g c =
-    let z = g.B.Site.site in
+    let z = g.B.Group.site in
     let items = c.args.self.now.book.items in
     ap (λ (s : SeatValue). slice_get (map shown items) s.number) (sym c.seat.view_is)
     ∙ (there z.table z.seats items c.seat.inside.number c.index_mut.result.now c.args.self.now.seats c.seat.invariant.1 c.index_mut.ensures.value c.args.self.now.halves c.change.new.theirs c.seat.inside.session (c.change.ensures.agree ∙ ap (λ (h : HalfValue). h.session) c.seat.invariant.0) c.change.ensures.theirs
@@ -87,14 +87,14 @@ returns-clause-before g c =
 
 pub returns-clause-book : goal.returns-clause-book
 returns-clause-book g c =
-    let z = g.B.Site.site in
+    let z = g.B.Group.site in
     let items = c.args.self.now.book.items in
     shown_twice z.table z.seats items c.seat.inside.number c.index_mut.result.now c.args.self.now.seats c.seat.invariant.1 c.index_mut.ensures.value c.args.self.now.halves c.change.new.theirs c.seat.inside.session (c.change.ensures.agree ∙ ap (λ (h : HalfValue). h.session) c.seat.invariant.0) c.change.ensures.theirs c.index_mut-2.result.now c.index_mut-2.ensures.value c.change-2.new.theirs c.commit-committed.new.self c.change-2.ensures.theirs
     ∙ ap (λ (s : SeatValue). slice_set (map shown items) s.number c.commit-committed.new.self) c.seat.view_is
 
 pub returns-clause-recorded : goal.returns-clause-recorded
 returns-clause-recorded g c =
-    let o = g.B.Site.site.opened in
+    let o = g.B.Group.site.opened in
     let was = c.args.self.now in
     let new = value_of c.commit-committed.new.core in
     recorded_own o (value_of was.core) new was.pusher.records (map shown was.book.items) was.shared (Event.Commit c.args.txn) (OfTxn c.args.txn TxnAction.Commit)

@@ -12,7 +12,7 @@ use Rattle.locked_core.proofs.locked.Locked.compare_seat.Goals as goal
 
 pub invariant_of-self : goal.invariant_of-self
 invariant_of-self g c =
-    let z = g.B.Site.site in
+    let z = g.B.Group.site in
     let items = c.args.self.now.book.items in
     let n = c.seat.inside.number in
     let p = c.seat.inside.session in
@@ -33,7 +33,7 @@ invariant_of-self g c =
 
 pub returns-clause-before : goal.returns-clause-before
 returns-clause-before g c =
-    let z = g.B.Site.site in
+    let z = g.B.Group.site in
     let items = c.args.self.now.book.items in
     ap (λ (s : SeatValue). slice_get (map shown items) s.number) (sym c.seat.view_is)
     ∙ (there z.table z.seats items c.seat.inside.number c.index_mut.result.now c.args.self.now.seats c.seat.invariant.1 c.index_mut.ensures.value c.args.self.now.halves c.change.new.theirs c.seat.inside.session (c.change.ensures.agree ∙ ap (λ (h : HalfValue). h.session) c.seat.invariant.0) c.change.ensures.theirs
@@ -41,7 +41,7 @@ returns-clause-before g c =
 
 pub returns-clause-same : goal.returns-clause-same
 returns-clause-same g c =
-    let z = g.B.Site.site in
+    let z = g.B.Group.site in
     let items = c.args.self.now.book.items in
     ap (λ (book : List SessionValue). (λ (l : LockedValue). l) (record { core = value_of c.args.self.now.core; pushed = c.args.self.now.pusher.records; book = book }))
     (once z.table z.seats items c.seat.inside.number c.index_mut.result.now c.args.self.now.seats c.seat.invariant.1 c.index_mut.ensures.value c.args.self.now.halves c.change.new.theirs c.seat.inside.session (c.change.ensures.agree ∙ ap (λ (h : HalfValue). h.session) c.seat.invariant.0) c.change.ensures.theirs)

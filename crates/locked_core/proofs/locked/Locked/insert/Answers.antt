@@ -13,14 +13,14 @@ use Rattle.locked_core.proofs.locked.Locked.insert.Goals as goal
 
 pub insert-inserted-requires : goal.insert-inserted-requires
 insert-inserted-requires g c =
-    let z = g.B.Site.site in
+    let z = g.B.Group.site in
     let is = there z.table z.seats c.args.self.now.book.items c.seat.inside.number c.index_mut.result.now c.args.self.now.seats c.seat.invariant.1 c.index_mut.ensures.value c.args.self.now.halves c.change.new.theirs c.seat.inside.session (c.change.ensures.agree ∙ ap (λ (h : HalfValue). h.session) c.seat.invariant.0) c.change.ensures.theirs in
     λ own. ready_now z.opened (value_of c.args.self.now.core) c.args.self.now.pusher.records (map shown c.args.self.now.book.items) c.seat.inside.number c.seat.inside.session is c.args.self.now.shared c.args.txn
     (ap (λ (s : SeatValue). is_ready s.session c.args.txn) c.seat.view_is ∙ c.requires.ready (ap (λ (s : SeatValue). is_active s.session c.args.txn) (sym c.seat.view_is) ∙ own))
 
 pub change-requires-2-clause-theirs : goal.change-requires-2-clause-theirs
 change-requires-2-clause-theirs g c =
-    let z = g.B.Site.site in
+    let z = g.B.Group.site in
     let items = c.args.self.now.book.items in
     let n = c.seat.inside.number in
     let old = c.index_mut.result.now in
@@ -34,7 +34,7 @@ change-requires-2-clause-theirs g c =
 
 pub change-requires-2-clause-number : goal.change-requires-2-clause-number
 change-requires-2-clause-number g c =
-    let z = g.B.Site.site in
+    let z = g.B.Group.site in
     let items = c.args.self.now.book.items in
     let n = c.seat.inside.number in
     let old = c.index_mut.result.now in
@@ -49,7 +49,7 @@ change-requires-2-clause-number g c =
 
 pub invariant_of-self : goal.invariant_of-self
 invariant_of-self g c =
-    let z = g.B.Site.site in
+    let z = g.B.Group.site in
     let items = c.args.self.now.book.items in
     let n = c.seat.inside.number in
     let p = c.seat.inside.session in
@@ -76,7 +76,7 @@ invariant_of-self g c =
 
 pub returns-clause-before : goal.returns-clause-before
 returns-clause-before g c =
-    let z = g.B.Site.site in
+    let z = g.B.Group.site in
     let items = c.args.self.now.book.items in
     ap (λ (s : SeatValue). slice_get (map shown items) s.number) (sym c.seat.view_is)
     ∙ (there z.table z.seats items c.seat.inside.number c.index_mut.result.now c.args.self.now.seats c.seat.invariant.1 c.index_mut.ensures.value c.args.self.now.halves c.change.new.theirs c.seat.inside.session (c.change.ensures.agree ∙ ap (λ (h : HalfValue). h.session) c.seat.invariant.0) c.change.ensures.theirs
@@ -84,13 +84,13 @@ returns-clause-before g c =
 
 pub returns-clause-book : goal.returns-clause-book
 returns-clause-book g c =
-    let z = g.B.Site.site in
+    let z = g.B.Group.site in
     let items = c.args.self.now.book.items in
     shown_twice z.table z.seats items c.seat.inside.number c.index_mut.result.now c.args.self.now.seats c.seat.invariant.1 c.index_mut.ensures.value c.args.self.now.halves c.change.new.theirs c.seat.inside.session (c.change.ensures.agree ∙ ap (λ (h : HalfValue). h.session) c.seat.invariant.0) c.change.ensures.theirs c.index_mut-2.result.now c.index_mut-2.ensures.value c.change-2.new.theirs c.insert-inserted.new.self c.change-2.ensures.theirs
     ∙ ap (λ (s : SeatValue). slice_set (map shown items) s.number c.insert-inserted.new.self) c.seat.view_is
 
 pub returns-clause-row : goal.returns-clause-row
 returns-clause-row g c =
-    let z = g.B.Site.site in
+    let z = g.B.Group.site in
     let is = there z.table z.seats c.args.self.now.book.items c.seat.inside.number c.index_mut.result.now c.args.self.now.seats c.seat.invariant.1 c.index_mut.ensures.value c.args.self.now.halves c.change.new.theirs c.seat.inside.session (c.change.ensures.agree ∙ ap (λ (h : HalfValue). h.session) c.seat.invariant.0) c.change.ensures.theirs in
     insert_row z.opened (value_of c.args.self.now.core) (value_of c.insert-inserted.new.core) c.args.self.now.pusher.records (map shown c.args.self.now.book.items) c.seat.inside.number c.seat.inside.session c.insert-inserted.new.self is c.args.self.now.shared c.args.txn (record { key = c.args.key; body = c.args.body }) c.insert-inserted.result c.insert-inserted.ensures.foreign c.insert-inserted.ensures.served c.insert-inserted.ensures.ok

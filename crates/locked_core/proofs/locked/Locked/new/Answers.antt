@@ -6,7 +6,7 @@ use Rattle.locked_core.proofs.locked.Locked.new.Goals as goal
 
 pub invariant_of-result : goal.invariant_of-result
 invariant_of-result g c =
-    let z = g.B.Site.site in
+    let z = g.B.Group.site in
     record {
       queue = ap (λ (h : Handed). h.queue) c.requires.pusher;
       seats = c.requires.seats;
@@ -15,4 +15,4 @@ invariant_of-result g c =
     }
 
 pub returns-clause-book : goal.returns-clause-book
-returns-clause-book g c = all_new g.B.Site.site.table c.args.book.items c.requires.book
+returns-clause-book g c = all_new g.B.Group.site.table c.args.book.items c.requires.book

@@ -9,5 +9,5 @@ invariant_of-self g c = record {
   queue = c.args.self.now.queue;
   seats = c.args.self.now.seats;
   halves = c.args.self.now.halves;
-  shared = ∥∥₁_map c.args.self.now.shared (λ shared. subst (λ core. IsShared g.B.Site.site.opened core c.args.self.now.pusher.records (map shown c.args.self.now.book.items)) (sym c.take_cleared.ensures) shared);
+  shared = ∥∥₁_map c.args.self.now.shared (λ shared. subst (λ core. IsShared g.B.Group.site.opened core c.args.self.now.pusher.records (map shown c.args.self.now.book.items)) (sym c.take_cleared.ensures) shared);
 }

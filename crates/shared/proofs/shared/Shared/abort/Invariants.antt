@@ -9,5 +9,5 @@ invariant-loop g l = record {
   seat : l.seat ≡ record l.fn.seat { session = l.seat.session };
   own : is_active l.seat.session l.fn.txn ≡ true;
   back : IsBackFrom l.fn.txn l.fn.seat.session l.seat.session;
-  undone : ∥ HasUndone g.B.Site.site.opened l.fn.seat.number l.fn.seat.session l.fn.txn l.seat.session ∥₁;
+  undone : ∥ HasUndone g.B.Group.site.opened l.fn.seat.number l.fn.seat.session l.fn.txn l.seat.session ∥₁;
 }

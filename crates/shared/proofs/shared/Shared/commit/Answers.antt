@@ -11,7 +11,7 @@ use Rattle.shared.proofs.shared.Shared.commit.Goals as goal
 
 pub returns-clause-served : goal.returns-clause-served
 returns-clause-served g c = λ own.
-    let o = g.B.Site.site.opened in
+    let o = g.B.Group.site.opened in
     let was = c.deref_mut-2.result.now in
     let reply = reply_by reply_of_ticket c.commit-committed.result in
     subst (λ (s : SeatValue). ∥ WasServedTo o s.number s.session (Event.Commit c.args.txn) reply ∥₁) c.seat.view_is

@@ -10,7 +10,7 @@ use Rattle.shared.proofs.shared.Shared.drop_index.Goals as goal
 
 pub returns-clause-served : goal.returns-clause-served
 returns-clause-served g c =
-    let o = g.B.Site.site.opened in
+    let o = g.B.Group.site.opened in
     let was = c.deref_mut-2.result.now in
     let reply = reply_by reply_of_ticket c.drop_index-dropped.result in
     subst (λ (s : SeatValue). ∥ WasServedTo o s.number s.session Event.Drop reply ∥₁) c.seat.view_is

@@ -12,7 +12,7 @@ use Rattle.shared.proofs.shared.Shared.get.Goals as goal
 
 pub returns-clause-served : goal.returns-clause-served
 returns-clause-served g c =
-    let o = g.B.Site.site.opened in
+    let o = g.B.Group.site.opened in
     let is = c.compare_seat.new.self in
     let part = c.seat.inside.part in
     let here : slice_get (map shown is.book.items) part.number ≡ Some part.session = ap (λ (l : LockedValue). slice_get l.book part.number) c.compare_seat.ensures.same ∙ c.compare_seat.ensures.before in

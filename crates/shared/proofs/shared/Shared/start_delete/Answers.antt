@@ -14,7 +14,7 @@ use Rattle.shared.proofs.shared.Shared.start_delete.Goals as goal
 
 pub returns-clause-served : goal.returns-clause-served
 returns-clause-served g c = λ own.
-    let o = g.B.Site.site.opened in
+    let o = g.B.Group.site.opened in
     let was = c.deref_mut-2.result.now in
     let reply = reply_by (λ _. Reply.Stepped) c.delete-started.result in
     subst (λ (s : SeatValue). ∥ WasServedTo o s.number s.session (Event.Delete c.args.txn c.args.rid) reply ∥₁) c.seat.view_is
@@ -23,7 +23,7 @@ returns-clause-served g c = λ own.
 
 pub returns-clause-ok : goal.returns-clause-ok
 returns-clause-ok g c =
-    let o = g.B.Site.site.opened in
+    let o = g.B.Group.site.opened in
     let was = c.deref_mut-2.result.now in
     let part = c.seat.inside.part in
     subst (λ (s : SeatValue). OnOk c.delete-started.result (IsUnderWay s.session c.args.txn (record { rid = c.args.rid; row = None }) c.delete-started.new.seat.session)) c.seat.view_is
@@ -32,7 +32,7 @@ returns-clause-ok g c =
 
 pub returns-clause-row : goal.returns-clause-row
 returns-clause-row g c =
-    let o = g.B.Site.site.opened in
+    let o = g.B.Group.site.opened in
     let was = c.deref_mut-2.result.now in
     let part = c.seat.inside.part in
     let started = c.delete-started in

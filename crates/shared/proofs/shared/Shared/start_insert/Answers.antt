@@ -13,7 +13,7 @@ use Rattle.shared.proofs.shared.Shared.start_insert.Goals as goal
 
 pub returns-clause-served : goal.returns-clause-served
 returns-clause-served g c = λ own.
-    let o = g.B.Site.site.opened in
+    let o = g.B.Group.site.opened in
     let was = c.deref_mut-2.result.now in
     let reply = reply_by Reply.Rid c.insert-started.result in
     subst (λ (s : SeatValue). ∥ WasServedTo o s.number s.session (Event.Insert c.args.txn (record { key = c.args.key; body = c.args.body })) reply ∥₁) c.seat.view_is
@@ -22,7 +22,7 @@ returns-clause-served g c = λ own.
 
 pub returns-clause-ok : goal.returns-clause-ok
 returns-clause-ok g c =
-    let o = g.B.Site.site.opened in
+    let o = g.B.Group.site.opened in
     let was = c.deref_mut-2.result.now in
     let part = c.seat.inside.part in
     subst (λ (s : SeatValue). IfOk c.insert-started.result (λ rid. IsUnderWay s.session c.args.txn (record { rid = rid; row = Some (record { key = c.args.key; body = c.args.body }) }) c.insert-started.new.seat.session)) c.seat.view_is

@@ -17,7 +17,7 @@ next_step-stepped-requires-clause-unfinished g c = λ own. ap (λ (s : SeatValue
 
 pub returns-clause-served : goal.returns-clause-served
 returns-clause-served g c =
-    let o = g.B.Site.site.opened in
+    let o = g.B.Group.site.opened in
     let was = c.deref_mut-2.result.now in
     let reply = reply_by (λ _. Reply.Stepped) c.next_step-stepped.result in
     subst (λ (s : SeatValue). ∥ WasServedTo o s.number s.session (Event.Step c.args.txn) reply ∥₁) c.seat.view_is
@@ -26,7 +26,7 @@ returns-clause-served g c =
 
 pub returns-clause-ok : goal.returns-clause-ok
 returns-clause-ok g c =
-    let o = g.B.Site.site.opened in
+    let o = g.B.Group.site.opened in
     let was = c.deref_mut-2.result.now in
     let part = c.seat.inside.part in
     subst (λ (s : SeatValue). OnOk c.next_step-stepped.result ((w : Write) → unfinished_of s.session c.args.txn ≡ Some w → IsUnderWay s.session c.args.txn w c.next_step-stepped.new.seat.session)) c.seat.view_is

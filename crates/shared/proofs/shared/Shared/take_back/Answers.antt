@@ -16,7 +16,7 @@ use Rattle.shared.proofs.shared.Shared.take_back.Goals as goal
 
 pub returns-in-Ok-clause-taken : goal.returns-in-Ok-clause-taken
 returns-in-Ok-clause-taken g c = λ is.
-    let o = g.B.Site.site.opened in
+    let o = g.B.Group.site.opened in
     let was = c.push_outbox.new.self in
     let t = c.args.txn in
     let part = c.seat.inside.part in
@@ -26,7 +26,7 @@ returns-in-Ok-clause-taken g c = λ is.
 
 pub returns-then-may_end-clause-served : goal.returns-then-may_end-clause-served
 returns-then-may_end-clause-served g c =
-    let o = g.B.Site.site.opened in
+    let o = g.B.Group.site.opened in
     let was = c.push_outbox.new.self in
     let event = Event.End c.args.txn in
     let reply = Refused c.in-Err.error in
@@ -53,7 +53,7 @@ returns-in-Ok-undo_step-clause-back g c = λ undone.
 
 pub returns-in-Ok-undo_step-clause-undone : goal.returns-in-Ok-undo_step-clause-undone
 returns-in-Ok-undo_step-clause-undone g c = λ undone.
-    let o = g.B.Site.site.opened in
+    let o = g.B.Group.site.opened in
     let was = c.push_outbox.new.self in
     let t = c.args.txn in
     let part = c.seat.inside.part in
@@ -65,7 +65,7 @@ returns-in-Ok-undo_step-clause-undone g c = λ undone.
 
 pub returns-clause-served : goal.returns-clause-served
 returns-clause-served g c =
-    let o = g.B.Site.site.opened in
+    let o = g.B.Group.site.opened in
     let was = c.push_outbox.new.self in
     let event = Event.Undo c.args.txn in
     let reply = Refused c.in-Err-undo_step.error in

@@ -1,0 +1,34 @@
+//! The builder's part.
+ghost use Rattle.std.specs.Prelude.{max};
+
+use crate::shared::Shared;
+use board::BuildView;
+use locked_core::Group;
+use std::marker::{Model, PhantomData};
+
+/// What the builder publishes with on the group's board: how many attempts it has made. To a contract it is a `BuildValue`.
+#[derive(Drop)]
+pub struct BuildPart<B: Group> {
+    pub(crate) view: BuildView,
+    pub(crate) site: PhantomData<B>,
+}
+
+impl<B: Group> Model for BuildPart<B> {
+    ghost use Rattle.std.specs.Prelude.{◌≡◌};
+    ghost use Rattle.shared.specs.Seats.{BuildValue};
+
+    ghost Value = { BuildValue };
+
+    ghost view = { λ p. record { progress = p.view.progress } };
+
+    ghost invariant = { λ p. p.view.board ≡ B.site.board };
+}
+
+impl<B: Group> BuildPart<B> {
+    /// Raises the count of attempts that is published. A number that is not above it changes nothing.
+    pub fn raise_progress(&mut self, shared: &Shared<B>, progress: u64)
+        ensures { self.new ≡ record { progress = max self.old.progress progress } }
+    {
+        shared.board.raise_progress(&mut self.view, progress);
+    }
+}
