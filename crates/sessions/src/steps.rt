@@ -236,9 +236,8 @@ impl Session {
     {
         core.check_drop()?;
         self.turns.reserve(1)?;
-        let detached = core.detach_index()?;
-        self.turns
-            .push_reserved(Turn::Dropped(detached.ticket.record));
-        Ok(detached)
+        let Detached { ticket, entries } = core.detach_index()?;
+        self.turns.push_reserved(Turn::Dropped(ticket.record));
+        Ok(Detached { ticket, entries })
     }
 }
