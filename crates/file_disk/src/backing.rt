@@ -9,7 +9,7 @@ pub trait Backing {
     /// Writes a sector.
     fn put(&mut self, n: u64, bytes: &[u8; SECTOR_SIZE]) -> io::Result<()>;
 
-    /// Returns once all that was put before is safe.
+    /// It is to return once all that was put before is safe. (That it does is trusted.)
     fn sync(&mut self) -> io::Result<()>;
 }
 

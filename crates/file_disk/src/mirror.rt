@@ -11,7 +11,7 @@ use sector_device::{Device, Failed, SECTOR_SIZE, zero_sector};
 use std::alloc::{AllocError, Allocator};
 
 /// A disk over what is below. Once a write or sync of that failed, nothing is written any more and each write and sync fails: what
-/// is below is not known then, until it is read again.
+/// is below is not known then, until it is read again. (That nothing reaches it then is only tested.)
 #[derive(Drop)]
 pub struct FileDisk<F, A: Allocator> {
     below: F,

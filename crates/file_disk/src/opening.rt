@@ -129,7 +129,7 @@ pub fn create<R: Files<File = File> + AllocGlobal, A: Allocator>(
     Ok(FileDisk::new(alloc, HostFile { file }, sectors as usize)?)
 }
 
-/// Gives the file that was made for this path its name, in one step, which is safe then.
+/// Gives the file that was made for this path its name, in one step, which is safe then. (It is only tested.)
 ///
 /// `Exists` where something has this name.
 pub fn publish<R: Files<File = File> + AllocGlobal>(rt: &R, path: &str) -> Result<(), OpenError> {
@@ -142,7 +142,7 @@ pub fn publish<R: Files<File = File> + AllocGlobal>(rt: &R, path: &str) -> Resul
     Ok(())
 }
 
-/// Removes the file that was made for this path and is not to be published.
+/// Removes the file that was made for this path and is not to be published. (It is only tested.)
 pub fn discard<R: Files<File = File> + AllocGlobal>(rt: &R, path: &str) -> Result<(), OpenError> {
     let draft = draft_of(rt, path)?;
     fs::remove_file(rt, draft.as_str())?;

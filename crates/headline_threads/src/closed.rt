@@ -43,7 +43,7 @@ fn finish_device<B: Group, D: Device, R: Wait>(
 /// is opened again.
 ///
 /// What it holds are the rows that the threads began with, with the first commits of all seats set over them, in the order of
-/// their numbers; and each that was acknowledged is among them (`holds`). `NoMemory` and `DeviceFailed` are those of the opening.
+/// their numbers; and each whose acknowledgement is handed in is among them (`holds`). `NoMemory` and `DeviceFailed` are those of the opening.
 pub fn finish_and_open<B: Group, D: Mortal, R: Wait>(
     rt: &R,
     alloc: Global,

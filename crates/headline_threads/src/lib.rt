@@ -2,7 +2,7 @@
 //! opened again.
 //!
 //! Proved: `finish_and_open` (`holds`). The store has the rows that the threads began with and the first commits of all seats by
-//! number, each acknowledged one among them.
+//! number, each among them whose acknowledgement is handed in.
 //! It says nothing of the index. Neither: that it is ever called.
 #![tactic(auto)]
 

@@ -29,7 +29,8 @@ pub struct Ended<B: Group, D: Device, X> {
     pub build: BuildPart<B>,
     /// How the flusher ended.
     pub flushed: Result<(), Error>,
-    /// The ticket of an index that was completed meanwhile, of several that of the last one (which of them, no clause says); else why
+    /// The ticket of an index that a core which may lie under the lock completed meanwhile, of several that of the last one (that it
+    /// is the last, no clause says); else why
     /// none was, which is `Stopped` where the clients ended first or there was nothing to build. A later build that was refused is told
     /// in its place.
     pub built: Result<Ticket, Error>,
@@ -41,7 +42,7 @@ pub struct Ended<B: Group, D: Device, X> {
 /// Of the board the seat has seen no more than before, and its view may have another name (`seen`). Flusher and builder end as
 /// `flush_loop` and `build_loop` do, or with the clients; and that there is no index is no reason to end (`builder`).
 ///
-/// Not proved: that a build under way is carried on, and each that a client begins, also where it dropped an index that was complete;
+/// Not proved: that a loop makes a step and that the call returns; that a build under way is carried on, and each that a client begins, also where it dropped an index that was complete;
 /// that the builder waits where the index is complete or there is none; and that a refusal other than for want of memory, as where the
 /// index is full, ends it, so that what is to be built then waits for the next run.
 pub fn run_beside<

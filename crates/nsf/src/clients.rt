@@ -32,13 +32,13 @@ pub trait Client {
 /// What clients leave.
 #[derive(Drop)]
 pub struct Served<C, D> {
-    /// The clients, in the order that they had.
+    /// The clients, as many as were given.
     pub clients: Vec<C>,
     pub device: D,
-    /// The ticket of the index, where it was completed meanwhile; else why it wasn't, which is `Stopped` where the clients ended first
-    /// or there was nothing to build.
+    /// What `run_beside` told of the builder: the ticket of an index, where one was completed meanwhile; else why none was. (No clause
+    /// says more of it.)
     pub built: Result<Ticket, Error>,
-    /// Why not all was written to the device, if so: `DeviceFailed`, or `NoMemory`.
+    /// Why not all was written to the device, if so, as `finish` tells it: `DeviceFailed`, or `NoMemory`.
     pub written: Result<(), Error>,
 }
 
@@ -46,9 +46,9 @@ pub struct Served<C, D> {
 /// index, clean it and write to the device. When all clients have ended, all that they did is written out.
 ///
 /// Then a crash leaves what was opened with the commits of all seats set over it; where `written` tells a refusal, with those up to
-/// some record (`leaves`). A transaction that a client left active is taken back when the store is opened again.
+/// some record (`leaves`). (That a client is called, and which seats are whose, no clause says.) A transaction that a client left active is taken back when the store is opened again.
 ///
-/// The errors are those of `open_store`, and `NoMemory`. No client began then, and the device is given back; a crash at any moment of
+/// The errors are those of `open_store`, and `NoMemory`. The device is given back then; a crash at any moment of
 /// the call leaves what one before could, or what gives the same (`refused`).
 pub fn serve<C: Client + Send + Drop, D: Device + Send + Drop, R: Threads + Wait + Sync>(
     rt: &R,

@@ -1,6 +1,6 @@
 //! The engine as C calls it: a store stands behind a handle, which C keeps.
 //!
-//! Proved: each call meets the contract of the engine's call of the same name, over a disk whose reads are answered from memory.
+//! Proved: each call meets the contract of the engine's call that `docs/C.md` names, over a disk whose reads are answered from memory.
 //! Trusted: what `include/nsf.h` asks of who calls, and that the other end of a line does what it is asked before it says so. One
 //! thread at a time may be in a call.
 //! By hand: five functions of `handle.rt` and `loose.rt`, by which a pointer is a box again. Neither proved nor built by the gate:

@@ -114,7 +114,7 @@ pub extern "C" fn nsf_open(alloc: Global, handle: &mut Handle, line: i32, bytes:
     put_opened(handle, open_sectors(alloc, line, sectors))
 }
 
-/// Closes the store under the handle. What was not flushed is lost.
+/// Closes the store under the handle. What was not flushed is lost. (What closing leaves at the line's other end, no clause says.)
 #[unsafe(no_mangle)]
 pub extern "C" fn nsf_close(alloc: Global, handle: &mut Handle)
     requires { IsOpen handle.old }

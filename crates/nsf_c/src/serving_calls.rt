@@ -77,8 +77,8 @@ pub extern "C" fn nsf_image(alloc: Global, handle: &mut Handle, told: &mut Told)
     status_of(&reply)
 }
 
-/// Whether the index fits the rows, so that all that is promised of a run is promised of this store too. To be asked while no
-/// transaction is active.
+/// Whether the index fits the rows, so that all that is promised of a run is promised of this store too. To be asked right behind
+/// `nsf_open`, while no transaction is active.
 #[unsafe(no_mangle)]
 pub extern "C" fn nsf_can_open(alloc: Global, handle: &mut Handle) -> bool
     requires { IsOpen handle.old }

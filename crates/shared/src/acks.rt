@@ -117,7 +117,8 @@ impl<B: Group> Shared<B> {
         }
     }
 
-    /// How many attempts the builder has made in this run, as it has published. It takes no memory and waits for nothing.
+    /// How many attempts the builder has made since the store was opened, as it has published. It takes no memory and waits for
+    /// nothing.
     pub fn progress(&self, seat: &mut Seat<B>) -> u64
         ensures seen { seat.new ≡ record seat.old { sight = record seat.old.sight { progress = result } } }
         ensures rises { seat.old.sight.progress ≤ result }
@@ -125,7 +126,8 @@ impl<B: Group> Shared<B> {
         self.board.progress(&mut seat.view)
     }
 
-    /// Asks all threads to stop, and wakes those that sleep. It takes no memory and waits for nothing.
+    /// Sets the stop flag, by which all threads are asked to stop. It takes no memory and waits for nothing. (That those that sleep are
+    /// woken, no clause says.)
     pub fn stop(&self, seat: &mut Seat<B>)
         ensures { seat.new ≡ record seat.old { sight = record seat.old.sight { stopped = true; stops = true } } }
     {

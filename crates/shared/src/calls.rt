@@ -72,7 +72,7 @@ impl<B: Group> Shared<B> {
     }
 
     /// Drops the index, be it complete or not, and keeps the number of its record with the seat. Its entries are freed behind
-    /// the lock.
+    /// the lock (no clause says so).
     ///
     /// The refusals are those of the core's `drop_index`. After a refusal the seat is as before.
     pub fn drop_index<R: Wait>(&self, rt: &R, seat: &mut Seat<B>) -> Result<Ticket, Error>
@@ -90,7 +90,7 @@ impl<B: Group> Shared<B> {
         Ok(dropped?.ticket)
     }
 
-    /// The row at the place, as it is now, also before its transaction's commit. If a transaction of the seat holds the place,
+    /// The row at the place, also before its transaction's commit, as a core has it that may lie under the lock. If a transaction of the seat holds the place,
     /// that is the row which the seat's session has for it.
     pub fn get<R: Wait>(&self, rt: &R, seat: &mut Seat<B>, rid: Rid) -> Option<Row>
         ensures served { ∥ WasServedTo B.site.opened seat.old.number seat.old.session (Event.Get rid) (Reply.RowIs result) ∥₁ }
@@ -103,7 +103,7 @@ impl<B: Group> Shared<B> {
         locked.get(rid)
     }
 
-    /// The places of the rows with this key, by the index.
+    /// The places of the rows with this key, by the index, as a core has it that may lie under the lock.
     ///
     /// The refusals are those of the core's `find`.
     pub fn find<R: Wait>(&self, rt: &R, key: Key) -> Result<Vec<Rid>, Error>
@@ -113,7 +113,7 @@ impl<B: Group> Shared<B> {
         locked.find(key)
     }
 
-    /// How far the index is.
+    /// How far the index is, in a core that may lie under the lock.
     pub fn life<R: Wait>(&self, rt: &R) -> Life
         ensures { ∥ WasServed B.site.opened Event.Life (Reply.LifeIs result) ∥₁ }
     {
