@@ -1,15 +1,15 @@
 -- The least free place.
-use Rattle.std.proofs.Common.{◌≡◌, ◌≢◌, ℕ, ◌+◌, ◌<◌, Bool, true, false, List, Some, None, IsSome, slice_get, refl, sym, ap, subst, ◌∙◌, arith, eqb, ◌⊎◌, inl, inr}
+use Rattle.std.proofs.Common.{◌≡◌, ◌≢◌, ℕ, ◌+◌, ◌<◌, ◌≤◌, Bool, true, false, List, length, Some, None, IsSome, get_or, slice_get, refl, sym, ap, subst, ◌∙◌, arith, eqb, ◌⊎◌, inl, inr}
 use Rattle.std.proofs.lemmas.Bool.Decides.{eqb_tells}
-use Rattle.std.proofs.lemmas.Option.{slice_get_within}
+use Rattle.std.proofs.lemmas.Option.{slice_get_within, slice_get-get_or}
 use Rattle.std.specs.declared.cmp.Ordering.TheVariants.{Less}
-use Rattle.std.specs.FinMap.{get}
+use Rattle.std.specs.FinMap.{get, empty}
 use Rattle.records.specs.Values.{Place}
 use Rattle.records.specs.Orders.{rid_cmp}
 use Rattle.records.specs.declared.rid.TheConstants.{SLOTS_PER_PAGE}
 use Rattle.records.specs.declared.row.Row.{Row}
 use Rattle.heap_pages.specs.Slots.{Slots, is_among, IsFreeSlot, NoneFree}
-use Rattle.heap_pages.specs.Pages.{HeapValue, IsEmptyAndUnheld}
+use Rattle.heap_pages.specs.Pages.{HeapValue, AreFull, IsEmptyAndUnheld}
 use Rattle.heap_pages.proofs.Cells.{at}
 use Rattle.heap_pages.proofs.Held.{among_from-Contains, not_among}
 use Rattle.heap_pages.proofs.RidOrder.{page_before, slot_before}
@@ -67,3 +67,13 @@ module _ (pages : List Slots) (h : HeapValue) (held : List Place) (n : ℕ) (pag
       let gone = empty_slot q free e in
       let some : IsSome {T = Row} None = subst IsSome gone there in
       absurd cc) none
+
+-- the least place is on no page that is full
+pub none_on_full : (pages : List Slots) (h : HeapValue) (held : List Place) (n : ℕ) → shown_of pages ≡ h → n ≤ length pages → AreFull n pages → NoneOnEarlierPages h held n
+none_on_full pages h held n is le full q below free =
+    let page = get_or pages q.page empty in
+    let here : slice_get pages q.page ≡ Some page = slice_get-get_or pages q.page empty (omega arith) in
+    let there : IsSome (get page q.slot) = full q.page page below here q.slot free.inside.1 in
+    let gone = empty_slot pages h held q.page page is here q free refl in
+    let some : IsSome {T = Row} None = subst IsSome gone there in
+    absurd cc

@@ -4,6 +4,7 @@ mod Cells
 mod Writes
 mod Empty
 mod Free
+mod Full
 mod Held
 mod Pairs
 mod PairLaws

@@ -1,5 +1,5 @@
 -- What clauses see of a heap.
-use Rattle.std.specs.Prelude.{◌≡◌, ℕ, ◌+◌, ◌<◌, List, [], ◌∷◌, ◌++◌, map, Option, Some, None, Contains, ◌==◌, refl}
+use Rattle.std.specs.Prelude.{◌≡◌, ℕ, ◌+◌, ◌<◌, List, [], ◌∷◌, ◌++◌, map, Option, Some, None, IsSome, Contains, slice_get, ◌==◌, refl}
 use Rattle.std.specs.FinMap.{FinMap, code, entries, get, retain_keys, from_sorted}
 use Rattle.std.specs.Coded.{Coded, code_by, coded×, coded_ℕ}
 use Rattle.records.specs.Values.{Place}
@@ -8,6 +8,7 @@ use Rattle.records.specs.Codes.{coded_rid, coded_row}
 use Rattle.records.specs.declared.rid.TheConstants.{SLOTS_PER_PAGE}
 use Rattle.records.specs.declared.row.Row.{Row}
 use Rattle.records.specs.declared.pair.Pair.{Pair}
+use Rattle.heap_pages.specs.Slots.{Slots}
 
 -- the rows of a table, each at its place
 abbrev pub Rows : Type 0
@@ -61,6 +62,10 @@ page_entries n i (Some row ∷ slots) = (record { page = n; slot = i }, row) ∷
 abbrev pub heap_entries : ℕ → List (List (Option Row)) → List (Place × Row)
 heap_entries n [] = []
 heap_entries n (slots ∷ pages) = page_entries n 0 slots ++ heap_entries (n + 1) pages
+
+-- the first n of these pages have a row in each slot
+abbrev pub AreFull : ℕ → List Slots → Type 0
+AreFull n pages = (k : ℕ) (page : Slots) → k < n → slice_get pages k ≡ Some page → (s : ℕ) → s < SLOTS_PER_PAGE → IsSome (get page s)
 
 -- the row in each slot of each page, by its place
 abbrev pub rows_of : List (List (Option Row)) → Rows

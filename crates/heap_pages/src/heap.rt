@@ -1,5 +1,5 @@
 //! The pages of the heap.
-ghost use Rattle.std.specs.Prelude.{◌≡◌, ◌≢◌, ◌<◌, ◌≤◌, ◌↔◌, ℕ, map, length, slice_get, Some, All, Contains, IfOk, IfErr, IsErr, IsSome};
+ghost use Rattle.std.specs.Prelude.{◌≡◌, ◌≢◌, ◌<◌, ◌≤◌, ◌^◌, ◌↔◌, ℕ, map, length, slice_get, Some, All, Contains, IfOk, IfErr, IsErr, IsSome};
 ghost use Rattle.std.specs.List.Sorted.{IsStrictlyIncreasing};
 ghost use Rattle.std.specs.declared.cmp.Ordering.{Ordering};
 ghost use Rattle.std.specs.FinMap.{get, empty};
@@ -8,7 +8,7 @@ ghost use Rattle.records.specs.Orders.{rid_cmp};
 ghost use Rattle.records.specs.Maps.{set_at};
 ghost use Rattle.records.specs.declared.pair.Pair.{Pair};
 ghost use Rattle.records.specs.declared.rid.TheConstants.{SLOTS_PER_PAGE};
-ghost use Rattle.heap_pages.specs.Pages.{IsPlaceInside, IsEmptyAndUnheld, IsPairOnPage, page_rows, pairs_of};
+ghost use Rattle.heap_pages.specs.Pages.{AreFull, IsPlaceInside, IsEmptyAndUnheld, IsPairOnPage, page_rows, pairs_of};
 
 use crate::page::{HeapPage, SLOTS, held_slots};
 use records::{Error, Pair, Rid, Row, SLOTS_PER_PAGE};
@@ -22,12 +22,14 @@ use std::marker::Model;
 pub struct Heap<A: Allocator> {
     alloc: A,
     pages: Vec<HeapPage, A>,
+    // the pages before this one are full
+    first_open: u32,
 }
 
 impl<A: Allocator> Model for Heap<A> {
-    ghost use Rattle.std.specs.Prelude.{◌<◌, ◌^◌, map, length};
+    ghost use Rattle.std.specs.Prelude.{◌<◌, ◌≤◌, ◌^◌, map, length};
     ghost use Rattle.heap_pages.specs.Slots.{slots_of};
-    ghost use Rattle.heap_pages.specs.Pages.{HeapValue, coded_heap, rows_of};
+    ghost use Rattle.heap_pages.specs.Pages.{HeapValue, coded_heap, rows_of, AreFull};
 
     ghost Value = { HeapValue };
 
@@ -38,7 +40,21 @@ impl<A: Allocator> Model for Heap<A> {
       rows = rows_of (map slots_of h.pages.items);
     } };
 
-    ghost invariant = { λ h. length h.pages.items < 2 ^ 32 };
+    ghost invariant = { λ h. (length h.pages.items < 2 ^ 32) × (h.first_open ≤ length h.pages.items) × AreFull h.first_open h.pages.items };
+}
+
+// The next page where the first of which it is not known yet whether it is full is full: the pages before it are full, as those before
+// that one were.
+fn first_open_from(pages: &[HeapPage], first: u32) -> u32
+    requires few { length pages.now < 2 ^ 32 }
+    requires inside { first ≤ length pages.now }
+    ensures inside { result ≤ length pages.now }
+    ensures full { AreFull first pages.now → AreFull result pages.now }
+{
+    match pages.get(first as usize) {
+        Some(page) if page.is_full() => first + 1,
+        _ => first,
+    }
 }
 
 impl<A: Allocator + Copy> Heap<A> {
@@ -54,7 +70,11 @@ impl<A: Allocator + Copy> Heap<A> {
         for _ in 0..pages {
             made.push(HeapPage::new())?;
         }
-        Ok(Heap { alloc, pages: made })
+        Ok(Heap {
+            alloc,
+            pages: made,
+            first_open: 0,
+        })
     }
 
     /// How many pages there are.
@@ -93,8 +113,14 @@ impl<A: Allocator + Copy> Heap<A> {
         requires { rid.page < self.old.pages }
         ensures { self.new ≡ record self.old { rows = set_at self.old.rows rid row } }
     {
+        let is_taken = row.is_some();
         let page = &mut self.pages[rid.page as usize];
         page.set(rid.slot, row);
+        self.first_open = if is_taken {
+            first_open_from(&self.pages, self.first_open)
+        } else {
+            self.first_open.min(rid.page)
+        };
     }
 
     /// The least place that is empty and not among the held ones: first by its page, then by its
@@ -108,7 +134,7 @@ impl<A: Allocator + Copy> Heap<A> {
         ensures full { IsErr result → (q : Place) → ¬ IsEmptyAndUnheld self.now held.now q }
         ensures heap_full { IfErr result (λ e. e ≡ Error.HeapFull) }
     {
-        for page in 0..self.pages() {
+        for page in self.first_open..self.pages() {
             let slots = &self.pages[page as usize];
             if slots.is_full() {
                 continue;

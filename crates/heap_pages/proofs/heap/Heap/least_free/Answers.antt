@@ -1,7 +1,10 @@
 use Rattle.std.proofs.Common.{rules, ◌<◌, length, refl, ap, arith}
 use Rattle.std.proofs.lemmas.Option.{slice_get_read}
-use Rattle.heap_pages.proofs.Free.{free_place, none_before, none_further, none_further_full}
+use Rattle.heap_pages.proofs.Free.{free_place, none_on_full, none_before, none_further, none_further_full}
 use Rattle.heap_pages.proofs.heap.Heap.least_free.Goals as goal
+
+pub loop-page-init : goal.loop-page-init
+loop-page-init g c = none_on_full c.self.inside.pages.items c.args.self.now c.args.held.now c.self.inside.first_open c.self.view_is c.self.invariant.1 c.self.invariant.2
 
 pub returns-in-Some-clause-free : goal.returns-in-Some-clause-free
 returns-in-Some-clause-free g c =

@@ -1,4 +1,4 @@
-use Rattle.std.proofs.Common.{◌<◌, List, Option, Some, None, length, get_or, slice_get, sym, ap, subst, ◌∙◌}
+use Rattle.std.proofs.Common.{◌<◌, List, Option, Some, None, get_or, slice_get, sym, ap, subst, ◌∙◌}
 use Rattle.std.proofs.lemmas.Option.{slice_get-get_or}
 use Rattle.records.specs.declared.row.Row.{Row}
 use Rattle.heap_pages.proofs.SlotLists.{slot_shown}
