@@ -1,3 +1,4 @@
 mod Moved
+mod InOrder
 mod Loading
 pub mod Laws

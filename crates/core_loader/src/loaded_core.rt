@@ -18,33 +18,36 @@ use redo::Restored;
 use std::alloc::Allocator;
 
 // Loads these rows into a core that has none.
-fn load_rows<A: Allocator + Copy>(core: &mut Core<A>, mut rows: RowMap<A>)
+fn load_rows<A: Allocator + Copy>(
+    alloc: A,
+    core: &mut Core<A>,
+    rows: &RowMap<A>,
+) -> Result<(), Error>
     requires quiet { IsQuiet (value_of core.old) }
     requires none { (value_of core.old).heap.rows ≡ map.empty }
-    requires within { IsWithin (value_of core.old).heap.pages rows }
-    ensures { value_of core.new ≡ with_rows (value_of core.old) rows }
+    requires within { IsWithin (value_of core.old).heap.pages rows.now }
+    ensures ok { OnOk result (value_of core.new ≡ with_rows (value_of core.old) rows.now) }
+    ensures no_memory { IfErr result (λ e. e ≡ Error.NoMemory) }
 {
-    while let Some(entry) = rows.pop() {
-        let (rid, row) = entry;
-        core.load_row(rid, Some(row));
+    let entries = rows.entries(alloc)?;
+    for entry in &entries {
+        core.load_row(entry.0, Some(entry.1));
     }
+    Ok(())
 }
 
 // Loads these entries into a core that has none, but room for them.
-fn load_entries<A: Allocator + Copy>(
-    core: &mut Core<A>,
-    mut entries: EntryMap<A>,
-) -> Result<(), Error>
+fn load_entries<A: Allocator + Copy>(core: &mut Core<A>, entries: &EntryMap<A>) -> Result<(), Error>
     requires quiet { IsQuiet (value_of core.old) }
     requires none { (value_of core.old).index.entries ≡ map.empty }
-    requires within { AreEntriesWithin (value_of core.old).heap.pages entries }
-    requires room { map.len entries + (value_of core.old).index.pledged ≤ (value_of core.old).index.capacity }
-    ensures ok { OnOk result (value_of core.new ≡ with_entries (value_of core.old) entries) }
+    requires within { AreEntriesWithin (value_of core.old).heap.pages entries.now }
+    requires room { map.len entries.now + (value_of core.old).index.pledged ≤ (value_of core.old).index.capacity }
+    ensures ok { OnOk result (value_of core.new ≡ with_entries (value_of core.old) entries.now) }
     ensures no_memory { IfErr result (λ e. e ≡ Error.NoMemory) }
 {
-    while let Some(entry) = entries.pop() {
-        let (pair, mark) = entry;
-        core.load_entry(&pair, Some(mark))?;
+    let mut rest = entries.all_above(None);
+    while let Some((pair, mark)) = rest.next() {
+        core.load_entry(pair, Some(*mark))?;
     }
     Ok(())
 }
@@ -71,8 +74,8 @@ pub fn load<A: Allocator + Copy>(alloc: A, found: Restored<A>) -> Result<Core<A>
         return Err(Error::IndexFull);
     }
     let mut core = Core::new(alloc, geometry, last)?;
-    load_rows(&mut core, rows);
-    load_entries(&mut core, entries)?;
+    load_rows(alloc, &mut core, &rows)?;
+    load_entries(&mut core, &entries)?;
     core.load_life(life);
     Ok(core)
 }

@@ -19,14 +19,14 @@ load_rows-requires-clause-within g c = subst (λ (v : CoreValue). IsWithin v.hea
 pub load_life-requires-clause-inside : goal.load_life-requires-clause-inside
 load_life-requires-clause-inside g c =
     let f = c.args.found in
-    let rows : value_of c.load_rows.new.core ≡ with_rows (fresh f.geometry f.last) f.rows = c.load_rows.ensures ∙ ap (λ (v : CoreValue). with_rows v f.rows) c.in_ok-core.ensures.made in
+    let rows : value_of c.load_rows.new.core ≡ with_rows (fresh f.geometry f.last) f.rows = c.in_ok-load_rows.ensures.ok ∙ ap (λ (v : CoreValue). with_rows v f.rows) c.in_ok-core.ensures.made in
     let entries : value_of c.load_entries.new.core ≡ with_entries (with_rows (fresh f.geometry f.last) f.rows) f.entries = c.in_ok-load_entries.ensures.ok ∙ ap (λ (v : CoreValue). with_entries v f.entries) rows in
     subst (λ (v : CoreValue). IsLifeInside v f.life) (sym entries) f.inside.life
 
 pub returns-clause-made : goal.returns-clause-made
 returns-clause-made g c =
     let f = c.args.found in
-    let rows : value_of c.load_rows.new.core ≡ with_rows (fresh f.geometry f.last) f.rows = c.load_rows.ensures ∙ ap (λ (v : CoreValue). with_rows v f.rows) c.in_ok-core.ensures.made in
+    let rows : value_of c.load_rows.new.core ≡ with_rows (fresh f.geometry f.last) f.rows = c.in_ok-load_rows.ensures.ok ∙ ap (λ (v : CoreValue). with_rows v f.rows) c.in_ok-core.ensures.made in
     let entries : value_of c.load_entries.new.core ≡ with_entries (with_rows (fresh f.geometry f.last) f.rows) f.entries = c.in_ok-load_entries.ensures.ok ∙ ap (λ (v : CoreValue). with_entries v f.entries) rows in
     c.load_life.ensures ∙ ap (λ (v : CoreValue). life_loaded v f.life) entries
 

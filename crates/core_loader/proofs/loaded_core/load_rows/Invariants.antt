@@ -1,10 +1,13 @@
+use Rattle.std.proofs.Common.{drop}
+use Rattle.std.specs.Prelude.{T}
 use Rattle.std.specs.FinMap as map
+use Rattle.records.specs.Orders.{rid_cmp}
 use Rattle.nsf_core.specs.Value.{value_of}
 use Rattle.core_loader.proofs.Loading.{AreRowsLoaded}
 use Rattle.core_loader.proofs.loaded_core.load_rows.Given as goal
 
 abbrev pub invariant-loop-entry : goal.invariant-loop-entry
-invariant-loop-entry g l = AreRowsLoaded l.fn.rows l.rows (value_of l.fn.core) (value_of l.core)
-
-abbrev pub decreases-loop-entry : goal.decreases-loop-entry
-decreases-loop-entry g l = map.len l.rows
+invariant-loop-entry g l = record {
+  sorted : T (map.is_sorted rid_cmp (drop l.entry-index l.entry-items));
+  loaded : AreRowsLoaded l.fn.rows (map.from_sorted (drop l.entry-index l.entry-items)) (value_of l.fn.core) (value_of l.core);
+}
