@@ -1,6 +1,7 @@
 //! The parts of a copy: lists, rows and entries.
 ghost use Rattle.std.specs.Prelude.{◌≡◌, ◌≤◌, ℕ, [], length, None, IsSome, OnOk, IfOk, IfErr};
 ghost use Rattle.std.specs.FinMap as map;
+ghost use Rattle.records.specs.Maps.{set_at};
 ghost use Rattle.records.specs.Values.{Place};
 ghost use Rattle.btree_node.specs.Above.{IsLeastAbove};
 ghost use Rattle.btree_node.specs.Runs.{IsRunAbove};
@@ -8,14 +9,14 @@ ghost use Rattle.heap_pages.specs.Pages.{IsPlaceInside};
 ghost use Rattle.nsf_core.specs.Moves.{txn_shown};
 ghost use Rattle.nsf_core.specs.Value.{value_of};
 ghost use Rattle.core_copies.specs.Pieces.{AreEntriesOf, IsPageOf};
-ghost use Rattle.core_copies.specs.Private.{HasListPut, HasPagePut, unlisted};
+ghost use Rattle.core_copies.specs.Private.{HasListPut, HasPagePut, table_of, unlisted};
 ghost use Rattle.core_copies.specs.Shown.{list_shown};
 
 use btree_node::Entry;
 use image_model::{CHUNK_ENTRIES, PageRows};
 use model::{EntryMap, ListMap, RowMap};
 use nsf_core::Core;
-use records::{Error, Mark, Pair, Rid, SLOTS_PER_PAGE, Txn};
+use records::{Error, Mark, Pair, Rid, Row, SLOTS_PER_PAGE, Txn};
 use std::alloc::Allocator;
 
 // Adds the list that the log has of the transaction, if it has one.
@@ -57,20 +58,39 @@ pub(crate) fn all_lists<A: Allocator + Copy>(alloc: A, core: &Core<A>) -> Result
     Ok(lists)
 }
 
+// Puts the row of a place where none is yet to others, if there is one.
+fn put_row<A: Allocator>(
+    rows: &mut Vec<(Rid, Row), A>,
+    rid: Rid,
+    found: Option<Row>,
+) -> Result<(), Error>
+    requires { map.get (table_of rows.old.items) rid ≡ None }
+    ensures put { OnOk result (table_of rows.new.items ≡ set_at (table_of rows.old.items) rid found) }
+    ensures no_memory { IfErr result (λ e. e ≡ Error.NoMemory) }
+{
+    match found {
+        None => Ok(()),
+        Some(row) => {
+            rows.push((rid, row))?;
+            Ok(())
+        }
+    }
+}
+
 // Puts the rows of the page to others.
 fn put_page<A: Allocator + Copy>(
     core: &Core<A>,
     page: u32,
-    rows: &mut RowMap<A>,
+    rows: &mut Vec<(Rid, Row), A>,
 ) -> Result<(), Error>
     requires inside { (r : Place) → IsSome (map.get (value_of core.now).heap.rows r) → IsPlaceInside (value_of core.now).heap r }
-    requires none { (q : Place) → q.page ≡ page → map.get rows.old q ≡ None }
-    ensures put { OnOk result (HasPagePut (value_of core.now).heap.rows page rows.old rows.new) }
+    requires none { (q : Place) → q.page ≡ page → map.get (table_of rows.old.items) q ≡ None }
+    ensures put { OnOk result (HasPagePut (value_of core.now).heap.rows page (table_of rows.old.items) (table_of rows.new.items)) }
     ensures no_memory { IfErr result (λ e. e ≡ Error.NoMemory) }
 {
     for slot in 0..SLOTS_PER_PAGE {
         let rid = Rid { page, slot };
-        rows.set(rid, core.get(rid))?;
+        put_row(rows, rid, core.get(rid))?;
     }
     Ok(())
 }
@@ -95,35 +115,13 @@ pub(crate) fn all_rows<A: Allocator + Copy>(alloc: A, core: &Core<A>) -> Result<
     ensures rows { IfOk result (λ rows. rows ≡ (value_of core.now).heap.rows) }
     ensures no_memory { IfErr result (λ e. e ≡ Error.NoMemory) }
 {
-    let mut rows = RowMap::new(alloc);
+    let mut listed = Vec::new(alloc);
     for page in 0..core.pages() {
-        put_page(core, page, &mut rows)?;
+        put_page(core, page, &mut listed)?;
     }
+    let mut rows = RowMap::new(alloc);
+    rows.extend(alloc, &listed)?;
     Ok(rows)
-}
-
-// The least entry above the pair, or the least of all.
-fn entry_above<A: Allocator + Copy>(core: &Core<A>, pair: Option<Pair>) -> Option<(Pair, Mark)>
-    ensures { IsLeastAbove (value_of core.now).index.entries pair result }
-{
-    core.above(pair.as_ref())
-}
-
-/// All entries.
-pub(crate) fn all_entries<A: Allocator + Copy>(
-    alloc: A,
-    core: &Core<A>,
-) -> Result<EntryMap<A>, Error>
-    ensures entries { IfOk result (λ entries. entries ≡ (value_of core.now).index.entries) }
-    ensures no_memory { IfErr result (λ e. e ≡ Error.NoMemory) }
-{
-    let mut entries = EntryMap::new(alloc);
-    let mut last = None;
-    while let Some(entry) = entry_above(core, last) {
-        entries.set(entry.0, Some(entry.1))?;
-        last = Some(entry.0);
-    }
-    Ok(entries)
 }
 
 // What is left of a run of entries above the pair, or the next run where nothing is left.
@@ -141,6 +139,27 @@ fn left_or_next<'a, A: Allocator + Copy>(
     } else {
         run
     }
+}
+
+/// All entries.
+pub(crate) fn all_entries<A: Allocator + Copy>(
+    alloc: A,
+    core: &Core<A>,
+) -> Result<EntryMap<A>, Error>
+    ensures entries { IfOk result (λ entries. entries ≡ (value_of core.now).index.entries) }
+    ensures no_memory { IfErr result (λ e. e ≡ Error.NoMemory) }
+{
+    let mut listed = Vec::new(alloc);
+    let mut last = None;
+    let mut run: &[Entry] = &[];
+    while let Some((entry, rest)) = left_or_next(core, run, last).split_first() {
+        last = Some(entry.pair);
+        run = rest;
+        listed.push((entry.pair, entry.mark))?;
+    }
+    let mut entries = EntryMap::new(alloc);
+    entries.extend(alloc, &listed)?;
+    Ok(entries)
 }
 
 /// The next entries above the pair: `CHUNK_ENTRIES` at most, fewer where no more are left.

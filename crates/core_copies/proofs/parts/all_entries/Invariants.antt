@@ -1,10 +1,15 @@
 use Rattle.std.proofs.Common.{None}
+use Rattle.btree_node.specs.Runs.{IsRunAbove}
 use Rattle.nsf_core.specs.Value.{value_of}
+use Rattle.core_copies.specs.Private.{index_of}
 use Rattle.core_copies.proofs.Copied.{AreUpTo, left_after}
 use Rattle.core_copies.proofs.parts.all_entries.Given as goal
 
 abbrev pub invariant-loop-entry : goal.invariant-loop-entry
-invariant-loop-entry g l = AreUpTo (value_of l.core).index.entries None l.last l.entries
+invariant-loop-entry g l = record {
+  copied : AreUpTo (value_of l.core).index.entries None l.last (index_of l.listed.items);
+  run : IsRunAbove (value_of l.core).index.entries l.last l.run;
+}
 
 abbrev pub decreases-loop-entry : goal.decreases-loop-entry
 decreases-loop-entry g l = left_after (value_of l.core).index.entries l.last

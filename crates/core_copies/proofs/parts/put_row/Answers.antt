@@ -1,0 +1,22 @@
+use Rattle.std.proofs.Common.{List, Option, sym, ap, ◌∙◌}
+use Rattle.std.specs.FinMap.{empty}
+use Rattle.records.specs.Maps.{set_at, set_at-get, rid_exact}
+use Rattle.records.specs.Values.{Place}
+use Rattle.records.specs.Orders.{rid_cmp}
+use Rattle.records.specs.declared.row.Row.{Row}
+use Rattle.model.specs.Table.{Table}
+use Rattle.model.proofs.ExtendedLaws.{extended_more}
+use Rattle.core_copies.specs.Private.{table_of}
+use Rattle.core_copies.proofs.parts.put_row.Goals as goal
+
+pub returns-in_ok-push-in-Some-clause-put : goal.returns-in_ok-push-in-Some-clause-put
+returns-in_ok-push-in-Some-clause-put g c =
+    let rows : List (Place × Row) = c.args.rows.now.items in
+    ap table_of c.in_ok-push-in-Some.ensures.items
+    ∙ extended_more (empty {R = rid_cmp}) rows c.args.rid c.in-Some.row
+    ∙ ap (λ (o : Option Row). set_at (table_of rows) c.args.rid o) (sym c.in-Some.is)
+
+pub returns-in-None-clause-put : goal.returns-in-None-clause-put
+returns-in-None-clause-put g c =
+    let rows : Table = table_of c.args.rows.now.items in
+    sym (set_at-get rid_exact rows c.args.rid) ∙ ap (λ (o : Option Row). set_at rows c.args.rid o) (c.requires ∙ sym c.in-None.is)
