@@ -18,7 +18,7 @@ use Rattle.restart.specs.Handing.{HandsOver}
 use Rattle.restart.specs.History.{asked}
 use Rattle.restart.specs.Lawful.{IsInCore, IsInCoreBy}
 use Rattle.restart.specs.Parts.{device_of, writer_of}
-use Rattle.restart.specs.Store.{HaveNoCopy, KeepsAround, OpensSlotsAlone}
+use Rattle.restart.specs.Store.{CopiesAround, HaveNoCopy, KeepsAround, KeepsSectors, OpensSlotsAlone}
 
 -- the last of some requests is no copy, nor is one before it
 pub no_copy_last : (events : List Event) (event : Event) → HaveNoCopy (events ++ event ∷ []) → HaveNoCopy events × (event ≢ requests.Copy)
@@ -64,3 +64,25 @@ module _ {D M : Type 0} (history : D → History) (old : Parts D M) where
     pub slots_then : (w : Writer D M) → WritesOnly history (InOpenedSlots (writer_of mid)) (device_of mid) (writer.device_of w) → WritesOnly history (InOpenedSlots (writer_of old)) (device_of old) (writer.device_of w)
     slots_then w wrote = subst (λ d. WritesOnly history (InOpenedSlots (writer_of old)) d (writer.device_of w)) over.device
         (alone_wider history (InOpenedSlots (writer_of mid)) (InOpenedSlots (writer_of old)) same_slots (device_of mid) (writer.device_of w) wrote)
+
+-- ---- how many sectors there are
+
+-- a request leaves their number, since each call that writes leaves it
+pub keeps_sectors : {D M : Type 0} (history : D → History) (event : Event) (old new : Parts D M) → (event ≢ requests.Copy → KeepsAround history old new) → (event ≡ requests.Copy → CopiesAround history old new) → KeepsSectors history old new
+keeps_sectors history requests.Begin old new around copied = (around (λ e. cc)).now.sectors
+keeps_sectors history (requests.Insert txn key body) old new around copied = (around (λ e. cc)).now.sectors
+keeps_sectors history (requests.Delete txn rid) old new around copied = (around (λ e. cc)).now.sectors
+keeps_sectors history (requests.Update txn rid key body) old new around copied = (around (λ e. cc)).now.sectors
+keeps_sectors history (requests.Step txn) old new around copied = (around (λ e. cc)).now.sectors
+keeps_sectors history (requests.Undo txn) old new around copied = (around (λ e. cc)).now.sectors
+keeps_sectors history (requests.End txn) old new around copied = (around (λ e. cc)).now.sectors
+keeps_sectors history (requests.Commit txn) old new around copied = (around (λ e. cc)).now.sectors
+keeps_sectors history requests.Create old new around copied = (around (λ e. cc)).now.sectors
+keeps_sectors history requests.Drop old new around copied = (around (λ e. cc)).now.sectors
+keeps_sectors history requests.Build old new around copied = (around (λ e. cc)).now.sectors
+keeps_sectors history requests.Clean old new around copied = (around (λ e. cc)).now.sectors
+keeps_sectors history requests.Flush old new around copied = (around (λ e. cc)).now.sectors
+keeps_sectors history requests.Copy old new around copied = (copied refl).now.sectors
+keeps_sectors history (requests.Get rid) old new around copied = (around (λ e. cc)).now.sectors
+keeps_sectors history (requests.Find key) old new around copied = (around (λ e. cc)).now.sectors
+keeps_sectors history requests.Life old new around copied = (around (λ e. cc)).now.sectors

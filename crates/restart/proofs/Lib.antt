@@ -14,6 +14,7 @@ mod Runs
 mod Around
 mod AllFlushed
 mod WholeImages
+mod WhyRefused
 mod CopiesAround
 mod Crashes
 mod Climbing

@@ -4,7 +4,7 @@ use Rattle.std.specs.List.Sorted.{IsStrictlyIncreasing}
 use Rattle.sector_device.specs.History.{History}
 use Rattle.restart.specs.Lawful.{IsLawful}
 use Rattle.restart.specs.Parts.{log_of, unwritten}
-use Rattle.restart.specs.Store.{ServesOn}
+use Rattle.restart.specs.Store.{KeepsSectors, ServesOn}
 use Rattle.restart.specs.declared.event.Event.{Event}
 use Rattle.restart.specs.declared.event.Event.TheVariants.{Flush, Copy}
 use Rattle.restart.specs.declared.event.Reply.{Reply}
@@ -35,10 +35,11 @@ behind (Some before) numbers = before ∷ numbers
 module _ {D M : Type 0} (history : D → History) (failures : D → ℕ) where
   -- The request had this lawful reply. At whatever run the engine was, it now is at that run with the request and the reply behind it,
   -- and a crash of the device at any moment of it leaves what a prefix of the run left, with all that an earlier reply has told to be
-  -- safe.
+  -- safe. The device has as many sectors as before.
   pub record Serves (event : Event) (reply : Reply M) (old new : Parts D M) : Type 0 where
     pub lawful : IsLawful failures event reply old new
     pub runs : ServesOn history event reply old new
+    pub sectors : KeepsSectors history old new
 
   -- One copy after another had these replies.
   abbrev pub AreCopied : List (Reply M) → Parts D M → Parts D M → Type 0

@@ -132,6 +132,10 @@ InCopy h n = InLog h.geometry h.current n ⊎ (InHalf h.geometry (other h.curren
 abbrev pub CopiesAround : {D M : Type 0} → (D → History) → Parts D M → Parts D M → Type 0
 CopiesAround history old new = WritesOnly history (InCopy (halves_of (writer_of old))) (device_of old) (device_of new)
 
+-- the device has as many sectors as before
+abbrev pub KeepsSectors : {D M : Type 0} → (D → History) → Parts D M → Parts D M → Type 0
+KeepsSectors history old new = length (history (device_of new)).disk.content ≡ length (history (device_of old)).disk.content
+
 -- none of the requests is a copy
 abbrev pub HaveNoCopy : List Event → Type 0
 HaveNoCopy [] = Unit {0}
@@ -169,6 +173,7 @@ RunsOn {D} {M} history events replies old new = (past : Past M) → IsAt history
 abbrev pub RunsLawfully : {D M : Type 0} → (D → History) → (D → ℕ) → List Event → List (Reply M) → Parts D M → Parts D M → Type 0
 RunsLawfully {D} {M} history failures events replies old new = (past : Past M) → IsAt history past old → AreServed history failures past events replies old new
 
--- whatever run left the engine so, a crash of the device leaves a prefix of it with everything acknowledged
+-- Whatever run left the engine so, a crash of the device leaves a prefix of it with every record up to the horizon, and so with
+-- everything acknowledged (`safe` of `IsAt`).
 abbrev pub KeepsRun : {D M : Type 0} → (D → History) → Parts D M → D → Type 0
-KeepsRun {D} {M} history engine device = (past : Past M) (image : Image) → IsAt history past engine → IsCrashImage (history device).disk image → Survives past (acknowledged_by past) image
+KeepsRun {D} {M} history engine device = (past : Past M) (image : Image) → IsAt history past engine → IsCrashImage (history device).disk image → Survives past (horizon_of engine) image

@@ -1,5 +1,5 @@
 //! The index is built to its end.
-ghost use Rattle.std.specs.Prelude.{◌≡◌, ◌≤◌, max, None, OnOk};
+ghost use Rattle.std.specs.Prelude.{◌≡◌, ◌⊎◌, ◌≤◌, max, None, IfErr, OnOk};
 ghost use Rattle.records.specs.declared.number.TheConstants.{LAST_NUMBER};
 ghost use Rattle.restart.specs.Building.{end_of, in_a_row};
 
@@ -22,6 +22,7 @@ impl<D: Device, A: Allocator + Copy> Parts<D, A> {
         requires { CanRun D.history self.old }
         ensures built { IsBuiltToEnd D.history result self.old self.new }
         ensures whole { OnOk result (BuildsWhole (core_of self.old) (core_of self.new)) }
+        ensures why { IfErr result (λ e. (e ≡ Error.NoIndex) ⊎ (e ≡ Error.IndexFull) ⊎ (e ≡ Error.Exhausted) ⊎ (e ≡ Error.NoMemory)) }
         ensures come { HasCome (core_of self.old) → HasCome (core_of self.new) }
         ensures can_run { CanRun D.history self.new }
     {

@@ -1,5 +1,5 @@
 //! The engine: a store that serves requests, whatever was asked of it before.
-ghost use Rattle.std.specs.Prelude.{◌≡◌, ◌≢◌, [], OnErr, OnOk, IfOk, IfErr};
+ghost use Rattle.std.specs.Prelude.{◌≡◌, ◌≢◌, ◌⊎◌, [], OnErr, OnOk, IfOk, IfErr};
 
 use crate::parts::Parts;
 use crate::{Event, Reply};
@@ -36,10 +36,10 @@ impl<D: Device, A: Allocator> Model for Engine<D, A> {
 
 impl<D: Device, A: Allocator + Copy> Engine<D, A> {
     ghost use Rattle.nsf_core.specs.Value.{value_of};
-    ghost use Rattle.restart.specs.Parts.{core_of, device_of};
+    ghost use Rattle.restart.specs.Parts.{core_of, device_of, horizon_of};
     ghost use Rattle.restart.specs.Groups.{CopiesByGroups};
     ghost use Rattle.restart.specs.Lawful.{IsLawful, AreLawful};
-    ghost use Rattle.restart.specs.Store.{ServesOn, RunsOn, RunsLawfully, KeepsRun, KeepsAround, OpensSlotsAlone, CopiesAround, HaveNoCopy};
+    ghost use Rattle.restart.specs.Store.{ServesOn, RunsOn, RunsLawfully, KeepsRun, KeepsAround, KeepsSectors, OpensSlotsAlone, CopiesAround, HaveNoCopy};
     ghost use Rattle.restart.specs.Parted.{ArePartsOf, LeavesPartsOf, IsGivenBack};
     ghost use Rattle.restart.specs.Ran.{KeepsWholeRun, SurvivesAnyCrash};
     ghost use Rattle.restart.specs.Building.{IsBuiltToEnd, BuildsWhole, HasCome};
@@ -49,7 +49,8 @@ impl<D: Device, A: Allocator + Copy> Engine<D, A> {
     /// copy no sector is written but those of the store's log and, where an image is under way, of the log of its half
     /// (`around`), and by a flush none but those of the slot that it opens there (`slot`); and by a copy none but those of the log, of
     /// the half that isn't current, and the one that tells which half is (`copied`). A copy that finds a whole image waiting writes
-    /// filled groups, and none where the image could be made current at once (`groups`).
+    /// filled groups, and none where the image could be made current at once (`groups`). The device has as many sectors as before
+    /// (`sectors`).
     pub fn serve(&mut self, event: Event) -> Reply<A>
         ensures serves { ServesOn D.history event result self.old self.new }
         ensures lawful { IsLawful D.failures event result self.old self.new }
@@ -57,6 +58,7 @@ impl<D: Device, A: Allocator + Copy> Engine<D, A> {
         ensures slot { event ≡ Event.Flush → OpensSlotsAlone D.history self.old self.new }
         ensures copied { event ≡ Event.Copy → CopiesAround D.history self.old self.new }
         ensures groups { event ≡ Event.Copy → CopiesByGroups self.old self.new }
+        ensures sectors { KeepsSectors D.history self.old self.new }
     {
         self.parts.serve(event)
     }
@@ -93,7 +95,7 @@ impl<D: Device, A: Allocator + Copy> Engine<D, A> {
     ///
     /// A refusal is that of the step that met it, and ends the steps; what was built before it stays. `NoIndex`, then
     /// `IndexFull` where a pair that has no entry meets no free place, `Exhausted` where a record is to be made and no
-    /// number is left, and `NoMemory`.
+    /// number is left, and `NoMemory` (`why`; when each comes, `built`).
     ///
     /// With no transaction active and the answer `Ok`, the rows are as they were, and the visible entries are just their
     /// pairs (`whole`). This is promised of an engine that a run left, and of one that was opened over what a run left; of
@@ -104,6 +106,7 @@ impl<D: Device, A: Allocator + Copy> Engine<D, A> {
     pub fn build_to_end(&mut self) -> Result<Ticket, Error>
         ensures built { IsBuiltToEnd D.history result self.old self.new }
         ensures whole { OnOk result (BuildsWhole (core_of self.old) (core_of self.new)) }
+        ensures why { IfErr result (λ e. (e ≡ Error.NoIndex) ⊎ (e ≡ Error.IndexFull) ⊎ (e ≡ Error.Exhausted) ⊎ (e ≡ Error.NoMemory)) }
         ensures come { HasCome (core_of self.old) → HasCome (core_of self.new) }
     {
         self.parts.build_to_end()
@@ -116,8 +119,15 @@ impl<D: Device, A: Allocator + Copy> Engine<D, A> {
         &self.parts.core
     }
 
-    /// The device as it is now. A crash of it leaves what `restart` takes back to a prefix of the history, with everything that was
-    /// acknowledged.
+    /// How far the records are synced: a crash leaves each one up to this number (`survives` of [`Engine::device`]).
+    pub fn horizon(&self) -> u64
+        ensures { result ≡ horizon_of self.now }
+    {
+        self.parts.writer.synced()
+    }
+
+    /// The device as it is now. A crash of it leaves what `restart` takes back to a prefix of the history, with every record up to the
+    /// horizon, and so with everything that was acknowledged.
     pub fn device(&self) -> &D
         ensures device { result.now ≡ device_of self.now }
         ensures survives { KeepsRun D.history self.now result.now }
@@ -142,7 +152,8 @@ impl<D: Device, A: Allocator + Copy> Engine<D, A> {
     }
 
     /// The device as it is now. What was not written to it is lost, and nothing of it was acknowledged: a crash of the
-    /// device leaves what `restart` takes back to a prefix of the history, with everything that was.
+    /// device leaves what `restart` takes back to a prefix of the history, with every record up to the horizon, and so with everything
+    /// that was.
     pub fn into_device(self) -> D
         ensures device { result ≡ device_of self }
         ensures survives { KeepsRun D.history self result }

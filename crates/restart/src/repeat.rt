@@ -38,7 +38,7 @@ fn is_on_the_way<A: Allocator>(reply: &Reply<A>) -> bool
 }
 
 impl<D: Device, A: Allocator + Copy> Engine<D, A> {
-    ghost use Rattle.restart.specs.Parts.{core_of, horizon_of};
+    ghost use Rattle.restart.specs.Parts.{core_of};
     ghost use Rattle.restart.specs.Repeated.{FlushesAll, FlushesBehindImage, FlushesOnce, TakesImage};
 
     /// Copies until an image is current, or a copy is refused: at most `pages + entries div 128 + 3` copies, fewer where an image is
@@ -73,13 +73,6 @@ impl<D: Device, A: Allocator + Copy> Engine<D, A> {
             Reply::LogFull => self.flush_behind_image(),
             reply => reply,
         }
-    }
-
-    // How far the records are synced.
-    fn horizon(&self) -> u64
-        ensures { result ≡ horizon_of self.now }
-    {
-        self.parts.writer.synced()
     }
 
     /// Flushes until every record made is synced, or a flush or a copy is refused. Where the log is full, an image is taken and made

@@ -2,6 +2,7 @@ use Rattle.std.proofs.Common.{◌≡◌, ◌≢◌, subst}
 use Rattle.restart.specs.declared.event.Event.TheVariants.{Copy, Flush}
 use Rattle.restart.specs.Groups.{CopiesByGroups}
 use Rattle.restart.specs.Store.{CopiesAround, KeepsAround, OpensSlotsAlone, ServesOn}
+use Rattle.restart.proofs.Around.{keeps_sectors}
 use Rattle.restart.proofs.engine.Engine.serve.Goals as goal
 
 pub returns-clause-serves : goal.returns-clause-serves
@@ -18,3 +19,6 @@ returns-clause-slot g c = subst (λ parts. c.args.event ≡ Flush → OpensSlots
 
 pub returns-clause-groups : goal.returns-clause-groups
 returns-clause-groups g c = subst (λ parts. c.args.event ≡ Copy → CopiesByGroups parts c.serve.new.self) c.self.view_is c.serve.ensures.groups
+
+pub returns-clause-sectors : goal.returns-clause-sectors
+returns-clause-sectors g c = keeps_sectors g.D.Device.history c.args.event c.args.self.now c.serve.new.self (returns-clause-around g c) (returns-clause-copied g c)

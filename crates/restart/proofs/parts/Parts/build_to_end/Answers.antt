@@ -10,6 +10,7 @@ use Rattle.nsf_core.specs.declared.reply.BuildReply.TheVariants.{Done}
 use Rattle.restart.specs.Parts.{core_of}
 use Rattle.restart.proofs.BuiltOn.{can_run_built}
 use Rattle.restart.proofs.Ended.{all_built, comes_to, complete_ends, complete_whole, done_ends, done_whole, is_done, last_within, none_built, refused_ends, stepped}
+use Rattle.restart.proofs.WhyRefused.{IsWhy, refused_why}
 use Rattle.restart.proofs.parts.Parts.build_to_end.Goals as goal
 
 pub last_ticket-requires : goal.last_ticket-requires
@@ -101,3 +102,9 @@ returns-in-Some-clause-come g c =
     let mid = c.steps.self in
     let new : Parts g.row.D.Denot g.row.A.Denot = record c.steps.self { core = c.build_step.new.self } in
     comes_to old mid new c.steps.scanned c.steps.invariant refl (Built (Done c.in-Some.ticket)) _ refl (subst (λ b. Serves (core_of mid) Build (built b) (core_of new)) (is_done c.in_ok-reply.reply c.in-Some.ticket (sym c.end_of.ensures ∙ c.in-Some.is)) c.in_ok-reply.ensures)
+
+pub returns-in_err-reply-clause-why : goal.returns-in_err-reply-clause-why
+returns-in_err-reply-clause-why g c =
+    let mid = c.steps.self in
+    let p = err_from_is_err_and c.from_residual.result c.from_residual.ensures.1 in
+    rw p.1 (subst IsWhy (sym p.2) (refused_why (core_of mid) _ _ mid.core.safe c.in_err-reply.ensures))
