@@ -1,4 +1,2 @@
 mod Entries
-mod Flushed
-mod Imaged
 mod Made

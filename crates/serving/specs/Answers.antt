@@ -33,7 +33,7 @@ clean_step_of (clean.Cleaned pair) = step.Cleaned pair
 clean_step_of (clean.Kept pair) = step.Kept pair
 clean_step_of clean.Wrapped = step.Wrapped
 
--- the answer for a reply, where all records up to the horizon were synced before it
+-- the answer for a reply, where all records up to the horizon are synced
 abbrev pub answer_of : ℕ → Reply Global → Answer
 answer_of horizon (reply.Txn txn) = answer.Txn txn
 answer_of horizon (reply.Rid rid) = answer.Rid rid

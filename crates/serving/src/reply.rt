@@ -8,7 +8,7 @@ use replay_values::{Answer, Step};
 use restart::Reply;
 use std::alloc::Global;
 
-/// The answer for this reply, where all records up to the horizon were synced before it.
+/// The answer for this reply, where all records up to the horizon are synced.
 pub fn answer_of(reply: Reply<Global>, horizon: u64) -> Answer
     ensures { result ≡ answer_of horizon reply }
 {

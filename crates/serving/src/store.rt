@@ -2,7 +2,6 @@
 ghost use Rattle.std.specs.Prelude.{◌≡◌, OnOk, MatchResult};
 ghost use Rattle.std.specs.Io.KnownBytes.{Appends};
 ghost use Rattle.btree_node.specs.Above.{IsLeastAbove};
-ghost use Rattle.serving.specs.Store.{asks_again, horizon_after, is_further, is_on_the_way};
 ghost use Rattle.replay_values.specs.Texts.{line_of};
 ghost use Rattle.serving.specs.Dump.{row_line, slot_lines, entry_lines, dump_text};
 
@@ -16,53 +15,10 @@ use std::alloc::Global;
 use std::io;
 use std::io::Write;
 
-/// A store that is open on a device, and how far its replies have told its records to be synced.
+/// A store that is open on a device.
 #[derive(Drop)]
 pub struct Store<D: Device> {
     engine: Engine<D, Global>,
-    // every record up to this number is synced
-    horizon: u64,
-}
-
-// Whether more records are synced up to this number than a flush before it has told, if there was one.
-fn is_further(told: Option<u64>, number: u64) -> bool
-    ensures { result ≡ is_further told number }
-{
-    match told {
-        Some(before) => before < number,
-        None => true,
-    }
-}
-
-// Whether a flush with this reply is followed by another: not all up to the last are synced yet, and more than the flush before it
-// has told.
-fn asks_again(last: u64, told: Option<u64>, reply: &Reply<Global>) -> bool
-    ensures { result ≡ asks_again last told reply.now }
-{
-    match reply {
-        Reply::Horizon(number) => *number < last && is_further(told, *number),
-        _ => false,
-    }
-}
-
-// How far the records are synced after this reply, where they were up to the horizon before it.
-fn horizon_after(horizon: u64, reply: &Reply<Global>) -> u64
-    ensures { result ≡ horizon_after horizon reply.now }
-{
-    match reply {
-        Reply::Horizon(number) | Reply::Flipped(number) => *number,
-        _ => horizon,
-    }
-}
-
-// Whether a copy with this reply is followed by another: the image isn't current yet.
-fn is_on_the_way(reply: &Reply<Global>) -> bool
-    ensures { result ≡ is_on_the_way reply.now }
-{
-    match reply {
-        Reply::Copied | Reply::Again => true,
-        _ => false,
-    }
 }
 
 // Prints an entry.
@@ -76,7 +32,7 @@ fn dump_entry<W: Write>(pair: Pair, mark: Mark, output: &mut W) -> io::Result<()
 impl<D: Device> Store<D> {
     ghost use Rattle.nsf_core.specs.Value.{value_of};
     ghost use Rattle.restart.specs.Parts.{core_of};
-    ghost use Rattle.serving.specs.Store.{OpensOn, IsRefusedOn, LeavesItsRun, device_of, last_made, Serves, TakesImage, FlushesBehindImage, FlushesOnce, Flushes, horizon_of, rows_of, entries_of, life_of};
+    ghost use Rattle.serving.specs.Store.{OpensOn, IsRefusedOn, LeavesItsRun, device_of, last_made, Serves, TakesImage, Flushes, horizon_of, rows_of, entries_of, life_of};
 
     /// Opens the store on the device. Where the restart is refused, the device comes back.
     pub fn open(alloc: Global, device: D) -> Result<Self, (Error, D)>
@@ -85,8 +41,7 @@ impl<D: Device> Store<D> {
             (λ r. IsRefusedOn D.history D.failures device r.1 r.0) }
     {
         let engine = restart(alloc, device)?;
-        let horizon = engine.core().last();
-        Ok(Store { engine, horizon })
+        Ok(Store { engine })
     }
 
     /// The core: rows, transactions and index as they are now.
@@ -103,11 +58,11 @@ impl<D: Device> Store<D> {
         self.engine.core().life()
     }
 
-    /// How far the replies have told the records to be synced.
+    /// How far the records are synced.
     pub fn horizon(&self) -> u64
         ensures { result ≡ horizon_of self.now }
     {
-        self.horizon
+        self.engine.horizon()
     }
 
     /// The device, with what was written to it so far. A crash of it leaves what [`Store::into_device`] says.
@@ -119,7 +74,7 @@ impl<D: Device> Store<D> {
     }
 
     /// The device, with what was written to it. A crash of it leaves what a restart takes back to a prefix of what was served,
-    /// with everything that a reply has told to be safe.
+    /// with every record up to the horizon, and so with everything that a reply has told to be safe.
     pub fn into_device(self) -> D
         ensures device { result ≡ device_of self }
         ensures survives { LeavesItsRun D.history self result }
@@ -131,41 +86,14 @@ impl<D: Device> Store<D> {
     pub fn serve(&mut self, event: Event) -> Reply<Global>
         ensures { Serves D.history D.failures event result self.old self.new }
     {
-        let reply = self.engine.serve(event);
-        self.horizon = horizon_after(self.horizon, &reply);
-        reply
+        self.engine.serve(event)
     }
 
     /// Takes an image of the store, piece by piece, and makes it current, unless that is refused.
     pub fn take_image(&mut self) -> Reply<Global>
         ensures { TakesImage D.history D.failures result self.old self.new }
     {
-        'copies: loop {
-            let reply = self.serve(Event::Copy);
-            if !is_on_the_way(&reply) {
-                return reply;
-            }
-        }
-    }
-
-    // Takes an image, and flushes once behind it.
-    fn flush_behind_image(&mut self) -> Reply<Global>
-        ensures { FlushesBehindImage D.history D.failures result self.old self.new }
-    {
-        match self.take_image() {
-            Reply::Flipped(_) => self.serve(Event::Flush),
-            refused => refused,
-        }
-    }
-
-    // Flushes once, behind an image where the log is full.
-    fn flush_once(&mut self) -> Reply<Global>
-        ensures { FlushesOnce D.history D.failures result self.old self.new }
-    {
-        match self.serve(Event::Flush) {
-            Reply::LogFull => self.flush_behind_image(),
-            reply => reply,
-        }
+        self.engine.take_image()
     }
 
     /// Flushes until every record made is synced, or a flush or a copy is refused. Where the log is full, an image is taken and
@@ -173,15 +101,7 @@ impl<D: Device> Store<D> {
     pub fn flush(&mut self) -> Reply<Global>
         ensures { Flushes D.history D.failures (last_made self.old) result self.old self.new }
     {
-        let last = self.engine.core().last();
-        let mut told = None;
-        'flushes: loop {
-            let reply = self.flush_once();
-            if !asks_again(last, told, &reply) {
-                return reply;
-            }
-            told = Some(self.horizon);
-        }
+        self.engine.flush_all()
     }
 
     // Prints the row at the place, if there is one.

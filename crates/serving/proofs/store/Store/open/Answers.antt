@@ -1,7 +1,6 @@
-use Rattle.std.proofs.Common.{◌∙◌, ap, sym, subst}
+use Rattle.std.proofs.Common.{sym, subst}
 use Rattle.std.proofs.lemmas.Result.{err_from_is_err_and}
 use Rattle.records.specs.declared.error.Error.{Error}
-use Rattle.nsf_core.specs.View.{CoreValue}
 use Rattle.serving.specs.Store.{IsRefusedOn}
 use Rattle.serving.proofs.store.Store.open.Goals as goal
 
@@ -11,10 +10,4 @@ returns-in_err-engine g c =
     rw p.1 (subst (λ (r : Error × g.row.D.Denot). IsRefusedOn g.D.Device.history g.D.Device.failures c.args.device r.1 r.0) (sym p.2) (record { not_opened = c.in_err-engine.ensures.refused; readable = c.in_err-engine.ensures.readable }))
 
 pub returns : goal.returns
-returns g c =
-    let o = c.in_ok-engine.ensures.opened in
-    record {
-      opened = o;
-      recovers = c.in_ok-engine.ensures.recovers;
-      horizon_is = c.last-horizon.ensures ∙ ap (λ (v : CoreValue). v.last) c.core.ensures ∙ ap (λ (v : CoreValue). v.last) o.core ∙ sym o.horizon;
-    }
+returns g c = record { opened = c.in_ok-engine.ensures.opened; recovers = c.in_ok-engine.ensures.recovers }
