@@ -1,5 +1,5 @@
 //! The builder's part.
-ghost use Rattle.std.specs.Prelude.{max};
+ghost use Rattle.std.specs.Prelude.{◌≡◌, max};
 
 use crate::shared::Shared;
 use board::BuildView;
