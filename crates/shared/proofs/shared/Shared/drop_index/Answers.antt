@@ -1,6 +1,6 @@
-use Rattle.std.proofs.Common.{map, subst}
-use Rattle.core_contracts.specs.Events.{Event}
-use Rattle.nsf_core.specs.Replies.{reply_by, reply_of_ticket}
+use Rattle.std.proofs.Common.{map, rules, subst}
+use Rattle.core_contracts.specs.Events.{Event, Refused}
+use Rattle.nsf_core.specs.Replies.{reply_of_ticket}
 use Rattle.nsf_core.specs.Value.{value_of}
 use Rattle.registry.specs.Halves.{shown}
 use Rattle.shared.specs.Seats.{SeatValue}
@@ -8,10 +8,20 @@ use Rattle.shared.specs.Served.{WasServedTo}
 use Rattle.shared.proofs.Moments.{served_to}
 use Rattle.shared.proofs.shared.Shared.drop_index.Goals as goal
 
+pub returns-in_err-dropped-clause-served : goal.returns-in_err-dropped-clause-served
+returns-in_err-dropped-clause-served g c =
+    let o = g.B.Group.site.opened in
+    let was = c.deref_mut-2.result.now in
+    let reply = Refused c.in_err-dropped.field-0.0 in
+    let served =
+    subst (λ (s : SeatValue). ∥ WasServedTo o s.number s.session Event.Drop reply ∥₁) c.seat.view_is
+    (served_to o (value_of was.core) (value_of c.drop_index-dropped.new.self.core) was.pusher.records (map shown was.book.items) was.shared Event.Drop reply c.in_err-dropped.ensures.served _ _ c.drop_index-dropped.ensures.before) in
+    search rules
+
 pub returns-clause-served : goal.returns-clause-served
 returns-clause-served g c =
     let o = g.B.Group.site.opened in
     let was = c.deref_mut-2.result.now in
-    let reply = reply_by reply_of_ticket c.drop_index-dropped.result in
+    let reply = reply_of_ticket c.in_ok-dropped.field-0.ticket in
     subst (λ (s : SeatValue). ∥ WasServedTo o s.number s.session Event.Drop reply ∥₁) c.seat.view_is
-    (served_to o (value_of was.core) (value_of c.drop_index-dropped.new.self.core) was.pusher.records (map shown was.book.items) was.shared Event.Drop reply c.drop_index-dropped.ensures.served _ _ c.drop_index-dropped.ensures.before)
+    (served_to o (value_of was.core) (value_of c.drop_index-dropped.new.self.core) was.pusher.records (map shown was.book.items) was.shared Event.Drop reply c.in_ok-dropped.ensures.served _ _ c.drop_index-dropped.ensures.before)
