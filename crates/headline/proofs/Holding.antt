@@ -1,9 +1,9 @@
 -- What a store holds that was opened behind its days.
-use Rattle.std.proofs.Common.{◌≡◌, ◌⊎◌, inr, ℕ, Bool, true, false, List, [], None, Some, Result, Ok, Err, IfErr, refl, sym, ap, subst, ◌∙◌}
+use Rattle.std.proofs.Common.{◌≡◌, ◌⊎◌, inl, inr, ℕ, Bool, true, false, List, [], None, Some, refl, sym, ap, subst, ◌∙◌}
 use Rattle.std.specs.FinMap as map
 use Rattle.records.specs.GeometryValue.{GeometryValue}
 use Rattle.records.specs.declared.error.Error.{Error}
-use Rattle.records.specs.declared.error.Error.TheVariants.{DeviceFailed, DeviceTooSmall, NoMemory}
+use Rattle.records.specs.declared.error.Error.TheVariants.{DeviceFailed, DeviceTooSmall, Exhausted, IndexFull, NoIndex, NoMemory}
 use Rattle.records.specs.declared.pair.Mark.TheVariants.{Live}
 use Rattle.records.specs.declared.pair.Pair.{Pair}
 use Rattle.model.specs.Given.{Given, nothing}
@@ -104,10 +104,11 @@ module _ {D M : Type 0} (history : D → History) (g : GeometryValue) (days : Li
 
 -- ---- a build that is refused
 
-told_true : (b : Bool) → (b ≡ false → false ≡ true) → b ≡ true
-told_true true well = refl
-told_true false well = well refl
+abbrev pub IsRefusedSo : (short : Type 0) (build : Bool) → Error → Type 0
+IsRefusedSo short build e = ((e ≡ DeviceTooSmall) × short) ⊎ (e ≡ DeviceFailed) ⊎ (e ≡ NoMemory) ⊎ ((build ≡ true) × ((e ≡ NoIndex) ⊎ (e ≡ IndexFull) ⊎ (e ≡ Exhausted)))
 
-pub refused_build : {A : Type 0} (short : Type 0) (build : Bool) (r : Result A Error) → (build ≡ false → false ≡ true) → IfErr r (λ e. ((e ≡ DeviceTooSmall) × short) ⊎ (e ≡ DeviceFailed) ⊎ (e ≡ NoMemory) ⊎ (build ≡ true))
-refused_build short build (Ok x) well = tt
-refused_build short build (Err e) well = inr (inr (inr (told_true build well)))
+pub refused_build : (short : Type 0) (build : Bool) (e : Error) → (build ≡ true) × ((e ≡ NoIndex) ⊎ (e ≡ IndexFull) ⊎ (e ≡ Exhausted) ⊎ (e ≡ NoMemory)) → IsRefusedSo short build e
+refused_build short build e (on, inl none) = inr (inr (inr (on, inl none)))
+refused_build short build e (on, inr (inl full)) = inr (inr (inr (on, inr (inl full))))
+refused_build short build e (on, inr (inr (inl out))) = inr (inr (inr (on, inr (inr out))))
+refused_build short build e (on, inr (inr (inr memory))) = inr (inr (inl memory))

@@ -1,5 +1,5 @@
 //! A store is formatted, and lives through days of requests.
-ghost use Rattle.std.specs.Prelude.{◌≡◌, ◌⊎◌, ◌<◌, ◌++◌, [], ◌∷◌, List, length, true, false, IfErr, IfOk, IsOk, OnOk};
+ghost use Rattle.std.specs.Prelude.{◌≡◌, ◌⊎◌, ◌<◌, ◌++◌, [], ◌∷◌, List, length, true, false, IfErr, IfOk, OnOk};
 ghost use Rattle.records.specs.GeometryValue.{GeometryValue, sectors_of};
 ghost use Rattle.restart.specs.Building.{BuildsWhole};
 ghost use Rattle.restart.specs.Parts.{core_of};
@@ -88,8 +88,8 @@ fn finish_build<D: Mortal, A: Allocator + Copy>(
     build: bool,
 ) -> Result<(), Error>
     ensures kept { build ≡ false → engine.new ≡ engine.old }
-    ensures done { build ≡ false → IsOk result }
     ensures whole { build ≡ true → OnOk result (BuildsWhole (core_of engine.old) (core_of engine.new)) }
+    ensures why { IfErr result (λ e. (build ≡ true) × ((e ≡ Error.NoIndex) ⊎ (e ≡ Error.IndexFull) ⊎ (e ≡ Error.Exhausted) ⊎ (e ≡ Error.NoMemory))) }
 {
     if build {
         engine.build_to_end()?;
@@ -105,12 +105,14 @@ fn finish_build<D: Mortal, A: Allocator + Copy>(
 ///
 /// What it then holds is told by the days alone (`holds`). Of each day's commits the first ones were kept, in the order in which they
 /// were made, with each that a reply had acknowledged before the store stopped: of a day that ended behind its last reply, each that
-/// any of its replies acknowledged. The rows are just those that all commits that were kept have left: of a transaction that had not
+/// any of its replies acknowledged. Of a day that ends within, how many replies came before the stop is a number that exists (`IsDay`).
+/// The rows are just those that all commits that were kept have left: of a transaction that had not
 /// committed nothing is there. Each visible entry of the index is the pair of a row. As far as the index was built, the pair of each
 /// row is visible; and once its build was carried to its end, every row's.
 ///
 /// `DeviceTooSmall` where the device has fewer sectors than a store of this geometry takes. `DeviceFailed` and `NoMemory` come of the
-/// formatting, the last opening, and the memory for the answers. Where the build is carried on, its own refusals come too.
+/// formatting, the last opening, and the memory for the answers. Where the build is carried on, its own refusals come too: `NoIndex`,
+/// `IndexFull` and `Exhausted`, and `NoMemory`.
 pub fn live_through<D: Mortal, A: Allocator + Copy>(
     alloc: A,
     mut device: D,
@@ -119,7 +121,7 @@ pub fn live_through<D: Mortal, A: Allocator + Copy>(
     build: bool,
 ) -> Result<Lived<D, A>, Error>
     ensures holds { IfOk result (λ lived. Holds days.now lived.answers.items build (core_of lived.engine)) }
-    ensures refused { IfErr result (λ e. ((e ≡ Error.DeviceTooSmall) × (length (D.history device).disk.content < sectors_of geometry)) ⊎ (e ≡ Error.DeviceFailed) ⊎ (e ≡ Error.NoMemory) ⊎ (build ≡ true)) }
+    ensures refused { IfErr result (λ e. ((e ≡ Error.DeviceTooSmall) × (length (D.history device).disk.content < sectors_of geometry)) ⊎ (e ≡ Error.DeviceFailed) ⊎ (e ≡ Error.NoMemory) ⊎ ((build ≡ true) × ((e ≡ Error.NoIndex) ⊎ (e ≡ Error.IndexFull) ⊎ (e ≡ Error.Exhausted)))) }
 {
     format_gives_nothing();
     nothing_opens();

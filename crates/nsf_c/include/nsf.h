@@ -190,7 +190,7 @@ typedef struct nsf_reply {
 /* What a store is, and how far it has come. */
 typedef struct nsf_status {
     uint64_t last;     /* the number of the last record made */
-    uint64_t horizon;  /* every record up to this one was told to be synced */
+    uint64_t horizon;  /* every record up to this one is synced */
     uint64_t attempts; /* attempts of the builder since the store was opened */
     uint32_t pages;
     uint32_t life;     /* NSF_ABSENT to NSF_COMPLETE */

@@ -13,7 +13,7 @@ use Rattle.flip_image.specs.Store.{IsFormatted}
 use Rattle.core_model.specs.Histories.{CanOpen}
 use Rattle.nsf_core.specs.Opening.{opened_of}
 use Rattle.restart.specs.Parts.{core_of}
-use Rattle.restart.specs.Store.{Past, IsAt, Survives, acknowledged_by}
+use Rattle.restart.specs.Store.{Past, IsAt, Survives}
 use Rattle.restart.specs.declared.event.Event.{Event}
 use Rattle.restart.specs.declared.event.Reply.{Reply}
 use Rattle.serving.specs.Store as serving
@@ -29,7 +29,7 @@ use Rattle.nsf_c.specs.Told.{plain, life_told, told_of, status_of}
 
 -- ---- serving
 
--- The event had this lawful reply.
+-- The event had this lawful reply, and the store's device has as many sectors as before (`sectors`).
 abbrev pub Serves : Event → Reply Global → Opened → Opened → Type 0
 Serves event reply old new = serving.Serves history_of failures_of event reply old new
 
@@ -92,10 +92,10 @@ pub record CopiesOut (content : Image) (first count : ℕ) (old new : Image) : T
   pub count_is : count ≡ min (length content - first) (length old)
   pub new_is : new ≡ take count (drop first content) ++ drop count old
 
--- Whatever run left the store where it is: a device of these sectors holds a beginning of it, with all that a reply has told to be
--- safe.
+-- Whatever run left the store where it is: a device of these sectors holds a beginning of it, with every record up to the horizon, and
+-- so with all that a reply has told to be safe.
 abbrev pub IsKept : Opened → Image → Type 0
-IsKept s image = (past : Past Global) → IsAt history_of past s.engine → Survives past (acknowledged_by past) image
+IsKept s image = (past : Past Global) → IsAt history_of past s.engine → Survives past (serving.horizon_of s) image
 
 -- ---- opening
 

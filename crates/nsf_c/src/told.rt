@@ -29,7 +29,7 @@ pub struct Told {
 pub struct Stat {
     /// The number of the last record made.
     pub last: u64,
-    /// Every record up to this number was told to be synced.
+    /// Every record up to this number is synced.
     pub horizon: u64,
     /// The attempts of the builder since the store was opened.
     pub attempts: u64,

@@ -1,6 +1,7 @@
-use Rattle.std.proofs.Common.{⊎_elim, inl, inr, length, ◌<◌}
+use Rattle.std.proofs.Common.{⊎_elim, inl, inr, length, subst, sym, ◌<◌}
+use Rattle.std.proofs.lemmas.Result.{err_from_is_err_and}
 use Rattle.records.specs.GeometryValue.{sectors_of}
-use Rattle.headline.proofs.Holding.{behind, formatted, refused_build}
+use Rattle.headline.proofs.Holding.{IsRefusedSo, behind, formatted, refused_build}
 use Rattle.headline.proofs.Stopped.{Images, refused_so}
 use Rattle.headline.proofs.lives.live_through.Goals as goal
 
@@ -31,4 +32,6 @@ returns-clause-holds g c =
 
 pub returns-in_err-finish_build-clause-refused : goal.returns-in_err-finish_build-clause-refused
 returns-in_err-finish_build-clause-refused g c =
-    refused_build (length (g.D.Device.history c.args.device).disk.content < sectors_of c.args.geometry) c.args.build c.from_residual-in_err-finish_build.result c.in_err-finish_build.ensures.done
+    let short = length (g.D.Device.history c.args.device).disk.content < sectors_of c.args.geometry in
+    let p = err_from_is_err_and c.from_residual-in_err-finish_build.result c.from_residual-in_err-finish_build.ensures.1 in
+    rw p.1 (subst (IsRefusedSo short c.args.build) (sym p.2) (refused_build short c.args.build _ c.in_err-finish_build.ensures.why))

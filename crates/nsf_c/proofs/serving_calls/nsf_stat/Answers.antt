@@ -2,6 +2,7 @@ use Rattle.std.proofs.Common.{◌∙◌, ap}
 use Rattle.model.specs.declared.life.Life.{Life}
 use Rattle.nsf_core.specs.View.{CoreValue}
 use Rattle.restart.specs.Parts.{core_of}
+use Rattle.serving.specs.Store as serving
 use Rattle.nsf_c.specs.Told.{life_told}
 use Rattle.nsf_c.specs.declared.held.Held.{Held}
 use Rattle.nsf_c.specs.declared.told.Told.{Told}
@@ -11,7 +12,7 @@ pub returns : goal.returns
 returns c =
     let core_is = c.core-core.ensures ∙ ap (λ (h : Held). core_of h.store.engine) c.deref.ensures in
     let last = c.last.ensures ∙ ap (λ (v : CoreValue). v.last) core_is in
-    let horizon = c.horizon.ensures ∙ ap (λ (h : Held). h.store.horizon) c.deref-2.ensures in
+    let horizon = c.horizon.ensures ∙ ap (λ (h : Held). serving.horizon_of h.store) c.deref-2.ensures in
     let attempts = c.attempts.ensures ∙ ap (λ (v : CoreValue). v.attempts) core_is in
     let pages = c.pages.ensures.number ∙ ap (λ (v : CoreValue). v.heap.pages) core_is in
     let life = ap (λ (t : Told). t.kind) c.life_told.ensures ∙ ap (λ (l : Life). (life_told l).kind) (c.life.ensures.life ∙ ap (λ (v : CoreValue). v.life) core_is) in
