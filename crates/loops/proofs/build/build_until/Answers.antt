@@ -14,7 +14,7 @@ returns-in-Done-clause-attempted g c = raised g.B.Group.site.opened _ _ c.build_
     (was_completed g.B.Group.site.opened c.build_step-step.result.0 c.build_step-step.result.1 c.build_step-step.ensures c.in-Done.ticket c.in-Done.ensures)
 
 pub returns-in-Refused-clause-why : goal.returns-in-Refused-clause-why
-returns-in-Refused-clause-why g c = inr (c.in-Refused.ensures.1, c.in-Refused.ensures.2, was_refused g.B.Group.site.opened c.build_step-step.result.0 c.build_step-step.result.1 c.build_step-step.ensures c.in-Refused.error c.in-Refused.ensures.0)
+returns-in-Refused-clause-why g c = inr (c.in-Refused.ensures.1, (λ on. c.in-Refused.ensures.2 (c.is_some.ensures ∙ on)), was_refused g.B.Group.site.opened c.build_step-step.result.0 c.build_step-step.result.1 c.build_step-step.ensures c.in-Refused.error c.in-Refused.ensures.0)
 
 pub loop-preserved-in-Attempted : goal.loop-preserved-in-Attempted
 loop-preserved-in-Attempted g c = record {

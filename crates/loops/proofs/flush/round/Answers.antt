@@ -25,5 +25,5 @@ returns-clause-through g c =
 pub returns-in_err-is_full-clause-copying : goal.returns-in_err-is_full-clause-copying
 returns-in_err-is_full-clause-copying g c = c.write.ensures.copying c.args.copying.now (c.hand_in.ensures.copying c.args.copying.now c.requires.copying)
 
-pub copy_some-requires-clause-copying : goal.copy_some-requires-clause-copying
-copy_some-requires-clause-copying g c = c.write.ensures.copying c.args.copying.now (c.hand_in.ensures.copying c.args.copying.now c.requires.copying)
+pub copy_some-requires : goal.copy_some-requires
+copy_some-requires g c = record { copying = c.write.ensures.copying c.args.copying.now (c.hand_in.ensures.copying c.args.copying.now c.requires.copying) }
