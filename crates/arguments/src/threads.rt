@@ -2,8 +2,8 @@
 use crate::{NoArguments, VERSION, tell};
 use clap::builder::ValueParser;
 use clap::error::ErrorKind;
-use clap::{Arg, ArgAction, Command, Error, value_parser};
-use std::alloc::Global;
+use clap::{Arg, ArgAction, ArgMatches, Command, Error, value_parser};
+use std::alloc::{AllocError, Global};
 use std::convert::AsStr;
 use std::io::Write;
 
@@ -13,7 +13,12 @@ const WRITERS_MAX: u8 = 8;
 const CHANGES_MAX: u8 = 60;
 
 const ABOUT: &str =
-    "Lets writers, a builder, a cleaner and a flusher run side by side on a store of a simulated disk";
+    "Lets writers, a builder, a cleaner and a flusher run side by side on a new store of a simulated disk, whose power is cut then, or on the store in a file
+
+Exit status: 0 where all was done and each row was found with its entry; 1 where something was refused or is not so; 2 for bad words";
+
+const FILE_HELP: &str =
+    "Works on the store in this file, which `nsf-store new` made, and prints each commit that is safe";
 
 const WRITERS_HELP: &str = "Threads that write, 1 to 8 [default: 4]";
 
@@ -21,10 +26,11 @@ const CHANGES_HELP: &str = "Transactions of each, 1 to 60 [default: 8]";
 
 const WATCH_HELP: &str = "Shows on the error stream how far the builder is";
 
-/// What the arguments ask for: how many threads write, how many transactions each of them makes, and whether the builder's
-/// progress is to be shown.
-#[derive(Clone, Copy, Debug, PartialEq, Eq)]
+/// What the arguments ask for: the path of the store's file, if it is in one, how many threads write, how many transactions each of
+/// them makes, and whether the builder's progress is to be shown.
+#[derive(Debug, Drop)]
 pub struct ThreadsArguments {
+    pub file: Option<String>,
     pub writers: u8,
     pub changes: u8,
     pub watch: bool,
@@ -40,6 +46,14 @@ fn number<'a>(alloc: Global, name: &'a str, value: &'a str, most: u8, help: &'a 
         .help(help)
 }
 
+// The path that was given, if one was.
+fn file_in(alloc: Global, matches: &ArgMatches<'_>) -> Result<Option<String>, AllocError> {
+    match matches.get_str("file") {
+        Some(path) => Ok(Some(String::from_str(alloc, path)?)),
+        None => Ok(None),
+    }
+}
+
 // The arguments that the words give, or what clap says of them.
 fn arguments_of<S: AsStr>(alloc: Global, words: &[S]) -> Result<ThreadsArguments, Error> {
     let watch = Arg::new(alloc, "watch")
@@ -47,15 +61,21 @@ fn arguments_of<S: AsStr>(alloc: Global, words: &[S]) -> Result<ThreadsArguments
         .action(ArgAction::SetTrue)
         .value_parser(ValueParser::bool())
         .help(WATCH_HELP);
+    let file = Arg::new(alloc, "file")
+        .long("file")
+        .value_name("FILE")
+        .help(FILE_HELP);
     let matches = Command::new(alloc, "nsf-threads")
         .version(VERSION)
         .about(ABOUT)
         .arg(number(alloc, "writers", "N", WRITERS_MAX, WRITERS_HELP))?
         .arg(number(alloc, "changes", "M", CHANGES_MAX, CHANGES_HELP))?
         .arg(watch)?
+        .arg(file)?
         .bin_name("nsf-threads")?
         .try_get_matches_from(words)?;
     Ok(ThreadsArguments {
+        file: file_in(alloc, &matches)?,
         writers: matches.get_one::<u8>("writers").unwrap_or(4),
         changes: matches.get_one::<u8>("changes").unwrap_or(8),
         watch: matches.get_flag("watch"),

@@ -1,7 +1,8 @@
 //! What the threads of a store do: commits a second of writers, quiet and beside a build, how long they wait, and what an idle store
 //! costs. Without arguments it lets two writers commit beside a small build, and says whether there were commits and the build ended;
 //! `table` prints figures, of one number of writers where one is given; `drop` says how long a drop of a full index takes, and others
-//! wait for it; `picture FILE` draws commits a second over time, beside a build.
+//! wait for it; `picture FILE` draws commits a second over time, beside a build; `file FILE` makes stores in new files, whose
+//! names begin so, and prints commits a second on them, with real syncs, and how long an opening takes.
 //!
 //! Proved: that it is safe, and meets what the calls below ask. Neither proved nor tested: that a figure is right.
 #![tactic(auto)]
@@ -10,6 +11,7 @@ mod calls;
 mod clients;
 mod clock;
 mod dropping;
+mod on_file;
 mod picture;
 mod rounds;
 mod table;
@@ -18,8 +20,8 @@ use crate::clients::Plan;
 use anyhow::Result;
 use std::alloc::Global;
 use std::env;
-use std::fs::Files;
-use std::rt::Clock;
+use std::fs::File;
+use std::rt::{Clock, Files};
 use std::sync::Wait;
 use std::thread::Threads;
 use std::time::CpuClock;
@@ -51,7 +53,9 @@ fn word_at(words: &[String], at: usize) -> &str {
 }
 
 // Does what the words ask for.
-fn run<R: Print + Alloc<A = Global> + Threads + Wait + Clock + CpuClock + Files + Sync>(
+fn run<
+    R: Print + Alloc<A = Global> + Threads + Wait + Clock + CpuClock + Files<File = File> + Sync,
+>(
     rt: &R,
     word: &str,
     given: &str,
@@ -61,6 +65,7 @@ fn run<R: Print + Alloc<A = Global> + Threads + Wait + Clock + CpuClock + Files 
         "beside" => table::beside(rt, given.parse().unwrap_or(4)),
         "idle" => table::idle(rt, given.parse().unwrap_or(8)),
         "drop" => dropping::drop_full(rt),
+        "file" => on_file::measure(rt, given),
         "picture" => picture::draw(rt, 4, given),
         "table" => {
             for writers in [1, 2, 4, 8] {

@@ -6,6 +6,7 @@ use file_disk::{Detached, FileDisk};
 use flusher::FlushPart;
 use loops::{Ended, NoGate, run_beside};
 use records::{Error, Geometry};
+use sector_device::Device;
 use shared::{BuildPart, Group, Seat, Shared};
 use std::alloc::Global;
 use std::marker::Brand;
@@ -71,15 +72,19 @@ fn round_of<B: Group>(alloc: Global, clients: Vec<Client<B>>) -> Result<Round, E
 }
 
 // Runs the clients beside the loops.
-fn run_loops<B: Group + Send + Sync, R: Threads + Wait + Clock + CpuClock + Sync>(
+fn run_loops<
+    B: Group + Send + Sync,
+    D: Device + Send + Drop,
+    R: Threads + Wait + Clock + CpuClock + Sync,
+>(
     rt: &R,
     shared: &Shared<B>,
     last: Seat<B>,
-    flush: FlushPart<B, Disk>,
+    flush: FlushPart<B, D>,
     build: BuildPart<B>,
     clients: Vec<Client<B>>,
     plan: Plan,
-) -> Ended<B, Disk, Vec<Client<B>>> {
+) -> Ended<B, D, Vec<Client<B>>> {
     run_beside(
         rt,
         shared,
@@ -92,11 +97,15 @@ fn run_loops<B: Group + Send + Sync, R: Threads + Wait + Clock + CpuClock + Sync
 }
 
 // Lets so many clients work.
-fn work<B: Group + Send + Sync, R: Threads + Wait + Clock + CpuClock + Sync>(
+fn work<
+    B: Group + Send + Sync,
+    D: Device + Send + Drop,
+    R: Threads + Wait + Clock + CpuClock + Sync,
+>(
     rt: &R,
     alloc: Global,
     shared: &Shared<B>,
-    parts: Parts<B, Disk>,
+    parts: Parts<B, D>,
     count: usize,
     plan: Plan,
 ) -> Result<Round, Error> {
@@ -115,10 +124,14 @@ fn work<B: Group + Send + Sync, R: Threads + Wait + Clock + CpuClock + Sync>(
 }
 
 // Gives the store its names, and lets the clients work.
-fn begin<B: Group + Send + Sync, R: Threads + Wait + Clock + CpuClock + Sync>(
+fn begin<
+    B: Group + Send + Sync,
+    D: Device + Send + Drop,
+    R: Threads + Wait + Clock + CpuClock + Sync,
+>(
     rt: &R,
     alloc: Global,
-    store: OpenStore<Disk>,
+    store: OpenStore<D>,
     count: usize,
     plan: Plan,
 ) -> Result<Round, Error>
@@ -130,8 +143,26 @@ fn begin<B: Group + Send + Sync, R: Threads + Wait + Clock + CpuClock + Sync>(
     }
 }
 
-/// A round over a new store of 256 pages, which has a seat for each of so many clients, but only so many writers work beside the one
-/// that leads.
+/// A round over the store on the disk, which has a seat for each of so many clients, but only so many writers work beside the one that
+/// leads. What was not flushed in the end is lost.
+pub(crate) fn play_on<
+    D: Device + Send + Drop,
+    R: Threads + Wait + Clock + CpuClock + Sync,
+>(
+    rt: &R,
+    alloc: Global,
+    disk: D,
+    seats: u8,
+    writers: u8,
+    plan: Plan,
+) -> Result<Round, OpenError> {
+    match open_store(alloc, disk, usize::from(seats) + 2) {
+        Ok(store) => Ok(begin::<Brand, D, R>(rt, alloc, store, usize::from(writers) + 1, plan)?),
+        Err((error, _)) => Err(error),
+    }
+}
+
+/// The same over a new store of 256 pages in memory.
 pub(crate) fn play<R: Threads + Wait + Clock + CpuClock + Sync>(
     rt: &R,
     alloc: Global,
@@ -139,8 +170,5 @@ pub(crate) fn play<R: Threads + Wait + Clock + CpuClock + Sync>(
     writers: u8,
     plan: Plan,
 ) -> Result<Round, OpenError> {
-    match open_store(alloc, formatted(alloc)?, usize::from(seats) + 2) {
-        Ok(store) => Ok(begin::<Brand, R>(rt, alloc, store, usize::from(writers) + 1, plan)?),
-        Err((error, _)) => Err(error),
-    }
+    play_on(rt, alloc, formatted(alloc)?, seats, writers, plan)
 }

@@ -94,10 +94,20 @@ pub(crate) fn quiet<R: Print + Alloc<A = Global> + Threads + Wait + Clock + CpuC
         after: QUIET,
     };
     let round = play(rt, rt.alloc(), writers, writers, plan)?;
+    print_all(rt, writers, "quiet", &round)
+}
+
+/// Prints a line for all commits of a round.
+pub(crate) fn print_all<R: Print + Alloc<A = Global>>(
+    rt: &R,
+    writers: u8,
+    how: &str,
+    round: &Round,
+) -> Result<()> {
     let mut counted = nothing(rt.alloc());
     let Times { begun, ended, .. } = round.times;
-    counted.count(&round, begun, ended)?;
-    print(rt, writers, "quiet", &mut counted)
+    counted.count(round, begun, ended)?;
+    print(rt, writers, how, &mut counted)
 }
 
 /// Prints a line for so many writers that commit while an index is built over many full pages, in as many builds one after the other as

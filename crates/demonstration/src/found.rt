@@ -1,7 +1,7 @@
 //! What is found behind the crash.
 use nsf_core::Core;
 use records::{ENTRIES_MAX, Error, Mark, Pair, Rid, SLOTS_PER_PAGE};
-use restart::restart;
+use restart::{Reply, restart};
 use sector_device::Device;
 use std::alloc::Global;
 
@@ -50,13 +50,16 @@ fn count_shown(core: &Core<Global>) -> (u32, u32) {
     (shown, fitting)
 }
 
-/// Opens the store on the device, carries its build to the end, and looks at its rows and visible entries.
+/// Opens the store on the device, carries its build to the end, makes that safe, and looks at its rows and visible entries.
 pub fn look<D: Device + Drop>(alloc: Global, device: D) -> Result<Found, Error> {
     let mut engine = match restart(alloc, device) {
         Ok(engine) => engine,
         Err((error, _)) => return Err(error),
     };
     engine.build_to_end()?;
+    if let Reply::Refused(error) = engine.flush_all() {
+        return Err(error);
+    }
     let rows = count_rows(engine.core());
     let (shown, fitting) = count_shown(engine.core());
     Ok(Found {

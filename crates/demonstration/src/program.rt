@@ -1,16 +1,21 @@
 //! The program over what it writes.
+use crate::beginning::Beginning;
+use crate::file::work_on_file;
 use crate::found::{Found, look};
+use crate::listener::{Listener, Nobody, Printer};
 use crate::progress::Progress;
 use crate::team::{Team, work_on};
 use arguments::{NoArguments, ThreadsArguments, read_threads};
-use loops::NoGate;
+use loops::{Gate, NoGate};
 use records::{Error, Geometry};
-use sector_device::{Fate, MemDisk};
+use sector_device::{Device, Fate, MemDisk};
+use shell::Refused;
 use std::alloc::Global;
 use std::convert::AsStr;
+use std::fs::File;
 use std::io;
 use std::io::Write;
-use std::rt::Clock;
+use std::rt::{Clock, Files};
 use std::sync::Wait;
 use std::thread::Threads;
 use threads::{OpenError, format_store};
@@ -32,44 +37,84 @@ fn formatted(alloc: Global) -> Result<MemDisk<Global>, Error> {
     Ok(disk)
 }
 
-// Lets the threads work on a new store, and looks at what a crash leaves of it, where they were refused nothing.
-fn work_and_look<R: Threads + Wait + Clock + Sync, E: Write + Send + Drop>(
+/// The device with what the threads left, where they were refused nothing.
+pub(crate) fn work_through<
+    D: Device + Send + Drop,
+    R: Threads + Wait + Clock + Sync,
+    G: Gate + Sync,
+    L: Listener + Sync,
+    E: Write + Send + Drop,
+>(
+    device: D,
+    writers: u8,
+    team: Team<'_, R, G, L, E>,
+) -> Result<D, OpenError> {
+    let worked = match work_on(device, writers, team) {
+        Ok(worked) => worked,
+        Err((error, _)) => return Err(error),
+    };
+    match worked.refusals.any() {
+        Some(error) => Err(OpenError::Refused(error)),
+        None => Ok(worked.device),
+    }
+}
+
+// Lets the threads work on a new store in memory, and looks at what a crash leaves of it.
+fn work_in_memory<R: Threads + Wait + Clock + Sync, E: Write + Send + Drop>(
     rt: &R,
     alloc: Global,
     arguments: &ThreadsArguments,
-    progress: Progress<E>,
+    progress: Option<Progress<E>>,
 ) -> Result<Found, OpenError> {
     let team = Team {
         rt,
         alloc,
+        beginning: Beginning::New,
         gate: &NoGate,
+        listener: &Nobody,
         changes: u16::from(arguments.changes),
-        progress: if arguments.watch {
-            Some(progress)
-        } else {
-            None
-        },
+        progress,
     };
-    let worked = match work_on(formatted(alloc)?, arguments.writers, team) {
-        Ok(worked) => worked,
-        Err((error, _)) => return Err(error),
-    };
-    if let Some(error) = worked.refusals.any() {
-        return Err(OpenError::Refused(error));
-    }
-    let mut disk = worked.device;
+    let mut disk = work_through(formatted(alloc)?, arguments.writers, team)?;
     disk.crash(&[Fate::Junk]);
     Ok(look(alloc, disk)?)
+}
+
+// Lets the threads work on the store in the file, prints each commit that is safe, and looks at what is there.
+fn work_in_file<
+    R: Threads + Wait + Clock + Files<File = File> + Print + Sync,
+    E: Write + Send + Drop,
+>(
+    rt: &R,
+    alloc: Global,
+    path: &str,
+    arguments: &ThreadsArguments,
+    progress: Option<Progress<E>>,
+) -> Result<Found, Refused> {
+    let team = Team {
+        rt,
+        alloc,
+        beginning: Beginning::Found,
+        gate: &NoGate,
+        listener: &Printer { rt },
+        changes: u16::from(arguments.changes),
+        progress,
+    };
+    work_on_file(path, arguments.writers, team)
+}
+
+// Prints what was found, and answers the program's status.
+fn print<W: Write>(output: &mut W, found: Found) -> io::Result<u8> {
+    let Found { rows, shown, same } = found;
+    let word = if same { "yes" } else { "no" };
+    writeln!(output, "rows {rows} shown {shown} same {word}")?;
+    Ok(if same { 0 } else { 1 })
 }
 
 // Prints what was found, or why it wasn't, and answers the program's status.
 fn told<W: Write>(output: &mut W, found: Result<Found, OpenError>) -> io::Result<u8> {
     match found {
-        Ok(Found { rows, shown, same }) => {
-            let word = if same { "yes" } else { "no" };
-            writeln!(output, "rows {rows} shown {shown} same {word}")?;
-            Ok(if same { 0 } else { 1 })
-        }
+        Ok(found) => print(output, found),
         Err(error) => {
             writeln!(output, "refused {error}")?;
             Ok(1)
@@ -77,21 +122,69 @@ fn told<W: Write>(output: &mut W, found: Result<Found, OpenError>) -> io::Result
     }
 }
 
+// The same of the store in a file, whose refusals the error stream tells.
+fn told_of_file<W: Write, E: Write>(
+    output: &mut W,
+    errors: &mut E,
+    path: &str,
+    found: Result<Found, Refused>,
+) -> io::Result<u8> {
+    match found {
+        Ok(found) => print(output, found),
+        Err(refused) => {
+            let _ = writeln!(errors, "nsf-threads: {path}: {refused}");
+            Ok(1)
+        }
+    }
+}
+
+// Does what the arguments ask for, and answers the program's status.
+fn act<
+    R: Threads + Wait + Clock + Files<File = File> + Print + Sync,
+    W: Write,
+    E: Write,
+    P: Write + Send + Drop,
+>(
+    rt: &R,
+    alloc: Global,
+    arguments: &ThreadsArguments,
+    output: &mut W,
+    progress: Progress<P>,
+    errors: &mut E,
+) -> io::Result<u8> {
+    let progress = if arguments.watch {
+        Some(progress)
+    } else {
+        None
+    };
+    match &arguments.file {
+        Some(path) => {
+            let found = work_in_file(rt, alloc, path.as_str(), arguments, progress);
+            told_of_file(output, errors, path.as_str(), found)
+        }
+        None => told(output, work_in_memory(rt, alloc, arguments, progress)),
+    }
+}
+
 /// Runs the program on these words, the first of them its own name, and answers its exit status: 0 where the rows of all commits
-/// were found behind the crash, with just their entries, or help or the version was told; 1 where something was refused, or help can't
-/// be written; 2 for bad arguments. The error is that of the output.
-pub fn run_words<S: AsStr, R: Threads + Wait + Clock + Sync, W: Write, E: Write + Send + Drop>(
+/// were found, with just their entries, or help or the version was told; 1 where something was refused, or help can't be written; 2 for
+/// bad arguments. The error is that of the output. Commits that are safe are printed by the runtime.
+pub fn run_words<
+    S: AsStr,
+    R: Threads + Wait + Clock + Files<File = File> + Print + Sync,
+    W: Write,
+    E: Write,
+    P: Write + Send + Drop,
+>(
     rt: &R,
     alloc: Global,
     words: &[S],
     output: &mut W,
-    mut progress: Progress<E>,
+    mut progress: Progress<P>,
+    errors: &mut E,
 ) -> io::Result<u8> {
     match read_threads(alloc, words, output, &mut progress.errors) {
-        Ok(arguments) => {
-            let found = work_and_look(rt, alloc, &arguments, progress);
-            told(output, found)
-        }
+        Ok(arguments) => act(rt, alloc, &arguments, output, progress, errors),
         Err(NoArguments::NoMemory) => told(output, Err(OpenError::Refused(Error::NoMemory))),
         Err(NoArguments::Told(status)) => Ok(status),
     }
@@ -99,7 +192,13 @@ pub fn run_words<S: AsStr, R: Threads + Wait + Clock + Sync, W: Write, E: Write 
 
 /// Runs the program on these words as `run_words` does, and answers its exit status. It is 1 where the output can't be written, and
 /// the error stream says so.
-pub fn run<S: AsStr, R: Threads + Wait + Clock + Sync, W: Write, E: Write, P: Write + Send + Drop>(
+pub fn run<
+    S: AsStr,
+    R: Threads + Wait + Clock + Files<File = File> + Print + Sync,
+    W: Write,
+    E: Write,
+    P: Write + Send + Drop,
+>(
     rt: &R,
     alloc: Global,
     words: &[S],
@@ -107,7 +206,7 @@ pub fn run<S: AsStr, R: Threads + Wait + Clock + Sync, W: Write, E: Write, P: Wr
     progress: Progress<P>,
     errors: &mut E,
 ) -> u8 {
-    match run_words(rt, alloc, words, output, progress) {
+    match run_words(rt, alloc, words, output, progress, errors) {
         Ok(status) => status,
         Err(_) => {
             let _ = writeln!(errors, "nsf: cannot write to standard output");

@@ -11,8 +11,9 @@ ghost use Rattle.threads.specs.Openings.{Opens};
 ghost use Rattle.demonstration.specs.Kept.{KeepsAll};
 ghost use Rattle.demonstration.specs.Private.{AllTell, GoesOn};
 
+use crate::beginning::{Beginning, prepare};
+use crate::listener::Listener;
 use crate::progress::{Progress, watch};
-use crate::rows::set_up;
 use crate::writer::{Acknowledged, Writer, write};
 use closing::finish;
 use flusher::FlushPart;
@@ -31,13 +32,15 @@ use threads::{OpenError, OpenStore, Parts, open_store};
 // No more writers than this run side by side.
 const THREADS_MAX: usize = 64;
 
-/// The threads: a writer for each seat but the last, and the three loops. Each writer makes so many transactions. The builder's
-/// progress is shown where there is something to show it on.
+/// The threads: a writer for each seat but the last, and the three loops. Each writer makes so many transactions. The listener
+/// hears of each commit that is safe. The builder's progress is shown where there is something to show it on.
 #[derive(Drop)]
-pub struct Team<'a, R, G, E> {
+pub struct Team<'a, R, G, L, E> {
     pub rt: &'a R,
     pub alloc: Global,
+    pub beginning: Beginning,
     pub gate: &'a G,
+    pub listener: &'a L,
     pub changes: u16,
     pub progress: Option<Progress<E>>,
 }
@@ -105,11 +108,12 @@ fn writers_of<B: Group>(alloc: Global, seats: Vec<Seat<B>>) -> Result<Vec<Writer
 }
 
 // Runs all writers, each in a thread.
-fn write_all<B: Group + Send + Sync, R: Threads + Wait + Sync>(
+fn write_all<B: Group + Send + Sync, R: Threads + Wait + Sync, L: Listener + Sync>(
     rt: &R,
     shared: &Shared<B>,
     mut writers: Vec<Writer<B>>,
     changes: u16,
+    listener: &L,
 ) -> Vec<Writer<B>>
     ensures len { vec_len result ≡ vec_len writers }
     ensures wrote { (k : ℕ) (w : _) → k < vec_len writers → GoesOn (slice_index_or writers.items k w).seat (slice_index_or writers.items k w).acks.items (slice_index_or writers.items k w).acknowledged.items (slice_index_or result.items k w).seat (slice_index_or result.items k w).acks.items (slice_index_or result.items k w).acknowledged.items }
@@ -118,7 +122,7 @@ fn write_all<B: Group + Send + Sync, R: Threads + Wait + Sync>(
         rt,
         &mut writers,
         THREADS_MAX,
-        &|_: usize, writer: &mut Writer<B>| write(rt, shared, writer, changes),
+        &|_: usize, writer: &mut Writer<B>| write(rt, shared, writer, changes, listener),
     );
     writers
 }
@@ -137,12 +141,14 @@ fn show_progress<B: Group, R: Wait + Clock, E: Write + Drop>(
 fn write_and_watch<
     B: Group + Send + Sync,
     R: Threads + Wait + Clock + Sync,
+    L: Listener + Sync,
     E: Write + Send + Drop,
 >(
     rt: &R,
     shared: &Shared<B>,
     writers: Vec<Writer<B>>,
     changes: u16,
+    listener: &L,
     view: GroupView<B>,
     progress: Option<Progress<E>>,
 ) -> Vec<Writer<B>>
@@ -150,12 +156,12 @@ fn write_and_watch<
     ensures wrote { (k : ℕ) (w : _) → k < vec_len writers → GoesOn (slice_index_or writers.items k w).seat (slice_index_or writers.items k w).acks.items (slice_index_or writers.items k w).acknowledged.items (slice_index_or result.items k w).seat (slice_index_or result.items k w).acks.items (slice_index_or result.items k w).acknowledged.items }
 {
     match progress {
-        None => write_all(rt, shared, writers, changes),
+        None => write_all(rt, shared, writers, changes, listener),
         Some(progress) => {
             let ((), written) = join(
                 rt,
                 move || show_progress(rt, shared, view, progress),
-                move || write_all(rt, shared, writers, changes),
+                move || write_all(rt, shared, writers, changes, listener),
             );
             written
         }
@@ -321,9 +327,10 @@ fn run_all<
     D: Device + Send + Drop,
     R: Threads + Wait + Clock + Sync,
     G: Gate + Sync,
+    L: Listener + Sync,
     E: Write + Send + Drop,
 >(
-    team: Team<'_, R, G, E>,
+    team: Team<'_, R, G, L, E>,
     shared: &Shared<B>,
     writers: Vec<Writer<B>>,
     mut last: Seat<B>,
@@ -338,6 +345,7 @@ fn run_all<
         rt,
         gate,
         changes,
+        listener,
         progress,
         ..
     } = team;
@@ -349,18 +357,19 @@ fn run_all<
         flush,
         build,
         gate,
-        move || write_and_watch(rt, shared, writers, changes, view, progress),
+        move || write_and_watch(rt, shared, writers, changes, listener, view, progress),
     )
 }
 
-// Sets the rows up, lets the threads work, and takes all back that they leave.
+// Prepares the store, lets the threads work, and takes all back that they leave.
 fn work_together<
     B: Group + Send + Sync,
     D: Device + Send + Drop,
     R: Threads + Wait + Clock + Sync,
     G: Gate + Sync,
+    L: Listener + Sync,
     E: Write + Send + Drop,
->(team: Team<'_, R, G, E>, shared: Shared<B>, parts: Parts<B, D>) -> Worked<D>
+>(team: Team<'_, R, G, L, E>, shared: Shared<B>, parts: Parts<B, D>) -> Worked<D>
     requires seats { AreNewSeats B.site.board B.site.seats parts.seats.items }
     ensures { KeepsAll D.history B.site.opened result.device result.acknowledged.items }
 {
@@ -374,7 +383,7 @@ fn work_together<
     let Some(mut last) = seats.pop() else {
         return given_up(alloc, flush, Refusals::none(), Error::NoMemory);
     };
-    if let Err(error) = set_up(rt, &shared, &mut last) {
+    if let Err(error) = prepare(rt, &shared, &mut last, team.beginning) {
         return given_up(alloc, flush, Refusals::none(), error);
     }
     let Ok(writers) = writers_of(alloc, seats) else {
@@ -390,8 +399,9 @@ fn begin<
     D: Device + Send + Drop,
     R: Threads + Wait + Clock + Sync,
     G: Gate + Sync,
+    L: Listener + Sync,
     E: Write + Send + Drop,
->(store: OpenStore<D>, team: Team<'_, R, G, E>) -> Result<Worked<D>, (OpenError, D)>
+>(store: OpenStore<D>, team: Team<'_, R, G, L, E>) -> Result<Worked<D>, (OpenError, D)>
     requires names { store.site ≡ B.site }
     ensures { IfOk result (λ worked. KeepsAll D.history B.site.opened worked.device worked.acknowledged.items) }
 {
@@ -408,13 +418,14 @@ pub fn work_on<
     D: Device + Send + Drop,
     R: Threads + Wait + Clock + Sync,
     G: Gate + Sync,
+    L: Listener + Sync,
     E: Write + Send + Drop,
->(device: D, writers: u8, team: Team<'_, R, G, E>) -> Result<Worked<D>, (OpenError, D)>
+>(device: D, writers: u8, team: Team<'_, R, G, L, E>) -> Result<Worked<D>, (OpenError, D)>
     ensures kept { IfOk result (λ worked. (o : Opened) × Opens (D.history device).disk.content o × KeepsAll D.history o worked.device worked.acknowledged.items) }
 {
     let seats = usize::from(writers) + 1;
     match open_store(team.alloc, device, seats) {
-        Ok(store) => begin::<Brand, D, R, G, E>(store, team),
+        Ok(store) => begin::<Brand, D, R, G, L, E>(store, team),
         Err(refused) => Err(refused),
     }
 }

@@ -2,6 +2,7 @@
 ghost use Rattle.std.specs.Prelude.{◌≡◌, IfOk, IfSome, OnErr};
 ghost use Rattle.demonstration.specs.Private.{Adds, Commits, GoesOn, HasMade, KeepsCommits, Tells};
 
+use crate::listener::{Listener, Turn};
 use crate::rows::{abort, begin, commit, delete, insert};
 use nsf_core::Ticket;
 use records::{Error, Rid, Txn};
@@ -75,20 +76,24 @@ fn begin_without<B: Group, R: Wait>(
 // What a transaction leaves: the place of its row, and its ticket and acknowledgement, if it was committed.
 type Changed<B> = (Rid, Option<(Ticket, Ack<B>)>);
 
-// One transaction: in each third of four the deletion of the row before it, and an insertion. Each fourth is taken back, and the
-// others are committed.
+// The place of the row that the transaction of this number deletes: in each third of four, that of the row before.
+fn deleted_by(number: u16, before: Option<Rid>) -> Option<Rid> {
+    if number % 4 == 2 { before } else { None }
+}
+
+// One transaction: the deletion of the row at the place, if there is one, and an insertion. Each fourth is taken back, and the others
+// are committed.
 fn change<B: Group, R: Wait>(
     rt: &R,
     shared: &Shared<B>,
     seat: &mut Seat<B>,
     writer: u16,
     number: u16,
-    before: Option<Rid>,
+    place: Option<Rid>,
 ) -> Result<Changed<B>, Error>
     ensures adds { Adds seat.old seat.new }
     ensures made { IfOk result (λ r. IfSome r.1 (λ a. HasMade seat.new a.0 × (a.1.ticket ≡ a.0))) }
 {
-    let place = if number % 4 == 2 { before } else { None };
     let txn = begin_without(rt, shared, seat, place)?;
     let rid = insert(rt, shared, seat, txn, writer, number)?;
     if number % 4 == 3 {
@@ -122,33 +127,52 @@ fn note<B: Group>(
     Ok(())
 }
 
+// Tells the listener of a commit, if there was one.
+fn tell<B: Group, L: Listener>(listener: &L, turn: Turn, told: &Option<(Ticket, Ack<B>)>) {
+    match told {
+        Some((ticket, _)) => listener.hear(*ticket, &turn),
+        None => {}
+    }
+}
+
 // The transactions of a writer, in order.
-fn change_all<B: Group, R: Wait>(
+fn change_all<B: Group, R: Wait, L: Listener>(
     rt: &R,
     shared: &Shared<B>,
     writer: &mut Writer<B>,
     changes: u16,
+    listener: &L,
 ) -> Result<(), Error>
     ensures number { writer.new.seat.number ≡ writer.old.seat.number }
     ensures tells { Tells writer.old.seat writer.old.acks.items writer.old.acknowledged.items → Tells writer.new.seat writer.new.acks.items writer.new.acknowledged.items }
 {
     let mut before = None;
     for number in 0..changes {
-        let (rid, told) = change(rt, shared, &mut writer.seat, writer.number, number, before)?;
+        let deleted = deleted_by(number, before);
+        let (rid, told) = change(rt, shared, &mut writer.seat, writer.number, number, deleted)?;
         before = Some(rid);
+        let turn = Turn {
+            writer: writer.number,
+            change: number,
+            rid,
+            deleted,
+        };
+        tell(listener, turn, &told);
         note(writer, number, told)?;
     }
     Ok(())
 }
 
-/// Makes so many transactions, each with a key of this writer and of its own number, and waits until each commit is safe.
-pub(crate) fn write<B: Group, R: Wait>(
+/// Makes so many transactions, each with a key of this writer and of its own number, waits until each commit is safe, and tells the
+/// listener of it.
+pub(crate) fn write<B: Group, R: Wait, L: Listener>(
     rt: &R,
     shared: &Shared<B>,
     writer: &mut Writer<B>,
     changes: u16,
+    listener: &L,
 )
     ensures { GoesOn writer.old.seat writer.old.acks.items writer.old.acknowledged.items writer.new.seat writer.new.acks.items writer.new.acknowledged.items }
 {
-    writer.refused = change_all(rt, shared, writer, changes).err();
+    writer.refused = change_all(rt, shared, writer, changes, listener).err();
 }

@@ -13,3 +13,4 @@ mod serve;
 mod show;
 
 pub use program::run;
+pub use refused::Refused;

@@ -11,6 +11,8 @@ mod drop_tests;
 #[cfg(test)]
 mod example;
 #[cfg(test)]
+mod file_tests;
+#[cfg(test)]
 mod found;
 #[cfg(test)]
 mod program_tests;

@@ -1,10 +1,11 @@
 //! The program `nsf-threads`: what it prints, and its status; and what it tells of a device that fails.
 use crate::found::failing;
-use demonstration::{Progress, Refusals, Team, run, work_on};
+use demonstration::{Beginning, Nobody, Progress, Refusals, Team, run, work_on};
 use loops::NoGate;
 use records::Error;
 use std::alloc::Global;
-use std::rt::Clock;
+use std::fs::File;
+use std::rt::{Clock, Files};
 use std::sync::Wait;
 use std::test::Fail;
 use std::thread::Threads;
@@ -18,7 +19,11 @@ struct Printed {
     status: u8,
 }
 
-fn run_on<R: Threads + Wait + Clock + Sync>(rt: &R, alloc: Global, words: &[&str]) -> Printed {
+fn run_on<R: Threads + Wait + Clock + Files<File = File> + Print + Sync>(
+    rt: &R,
+    alloc: Global,
+    words: &[&str],
+) -> Printed {
     let mut output = Vec::new(alloc);
     let mut errors = Vec::new(alloc);
     let progress = Progress {
@@ -86,10 +91,12 @@ fn refused_at<R: Threads + Wait + Clock + Sync>(
     alloc: Global,
     behind: Option<u64>,
 ) -> Result<(Refusals, usize), OpenError> {
-    let team: Team<'_, R, NoGate, Vec<u8>> = Team {
+    let team: Team<'_, R, NoGate, Nobody, Vec<u8>> = Team {
         rt,
         alloc,
+        beginning: Beginning::New,
         gate: &NoGate,
+        listener: &Nobody,
         changes: 26,
         progress: None,
     };

@@ -9,6 +9,7 @@ use Rattle.demonstration.proofs.team.write_and_watch.Goals as goal
 pub join-written-requires-send-F : goal.join-written-requires-send-F
 join-written-requires-send-F g c κs within =
     let r = c.type_bounds.sync-R in
+    let l = c.type_bounds.sync-L in
     let e = c.type_bounds.send-E in
     let s = shared_sync (param 0 g.row.B) g.B.Group in
     search (progress.the_send, view.the_send, sendable, crosses) depth 20

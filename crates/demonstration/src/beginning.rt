@@ -1,0 +1,49 @@
+//! What is done to a store before the writers begin.
+ghost use Rattle.std.specs.Prelude.{◌≡◌};
+
+use crate::rows::set_up;
+use model::Life;
+use records::Error;
+use shared::{Group, Seat, Shared};
+use std::sync::Wait;
+
+/// What is done to a store before the writers begin.
+#[derive(Clone, Copy, Debug, PartialEq, Eq)]
+pub enum Beginning {
+    /// It is new: a hundred rows are put, and its index is created.
+    New,
+    /// It is left as it was found, but its index is created where it has none.
+    Found,
+}
+
+// Creates the index, where there is none.
+fn create_where_none<B: Group, R: Wait>(
+    rt: &R,
+    shared: &Shared<B>,
+    seat: &mut Seat<B>,
+) -> Result<(), Error>
+    ensures { seat.new.number ≡ seat.old.number }
+{
+    match shared.life(rt) {
+        Life::Absent => {
+            shared.create_index(rt, seat)?;
+            Ok(())
+        }
+        _ => Ok(()),
+    }
+}
+
+/// Does what is to be done to the store.
+pub(crate) fn prepare<B: Group, R: Wait>(
+    rt: &R,
+    shared: &Shared<B>,
+    seat: &mut Seat<B>,
+    beginning: Beginning,
+) -> Result<(), Error>
+    ensures { seat.new.number ≡ seat.old.number }
+{
+    match beginning {
+        Beginning::New => set_up(rt, shared, seat),
+        Beginning::Found => create_where_none(rt, shared, seat),
+    }
+}
