@@ -55,11 +55,7 @@ fn word_at(words: &[String], at: usize) -> &str {
 // Does what the words ask for.
 fn run<
     R: Print + Alloc<A = Global> + Threads + Wait + Clock + CpuClock + Files<File = File> + Sync,
->(
-    rt: &R,
-    word: &str,
-    given: &str,
-) -> Result<()> {
+>(rt: &R, word: &str, given: &str) -> Result<()> {
     match word {
         "quiet" => table::quiet(rt, given.parse().unwrap_or(4)),
         "beside" => table::beside(rt, given.parse().unwrap_or(4)),

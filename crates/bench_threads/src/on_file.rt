@@ -37,19 +37,8 @@ fn make<R: Files<File = File> + AllocGlobal>(rt: &R, path: &str) -> Result<Disk>
 
 // Prints a line for so many writers on a store in a new file.
 fn write<
-    R: Print
-        + Alloc<A = Global>
-        + Threads
-        + Wait
-        + Clock
-        + CpuClock
-        + Files<File = File>
-        + Sync,
->(
-    rt: &R,
-    path: &str,
-    writers: u8,
-) -> Result<()> {
+    R: Print + Alloc<A = Global> + Threads + Wait + Clock + CpuClock + Files<File = File> + Sync,
+>(rt: &R, path: &str, writers: u8) -> Result<()> {
     let plan = Plan {
         pages: 0,
         before: 0,
@@ -60,9 +49,7 @@ fn write<
 }
 
 // Fills a store in a new file, and builds its index.
-fn fill<
-    R: Alloc<A = Global> + Threads + Wait + Clock + CpuClock + Files<File = File> + Sync,
->(
+fn fill<R: Alloc<A = Global> + Threads + Wait + Clock + CpuClock + Files<File = File> + Sync>(
     rt: &R,
     path: &str,
 ) -> Result<()> {
@@ -88,18 +75,8 @@ fn open<R: Alloc<A = Global> + Clock + Files<File = File>>(rt: &R, path: &str) -
 /// Makes stores in new files, and prints a line for one writer on one of them, one for eight on another, and how long the opening of
 /// a full one takes.
 pub(crate) fn measure<
-    R: Print
-        + Alloc<A = Global>
-        + Threads
-        + Wait
-        + Clock
-        + CpuClock
-        + Files<File = File>
-        + Sync,
->(
-    rt: &R,
-    path: &str,
-) -> Result<()> {
+    R: Print + Alloc<A = Global> + Threads + Wait + Clock + CpuClock + Files<File = File> + Sync,
+>(rt: &R, path: &str) -> Result<()> {
     for writers in [1, 8] {
         let of_writers = format!(in rt.alloc(); "{path}.{writers}")?;
         write(rt, of_writers.as_str(), writers)?;

@@ -128,13 +128,7 @@ fn begin<
     B: Group + Send + Sync,
     D: Device + Send + Drop,
     R: Threads + Wait + Clock + CpuClock + Sync,
->(
-    rt: &R,
-    alloc: Global,
-    store: OpenStore<D>,
-    count: usize,
-    plan: Plan,
-) -> Result<Round, Error>
+>(rt: &R, alloc: Global, store: OpenStore<D>, count: usize, plan: Plan) -> Result<Round, Error>
     requires names { store.site ≡ B.site }
 {
     match store.start::<B>() {
@@ -145,10 +139,7 @@ fn begin<
 
 /// A round over the store on the disk, which has a seat for each of so many clients, but only so many writers work beside the one that
 /// leads. What was not flushed in the end is lost.
-pub(crate) fn play_on<
-    D: Device + Send + Drop,
-    R: Threads + Wait + Clock + CpuClock + Sync,
->(
+pub(crate) fn play_on<D: Device + Send + Drop, R: Threads + Wait + Clock + CpuClock + Sync>(
     rt: &R,
     alloc: Global,
     disk: D,

@@ -20,11 +20,7 @@ fn work_and_look<
     G: Gate + Sync,
     L: Listener + Sync,
     E: Write + Send + Drop,
->(
-    disk: D,
-    writers: u8,
-    team: Team<'_, R, G, L, E>,
-) -> Result<Found, Refused> {
+>(disk: D, writers: u8, team: Team<'_, R, G, L, E>) -> Result<Found, Refused> {
     let alloc = team.alloc;
     match work_through(disk, writers, team) {
         Ok(disk) => Ok(look(alloc, disk)?),
@@ -40,11 +36,7 @@ pub fn work_on_file<
     G: Gate + Sync,
     L: Listener + Sync,
     E: Write + Send + Drop,
->(
-    path: &str,
-    writers: u8,
-    team: Team<'_, R, G, L, E>,
-) -> Result<Found, Refused> {
+>(path: &str, writers: u8, team: Team<'_, R, G, L, E>) -> Result<Found, Refused> {
     let disk = file_disk::open(team.rt, team.alloc, path)?;
     work_and_look(disk, writers, team)
 }

@@ -44,11 +44,7 @@ pub(crate) fn work_through<
     G: Gate + Sync,
     L: Listener + Sync,
     E: Write + Send + Drop,
->(
-    device: D,
-    writers: u8,
-    team: Team<'_, R, G, L, E>,
-) -> Result<D, OpenError> {
+>(device: D, writers: u8, team: Team<'_, R, G, L, E>) -> Result<D, OpenError> {
     let worked = match work_on(device, writers, team) {
         Ok(worked) => worked,
         Err((error, _)) => return Err(error),
@@ -198,14 +194,7 @@ pub fn run<
     W: Write,
     E: Write,
     P: Write + Send + Drop,
->(
-    rt: &R,
-    alloc: Global,
-    words: &[S],
-    output: &mut W,
-    progress: Progress<P>,
-    errors: &mut E,
-) -> u8 {
+>(rt: &R, alloc: Global, words: &[S], output: &mut W, progress: Progress<P>, errors: &mut E) -> u8 {
     match run_words(rt, alloc, words, output, progress, errors) {
         Ok(status) => status,
         Err(_) => {
