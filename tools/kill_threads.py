@@ -54,6 +54,17 @@ def start(threads, file, seconds):
     return Run(printed), process.returncode == -9
 
 
+def make(store, file):
+    """A new store, with rows enough that a build over them takes its time."""
+    script = ""
+    output([store, "new", file, "--pages", "256", "--entries", "32768", "--slots", str(random.choice([8, 64]))])
+    for txn in range(1, 101):
+        inserts = "".join(f"insert {txn} =row{row} =\n" for row in range(60))
+        script += f"begin\n{inserts}commit {txn}\nflush\n"
+    output([store, "run", file], script)
+    return dump(store, file)[0]
+
+
 def dump(store, file):
     rows, live, life = set(), set(), None
     for line in output([store, "dump", file]).splitlines():
@@ -100,10 +111,10 @@ def main():
     file, base = None, set()
     while counts["kills"] < kills:
         if counts["runs"] % 8 == 0:
-            file, base = f"{folder}/store{counts['runs']}", set()
-            output([store, "new", file, "--pages", "128", "--entries", "16384", "--slots", str(random.choice([4, 8, 64]))])
+            file = f"{folder}/store{counts['runs']}"
+            base = make(store, file)
         counts["runs"] += 1
-        run, was_killed = start(threads, file, random.random() * 0.5)
+        run, was_killed = start(threads, file, random.random() * 0.4)
         counts["kills" if was_killed else "ended"] += 1
         counts["safe"] += len(run.rows)
         base, life = check(store, file, base, run)
