@@ -3,6 +3,8 @@
 //! Only tested: what the verbs print, how they end, and what they say of a file that is no store. The steps below have the promises of
 //! `serving` and `file_disk`.
 //!
+//! `Refused` says why a file or a store was refused, also to `nsf-threads`.
+//!
 //! Proved: that it is safe, and meets what the calls below ask.
 #![tactic(auto)]
 
