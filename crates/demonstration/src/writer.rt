@@ -127,6 +127,16 @@ fn note<B: Group>(
     Ok(())
 }
 
+// What a transaction did.
+fn turn_of(writer: u16, change: u16, rid: Rid, deleted: Option<Rid>) -> Turn {
+    Turn {
+        writer,
+        change,
+        rid,
+        deleted,
+    }
+}
+
 // Tells the listener of a commit, if there was one.
 fn tell<B: Group, L: Listener>(listener: &L, turn: Turn, told: &Option<(Ticket, Ack<B>)>) {
     match told {
@@ -151,12 +161,7 @@ fn change_all<B: Group, R: Wait, L: Listener>(
         let deleted = deleted_by(number, before);
         let (rid, told) = change(rt, shared, &mut writer.seat, writer.number, number, deleted)?;
         before = Some(rid);
-        let turn = Turn {
-            writer: writer.number,
-            change: number,
-            rid,
-            deleted,
-        };
+        let turn = turn_of(writer.number, number, rid, deleted);
         tell(listener, turn, &told);
         note(writer, number, told)?;
     }
