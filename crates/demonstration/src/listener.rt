@@ -31,7 +31,7 @@ impl fmt::Display for Turn {
 
 /// What hears of each commit that is safe, from the thread that waited for it. (That it does, no clause says.)
 pub trait Listener {
-    fn hear(&self, ticket: Ticket, turn: &Turn);
+    fn hear(&self, ticket: &Ticket, turn: &Turn);
 }
 
 /// It passes over what it hears.
@@ -39,7 +39,7 @@ pub trait Listener {
 pub struct Nobody;
 
 impl Listener for Nobody {
-    fn hear(&self, _ticket: Ticket, _turn: &Turn) {}
+    fn hear(&self, _ticket: &Ticket, _turn: &Turn) {}
 }
 
 /// It prints a line for each commit, as far as that can be written.
@@ -49,7 +49,7 @@ pub struct Printer<'a, R> {
 }
 
 impl<R: Print> Listener for Printer<'_, R> {
-    fn hear(&self, ticket: Ticket, turn: &Turn) {
+    fn hear(&self, ticket: &Ticket, turn: &Turn) {
         let record = ticket.record.get();
         let turn = *turn;
         let _ = println!(self.rt; "safe {record} {turn}");

@@ -104,10 +104,11 @@ fn change<B: Group, R: Wait>(
     Ok((rid, Some(told)))
 }
 
-// Notes an acknowledgement, if there is one, and what it is of.
-fn note<B: Group>(
+// Notes an acknowledgement, if there is one, and what it is of, and tells the listener.
+fn note<B: Group, L: Listener>(
     writer: &mut Writer<B>,
-    change: u16,
+    listener: &L,
+    turn: Turn,
     told: Option<(Ticket, Ack<B>)>,
 ) -> Result<(), Error>
     requires { IfSome told (λ a. HasMade writer.old.seat a.0 × (a.1.ticket ≡ a.0)) }
@@ -117,9 +118,10 @@ fn note<B: Group>(
     let Some((ticket, ack)) = told else {
         return Ok(());
     };
+    listener.hear(&ticket, &turn);
     let made = Acknowledged {
         writer: writer.number,
-        change,
+        change: turn.change,
         ticket,
     };
     writer.acks.push(ack)?;
@@ -128,20 +130,12 @@ fn note<B: Group>(
 }
 
 // What a transaction did.
-fn turn_of(writer: u16, change: u16, rid: Rid, deleted: Option<Rid>) -> Turn {
+fn turn_of(writer: u16, change: u16, rid: &Rid, deleted: &Option<Rid>) -> Turn {
     Turn {
         writer,
         change,
-        rid,
-        deleted,
-    }
-}
-
-// Tells the listener of a commit, if there was one.
-fn tell<B: Group, L: Listener>(listener: &L, turn: Turn, told: &Option<(Ticket, Ack<B>)>) {
-    match told {
-        Some((ticket, _)) => listener.hear(*ticket, &turn),
-        None => {}
+        rid: *rid,
+        deleted: *deleted,
     }
 }
 
@@ -160,10 +154,9 @@ fn change_all<B: Group, R: Wait, L: Listener>(
     for number in 0..changes {
         let deleted = deleted_by(number, before);
         let (rid, told) = change(rt, shared, &mut writer.seat, writer.number, number, deleted)?;
+        let turn = turn_of(writer.number, number, &rid, &deleted);
         before = Some(rid);
-        let turn = turn_of(writer.number, number, rid, deleted);
-        tell(listener, turn, &told);
-        note(writer, number, told)?;
+        note(writer, listener, turn, told)?;
     }
     Ok(())
 }

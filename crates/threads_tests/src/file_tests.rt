@@ -21,7 +21,7 @@ struct Heard {
 }
 
 impl Listener for Heard {
-    fn hear(&self, _ticket: Ticket, _turn: &Turn) {
+    fn hear(&self, _ticket: &Ticket, _turn: &Turn) {
         self.commits.fetch_add(1, Ordering::SeqCst);
     }
 }
