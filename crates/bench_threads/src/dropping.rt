@@ -6,6 +6,7 @@ use crate::clock::{now, sleep};
 use crate::rounds::{Disk, formatted};
 use anyhow::Result;
 use loops::{NoGate, build_loop};
+use opening::{OpenError, OpenStore, Parts, open_store};
 use records::{ENTRIES_MAX, Error, PAGES_MAX, Rid, SLOTS_PER_PAGE};
 use shared::{BuildPart, Group, Seat, Shared};
 use std::alloc::Global;
@@ -14,7 +15,6 @@ use std::rt::Clock;
 use std::sync::Wait;
 use std::sync::atomic::{AtomicBool, Ordering};
 use std::thread::{Threads, for_each_mut};
-use threads::{OpenError, OpenStore, Parts, open_store};
 
 // The rows of a full table, and the most entries that changes of its rows leave of which so many are of one transaction: while it is
 // active, it may add four for each.

@@ -5,6 +5,7 @@ use crate::rounds::play_on;
 use crate::table::print_all;
 use anyhow::Result;
 use file_disk::{FileDisk, HostFile};
+use opening::{format_store, open_store};
 use records::Geometry;
 use std::alloc::Global;
 use std::fs::File;
@@ -12,7 +13,6 @@ use std::rt::{Clock, Files};
 use std::sync::Wait;
 use std::thread::Threads;
 use std::time::CpuClock;
-use threads::{format_store, open_store};
 
 // A disk over a file.
 type Disk = FileDisk<HostFile, Global>;

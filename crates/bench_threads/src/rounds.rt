@@ -5,6 +5,7 @@ use crate::clients::{Client, Commit, Plan, Times, work_all};
 use file_disk::{Detached, FileDisk};
 use flusher::FlushPart;
 use loops::{Ended, NoGate, run_beside};
+use opening::{OpenError, OpenStore, Parts, format_store, open_store};
 use records::{Error, Geometry};
 use sector_device::Device;
 use shared::{BuildPart, Group, Seat, Shared};
@@ -14,7 +15,6 @@ use std::rt::Clock;
 use std::sync::Wait;
 use std::thread::Threads;
 use std::time::CpuClock;
-use threads::{OpenError, OpenStore, Parts, format_store, open_store};
 
 /// A disk in memory.
 pub(crate) type Disk = FileDisk<Detached, Global>;

@@ -8,7 +8,7 @@ use Rattle.atomic_table.specs.Table.{State, Me, step, keeps, stepped, Allows, Sp
 use Rattle.atomic_table.proofs.Lists.{at_set, set_else, at_longer}
 use Rattle.board.specs.declared.knowledge.Knowledge.{Knowledge}
 use Rattle.board.specs.Views.{part_ways}
-use Rattle.board.specs.Rule.{Posted, flag, words_of, Fits, SomeStops, AllApart, IsKept, first_view, spent_view}
+use Rattle.board.specs.Rule.{Posted, flag, words_of, Fits, SomeStops, AllApart, IsBoardKept, first_view, spent_view}
 use Rattle.board.specs.Steps.{without_builder, builder_of, without_reader, reader_of, staying, leaving, seen_by, flushed_by, built_by, informed, RaisesHorizon, RaisesProgress, SetsFailed, SetsStop, ReadsHorizon, ReadsProgress, ReadsFailed, ReadsStop, Compares}
 use Rattle.board.proofs.Names.{off, at_end, apart_set, apart_end, apart_cut}
 
@@ -43,9 +43,9 @@ abbrev Table : Type 0
 Table = State (Unit {0}) Knowledge
 
 -- the step of one view, from what was posted to b
-moved : (s : Table) (k : IsKept s) (seat i n : ℕ) (c : List (ℕ × Unit {0})) (v w : Knowledge) (b : Posted) → get_elem? s.views seat ≡ some v → set s.words i n ≡ words_of b
+moved : (s : Table) (k : IsBoardKept s) (seat i n : ℕ) (c : List (ℕ × Unit {0})) (v w : Knowledge) (b : Posted) → get_elem? s.views seat ≡ some v → set s.words i n ≡ words_of b
     → ((j : ℕ) (u : Knowledge) → j ≢ seat → Fits k.posted k.flusher k.builder j u → Fits b k.flusher k.builder j u) → Fits b k.flusher k.builder seat w
-    → (b.stopped ≡ true → SomeStops (set s.views seat w)) → w.may_stop ≡ v.may_stop → w.name ≡ v.name → IsKept (stepped s i n seat c w keeps)
+    → (b.stopped ≡ true → SomeStops (set s.views seat w)) → w.may_stop ≡ v.may_stop → w.name ≡ v.name → IsBoardKept (stepped s i n seat c w keeps)
 moved s k seat i n c v w b at is others mine stops may name = record {
   posted = b;
   flusher = k.flusher;
@@ -57,10 +57,10 @@ moved s k seat i n c v w b at is others mine stops may name = record {
 }
 
 -- a word is stored
-written : (s : Table) (k : IsKept s) (i : ℕ) (f : ℕ → ℕ) (b : Posted) → set (words_of k.posted) i (f (get_or (words_of k.posted) i 0)) ≡ words_of b → set s.words i (f (get_or s.words i 0)) ≡ words_of b
+written : (s : Table) (k : IsBoardKept s) (i : ℕ) (f : ℕ → ℕ) (b : Posted) → set (words_of k.posted) i (f (get_or (words_of k.posted) i 0)) ≡ words_of b → set s.words i (f (get_or s.words i 0)) ≡ words_of b
 written s k i f b is = ap (λ (ws : List ℕ). set ws i (f (get_or ws i 0))) k.words ∙ is
 
-pub raises_horizon : (slots seat : ℕ) (me : Seated) (n : ℕ) → me.0.flushes ≡ true → Allows IsKept slots seat me 0 (λ x. max x n) (RaisesHorizon (step slots 0 n 0 none) me)
+pub raises_horizon : (slots seat : ℕ) (me : Seated) (n : ℕ) → me.0.flushes ≡ true → Allows IsBoardKept slots seat me 0 (λ x. max x n) (RaisesHorizon (step slots 0 n 0 none) me)
 raises_horizon slots seat me n flushes s k _ at _ =
     let v : Knowledge = me.0 in
     let w : Knowledge = record v { published = max v.published n } in
@@ -96,7 +96,7 @@ raises_horizon slots seat me n flushes s k _ at _ =
       refl,
     )
 
-pub raises_progress : (slots seat : ℕ) (me : Seated) (n : ℕ) → me.0.builds ≡ true → Allows IsKept slots seat me 1 (λ x. max x n) (RaisesProgress (step slots 1 n 0 none) me)
+pub raises_progress : (slots seat : ℕ) (me : Seated) (n : ℕ) → me.0.builds ≡ true → Allows IsBoardKept slots seat me 1 (λ x. max x n) (RaisesProgress (step slots 1 n 0 none) me)
 raises_progress slots seat me n builds s k _ at _ =
     let v : Knowledge = me.0 in
     let w : Knowledge = record v { attempts = max v.attempts n } in
@@ -132,7 +132,7 @@ raises_progress slots seat me n builds s k _ at _ =
       refl,
     )
 
-pub sets_failed : (slots seat : ℕ) (me : Seated) → me.0.flushes ≡ true → Allows IsKept slots seat me 2 (λ _. 1) (λ _. SetsFailed (step slots 2 1 0 none) me 1)
+pub sets_failed : (slots seat : ℕ) (me : Seated) → me.0.flushes ≡ true → Allows IsBoardKept slots seat me 2 (λ _. 1) (λ _. SetsFailed (step slots 2 1 0 none) me 1)
 sets_failed slots seat me flushes s k _ at _ =
     let v : Knowledge = me.0 in
     let w : Knowledge = record v { device_failed = true } in
@@ -167,7 +167,7 @@ sets_failed slots seat me flushes s k _ at _ =
       refl,
     )
 
-pub sets_stop : (slots seat : ℕ) (me : Seated) → me.0.may_stop ≡ true → Allows IsKept slots seat me 3 (λ _. 1) (λ _. SetsStop (step slots 3 1 0 none) me 1)
+pub sets_stop : (slots seat : ℕ) (me : Seated) → me.0.may_stop ≡ true → Allows IsBoardKept slots seat me 3 (λ _. 1) (λ _. SetsStop (step slots 3 1 0 none) me 1)
 sets_stop slots seat me may s k _ at _ =
     let v : Knowledge = me.0 in
     let w : Knowledge = record v { stopped = true; stops = true } in
@@ -202,12 +202,12 @@ sets_stop slots seat me may s k _ at _ =
     )
 
 -- A step that changes no word. The view has seen more.
-sees : (s : Table) (k : IsKept s) (seat i : ℕ) (c : List (ℕ × Unit {0})) (v w : Knowledge) → get_elem? s.views seat ≡ some v → set (words_of k.posted) i (get_or (words_of k.posted) i 0) ≡ words_of k.posted
-    → Fits k.posted k.flusher k.builder seat w → (v.stops ≡ true → w.stops ≡ true) → w.may_stop ≡ v.may_stop → w.name ≡ v.name → IsKept (stepped s i (get_or s.words i 0) seat c w keeps)
+sees : (s : Table) (k : IsBoardKept s) (seat i : ℕ) (c : List (ℕ × Unit {0})) (v w : Knowledge) → get_elem? s.views seat ≡ some v → set (words_of k.posted) i (get_or (words_of k.posted) i 0) ≡ words_of k.posted
+    → Fits k.posted k.flusher k.builder seat w → (v.stops ≡ true → w.stops ≡ true) → w.may_stop ≡ v.may_stop → w.name ≡ v.name → IsBoardKept (stepped s i (get_or s.words i 0) seat c w keeps)
 sees s k seat i c v w at is mine keep may name =
     moved s k seat i (get_or s.words i 0) c v w k.posted at (written s k i (λ x. x) k.posted is) (λ j u apart fit. fit) mine (λ on. stops_on s.views seat v w at keep (k.stops on)) may name
 
-pub reads_horizon : (slots seat : ℕ) (me : Seated) → Allows IsKept slots seat me 0 (λ n. n) (ReadsHorizon (step slots 0 0 0 none) me)
+pub reads_horizon : (slots seat : ℕ) (me : Seated) → Allows IsBoardKept slots seat me 0 (λ n. n) (ReadsHorizon (step slots 0 0 0 none) me)
 reads_horizon slots seat me s k _ at _ =
     let v : Knowledge = me.0 in
     let n : ℕ = get_or s.words 0 0 in
@@ -217,7 +217,7 @@ reads_horizon slots seat me s k _ at _ =
     let mine : Fits k.posted k.flusher k.builder seat w = record { horizon = omega arith; progress = old.progress; failed = old.failed; stopped = old.stopped; of_flusher = old.of_flusher; of_builder = old.of_builder; stops = old.stops } in
     (w, keeps, tt, sees s k seat 0 me.1 v w at refl mine (λ did. did) refl refl, (omega arith, refl))
 
-pub reads_progress : (slots seat : ℕ) (me : Seated) → Allows IsKept slots seat me 1 (λ n. n) (ReadsProgress (step slots 1 0 0 none) me)
+pub reads_progress : (slots seat : ℕ) (me : Seated) → Allows IsBoardKept slots seat me 1 (λ n. n) (ReadsProgress (step slots 1 0 0 none) me)
 reads_progress slots seat me s k _ at _ =
     let v : Knowledge = me.0 in
     let n : ℕ = get_or s.words 1 0 in
@@ -231,7 +231,7 @@ flag_is : (b : Bool) → eqb (flag b) 1 ≡ b
 flag_is true = refl
 flag_is false = refl
 
-pub reads_failed : (slots seat : ℕ) (me : Seated) → Allows IsKept slots seat me 2 (λ n. n) (ReadsFailed (step slots 2 0 0 none) me)
+pub reads_failed : (slots seat : ℕ) (me : Seated) → Allows IsBoardKept slots seat me 2 (λ n. n) (ReadsFailed (step slots 2 0 0 none) me)
 reads_failed slots seat me s k _ at _ =
     let v : Knowledge = me.0 in
     let n : ℕ = get_or s.words 2 0 in
@@ -249,7 +249,7 @@ only_first views seat v at may first apart can (j, u, there, did) =
     (λ (same : j ≡ seat). let is : u ≡ v = some-injective u v (sym there ∙ (ap (get_elem? views) same ∙ at)) in ap (λ (x : Knowledge). x.stops) (sym is) ∙ did)
     (λ (other : j ≢ seat). off (ap (λ (x : List Bool). part_ways x u.name) (sym first) ∙ apart seat j v u (λ (is : seat ≡ j). other (sym is)) at there may (can j u there did)))
 
-pub reads_stop : (slots seat : ℕ) (me : Seated) → me.0.may_stop ≡ true → Allows IsKept slots seat me 3 (λ n. n) (ReadsStop (step slots 3 0 0 none) me)
+pub reads_stop : (slots seat : ℕ) (me : Seated) → me.0.may_stop ≡ true → Allows IsBoardKept slots seat me 3 (λ n. n) (ReadsStop (step slots 3 0 0 none) me)
 reads_stop slots seat me may s k _ at _ =
     let v : Knowledge = me.0 in
     let n : ℕ = get_or s.words 3 0 in
@@ -260,7 +260,7 @@ reads_stop slots seat me may s k _ at _ =
     let alone : v.name ≡ [] → eqb n 1 ≡ true → v.stops ≡ true = λ first on. only_first s.views seat v at may first k.apart (λ j u there. (k.fits j u there).stops) (k.stops (sym is ∙ on)) in
     (w, keeps, tt, sees s k seat 3 me.1 v w at refl mine (λ did. did) refl refl, ((λ on. is ∙ old.stopped on), alone, refl))
 
-pub compares : (slots seat : ℕ) (me : Seated) → Allows IsKept slots seat me 0 (λ n. n) (Compares (step slots 0 0 0 none) me)
+pub compares : (slots seat : ℕ) (me : Seated) → Allows IsBoardKept slots seat me 0 (λ n. n) (Compares (step slots 0 0 0 none) me)
 compares slots seat me s k _ at _ =
     let v : Knowledge = me.0 in
     let old = k.fits seat v at in (
@@ -272,7 +272,7 @@ compares slots seat me s k _ at _ =
     )
 
 -- the first table
-pub begins : IsKept (opening (0 ∷ 0 ∷ 0 ∷ 0 ∷ []) [] first_view)
+pub begins : IsBoardKept (opening (0 ∷ 0 ∷ 0 ∷ 0 ∷ []) [] first_view)
 begins = record { posted = nothing; flusher = 0; builder = 0; words = refl; fits = one; stops = λ on. off on; apart = alone }
   where
     nothing : Posted
@@ -293,10 +293,10 @@ stops_front : (views more : List Knowledge) → SomeStops views → SomeStops (v
 stops_front views more (j, u, there, did) = (j, u, at_longer views more j u there, did)
 
 -- a view becomes two, which fit
-cut : (s : Table) (k : IsKept s) (seat : ℕ) (v left right : Knowledge) (builder : ℕ) → get_elem? s.views seat ≡ some v
+cut : (s : Table) (k : IsBoardKept s) (seat : ℕ) (v left right : Knowledge) (builder : ℕ) → get_elem? s.views seat ≡ some v
     → ((j : ℕ) (u : Knowledge) → j ≢ seat → Fits k.posted k.flusher k.builder j u → Fits k.posted k.flusher builder j u) → Fits k.posted k.flusher builder seat left
     → Fits k.posted k.flusher builder (length (set s.views seat left)) right → (v.stops ≡ true → left.stops ≡ true) → AllApart (set s.views seat left ++ right ∷ [])
-    → IsKept record { words = s.words; homes = s.homes; views = set s.views seat left ++ right ∷ [] }
+    → IsBoardKept record { words = s.words; homes = s.homes; views = set s.views seat left ++ right ∷ [] }
 cut s k seat v left right builder at others mine theirs keep apart =
     let end : ℕ = length (set s.views seat left) in
     let first : FitsAll k.posted k.flusher builder (set s.views seat left) = fits_set k.posted k.posted k.flusher k.builder builder s.views seat left others k.fits mine in
@@ -310,7 +310,7 @@ cut s k seat v left right builder at others mine theirs keep apart =
       apart = apart;
     }
 
-pub cuts_view : (seat : ℕ) (v : Knowledge) → v.may_stop ≡ true → Splits IsKept seat v (staying v) (leaving v)
+pub cuts_view : (seat : ℕ) (v : Knowledge) → v.may_stop ≡ true → Splits IsBoardKept seat v (staying v) (leaving v)
 cuts_view seat v may s k at =
     let old = k.fits seat v at in
     cut s k seat v (staying v) (leaving v) k.builder at (λ j u _ f. f)
@@ -320,19 +320,19 @@ cuts_view seat v may s k at =
     (apart_cut s.views seat v at may k.apart)
 
 -- what is cut off may do nothing, and has seen no more than is posted
-tells : (seat : ℕ) (v told : Knowledge) → ((b : Posted) (flusher builder : ℕ) → Fits b flusher builder seat v → (j : ℕ) → Fits b flusher builder j told) → told.may_stop ≡ false → Splits IsKept seat v v told
+tells : (seat : ℕ) (v told : Knowledge) → ((b : Posted) (flusher builder : ℕ) → Fits b flusher builder seat v → (j : ℕ) → Fits b flusher builder j told) → told.may_stop ≡ false → Splits IsBoardKept seat v v told
 tells seat v told fit none_may s k at =
     let old = k.fits seat v at in
     cut s k seat v v told k.builder at (λ j u _ f. f) old (fit k.posted k.flusher k.builder old (length (set s.views seat v))) (λ did. did)
     (apart_end (set s.views seat v) told (apart_set s.views seat v v at (λ can. (can, λ other e. e)) k.apart) (λ j u e can may. off (sym none_may ∙ may)))
 
-pub tells_seen : (seat : ℕ) (v : Knowledge) → Splits IsKept seat v v (seen_by v)
+pub tells_seen : (seat : ℕ) (v : Knowledge) → Splits IsBoardKept seat v v (seen_by v)
 tells_seen seat v =
     tells seat v (seen_by v)
     (λ b flusher builder old j. record { horizon = old.horizon; progress = old.progress; failed = old.failed; stopped = old.stopped; of_flusher = λ on. off on; of_builder = λ on. off on; stops = λ on. off on })
     refl
 
-pub tells_flushed : (seat : ℕ) (v : Knowledge) → v.flushes ≡ true → Splits IsKept seat v v (flushed_by v)
+pub tells_flushed : (seat : ℕ) (v : Knowledge) → v.flushes ≡ true → Splits IsBoardKept seat v v (flushed_by v)
 tells_flushed seat v flushes =
     tells seat v (flushed_by v)
     (λ b flusher builder old j.
@@ -340,7 +340,7 @@ tells_flushed seat v flushes =
     record { horizon = omega arith; progress = old.progress; failed = λ on. own.2 ∙ on; stopped = old.stopped; of_flusher = λ on. off on; of_builder = λ on. off on; stops = λ on. off on })
     refl
 
-pub tells_built : (seat : ℕ) (v : Knowledge) → v.builds ≡ true → Splits IsKept seat v v (built_by v)
+pub tells_built : (seat : ℕ) (v : Knowledge) → v.builds ≡ true → Splits IsBoardKept seat v v (built_by v)
 tells_built seat v builds =
     tells seat v (built_by v)
     (λ b flusher builder old j.
@@ -348,7 +348,7 @@ tells_built seat v builds =
     record { horizon = old.horizon; progress = omega arith; failed = old.failed; stopped = old.stopped; of_flusher = λ on. off on; of_builder = λ on. off on; stops = λ on. off on })
     refl
 
-pub cuts_builder : (seat : ℕ) (v : Knowledge) → v.builds ≡ true → Splits IsKept seat v (without_builder v) (builder_of v)
+pub cuts_builder : (seat : ℕ) (v : Knowledge) → v.builds ≡ true → Splits IsBoardKept seat v (without_builder v) (builder_of v)
 cuts_builder seat v builds s k at =
     let old = k.fits seat v at in
     let own = old.of_builder builds in
@@ -370,7 +370,7 @@ cuts_builder seat v builds s k at =
     (λ did. did)
     (apart_end (set s.views seat left) right (apart_set s.views seat v left at (λ can. (can, λ other e. e)) k.apart) (λ j u e can may. off may))
 
-pub cuts_reader : (seat : ℕ) (v : Knowledge) → v.may_stop ≡ true → v.stops ≡ false → Splits IsKept seat v (without_reader v) (reader_of v)
+pub cuts_reader : (seat : ℕ) (v : Knowledge) → v.may_stop ≡ true → v.stops ≡ false → Splits IsBoardKept seat v (without_reader v) (reader_of v)
 cuts_reader seat v may never s k at =
     let old = k.fits seat v at in
     let left = without_reader v in
@@ -389,7 +389,7 @@ cuts_reader seat v may never s k at =
         (at_set s.views seat j (without_reader v) u e)
 
 -- what was told has set no flag, so that nothing is lost with it
-pub learns : (seat : ℕ) (v : Knowledge) (other : ℕ) (told : Knowledge) → told.stops ≡ false → Joins IsKept seat v other told (informed v told) spent_view
+pub learns : (seat : ℕ) (v : Knowledge) (other : ℕ) (told : Knowledge) → told.stops ≡ false → Joins IsBoardKept seat v other told (informed v told) spent_view
 learns seat v other told never s k at apart there =
     let both = informed v told in
     let was : get_elem? s.views other ≡ some told = sym (set_else s.views seat other both apart) ∙ there in

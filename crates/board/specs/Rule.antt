@@ -47,7 +47,7 @@ AllApart views =
 
 -- The words say what is posted, and each view fits it. A stop flag that is set was set by some view,
 -- and the views that may set it have names of their own.
-pub record IsKept (s : State (Unit {0}) Knowledge) : Type 0 where
+pub record IsBoardKept (s : State (Unit {0}) Knowledge) : Type 0 where
   pub posted : Posted
   pub flusher : ℕ
   pub builder : ℕ

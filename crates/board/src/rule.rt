@@ -6,9 +6,9 @@ use atomic_table::{Join, Play, Split, TableRule};
 pub struct BoardRule;
 
 impl TableRule<(), Knowledge, ()> for BoardRule {
-    ghost use Rattle.board.specs.Rule.{IsKept, first_view};
+    ghost use Rattle.board.specs.Rule.{IsBoardKept, first_view};
 
-    ghost holds = { λ _. IsKept };
+    ghost holds = { λ _. IsBoardKept };
 
     ghost first = { λ _. first_view };
 }

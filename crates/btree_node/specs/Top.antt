@@ -14,14 +14,14 @@ tree_at None = leaf []
 tree_at (Some root) = root.value
 
 -- an empty tree, or a root with what a root has to keep
-abbrev pub IsWhole : {A : Type 0} → Option (Box (Node A) A) → Type 0
-IsWhole None = Unit {0}
-IsWhole (Some root) = IsRoot (depth root.value) root.value
+abbrev pub IsWholeTree : {A : Type 0} → Option (Box (Node A) A) → Type 0
+IsWholeTree None = Unit {0}
+IsWholeTree (Some root) = IsRoot (depth root.value) root.value
 
 -- what a tree keeps of its root and its number of entries
 pub record IsSoundTop {A : Type 0} (root : Option (Box (Node A) A)) (len : ℕ) : Type 0 where
   pub ascending : IsAscending (entries (tree_at root))
-  pub whole : IsWhole root
+  pub whole : IsWholeTree root
   pub counted : len ≡ length (entries (tree_at root))
   pub few : len ≤ ENTRIES_MAX
 

@@ -4,7 +4,7 @@ ghost use Rattle.std.specs.List.{insert};
 ghost use Rattle.btree_node.specs.Grown.{upper_entries, IsUpperHalf, AreEnough, KeepsCount, IsSplitAlong};
 ghost use Rattle.btree_node.specs.Splits.{splits};
 ghost use Rattle.btree_node.specs.Path.{path_of, top_path};
-ghost use Rattle.btree_node.specs.Top.{tree_at, IsWhole, nodes_for};
+ghost use Rattle.btree_node.specs.Top.{tree_at, IsWholeTree, nodes_for};
 ghost use Rattle.node_parts.specs.Tree.{entries, depth, count, IsLeaf, IsInner, an_empty_inner, an_empty_leaf, branch, more, none};
 ghost use Rattle.node_parts.specs.Rows.{trees, branches};
 ghost use Rattle.node_parts.specs.Seen.{least_of, AreLabelled};
@@ -169,7 +169,7 @@ pub fn insert_top<A: Allocator>(
     spares: &mut Spares<A>,
 ) -> Box<Node<A>, A>
     requires ascending { IsAscending (entries (tree_at root)) }
-    requires whole { IsWhole root }
+    requires whole { IsWholeTree root }
     requires path { path.now ≡ top_path (tree_at root) entry.pair }
     requires spares { AreEnough (nodes_for (tree_at root) entry.pair) spares.old }
     ensures entries { entries result.value ≡ insert_entry (entries (tree_at root)) entry }

@@ -1,7 +1,7 @@
 //! Removals, which borrow from a neighbour or merge with one.
 ghost use Rattle.std.specs.Prelude.{◌≡◌, ℕ, ◌+◌, ◌<◌, ◌≤◌, ◌++◌, length, vec_len, vec_capacity, Some, IsSome};
 ghost use Rattle.btree_node.specs.Grown.{upper_entries, IsUpperHalf};
-ghost use Rattle.btree_node.specs.Top.{tree_at, IsWhole};
+ghost use Rattle.btree_node.specs.Top.{tree_at, IsWholeTree};
 ghost use Rattle.btree_node.specs.Without.{without};
 ghost use Rattle.btree_node.specs.Mended.{AreNeighbours, AreTreesBut, IsTaken};
 ghost use Rattle.node_parts.specs.Tree.{entries, depth, count, forest_of};
@@ -120,7 +120,7 @@ pub fn shrink<A: Allocator>(mut root: Box<Node<A>, A>) -> Option<Box<Node<A>, A>
     requires tree { IsTree (depth root.value) root.value }
     requires few { fewest root.value ≤ count root.value + 1 }
     ensures entries { entries (tree_at result) ≡ entries root.value }
-    ensures whole { IsWhole result }
+    ensures whole { IsWholeTree result }
 {
     let child = take_only(&mut root);
     if child.is_some() {

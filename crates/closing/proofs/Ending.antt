@@ -20,14 +20,14 @@ use Rattle.sector_device.specs.Disk.{Image, IsCrashImage}
 use Rattle.sector_device.specs.History.{History, LeavesOnly, Rises}
 use Rattle.store_reader.specs.Contents.{Gives}
 use Rattle.sessions.specs.Values.{CommitValue, SessionValue}
-use Rattle.registry.specs.Halves.{HalfValue, shown}
+use Rattle.session_halves.specs.Halves.{HalfValue, shown}
 use Rattle.register.specs.History.{commits_up_to, with_commits}
 use Rattle.register.specs.Register.{AreAllCommits, Commits}
 use Rattle.locked_core.specs.Locked.{LockedValue}
 use Rattle.locked_core.specs.Made as lock
 use Rattle.locked_core.specs.Names.{IsShared}
 use Rattle.store_writer.specs.Parts.{device_of, halves_of, has_failed, synced_of}
-use Rattle.flusher.specs.Part.{FlushValue, GivesBeginning, IsLeft, last_handed}
+use Rattle.flusher.specs.Part.{FlushValue, GivesBeginning, FlushLeaves, last_handed}
 use Rattle.shared.specs.Seats.{SeatValue}
 use Rattle.closing.proofs.Gathering.{commits_in}
 use Rattle.closing.proofs.Lists.{map_count, map_get, same_list}
@@ -188,6 +188,6 @@ module _ {D : Type 0} (history : D → History) (failures : D → ℕ) (o : Open
 
   module _ (core : CoreValue) (core_is : core ≡ l.core) (none : l.core.outbox ≡ []) (commits : List CommitValue) (from : (count : ℕ) (all : AreAllCommits (sessions_of seats) count) → commits ≡ commits_in all.commits) where
     pub all_at_end : (last : (g : GeometryValue) → l.core.last ≡ end_of (lock.run_of g o l)) (cells : (g : GeometryValue) → IsCellsOf l.core (cells_at (lock.run_of g o l) l.core.last)) → f.handed ≡ l.pushed → synced_of f.writer ≡ last_handed o f
-        → ((image : Image) → IsCrashImage (history device).disk image → IsLeft o f image) → (image : Image) → IsCrashImage (history device).disk image → ∥ GivesAll o (halves_of old.writer).geometry core commits image ∥₁
+        → ((image : Image) → IsCrashImage (history device).disk image → FlushLeaves o f image) → (image : Image) → IsCrashImage (history device).disk image → ∥ GivesAll o (halves_of old.writer).geometry core commits image ∥₁
     all_at_end last cells all synced left image crash =
         device_closed history o seats l book under popped first_popped core core_is none commits from last cells (halves_of old.writer).geometry (halves_of f.writer).geometry f.handed (synced_of f.writer) writes.geometry all synced image (left image crash)

@@ -8,21 +8,20 @@ use Rattle.core_model.specs.Histories.{Opened}
 use Rattle.sector_device.specs.Disk.{Image}
 use Rattle.sector_device.specs.History.{History, LeavesOnly, Rises}
 use Rattle.sector_device.proofs.Moments.{joined, started, weaker}
-use Rattle.board.specs.Views.{FlusherCount}
 use Rattle.flip_image.specs.Layout.{HalvesValue}
 use Rattle.store_writer.specs.Parts.{device_of, halves_of, has_failed, synced_of, waiting_of}
 use Rattle.store_writer.specs.Writer.{HasFailed, IsNotFlushed}
 use Rattle.store_writer.specs.declared.writer.Writer.{Writer}
 use Rattle.flusher.proofs.Going.{beginning_of, counted_same, counted_then, same_store}
 use Rattle.flusher.proofs.Keeping.{is_left}
-use Rattle.flusher.specs.Part.{FlushValue, GivesBeginning, HasGot, IsFlusher, IsLeft, Publishes}
+use Rattle.flusher.specs.Part.{FlushValue, GivesBeginning, HasGot, IsFlusher, FlushLeaves, Publishes}
 use Rattle.closing.specs.Written.{HasTaken, WritesOn}
 
 -- ---- the part goes on
 
 module _ {D : Type 0} (history : D → History) (failures : D → ℕ) (o : Opened) where
-  left_now : (f : FlushValue D) → IsFlusher history o f → LeavesOnly (history (device_of f.writer)) (history (device_of f.writer)) (IsLeft o f)
-  left_now f is = started (history (device_of f.writer)) (IsLeft o f) (λ image crash. is_left history o f is image (is.writer.images image crash))
+  left_now : (f : FlushValue D) → IsFlusher history o f → LeavesOnly (history (device_of f.writer)) (history (device_of f.writer)) (FlushLeaves o f)
+  left_now f is = started (history (device_of f.writer)) (FlushLeaves o f) (λ image crash. is_left history o f is image (is.writer.images image crash))
 
   -- by no call
   pub writes_nothing : (f : FlushValue D) → IsFlusher history o f → WritesOn history failures o f f
@@ -30,7 +29,6 @@ module _ {D : Type 0} (history : D → History) (failures : D → ℕ) (o : Open
     more = [];
     handed = sym (append-nil f.handed);
     geometry = refl;
-    board = refl;
     rises = omega arith;
     images = left_now f is;
     later = omega arith;
@@ -45,11 +43,10 @@ module _ {D : Type 0} (history : D → History) (failures : D → ℕ) (o : Open
     more = takes.more;
     handed = takes.handed;
     geometry = ap (λ (h : HalvesValue). h.geometry) takes.got.halves;
-    board = ap (λ (c : FlusherCount). c.board) takes.published;
     rises = omega (arith, takes.got.synced);
     images =
         subst (λ (n : ℕ). LeavesOnly (history (device_of old.writer)) (history (device_of new.writer)) (GivesBeginning o (halves_of new.writer).geometry new.handed n)) takes.got.synced
-        (subst (λ (d : D). LeavesOnly (history d) (history (device_of new.writer)) (IsLeft o new)) takes.got.device (left_now new is));
+        (subst (λ (d : D). LeavesOnly (history d) (history (device_of new.writer)) (FlushLeaves o new)) takes.got.device (left_now new is));
     later = omega (arith, ap failures takes.got.device);
     counted = counted_same (has_failed old.writer) (has_failed new.writer) (failures (device_of old.writer)) (failures (device_of new.writer)) takes.got.failed;
     stays = λ now. sym takes.got.failed ∙ now;
@@ -58,16 +55,15 @@ module _ {D : Type 0} (history : D → History) (failures : D → ℕ) (o : Open
 
   -- by a call of the writer
   pub writes_by_call : (old new : FlushValue D) → Publishes old new → (halves_of new.writer).geometry ≡ (halves_of old.writer).geometry → synced_of old.writer ≤ synced_of new.writer
-      → LeavesOnly (history (device_of old.writer)) (history (device_of new.writer)) (IsLeft o old) → failures (device_of old.writer) ≤ failures (device_of new.writer)
+      → LeavesOnly (history (device_of old.writer)) (history (device_of new.writer)) (FlushLeaves o old) → failures (device_of old.writer) ≤ failures (device_of new.writer)
       → (has_failed new.writer ≡ true → has_failed old.writer ≡ false → Rises (failures (device_of old.writer)) (failures (device_of new.writer))) → (has_failed new.writer ≡ false → has_failed old.writer ≡ false)
       → (has_failed new.writer ≡ false → failures (device_of new.writer) ≡ failures (device_of old.writer)) → WritesOn history failures o old new
   writes_by_call old new publishes geometry rises images later counted stays quiet = record {
     more = [];
     handed = publishes.handed ∙ sym (append-nil old.handed);
     geometry = geometry;
-    board = ap (λ (c : FlusherCount). c.board) publishes.published;
     rises = rises;
-    images = weaker (history (device_of old.writer)) (history (device_of new.writer)) (IsLeft o old) (GivesBeginning o (halves_of new.writer).geometry new.handed (synced_of old.writer))
+    images = weaker (history (device_of old.writer)) (history (device_of new.writer)) (FlushLeaves o old) (GivesBeginning o (halves_of new.writer).geometry new.handed (synced_of old.writer))
         (λ image left. subst (λ (rs : List RecordValue). GivesBeginning o (halves_of new.writer).geometry rs (synced_of old.writer) image) (sym publishes.handed)
         (same_store o (halves_of old.writer).geometry (halves_of new.writer).geometry old.handed (synced_of old.writer) image geometry left)) images;
     later = later;
@@ -82,7 +78,6 @@ module _ {D : Type 0} (history : D → History) (failures : D → ℕ) (o : Open
     more = first.more ++ second.more;
     handed = second.handed ∙ (ap (λ l. l ++ second.more) first.handed ∙ append_assoc old.handed first.more second.more);
     geometry = second.geometry ∙ first.geometry;
-    board = second.board ∙ first.board;
     rises = omega (arith, first.rises, second.rises);
     images =
         let P : Image → Type 0 = GivesBeginning o (halves_of new.writer).geometry new.handed (synced_of old.writer) in

@@ -8,7 +8,7 @@ ghost use Rattle.closing.specs.Gathered.{AreSeen, TakesFrom, commits_of, heads_w
 
 use locked_core::Locked;
 use records::Error;
-use registry::Registry;
+use session_halves::Registry;
 use sessions::Commit;
 use shared::{Group, Seat};
 use std::alloc::Global;

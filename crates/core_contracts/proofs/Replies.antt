@@ -11,7 +11,7 @@ use Rattle.records.specs.declared.pair.Pair.{Pair}
 use Rattle.model.specs.declared.life.Life.{Life}
 use Rattle.model.specs.declared.life.Life.TheVariants.{Absent, Building, Complete}
 use Rattle.core_contracts.specs.Events.{BuildReply, CleanReply, Cleaned, Done, Event, Idle, Kept, Placed, Rejected, Reply, Scanned, Standing, Wrapped}
-use Rattle.core_contracts.specs.Replies.{HasNoPlace, IsAnyActive, IsBuildDue, IsCleanDue, IsDue, IsFirst, IsHeldByOther, IsOfNone, IsProper, build_step, change_of, clean_step, last_refusals, refusals, refusals_of}
+use Rattle.core_contracts.specs.Replies.{HasNoPlace, IsAnyActive, IsBuildDue, IsCleanDue, IsStepDue, IsFirst, IsHeldByOther, IsOfNone, IsProper, build_step, change_of, clean_step, last_refusals, refusals, refusals_of}
 use Rattle.core_contracts.specs.Served.{HasStanding, IsEnabledAny}
 use Rattle.core_model.proofs.Laws.{nat_decided, not_none}
 use Rattle.core_model.specs.Invariants.{IsWellFormed}
@@ -115,7 +115,7 @@ module _ (s : State) (k : Standing) (i : IsWellFormed s) (h : HasStanding s k) w
   clean_enabled (Kept p) d = tt
   clean_enabled Wrapped d = tt
 
-  pub due_enabled : (e : Event) (reply : Reply) (step : Option MachineStep) → (IsOfNone s e → ⊥) → IsProper s e → IsFirst (refusals s k e) None → IsDue s k e reply step → IsFirst (refusals_of s k step) None → IsEnabledAny s step
+  pub due_enabled : (e : Event) (reply : Reply) (step : Option MachineStep) → (IsOfNone s e → ⊥) → IsProper s e → IsFirst (refusals s k e) None → IsStepDue s k e reply step → IsFirst (refusals_of s k step) None → IsEnabledAny s step
   due_enabled Event.Begin reply step known proper first d last = by_step _ step d.1 (λ l. no_txn_above s k.begun h.begun) last
   due_enabled (Event.Insert t row) reply step known proper first d last =
       by_step _ step d.3 (change_enabled t d.0 (Inserted row) known proper d.1.free.empty (λ held. not_none held.1 d.1.free.unheld) d.1.free.inside) last

@@ -25,7 +25,7 @@ use Rattle.records.specs.declared.error.Error.{Error}
 use Rattle.records.specs.declared.number.TheConstants.{LAST_NUMBER}
 use Rattle.records.specs.declared.txn.TheConstants.{TXNS_MAX}
 use Rattle.std.proofs.lemmas.Bool.{cases_lt}
-use Rattle.core_contracts.specs.Replies.{IsAllowed, IsBuildDue, IsDue, IsFirst, IsOfNone, IsProper, accepted, after_any, build_step, change_of, clean_step, last_refusals, refusals_of, no_memory, refusals, refused, refused_last, skipped, unknown}
+use Rattle.core_contracts.specs.Replies.{IsAllowed, IsBuildDue, IsStepDue, IsFirst, IsOfNone, IsProper, accepted, after_any, build_step, change_of, clean_step, last_refusals, refusals_of, no_memory, refusals, refused, refused_last, skipped, unknown}
 use Rattle.core_contracts.specs.Served.{AreTakenOnce, HasCounts, HasServed, HasStanding, asked_over, records_by, IsEnabledAny, IsMove, ServesAll, asked_after, items_at, items_of, nothing, number_after, served}
 use Rattle.core_model.proofs.Laws.{fit_step, interleaved, items_deeds, deeds, made_holds, made_more, made_nothing, made_recovers, nat_decided, not_none, txn_apart, update_apart, update_here}
 use Rattle.core_model.specs.Changes.{Changes, Unchanged, new_pair, old_pair, ◌▹◌}
@@ -257,7 +257,7 @@ module _ (s : State) (k : Standing) (h : HasStanding s k) where
       standing_kept _ k' (other_made _ _ (scan_started s t (txn_at s t) c (old_pair (is_indexed s.life) c))) a b
       (λ u y e. rw n (started_le s k.begun h.begun t (txn_at s t) active c (old_pair (is_indexed s.life) c) u y e))
 
-  due_stands : (e : Event) (reply : Reply) (step : Option MachineStep) → (IsOfNone s e → ⊥) → IsDue s k e reply step → Stands (after_any s step) (standing_after k reply)
+  due_stands : (e : Event) (reply : Reply) (step : Option MachineStep) → (IsOfNone s e → ⊥) → IsStepDue s k e reply step → Stands (after_any s step) (standing_after k reply)
   due_stands Event.Begin reply step known d = at_due _ _ reply step d.0 d.1 (standing_kept _ _ (record { pages = refl; bound = refl; given = refl; missed = refl; taken = refl; life = refl }) refl refl (begun_le s k.begun h.begun))
   due_stands (Event.Insert t row) reply step known d = at_due _ _ reply step d.2 d.3 (start_standing t (change_of s t d.0 (Inserted row)) _ (is_active s t known) refl refl refl)
   due_stands (Event.Delete t r) reply step known d = at_due _ _ reply step d.2 d.3 (start_standing t (change_of s t r (Deleted d.0)) _ (is_active s t known) refl refl refl)
@@ -373,7 +373,7 @@ module _ (s : State) (k : Standing) (i : IsWellFormed s) (h : HasStanding s k) w
   one_refused (inl refuses) a = not_none refuses.1 refl
   one_refused (inr allows) a = allows.0 a
 
-  due_counts : (e : Event) (reply : Reply) (step : Option MachineStep) → (IsOfNone s e → ⊥) → IsFirst (refusals s k e) None → IsDue s k e reply step → HasCounts (after_any s step) (standing_after k reply)
+  due_counts : (e : Event) (reply : Reply) (step : Option MachineStep) → (IsOfNone s e → ⊥) → IsFirst (refusals s k e) None → IsStepDue s k e reply step → HasCounts (after_any s step) (standing_after k reply)
   due_counts Event.Begin reply step known first d = counts_by (Txn (k.begun + 1)) (Some (MachineStep.Begin (k.begun + 1))) reply step d.0 d.1 (begun_counts (one_refused first))
   due_counts (Event.Insert t row) reply step known first d = counts_by _ _ reply step d.2 d.3 (put_counts t _ _ _ (is_active s t known) refl refl refl (omega arith))
   due_counts (Event.Delete t r) reply step known first d = counts_by _ _ reply step d.2 d.3 (put_counts t _ _ _ (is_active s t known) refl refl refl (omega arith))
@@ -423,7 +423,7 @@ cleaned_tells writes last (Cleaned p) = record { items = refl; asked = refl }
 cleaned_tells writes last (Kept p) = record { items = refl; asked = refl }
 cleaned_tells writes last Wrapped = record { items = refl; asked = refl }
 
-due_tells : (s : State) (k : Standing) (writes : ℕ → List Write) (e : Event) (reply : Reply) (step : Option MachineStep) → IsDue s k e reply step → Tells writes k.made e reply step
+due_tells : (s : State) (k : Standing) (writes : ℕ → List Write) (e : Event) (reply : Reply) (step : Option MachineStep) → IsStepDue s k e reply step → Tells writes k.made e reply step
 due_tells s k writes Event.Begin reply step d = tells_by writes k.made Event.Begin _ reply step _ d.0 d.1 (record { items = refl; asked = refl })
 due_tells s k writes (Event.Insert t row) reply step d = tells_by writes k.made (Event.Insert t row) _ reply step _ d.2 d.3 (record { items = refl; asked = refl })
 due_tells s k writes (Event.Delete t r) reply step d = tells_by writes k.made (Event.Delete t r) _ reply step _ d.2 d.3 (record { items = refl; asked = refl })
@@ -510,7 +510,7 @@ module _ (s : State) (k : Standing) (i : IsWellFormed s) where
   made_by : (right reply : Reply) (step want : Option MachineStep) → reply ≡ right → step ≡ want → (standing_after k right).made ≡ number_after s k.made want → (standing_after k reply).made ≡ number_after s k.made step
   made_by right reply step want p q a = rw (p, q) a
 
-  due_made : (e : Event) (reply : Reply) (step : Option MachineStep) → (IsOfNone s e → ⊥) → IsProper s e → IsDue s k e reply step → (standing_after k reply).made ≡ number_after s k.made step
+  due_made : (e : Event) (reply : Reply) (step : Option MachineStep) → (IsOfNone s e → ⊥) → IsProper s e → IsStepDue s k e reply step → (standing_after k reply).made ≡ number_after s k.made step
   due_made Event.Begin reply step known proper d = made_by _ reply step _ d.0 d.1 refl
   due_made (Event.Insert t row) reply step known proper d = made_by _ reply step _ d.2 d.3 refl
   due_made (Event.Delete t r) reply step known proper d = made_by _ reply step _ d.2 d.3 refl
@@ -548,7 +548,7 @@ number_within s k (Some e) last le = by_action (action_of s e) refl
     ]
 
 module _ (s : State) (k : Standing) (i : IsWellFormed s) (h : HasStanding s k) where
-  due_standing : (e : Event) (reply : Reply) (step : Option MachineStep) → (IsOfNone s e → ⊥) → IsProper s e → IsFirst (refusals s k e) None → IsDue s k e reply step → IsFirst (refusals_of s k step) None → HasStanding (after_any s step) (standing_after k reply)
+  due_standing : (e : Event) (reply : Reply) (step : Option MachineStep) → (IsOfNone s e → ⊥) → IsProper s e → IsFirst (refusals s k e) None → IsStepDue s k e reply step → IsFirst (refusals_of s k step) None → HasStanding (after_any s step) (standing_after k reply)
   due_standing e reply step known proper first d last =
       let a : Stands (after_any s step) (standing_after k reply) = due_stands s k h e reply step known d in
       record {
@@ -627,7 +627,7 @@ module _ (o : Opened) (can : CanOpen o) (made : List RecordValue) (pairs : List 
       few_pledged e l = omega (arith, e, l)
 
   -- the reply that is due
-  served_due : (e : Event) (reply : Reply) (step : Option MachineStep) → (IsOfNone s e → ⊥) → IsProper s e → IsFirst (refusals s k e) None → IsDue s k e reply step → IsFirst (refusals_of s k step) None
+  served_due : (e : Event) (reply : Reply) (step : Option MachineStep) → (IsOfNone s e → ⊥) → IsProper s e → IsFirst (refusals s k e) None → IsStepDue s k e reply step → IsFirst (refusals_of s k step) None
       → HasServed o (made ++ records_by s k.made step) (pairs ++ (e, reply) ∷ []) (after_any s step) (standing_after k reply)
   served_due e reply step known proper first due last =
       let i : IsWellFormed s = served_holds.fit in
@@ -756,7 +756,7 @@ module _ (s : State) (k : Standing) (writes : ℕ → List Write) where
   ticket_by : (e : Event) (right reply : Reply) → reply ≡ right → IsTicketed (items_at writes right e) k.made (standing_after k right).made → IsTicketed (items_at writes reply e) k.made (standing_after k reply).made
   ticket_by e right reply p a = rw p a
 
-  due_ticket : (e : Event) (reply : Reply) (step : Option MachineStep) → IsDue s k e reply step → IsTicketed (items_at writes reply e) k.made (standing_after k reply).made
+  due_ticket : (e : Event) (reply : Reply) (step : Option MachineStep) → IsStepDue s k e reply step → IsTicketed (items_at writes reply e) k.made (standing_after k reply).made
   due_ticket Event.Begin reply step d = ticket_by Event.Begin _ reply d.0 (no_ticket _ _ (omega arith))
   due_ticket (Event.Insert t row) reply step d = ticket_by (Event.Insert t row) _ reply d.2 (no_ticket _ _ (more_made k.made))
   due_ticket (Event.Delete t r) reply step d = ticket_by (Event.Delete t r) _ reply d.2 (no_ticket _ _ (more_made k.made))

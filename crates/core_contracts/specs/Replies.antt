@@ -174,22 +174,22 @@ pub record AreFound (s : State) (key : List ℕ) (rids : List Place) : Type 0 wh
   pub in_order : IsStrictlySortedBy rid_cmp rids
 
 -- the reply of an event that succeeds, and its step, if it makes one
-abbrev pub IsDue : State → Standing → Event → Reply → Option MachineStep → Type 0
-IsDue s k Event.Begin reply step = (reply ≡ Txn (k.begun + 1)) × (step ≡ Some (MachineStep.Begin (k.begun + 1)))
-IsDue s k (Event.Insert t row) reply step = (r : Place) × IsLeastFree s r × (reply ≡ Rid r) × (step ≡ Some (Start t (change_of s t r (Inserted row))))
-IsDue s k (Event.Delete t r) reply step = (old : Row) × (get s.rows r ≡ Some old) × (reply ≡ Stepped) × (step ≡ Some (Start t (change_of s t r (Deleted old))))
-IsDue s k (Event.Update t r row) reply step = (old : Row) × (get s.rows r ≡ Some old) × (reply ≡ Stepped) × (step ≡ Some (Start t (change_of s t r (Updated old row))))
-IsDue s k (Event.Step t) reply step = (reply ≡ Stepped) × (step ≡ Some (Next t))
-IsDue s k (Event.Undo t) reply step = ((((txn_at s t).changes ≡ Unchanged) × (reply ≡ Empty)) ⊎ (((txn_at s t).changes ≢ Unchanged) × (reply ≡ Undone))) × (step ≡ Some (MachineStep.Undo t))
-IsDue s k (Event.End t) reply step = (reply ≡ Ended) × (step ≡ Some (MachineStep.End t))
-IsDue s k (Event.Commit t) reply step = (reply ≡ Reply.Committed (k.made + 1) (k.commits + 1)) × (step ≡ Some (MachineStep.Commit t))
-IsDue s k Event.Create reply step = (reply ≡ Reply.Ticketed (k.made + 1)) × (step ≡ Some MachineStep.Create)
-IsDue s k Event.Build reply step = (b : BuildReply) × IsBuildDue s k b × (reply ≡ Built b) × (step ≡ build_step b)
-IsDue s k Event.Clean reply step = (c : CleanReply) × IsCleanDue s c × (reply ≡ Cleaner c) × (step ≡ Some (clean_step c))
-IsDue s k (Event.Get r) reply step = (reply ≡ RowIs (get s.rows r)) × (step ≡ None)
-IsDue s k (Event.Find key) reply step = (rids : List Place) × AreFound s key rids × (reply ≡ Found rids) × (step ≡ None)
-IsDue s k Event.Life reply step = (reply ≡ LifeIs s.life) × (step ≡ None)
-IsDue s k Event.Drop reply step = (reply ≡ Reply.Ticketed (k.made + 1)) × (step ≡ Some MachineStep.Drop)
+abbrev pub IsStepDue : State → Standing → Event → Reply → Option MachineStep → Type 0
+IsStepDue s k Event.Begin reply step = (reply ≡ Txn (k.begun + 1)) × (step ≡ Some (MachineStep.Begin (k.begun + 1)))
+IsStepDue s k (Event.Insert t row) reply step = (r : Place) × IsLeastFree s r × (reply ≡ Rid r) × (step ≡ Some (Start t (change_of s t r (Inserted row))))
+IsStepDue s k (Event.Delete t r) reply step = (old : Row) × (get s.rows r ≡ Some old) × (reply ≡ Stepped) × (step ≡ Some (Start t (change_of s t r (Deleted old))))
+IsStepDue s k (Event.Update t r row) reply step = (old : Row) × (get s.rows r ≡ Some old) × (reply ≡ Stepped) × (step ≡ Some (Start t (change_of s t r (Updated old row))))
+IsStepDue s k (Event.Step t) reply step = (reply ≡ Stepped) × (step ≡ Some (Next t))
+IsStepDue s k (Event.Undo t) reply step = ((((txn_at s t).changes ≡ Unchanged) × (reply ≡ Empty)) ⊎ (((txn_at s t).changes ≢ Unchanged) × (reply ≡ Undone))) × (step ≡ Some (MachineStep.Undo t))
+IsStepDue s k (Event.End t) reply step = (reply ≡ Ended) × (step ≡ Some (MachineStep.End t))
+IsStepDue s k (Event.Commit t) reply step = (reply ≡ Reply.Committed (k.made + 1) (k.commits + 1)) × (step ≡ Some (MachineStep.Commit t))
+IsStepDue s k Event.Create reply step = (reply ≡ Reply.Ticketed (k.made + 1)) × (step ≡ Some MachineStep.Create)
+IsStepDue s k Event.Build reply step = (b : BuildReply) × IsBuildDue s k b × (reply ≡ Built b) × (step ≡ build_step b)
+IsStepDue s k Event.Clean reply step = (c : CleanReply) × IsCleanDue s c × (reply ≡ Cleaner c) × (step ≡ Some (clean_step c))
+IsStepDue s k (Event.Get r) reply step = (reply ≡ RowIs (get s.rows r)) × (step ≡ None)
+IsStepDue s k (Event.Find key) reply step = (rids : List Place) × AreFound s key rids × (reply ≡ Found rids) × (step ≡ None)
+IsStepDue s k Event.Life reply step = (reply ≡ LifeIs s.life) × (step ≡ None)
+IsStepDue s k Event.Drop reply step = (reply ≡ Reply.Ticketed (k.made + 1)) × (step ≡ Some MachineStep.Drop)
 
 -- ---- all of it
 
@@ -219,9 +219,9 @@ pub data IsAllowed (s : State) (k : Standing) (e : Event) : Reply → Option Mac
   unknown : IsOfNone s e → IsAllowed s k e (Refused Error.NoSuchTxn) None
   skipped : (IsOfNone s e → ⊥) → (IsProper s e → ⊥) → IsAllowed s k e Skipped None
   refused : (IsOfNone s e → ⊥) → IsProper s e → (error : Error) → IsFirst (refusals s k e) (Some error) → IsAllowed s k e (Refused error) None
-  refused_last : (IsOfNone s e → ⊥) → IsProper s e → IsFirst (refusals s k e) None → (reply : Reply) (step : Option MachineStep) → IsDue s k e reply step
+  refused_last : (IsOfNone s e → ⊥) → IsProper s e → IsFirst (refusals s k e) None → (reply : Reply) (step : Option MachineStep) → IsStepDue s k e reply step
       → (error : Error) → IsFirst (refusals_of s k step) (Some error) → IsAllowed s k e (Refused error) None
-  no_memory : (IsOfNone s e → ⊥) → IsProper s e → IsFirst (refusals s k e) None → (reply : Reply) (step : Option MachineStep) → IsDue s k e reply step
+  no_memory : (IsOfNone s e → ⊥) → IsProper s e → IsFirst (refusals s k e) None → (reply : Reply) (step : Option MachineStep) → IsStepDue s k e reply step
       → IsFirst (refusals_of s k step) None → WantsMemory s e step → IsAllowed s k e (Refused Error.NoMemory) None
-  accepted : (IsOfNone s e → ⊥) → IsProper s e → IsFirst (refusals s k e) None → (reply : Reply) (step : Option MachineStep) → IsDue s k e reply step
+  accepted : (IsOfNone s e → ⊥) → IsProper s e → IsFirst (refusals s k e) None → (reply : Reply) (step : Option MachineStep) → IsStepDue s k e reply step
       → IsFirst (refusals_of s k step) None → IsAllowed s k e reply step

@@ -14,7 +14,7 @@ use Rattle.model.specs.declared.life.Life.{Life}
 use Rattle.model.specs.declared.life.Life.TheVariants.{Building, Complete}
 use Rattle.core_contracts.specs.Events.{BuildReply, Built, CleanReply, Cleaned, Cleaner, Done, Event, Idle, Kept, Placed, Refused, Rejected, Reply, Scanned, Standing, Wrapped}
 use Rattle.core_contracts.specs.Served.{HasStanding}
-use Rattle.core_contracts.specs.Replies.{IsAllowed, IsBuildDue, IsCleanDue, IsDue, IsFirst, IsNextEntry, IsNextPair, Refusals, WantsMemory, accepted, build_step, change_of, clean_step, no_memory, refusals, refusals_of, refused, refused_last, skipped, unknown}
+use Rattle.core_contracts.specs.Replies.{IsAllowed, IsBuildDue, IsCleanDue, IsStepDue, IsFirst, IsNextEntry, IsNextPair, Refusals, WantsMemory, accepted, build_step, change_of, clean_step, no_memory, refusals, refusals_of, refused, refused_last, skipped, unknown}
 use Rattle.core_laws.specs.Granted.{IsGranted}
 use Rattle.core_laws.proofs.Levels.{level_by}
 use Rattle.core_laws.proofs.Ordered.{sorted_one}
@@ -130,7 +130,7 @@ module _ (s : State) (k : Standing) (h : HasStanding s k) where
   abbrev AreOne : Reply → Reply → Option MachineStep → Option MachineStep → Type 0
   AreOne r r' t t' = (r ≡ r') × (t ≡ t')
 
-  due_one : (e : Event) → (r r' : Reply) (t t' : Option MachineStep) → IsDue s k e r t → IsDue s k e r' t' → AreOne r r' t t'
+  due_one : (e : Event) → (r r' : Reply) (t t' : Option MachineStep) → IsStepDue s k e r t → IsStepDue s k e r' t' → AreOne r r' t t'
   due_one Event.Begin r r' t t' f g = (f.0 ∙ sym g.0, f.1 ∙ sym g.1)
   due_one (Event.Insert u row) r r' t t' f g =
       let same = level_by rid_cmp_total rid_cmp-IsAntisymmetric f.0 g.0 (rid_cmp f.0 g.0) refl (g.1.least f.0 f.1.free) (f.1.least g.0 g.1.free) in
@@ -167,7 +167,7 @@ module _ (s : State) (k : Standing) (h : HasStanding s k) where
 
   module _ (e : Event) where
     -- the last refusals of the step that is due
-    last_one : (r r' : Reply) (t t' : Option MachineStep) → IsDue s k e r t → IsDue s k e r' t' → (a b : Option Error) → IsFirst (refusals_of s k t) a → IsFirst (refusals_of s k t') b → a ≡ b
+    last_one : (r r' : Reply) (t t' : Option MachineStep) → IsStepDue s k e r t → IsStepDue s k e r' t' → (a b : Option Error) → IsFirst (refusals_of s k t) a → IsFirst (refusals_of s k t') b → a ≡ b
     last_one r r' t t' d d' a b f g = first_one (refusals_of s k t') a b (subst (λ x. IsFirst (refusals_of s k x) a) (due_one e r r' t t' d d').1 f) g
 
     one : (r r' : Reply) (t t' : Option MachineStep) (a : IsAllowed s k e r t) (b : IsAllowed s k e r' t') → (IsWant a → ⊥) → (IsWant b → ⊥) → AreOne r r' t t'
@@ -242,7 +242,7 @@ module _ (s : State) (k : Standing) (h : HasStanding s k) where
     memory_wanted r t t' a n b = wanted r (Refused Error.NoMemory) t t' a b (plain r t a n) (answered r (Refused Error.NoMemory) t t' a b n refl)
 
     -- ---- and that reply is no refusal, nor is the event skipped
-    due_granted : (ev : Event) (r : Reply) (t : Option MachineStep) → IsDue s k ev r t → IsGranted r
+    due_granted : (ev : Event) (r : Reply) (t : Option MachineStep) → IsStepDue s k ev r t → IsGranted r
     due_granted Event.Begin r t d = subst IsGranted (sym d.0) tt
     due_granted (Event.Insert u row) r t d = subst IsGranted (sym d.2) tt
     due_granted (Event.Delete u p) r t d = subst IsGranted (sym d.2) tt

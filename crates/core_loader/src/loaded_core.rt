@@ -57,25 +57,19 @@ fn load_entries<A: Allocator + Copy>(core: &mut Core<A>, entries: &EntryMap<A>) 
 ///
 /// `IndexFull` where there are more entries than the geometry has room for, which comes of no store that a crash left;
 /// else `NoMemory`.
-pub fn load<A: Allocator + Copy>(alloc: A, found: Restored<A>) -> Result<Core<A>, Error>
-    ensures made { IfOk result (λ core. value_of core ≡ holding found.geometry (given_in found)) }
-    ensures opened { IfOk result (λ core. IsState (value_of core) (opened (store_of found)) (standing_at found.last)) }
-    ensures full { (result ≡ Err Error.IndexFull) ↔ (found.geometry.entries < map.len found.entries) }
+pub fn load<A: Allocator + Copy>(alloc: A, found: &Restored<A>) -> Result<Core<A>, Error>
+    ensures made { IfOk result (λ core. value_of core ≡ holding found.now.geometry (given_in found.now)) }
+    ensures opened { IfOk result (λ core. IsState (value_of core) (opened (store_of found.now)) (standing_at found.now.last)) }
+    ensures full { (result ≡ Err Error.IndexFull) ↔ (found.now.geometry.entries < map.len found.now.entries) }
     ensures refused { IfErr result (λ e. (e ≡ Error.IndexFull) ⊎ (e ≡ Error.NoMemory)) }
 {
-    let Restored {
-        geometry,
-        rows,
-        entries,
-        life,
-        last,
-    } = found;
-    if entries.len() > geometry.entries as usize {
+    let geometry = found.geometry;
+    if found.entries.len() > geometry.entries as usize {
         return Err(Error::IndexFull);
     }
-    let mut core = Core::new(alloc, geometry, last)?;
-    load_rows(alloc, &mut core, &rows)?;
-    load_entries(&mut core, &entries)?;
-    core.load_life(life);
+    let mut core = Core::new(alloc, geometry, found.last)?;
+    load_rows(alloc, &mut core, &found.rows)?;
+    load_entries(&mut core, &found.entries)?;
+    core.load_life(found.life);
     Ok(core)
 }

@@ -23,7 +23,7 @@ use Rattle.core_model.proofs.Runs.{run_keeps}
 use Rattle.core_model.proofs.Sums.{none_reserved}
 use Rattle.core_model.proofs.Txns.{newest_last}
 use Rattle.core_model.specs.Changes.{Changes, Unchanged, as_list, new_pair, old_pair, pair_of, ◌▹◌}
-use Rattle.core_model.specs.Histories.{AreItemsOf, CanOpen, FitsStore, IsCovered, IsWhole, Opened, deeds_of, highest_of, history, no_writes, opened, write_of, writes_after}
+use Rattle.core_model.specs.Histories.{AreItemsOf, CanOpen, FitsStore, IsCovered, ShowsJustTheRows, Opened, deeds_of, highest_of, history, no_writes, opened, write_of, writes_after}
 use Rattle.core_model.specs.Invariants.{Invariant, IsAhead, IsCoherent, IsUnfinished, IsWellFormed, Runs, no_step, one_step}
 use Rattle.core_model.specs.States.{Active, Made, NewMarked, OldMarked, OldSet, Phase, RowSet, State}
 use Rattle.core_model.specs.Steps.{Attempt, Begin, Checkpoint, Clean, Commit, Create, Drop, End, Finish, IsEnabled, Keep, Next, Start, MachineStep, Take, Undo, Wrap, above, after, carried_on, is_indexed, new_txn, row_made, row_undone, started, txn_at, undoing, undone, undone_first, update, with_change, with_phase, without_newest}
@@ -99,7 +99,7 @@ complete_by Complete bound missed p a c = a
 pub live_by : (s : State) → Invariant s → (r : Place) (row : Row) → get s.rows r ≡ Some row → (IsUnfinished s r → ⊥) → IsCovered s.life s.bound (pair_of r row) → get s.entries (pair_of r row) ≡ Some Live
 live_by s i r row e idle c = elim (i.coherent.visible r row e idle) [ inl live ↦ live | inr w ↦ absurd (complete_by s.life s.bound s.missed (pair_of r row) w.1 c) ]
 
-pub whole : (s : State) → Invariant s → s.life ≡ Complete → ((t : ℕ) → s.txns t ≡ None) → IsWhole s
+pub whole : (s : State) → Invariant s → s.life ≡ Complete → ((t : ℕ) → s.txns t ≡ None) → ShowsJustTheRows s
 whole s i complete quiet p = (
   i.coherent.sound p,
   λ is.
@@ -324,5 +324,5 @@ told_table o es s r items h = tells_table (opened o) s es r no_writes nothing_to
 pub told_life : (o : Opened) (es : List MachineStep) (s : State) → Runs (opened o) es s → (items : List Item) → AreItemsOf items es → s.life ≡ life_after o.given.life items
 told_life o es s r items h = tells_life (opened o) s es r no_writes ∙ ap (life_over o.given.life) (sym h) ∙ items_life o.given.life items
 
-pub interleaved_whole : (o : Opened) → CanOpen o → (es : List MachineStep) (s : State) → Runs (opened o) es s → s.life ≡ Complete → ((t : ℕ) → s.txns t ≡ None) → IsWhole s
+pub interleaved_whole : (o : Opened) → CanOpen o → (es : List MachineStep) (s : State) → Runs (opened o) es s → s.life ≡ Complete → ((t : ℕ) → s.txns t ≡ None) → ShowsJustTheRows s
 interleaved_whole o can es s r complete quiet = whole s (run_keeps _ s es r (opened_holds o can)) complete quiet

@@ -145,8 +145,8 @@ pub record IsFaithful (s : State) (committed : Table) : Type 0 where
   pub fits : len s.entries + all_reserved s.pledges ≤ s.places
 
 -- with a complete index and no active transaction, the live entries are just the pairs of the rows
-abbrev pub IsWhole : State → Type 0
-IsWhole s = (p : Pair) → (get s.entries p ≡ Some Live) ↔ IsPairOf s.rows p
+abbrev pub ShowsJustTheRows : State → Type 0
+ShowsJustTheRows s = (p : Pair) → (get s.entries p ≡ Some Live) ↔ IsPairOf s.rows p
 
 -- the writes after these steps
 abbrev pub writes_over : (ℕ → List Write) → List MachineStep → ℕ → List Write

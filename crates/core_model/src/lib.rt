@@ -31,7 +31,7 @@ ghost use Rattle.core_model.specs.Example.{opening, steps, last, pair};
 ghost use Rattle.core_model.specs.States.{State};
 ghost use Rattle.core_model.specs.Steps.{Attempt, MachineStep, above, after, IsEnabled};
 ghost use Rattle.core_model.specs.Invariants.{Invariant, IsOneBuild, IsWellFormed, Runs};
-ghost use Rattle.core_model.specs.Histories.{Opened, CanOpen, FitsStore, opened, AreItemsOf, IsFaithful, IsWhole, history};
+ghost use Rattle.core_model.specs.Histories.{Opened, CanOpen, FitsStore, opened, AreItemsOf, IsFaithful, ShowsJustTheRows, history};
 
 /// One enabled step, whichever it is, keeps a core well formed over whatever fits its store, and keeps the invariant.
 pub fn each_step()
@@ -49,7 +49,7 @@ pub fn every_order()
 
 /// With a complete index and no transaction, the live entries are just the pairs of the rows.
 pub fn complete_index()
-    ensures { (o : Opened) → CanOpen o → (steps : List MachineStep) (s : State) → Runs (opened o) steps s → s.life ≡ Complete → ((t : ℕ) → s.txns t ≡ None) → IsWhole s }
+    ensures { (o : Opened) → CanOpen o → (steps : List MachineStep) (s : State) → Runs (opened o) steps s → s.life ≡ Complete → ((t : ℕ) → s.txns t ≡ None) → ShowsJustTheRows s }
 {}
 
 /// The builder attempts pairs in rising order, above the one that was checkpointed last, in this run or, as long as the

@@ -77,7 +77,7 @@ impl CrashMap {
                 ..*arguments
             };
             let mut output = Vec::new(alloc);
-            session::run_script(alloc, &cut, text, &mut output)?;
+            script_player::run_script(alloc, &cut, text, &mut output)?;
             match behind_stop(alloc, &output)? {
                 Some(lines) => *number = self.number_of(lines)?,
                 None => return Ok(None),

@@ -50,7 +50,7 @@ fn show<W: Write, F: Files>(
     output: &mut W,
 ) -> io::Result<u8> {
     let mut printed = Vec::new(alloc);
-    let status = session::run_script(alloc, arguments, text, &mut printed)?;
+    let status = script_player::run_script(alloc, arguments, text, &mut printed)?;
     if status != 0 {
         output.write_all(&printed)?;
         return Ok(status);

@@ -4,6 +4,7 @@ use crate::listener::Listener;
 use crate::program::work_through;
 use crate::team::Team;
 use loops::Gate;
+use opening::OpenError;
 use sector_device::Device;
 use shell::Refused;
 use std::fs::File;
@@ -11,7 +12,6 @@ use std::io::Write;
 use std::rt::{Clock, Files};
 use std::sync::Wait;
 use std::thread::Threads;
-use threads::OpenError;
 
 // Lets the threads work on the store on the disk, and looks at what they left.
 fn work_and_look<

@@ -7,6 +7,7 @@ use crate::progress::Progress;
 use crate::team::{Team, work_on};
 use arguments::{NoArguments, ThreadsArguments, read_threads};
 use loops::{Gate, NoGate};
+use opening::{OpenError, format_store};
 use records::{Error, Geometry};
 use sector_device::{Device, Fate, MemDisk};
 use shell::Refused;
@@ -18,7 +19,6 @@ use std::io::Write;
 use std::rt::{Clock, Files};
 use std::sync::Wait;
 use std::thread::Threads;
-use threads::{OpenError, format_store};
 
 const PAGES: u32 = 8;
 

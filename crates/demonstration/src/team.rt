@@ -7,7 +7,7 @@ ghost use Rattle.closing.specs.Gathered.{AreAllSeats};
 ghost use Rattle.sector_device.specs.Disk.{Image, IsCrashImage};
 ghost use Rattle.shared.specs.Seats.{AreNewSeats};
 ghost use Rattle.core_model.specs.Histories.{Opened};
-ghost use Rattle.threads.specs.Openings.{Opens};
+ghost use Rattle.opening.specs.Openings.{Opens};
 ghost use Rattle.demonstration.specs.Kept.{KeepsAll};
 ghost use Rattle.demonstration.specs.Private.{AllTell, GoesOn};
 
@@ -18,6 +18,7 @@ use crate::writer::{Acknowledged, Writer, write};
 use closing::finish;
 use flusher::FlushPart;
 use loops::{Ended, Gate, run_beside};
+use opening::{OpenError, OpenStore, Parts, open_store};
 use records::Error;
 use sector_device::Device;
 use shared::{Ack, BuildPart, Group, GroupView, Seat, Shared};
@@ -27,7 +28,6 @@ use std::marker::Brand;
 use std::rt::Clock;
 use std::sync::Wait;
 use std::thread::{Threads, for_each_mut, join};
-use threads::{OpenError, OpenStore, Parts, open_store};
 
 // No more writers than this run side by side.
 const THREADS_MAX: usize = 64;

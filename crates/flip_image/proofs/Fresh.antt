@@ -26,20 +26,20 @@ module _ (g : GeometryValue) (half : Half) (image : Image) where
 
   pub pages_refused : (header heads first pages a b c : ℕ) (now : Image) (e : Error) → header ≡ header_sector g half → heads ≡ heads_sector g half → first ≡ pages_first g half → pages ≡ g.pages → now ≡ image
       → AreZeros image header 1 → AreZeros image heads 1 → b ≡ a
-      → IsDeviceFailure b c e ⊎ ((page : ℕ) × (page < pages) × (e ≡ Damaged (first + 8 * page)) × (¬ AreZeros now (first + 8 * page) 8) × ((earlier : ℕ) → earlier < page → AreZeros now (first + 8 * earlier) 8))
+      → IsDeviceFailure b c e ⊎ ((page : ℕ) × (page < pages) × (e ≡ Damaged (first + 16 * page)) × (¬ AreZeros now (first + 16 * page) 16) × ((earlier : ℕ) → earlier < page → AreZeros now (first + 16 * earlier) 16))
       → Refusal g half image a c e
   pages_refused header heads first pages a b c now e is_header is_heads is_first is_pages same one two quiet (inl failed) = inl (failed_later a b c e quiet failed)
   pages_refused header heads first pages a b c now e is_header is_heads is_first is_pages same one two quiet (inr (page, below, is, used, before)) = inr (
-    first + 8 * page,
+    first + 16 * page,
     is,
     inr (inr (
       page,
       omega (arith, below, is_pages),
-      ap (λ (n : ℕ). n + 8 * page) is_first,
-      subst (λ (x : Image). ¬ AreZeros x (first + 8 * page) 8) same used,
+      ap (λ (n : ℕ). n + 16 * page) is_first,
+      subst (λ (x : Image). ¬ AreZeros x (first + 16 * page) 16) same used,
       subst (λ (n : ℕ). AreZeros image n 1) is_header one,
       subst (λ (n : ℕ). AreZeros image n 1) is_heads two,
-      (λ earlier less. subst (λ (n : ℕ). AreZeros image (n + 8 * earlier) 8) is_first (subst (λ (x : Image). AreZeros x (first + 8 * earlier) 8) same (before earlier less))),
+      (λ earlier less. subst (λ (n : ℕ). AreZeros image (n + 16 * earlier) 16) is_first (subst (λ (x : Image). AreZeros x (first + 16 * earlier) 16) same (before earlier less))),
     )),
   )
 
@@ -52,7 +52,7 @@ if_err_weaker P Q (Err e) told is = told e is
 pub not_used : (g : GeometryValue) (half : Half) (image : Image) (n : ℕ) → IsFresh g half image → ¬ IsFirstUsed g half image n
 not_used g half image n fresh (inl (is, used)) = used (subst (λ (k : ℕ). AreZeros image k 1) (sym is) fresh.header)
 not_used g half image n fresh (inr (inl (is, used, before))) = used (subst (λ (k : ℕ). AreZeros image k 1) (sym is) fresh.heads)
-not_used g half image n fresh (inr (inr (page, below, is, used, header, heads, before))) = used (subst (λ (k : ℕ). AreZeros image k 8) (sym is) (fresh.pages page below))
+not_used g half image n fresh (inr (inr (page, below, is, used, header, heads, before))) = used (subst (λ (k : ℕ). AreZeros image k 16) (sym is) (fresh.pages page below))
 
 -- there is one such part at most
 pub one_part : (g : GeometryValue) (half : Half) (image : Image) (m n : ℕ) → IsFirstUsed g half image m → IsFirstUsed g half image n → m ≡ n
@@ -65,9 +65,9 @@ one_part g half image m n (inr (inl p)) (inr (inr q)) = absurd (p.1 (subst (λ (
 one_part g half image m n (inr (inr p)) (inl q) = absurd (q.1 (subst (λ (k : ℕ). AreZeros image k 1) (sym q.0) p.4))
 one_part g half image m n (inr (inr p)) (inr (inl q)) = absurd (q.1 (subst (λ (k : ℕ). AreZeros image k 1) (sym q.0) p.5))
 one_part g half image m n (inr (inr p)) (inr (inr q)) = ⊎_elim
-    (λ less. absurd (p.3 (subst (λ (k : ℕ). AreZeros image k 8) (sym p.2) (q.6 p.0 less))))
+    (λ less. absurd (p.3 (subst (λ (k : ℕ). AreZeros image k 16) (sym p.2) (q.6 p.0 less))))
     (λ more. ⊎_elim
-    (λ less. absurd (q.3 (subst (λ (k : ℕ). AreZeros image k 8) (sym q.2) (p.6 q.0 less))))
+    (λ less. absurd (q.3 (subst (λ (k : ℕ). AreZeros image k 16) (sym q.2) (p.6 q.0 less))))
     (λ same. p.2 ∙ ap (page_sector g half) (omega (arith, more, same)) ∙ sym q.2)
     (cases_lt q.0 p.0))
     (cases_lt p.0 q.0)

@@ -2,65 +2,99 @@
 use Rattle.std.proofs.Common.{◌≡◌, ◌⊎◌, inl, inr, ℕ, ◌+◌, ◌<◌, ◌≤◌, List, All, refl, ap, sym, ◌∙◌, subst, arith}
 use Rattle.sector_device.specs.Disk.{Image, sector, SameOutside}
 use Rattle.records.specs.declared.error.Error.{Error}
-use Rattle.records.specs.declared.error.Error.TheVariants.{NotFormatted, Damaged}
-use Rattle.records.specs.GeometryValue.{GeometryValue, sectors_of}
+use Rattle.records.specs.declared.error.Error.TheVariants.{OldVersion}
+use Rattle.records.specs.declared.version.Version.{Version}
+use Rattle.records.specs.declared.version.Version.TheVariants.{One, Two}
+use Rattle.records.specs.GeometryValue.{GeometryValue, sectors_in}
 use Rattle.flip_image.specs.declared.half.Half.{Half}
 use Rattle.flip_image.specs.declared.half.Half.TheVariants.{A, B}
 use Rattle.flip_image.specs.Layout.{HalvesValue, header_sector, heads_sector, page_sector, log_first, InLog}
-use Rattle.flip_image.specs.Store.{Names, IsSuperblock, IsStore, AreZeros, IsFresh, IsFormatted, IsTooSmall, IsUntitled, IsSuperblockDamaged, IsRefused, IsDeviceFailure}
+use Rattle.flip_image.specs.Store.{Names, IsSuperblock, IsStore, IsStoreIn, AreZeros, IsFresh, IsFormatted, IsTooSmallIn, IsUntitled, IsOlder, IsSuperblockDamagedIn, IsSuperblockRefused, IsRefusedIn, IsDeviceFailure}
 use Rattle.flip_image.proofs.Spelled as spelled
 
+front_room : (v : Version) (g : GeometryValue) → 2 ≤ sectors_in v g
+front_room One g = omega arith
+front_room Two g = omega arith
+
 -- an image is of a store of one geometry at most
-pub one_geometry : (g h : GeometryValue) (a b : Half) (image : Image) → IsStore g a image → IsStore h b image → g ≡ h
-one_geometry g h a b image first second = spelled.one_geometry g h (sector image 0) first.limits second.limits first.superblock-is second.superblock-is
+pub one_geometry : (v : Version) (g h : GeometryValue) (a b : Half) (image : Image) → IsStoreIn v g a image → IsStoreIn v h b image → g ≡ h
+one_geometry v g h a b image first second = spelled.one_geometry v g h (sector image 0) first.limits second.limits first.superblock-is second.superblock-is
 
 -- no reader refuses it
-pub accepted : (g : GeometryValue) (half : Half) (image : Image) (e : Error) → IsStore g half image → ¬ IsRefused image e
-accepted g half image e store (inl (is, (inl small))) = omega (arith, small, store.room)
-accepted g half image e store (inl (is, (inr (h, limits, there, small)))) =
-    let same = spelled.one_geometry g h (sector image 0) store.limits limits store.superblock-is there in
-    omega (arith, small, store.room, ap sectors_of same)
-accepted g half image e store (inr (inl (is, untitled))) = untitled.other (spelled.titled g (sector image 0) store.superblock-is)
-accepted g half image e store (inr (inr (is, damaged))) = damaged.none g store.limits store.superblock-is
+pub accepted : (v : Version) (g : GeometryValue) (half : Half) (image : Image) (e : Error) → IsStoreIn v g half image → ¬ IsRefusedIn v image e
+accepted v g half image e store (inl (is, (inl small))) = omega (arith, small, front_room v g, store.room)
+accepted v g half image e store (inl (is, (inr (h, limits, there, small)))) =
+    let same = spelled.one_geometry v g h (sector image 0) store.limits limits store.superblock-is there in
+    omega (arith, small, store.room, ap (sectors_in v) same)
+accepted v g half image e store (inr (inl (is, untitled))) = untitled.other (spelled.titled v g (sector image 0) store.superblock-is)
+accepted v g half image e store (inr (inr (inl (is, older)))) = spelled.not_older v g (sector image 0) store.superblock-is older.older
+accepted v g half image e store (inr (inr (inr (is, damaged)))) = damaged.none g store.limits store.superblock-is
 
-small_not_untitled : (image : Image) → IsTooSmall image → ¬ IsUntitled image
-small_not_untitled image (inl small) other = omega (arith, small, other.room)
-small_not_untitled image (inr (g, limits, there, small)) other = other.other (spelled.titled g (sector image 0) there)
+small_not_untitled : (v : Version) (image : Image) → IsTooSmallIn v image → ¬ IsUntitled image
+small_not_untitled v image (inl small) other = omega (arith, small, other.room)
+small_not_untitled v image (inr (g, limits, there, small)) other = other.other (spelled.titled v g (sector image 0) there)
 
-small_not_damaged : (image : Image) → IsTooSmall image → ¬ IsSuperblockDamaged image
-small_not_damaged image (inl small) other = omega (arith, small, other.room)
-small_not_damaged image (inr (g, limits, there, small)) other = other.none g limits there
+small_not_older : (v : Version) (image : Image) → IsTooSmallIn v image → ¬ IsOlder v image
+small_not_older v image (inl small) other = omega (arith, small, other.room)
+small_not_older v image (inr (g, limits, there, small)) other = spelled.not_older v g (sector image 0) there other.older
 
--- it is refused in one way at most
-pub one_refusal : (image : Image) (d e : Error) → IsRefused image d → IsRefused image e → d ≡ e
-one_refusal image d e (inl p) (inl q) = p.0 ∙ sym q.0
-one_refusal image d e (inl p) (inr (inl q)) = absurd (small_not_untitled image p.1 q.1)
-one_refusal image d e (inl p) (inr (inr q)) = absurd (small_not_damaged image p.1 q.1)
-one_refusal image d e (inr (inl p)) (inl q) = absurd (small_not_untitled image q.1 p.1)
-one_refusal image d e (inr (inl p)) (inr (inl q)) = p.0 ∙ sym q.0
-one_refusal image d e (inr (inl p)) (inr (inr q)) = absurd (p.1.other q.1.titled)
-one_refusal image d e (inr (inr p)) (inl q) = absurd (small_not_damaged image q.1 p.1)
-one_refusal image d e (inr (inr p)) (inr (inl q)) = absurd (q.1.other p.1.titled)
-one_refusal image d e (inr (inr p)) (inr (inr q)) = p.0 ∙ sym q.0
+small_not_damaged : (v : Version) (image : Image) → IsTooSmallIn v image → ¬ IsSuperblockDamagedIn v image
+small_not_damaged v image (inl small) other = omega (arith, small, other.room)
+small_not_damaged v image (inr (g, limits, there, small)) other = other.none g limits there
+
+small_not_refused : (v : Version) (image : Image) (e : Error) → IsTooSmallIn v image → ¬ IsSuperblockRefused v image e
+small_not_refused v image e small (inl p) = small_not_untitled v image small p.1
+small_not_refused v image e small (inr (inl p)) = small_not_older v image small p.1
+small_not_refused v image e small (inr (inr p)) = small_not_damaged v image small p.1
+
+-- its superblock is refused in one way at most
+one_superblock : (v : Version) (image : Image) (d e : Error) → IsSuperblockRefused v image d → IsSuperblockRefused v image e → d ≡ e
+one_superblock v image d e (inl p) (inl q) = p.0 ∙ sym q.0
+one_superblock v image d e (inl p) (inr (inl q)) = absurd (p.1.other q.1.titled)
+one_superblock v image d e (inl p) (inr (inr q)) = absurd (p.1.other q.1.titled)
+one_superblock v image d e (inr (inl p)) (inl q) = absurd (q.1.other p.1.titled)
+one_superblock v image d e (inr (inl p)) (inr (inl q)) = p.0 ∙ sym q.0
+one_superblock v image d e (inr (inl p)) (inr (inr q)) = absurd (q.1.not_older p.1.older)
+one_superblock v image d e (inr (inr p)) (inl q) = absurd (q.1.other p.1.titled)
+one_superblock v image d e (inr (inr p)) (inr (inl q)) = absurd (p.1.not_older q.1.older)
+one_superblock v image d e (inr (inr p)) (inr (inr q)) = p.0 ∙ sym q.0
+
+-- so it is refused in one way at most
+pub one_refusal : (v : Version) (image : Image) (d e : Error) → IsRefusedIn v image d → IsRefusedIn v image e → d ≡ e
+one_refusal v image d e (inl p) (inl q) = p.0 ∙ sym q.0
+one_refusal v image d e (inl p) (inr q) = absurd (small_not_refused v image e p.1 q)
+one_refusal v image d e (inr p) (inl q) = absurd (small_not_refused v image d q.1 p)
+one_refusal v image d e (inr p) (inr q) = one_superblock v image d e p q
+
+-- a store of version 1 is refused as one
+pub refused_older : (g : GeometryValue) (half : Half) (image : Image) → IsStoreIn One g half image → IsRefusedIn Two image OldVersion
+refused_older g half image store = inr (inr (inl (
+  refl,
+  record {
+    room = omega (arith, front_room One g, store.room);
+    titled = spelled.titled One g (sector image 0) store.superblock-is;
+    older = spelled.old_is_older g (sector image 0) store.superblock-is;
+  },
+)))
 
 -- one half of it is current
-pub one_half : (g h : GeometryValue) (a b : Half) (image : Image) → IsStore g a image → IsStore h b image → a ≡ b
-one_half g h A A image first second = refl
-one_half g h A B image first second = absurd (first.current second.current)
-one_half g h B A image first second = absurd (second.current first.current)
-one_half g h B B image first second = refl
+pub one_half : (v : Version) (g h : GeometryValue) (a b : Half) (image : Image) → IsStoreIn v g a image → IsStoreIn v h b image → a ≡ b
+one_half v g h A A image first second = refl
+one_half v g h A B image first second = absurd (first.current second.current)
+one_half v g h B A image first second = absurd (second.current first.current)
+one_half v g h B B image first second = refl
 
 -- so a reader gives one value
-pub one_value : (g : GeometryValue) (half : Half) (halves : HalvesValue) (image : Image) → IsStore halves.geometry halves.current image → IsStore g half image → halves ≡ record { geometry = g; current = half }
-one_value g half halves image first second =
-    ap (λ (x : GeometryValue). record { geometry = x; current = halves.current }) (one_geometry halves.geometry g halves.current half image first second)
-    ∙ ap (λ (x : Half). record { geometry = g; current = x }) (one_half halves.geometry g halves.current half image first second)
+pub one_value : (v : Version) (g : GeometryValue) (half : Half) (halves : HalvesValue) (image : Image) → IsStoreIn v halves.geometry halves.current image → IsStoreIn v g half image → halves ≡ record { geometry = g; current = half }
+one_value v g half halves image first second =
+    ap (λ (x : GeometryValue). record { geometry = x; current = halves.current }) (one_geometry v halves.geometry g halves.current half image first second)
+    ∙ ap (λ (x : Half). record { geometry = g; current = x }) (one_half v halves.geometry g halves.current half image first second)
 
 -- a reader of its superblock can only fail with the device
-pub superblock_accepted : (g : GeometryValue) (half : Half) (image : Image) (a b : ℕ) (e : Error) → IsStore g half image
-    → IsDeviceFailure a b e ⊎ (((e ≡ NotFormatted) × IsUntitled image) ⊎ ((e ≡ Damaged 0) × IsSuperblockDamaged image)) → IsDeviceFailure a b e
-superblock_accepted g half image a b e store (inl failed) = failed
-superblock_accepted g half image a b e store (inr refused) = absurd (accepted g half image e store (inr refused))
+pub superblock_accepted : (v : Version) (g : GeometryValue) (half : Half) (image : Image) (a b : ℕ) (e : Error) → IsStoreIn v g half image
+    → IsDeviceFailure a b e ⊎ IsSuperblockRefused v image e → IsDeviceFailure a b e
+superblock_accepted v g half image a b e store (inl failed) = failed
+superblock_accepted v g half image a b e store (inr refused) = absurd (accepted v g half image e store (inr refused))
 
 -- ---- sectors apart from a log
 
@@ -85,7 +119,7 @@ pub fresh_apart : (g : GeometryValue) (half : Half) (image other : Image) → Sa
 fresh_apart g half image other same fresh = record {
   header = stay (header_sector g half) 1 (omega arith) fresh.header;
   heads = stay (heads_sector g half) 1 (omega arith) fresh.heads;
-  pages = λ page below. stay (page_sector g half page) 8 (omega (arith, below)) (fresh.pages page below);
+  pages = λ page below. stay (page_sector g half page) 16 (omega (arith, below)) (fresh.pages page below);
 }
   where
     stay : (first count : ℕ) → first + count ≤ log_first g half → AreZeros image first count → AreZeros other first count

@@ -1,7 +1,10 @@
 -- Where the parts of a half lie: header, transaction heads, undo items, pages, entries, log.
 use Rattle.std.specs.Prelude.{◌≡◌, ℕ, ◌+◌, ◌*◌, ◌<◌, ◌≤◌}
-use Rattle.records.specs.declared.geometry.TheConstants.{FRONT_SECTORS, HEADER_SECTORS, HEADS_SECTORS, UNDO_SECTORS, PAGE_SECTORS, ENTRIES_PER_SECTOR, SLOT_SECTORS}
-use Rattle.records.specs.GeometryValue.{GeometryValue, sectors_for, half_sectors_of}
+use Rattle.records.specs.declared.geometry.TheConstants.{FRONT_SECTORS, HEADER_SECTORS, HEADS_SECTORS, UNDO_SECTORS, PAGE_SECTORS, SLOT_SECTORS}
+use Rattle.records.specs.declared.version.Version.{Version}
+use Rattle.records.specs.declared.version.Version.TheVariants.{Two}
+use Rattle.records.specs.GeometryValue.{GeometryValue, half_sectors_in, half_sectors_of}
+use Rattle.image_half.specs.Layout.{image_end_in}
 use Rattle.flip_image.specs.declared.half.Half.{Half}
 use Rattle.flip_image.specs.declared.half.Half.TheVariants.{A, B}
 
@@ -10,10 +13,22 @@ abbrev pub other : Half → Half
 other A = B
 other B = A
 
+-- ---- in a version of the format
+
 -- half A lies behind the superblock and the flip sector, half B behind half A; each begins with its image's header
+abbrev pub header_sector_in : Version → GeometryValue → Half → ℕ
+header_sector_in v g A = FRONT_SECTORS
+header_sector_in v g B = FRONT_SECTORS + half_sectors_in v g
+
+-- a half's log begins where its image ends
+abbrev pub log_first_in : Version → GeometryValue → Half → ℕ
+log_first_in v g half = image_end_in v g (header_sector_in v g half)
+
+-- ---- in version 2, which is written
+
+-- where a half begins, with its image's header
 abbrev pub header_sector : GeometryValue → Half → ℕ
-header_sector g A = FRONT_SECTORS
-header_sector g B = FRONT_SECTORS + half_sectors_of g
+header_sector g half = header_sector_in Two g half
 
 -- where a half's transaction heads lie
 abbrev pub heads_sector : GeometryValue → Half → ℕ
@@ -37,7 +52,7 @@ entries_first g half = page_sector g half g.pages
 
 -- where its log begins
 abbrev pub log_first : GeometryValue → Half → ℕ
-log_first g half = entries_first g half + sectors_for g.entries ENTRIES_PER_SECTOR
+log_first g half = log_first_in Two g half
 
 -- the gate of a slot of the log
 abbrev pub gate_sector : GeometryValue → Half → ℕ → ℕ

@@ -1,2 +1,3 @@
 pub mod Layout
 pub mod Store
+pub mod Steps

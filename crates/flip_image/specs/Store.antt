@@ -5,30 +5,42 @@ use Rattle.sector_device.specs.History.{Rises}
 use Rattle.sector_device.specs.Values.{zero_sector, marked_sector, IsMarked}
 use Rattle.records.specs.declared.geometry.TheConstants.{FRONT_SECTORS, HEADER_SECTORS, HEADS_SECTORS, PAGE_SECTORS}
 use Rattle.records.specs.declared.error.Error.{Error}
-use Rattle.records.specs.declared.error.Error.TheVariants.{DeviceFailed, NotFormatted, Damaged, DeviceTooSmall}
-use Rattle.records.specs.GeometryValue.{GeometryValue, IsGeometry, sectors_of}
+use Rattle.records.specs.declared.error.Error.TheVariants.{DeviceFailed, NotFormatted, Damaged, DeviceTooSmall, OldVersion}
+use Rattle.records.specs.GeometryValue.{GeometryValue, IsGeometry, sectors_in}
+use Rattle.records.specs.declared.version.Version.{Version}
+use Rattle.records.specs.declared.version.Version.TheVariants.{One, Two}
 use Rattle.records.specs.Spelling.{u32}
 use Rattle.model.specs.Cells.{Cells}
-use Rattle.image_half.specs.Image.{IsImage}
+use Rattle.image_half.specs.Image.{IsImageIn}
 use Rattle.flip_image.specs.declared.half.Half.{Half}
 use Rattle.flip_image.specs.declared.half.Half.TheVariants.{A, B}
 use Rattle.flip_image.specs.declared.half.TheConstants.{FLIP_SECTOR}
-use Rattle.flip_image.specs.declared.superblock.TheConstants.{SUPERBLOCK_SECTOR, SUPERBLOCK_SIZE, TITLE_SIZE, VERSION}
-use Rattle.flip_image.specs.Layout.{header_sector, heads_sector, pages_first, entries_first, undo_first, page_sector, gate_sector, IsLogGate}
+use Rattle.flip_image.specs.declared.superblock.TheConstants.{SUPERBLOCK_SECTOR, SUPERBLOCK_SIZE, TITLE_SIZE, VERSION, OLD_VERSION}
+use Rattle.flip_image.specs.Layout.{header_sector_in, header_sector, heads_sector, pages_first, entries_first, undo_first, page_sector, gate_sector, IsLogGate}
 
 -- ---- the sectors in front of the halves
 
 unfoldable pub title : List ℕ
 title = codes "NSFINDEX"
 
+-- the number of a version
+abbrev pub number_of : Version → ℕ
+number_of One = OLD_VERSION
+number_of Two = VERSION
+
 -- the title, the version, and the three numbers of the geometry
-unfoldable pub superblock : GeometryValue → List ℕ
-superblock g = title ++ (u32 VERSION ++ (u32 g.pages ++ (u32 g.entries ++ u32 g.slots)))
+unfoldable pub superblock_in : Version → GeometryValue → List ℕ
+superblock_in v g = title ++ (u32 (number_of v) ++ (u32 g.pages ++ (u32 g.entries ++ u32 g.slots)))
 
 -- the bytes begin with that, and are zero behind it
-pub record IsSuperblock (g : GeometryValue) (bytes : List ℕ) : Type 0 where
-  pub spelled : bytes ≡ superblock g ++ drop SUPERBLOCK_SIZE bytes
+pub record IsSuperblockIn (v : Version) (g : GeometryValue) (bytes : List ℕ) : Type 0 where
+  pub spelled : bytes ≡ superblock_in v g ++ drop SUPERBLOCK_SIZE bytes
   pub rest : All (λ b. b ≡ 0) (drop SUPERBLOCK_SIZE bytes)
+
+-- behind the title stands the number of a version older than this one
+abbrev pub HasOlderNumber : Version → List ℕ → Type 0
+HasOlderNumber One bytes = ⊥
+HasOlderNumber Two bytes = take 4 (drop TITLE_SIZE bytes) ≡ u32 OLD_VERSION
 
 -- the half that a flip sector names, by its first byte alone
 abbrev pub Names : List ℕ → Half → Type 0
@@ -40,21 +52,32 @@ abbrev pub flip_sector : Half → List ℕ
 flip_sector A = zero_sector
 flip_sector B = marked_sector
 
--- the content is of a store of this geometry, whose current half is this one
-pub record IsStore (g : GeometryValue) (half : Half) (image : Image) : Type 0 where
+-- the content is of a store of this version and geometry, whose current half is this one
+pub record IsStoreIn (v : Version) (g : GeometryValue) (half : Half) (image : Image) : Type 0 where
   pub limits : IsGeometry g
-  pub room : sectors_of g ≤ length image
-  pub superblock-is : IsSuperblock g (sector image SUPERBLOCK_SECTOR)
+  pub room : sectors_in v g ≤ length image
+  pub superblock-is : IsSuperblockIn v g (sector image SUPERBLOCK_SECTOR)
   pub current : Names (sector image FLIP_SECTOR) half
+
+-- the half holds the image of these cells, which record `base` left
+abbrev pub HoldsImageIn : Version → GeometryValue → Half → Image → ℕ → Cells → Type 0
+HoldsImageIn v g half image base cells = IsImageIn v g (header_sector_in v g half) image base cells
+
+-- ---- in version 2, which is written
+
+abbrev pub IsSuperblock : GeometryValue → List ℕ → Type 0
+IsSuperblock g bytes = IsSuperblockIn Two g bytes
+
+abbrev pub IsStore : GeometryValue → Half → Image → Type 0
+IsStore g half image = IsStoreIn Two g half image
+
+abbrev pub HoldsImage : GeometryValue → Half → Image → ℕ → Cells → Type 0
+HoldsImage g half image base cells = HoldsImageIn Two g half image base cells
 
 -- What a crash leaves while another half is named current: what it might leave before, or, once all is synced, that with
 -- any bytes in the flip sector.
 abbrev pub IsFlipping : Disk → Image → Type 0
 IsFlipping old image = SameOutside (λ n. old.unsynced n ≡ true) old.content image ⊎ SameOutside (λ n. n ≡ FLIP_SECTOR) old.content image
-
--- the half holds the image of these cells, which record `base` left
-abbrev pub HoldsImage : GeometryValue → Half → Image → ℕ → Cells → Type 0
-HoldsImage g half image base cells = IsImage g (header_sector g half) image base cells
 
 -- ---- a half as `format` leaves it
 
@@ -85,30 +108,45 @@ AreLogGatesZero g half image = (slot : ℕ) → slot < g.slots → sector image 
 abbrev pub IsFormatSector : GeometryValue → ℕ → Type 0
 IsFormatSector g n = (n < undo_first g A) ⊎ (((pages_first g A ≤ n) × (n < entries_first g A)) ⊎ IsLogGate g A n)
 
--- ---- what a reader refuses
+-- ---- what a reader of a version refuses
 
 -- the content has too few sectors for a superblock and a flip sector, or for the geometry in its superblock
-abbrev pub IsTooSmall : Image → Type 0
-IsTooSmall image =
+abbrev pub IsTooSmallIn : Version → Image → Type 0
+IsTooSmallIn v image =
     (length image < FRONT_SECTORS)
-    ⊎ ((g : GeometryValue) × IsGeometry g × IsSuperblock g (sector image SUPERBLOCK_SECTOR) × (length image < sectors_of g))
+    ⊎ ((g : GeometryValue) × IsGeometry g × IsSuperblockIn v g (sector image SUPERBLOCK_SECTOR) × (length image < sectors_in v g))
 
 -- it has other bytes where the title should be
 pub record IsUntitled (image : Image) : Type 0 where
   pub room : FRONT_SECTORS ≤ length image
   pub other : ¬ (take TITLE_SIZE (sector image SUPERBLOCK_SECTOR) ≡ title)
 
--- behind the title is no superblock of any geometry within its limits
-pub record IsSuperblockDamaged (image : Image) : Type 0 where
+-- behind the title stands an older version, whatever follows it, and however many sectors there are
+pub record IsOlder (v : Version) (image : Image) : Type 0 where
   pub room : FRONT_SECTORS ≤ length image
   pub titled : take TITLE_SIZE (sector image SUPERBLOCK_SECTOR) ≡ title
-  pub none : (g : GeometryValue) → IsGeometry g → ¬ IsSuperblock g (sector image SUPERBLOCK_SECTOR)
+  pub older : HasOlderNumber v (sector image SUPERBLOCK_SECTOR)
+
+-- behind the title is no older version, and no superblock of any geometry within its limits
+pub record IsSuperblockDamagedIn (v : Version) (image : Image) : Type 0 where
+  pub room : FRONT_SECTORS ≤ length image
+  pub titled : take TITLE_SIZE (sector image SUPERBLOCK_SECTOR) ≡ title
+  pub not_older : ¬ HasOlderNumber v (sector image SUPERBLOCK_SECTOR)
+  pub none : (g : GeometryValue) → IsGeometry g → ¬ IsSuperblockIn v g (sector image SUPERBLOCK_SECTOR)
+
+-- why the superblock is refused
+abbrev pub IsSuperblockRefused : Version → Image → Error → Type 0
+IsSuperblockRefused v image e =
+    ((e ≡ NotFormatted) × IsUntitled image)
+    ⊎ (((e ≡ OldVersion) × IsOlder v image) ⊎ ((e ≡ Damaged SUPERBLOCK_SECTOR) × IsSuperblockDamagedIn v image))
 
 -- why the content is refused: each refusal in its state, in which no other one is answered
+abbrev pub IsRefusedIn : Version → Image → Error → Type 0
+IsRefusedIn v image e = ((e ≡ DeviceTooSmall) × IsTooSmallIn v image) ⊎ IsSuperblockRefused v image e
+
+-- of a reader of version 2
 abbrev pub IsRefused : Image → Error → Type 0
-IsRefused image e =
-    ((e ≡ DeviceTooSmall) × IsTooSmall image)
-    ⊎ (((e ≡ NotFormatted) × IsUntitled image) ⊎ ((e ≡ Damaged SUPERBLOCK_SECTOR) × IsSuperblockDamaged image))
+IsRefused image e = IsRefusedIn Two image e
 
 -- the device failed
 abbrev pub IsDeviceFailure : ℕ → ℕ → Error → Type 0

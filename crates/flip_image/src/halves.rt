@@ -3,12 +3,12 @@ ghost use Rattle.std.specs.Prelude.{◌≡◌, ◌≢◌, ◌⊎◌, ◌↔◌, 
 ghost use Rattle.sector_device.specs.Disk.{sector, IsSynced, SameOutside};
 ghost use Rattle.sector_device.specs.History.{OnlyReads, LeavesOnly, CountsFailure};
 ghost use Rattle.sector_device.specs.Values.{zero_sector};
-ghost use Rattle.records.specs.GeometryValue.{GeometryValue, IsGeometry, sectors_of};
+ghost use Rattle.records.specs.GeometryValue.{GeometryValue, IsGeometry, sectors_in, sectors_of};
 ghost use Rattle.image_half.specs.Image.{no_cells};
-ghost use Rattle.image_half.specs.Layout.{image_end};
-ghost use Rattle.image_half.specs.Damage.{IsSound, TheHeader, IsUnread};
-ghost use Rattle.flip_image.specs.Layout.{other, header_sector, log_first};
-ghost use Rattle.flip_image.specs.Store.{Names, flip_sector, IsFlipping, IsSuperblock, IsStore, IsFresh, HoldsImage, IsFormatted, AreGatesClosed, AreLogGatesZero, IsFormatSector, IsRefused, IsFirstUsed, AreZeros, IsDeviceFailure, IsUntitled, IsSuperblockDamaged};
+ghost use Rattle.image_half.specs.Layout.{image_end, image_end_in};
+ghost use Rattle.image_half.specs.Damage.{IsSoundIn, TheHeader, IsUnreadIn};
+ghost use Rattle.flip_image.specs.Layout.{other, header_sector_in, header_sector, log_first_in, log_first};
+ghost use Rattle.flip_image.specs.Store.{Names, flip_sector, IsFlipping, IsSuperblockIn, IsStore, IsStoreIn, IsFresh, HoldsImageIn, IsFormatted, AreGatesClosed, AreLogGatesZero, IsFormatSector, IsRefused, IsRefusedIn, IsSuperblockRefused, IsFirstUsed, AreZeros, IsDeviceFailure};
 
 use crate::flip::write_flip_sector;
 use crate::half::{FLIP_SECTOR, Half};
@@ -17,6 +17,7 @@ use crate::zeros::read_zeros;
 use image_half::{CellSink, read_image};
 use records::{
     Error, FRONT_SECTORS, Geometry, HEADER_SECTORS, HEADS_SECTORS, PAGE_SECTORS, SLOT_SECTORS,
+    Version,
 };
 use sector_device::{Device, Failed, SECTOR_SIZE, is_marked, write_zeros, zero_sector};
 use std::alloc::Allocator;
@@ -69,12 +70,37 @@ impl Halves {
         Ok(())
     }
 
-    /// The halves of the store on the device, by its superblock and its flip sector. Nothing is written.
+    /// The halves of the store of a version on the device, by its superblock and its flip sector. Nothing is written.
     ///
     /// `DeviceTooSmall` where the device has fewer sectors than a superblock and a flip sector take; else
-    /// `NotFormatted` where the title is another; else `Damaged` with the superblock's sector where that is none; else
-    /// `DeviceTooSmall` where the device has fewer sectors than the geometry needs. `DeviceFailed` where the device failed in
-    /// the call, and only then.
+    /// `NotFormatted` where the title is another; else `OldVersion` where an older version stands behind it, whatever follows;
+    /// else `Damaged` with the superblock's sector where that is none; else `DeviceTooSmall` where the device has fewer sectors
+    /// than the geometry needs. `DeviceFailed` where the device failed in the call, and only then.
+    pub fn open_in<D: Device>(version: Version, device: &mut D) -> Result<Self, Error>
+        ensures opened { IfOk result (λ halves. IsStoreIn version halves.geometry halves.current (D.history device.old).disk.content) }
+        ensures store { (g : GeometryValue) (half : Half) → IsStoreIn version g half (D.history device.old).disk.content
+            → IfOk result (λ halves. halves ≡ record { geometry = g; current = half }) }
+        ensures accepted { (g : GeometryValue) (half : Half) → IsStoreIn version g half (D.history device.old).disk.content
+            → IfErr result (IsDeviceFailure (D.failures device.old) (D.failures device.new)) }
+        ensures refused { IfErr result (λ e. IsRefusedIn version (D.history device.old).disk.content e
+            ⊎ IsDeviceFailure (D.failures device.old) (D.failures device.new) e) }
+        ensures reads { OnlyReads (D.history device.old) (D.history device.new) }
+        ensures quiet { OnOk result (D.failures device.new ≡ D.failures device.old) }
+        ensures told { IfErr result (λ e. e ≢ Error.DeviceFailed → D.failures device.new ≡ D.failures device.old) }
+        ensures later { D.failures device.old ≤ D.failures device.new }
+    {
+        if device.sectors() < FRONT_SECTORS {
+            return Err(Error::DeviceTooSmall);
+        }
+        let geometry = read_superblock(version, device)?;
+        if device.sectors() < geometry.sectors_in(version) {
+            return Err(Error::DeviceTooSmall);
+        }
+        let current = read_flip_sector(device)?;
+        Ok(Halves { geometry, current })
+    }
+
+    /// The halves of the store of version 2 on the device, as `open_in` answers them.
     pub fn open<D: Device>(device: &mut D) -> Result<Self, Error>
         ensures opened { IfOk result (λ halves. IsStore halves.geometry halves.current (D.history device.old).disk.content) }
         ensures store { (g : GeometryValue) (half : Half) → IsStore g half (D.history device.old).disk.content
@@ -88,15 +114,7 @@ impl Halves {
         ensures told { IfErr result (λ e. e ≢ Error.DeviceFailed → D.failures device.new ≡ D.failures device.old) }
         ensures later { D.failures device.old ≤ D.failures device.new }
     {
-        if device.sectors() < FRONT_SECTORS {
-            return Err(Error::DeviceTooSmall);
-        }
-        let geometry = read_superblock(device)?;
-        if device.sectors() < geometry.sectors() {
-            return Err(Error::DeviceTooSmall);
-        }
-        let current = read_flip_sector(device)?;
-        Ok(Halves { geometry, current })
+        Halves::open_in(Version::Two, device)
     }
 
     /// Checks that the current half's image is as `format` leaves it. Nothing is written.
@@ -118,7 +136,7 @@ impl Halves {
         check_half(device, self.geometry, self.current)
     }
 
-    /// Reads the image of the current half into an empty sink. The answer is the image's base, the number of the last record
+    /// Reads the image of the current half of a store of a version into an empty sink. The answer is the image's base, the number of the last record
     /// made as it began. Nothing is written.
     ///
     /// `Damaged` names the first sector with a part that says nothing: the header, the transaction heads, an undo item, the
@@ -127,20 +145,22 @@ impl Halves {
     pub fn read_image<D: Device, S: CellSink, A: Allocator + Copy>(
         &self,
         alloc: A,
+        version: Version,
         device: &mut D,
         sink: &mut S,
     ) -> Result<u64, Error>
         requires empty { S.cells sink.old ≡ no_cells }
-        requires inside { sectors_of self.now.geometry ≤ length (D.history device.old).disk.content }
-        ensures read { IfOk result (λ base. HoldsImage self.now.geometry self.now.current (D.history device.old).disk.content base (S.cells sink.new)) }
-        ensures refused { IfErr result (IsUnread self.now.geometry (header_sector self.now.geometry self.now.current) (D.history device.old).disk.content (D.failures device.old) (D.failures device.new)) }
+        requires inside { sectors_in version self.now.geometry ≤ length (D.history device.old).disk.content }
+        ensures read { IfOk result (λ base. HoldsImageIn version self.now.geometry self.now.current (D.history device.old).disk.content base (S.cells sink.new)) }
+        ensures refused { IfErr result (IsUnreadIn version self.now.geometry (header_sector_in version self.now.geometry self.now.current) (D.history device.old).disk.content (D.failures device.old) (D.failures device.new)) }
         ensures reads { OnlyReads (D.history device.old) (D.history device.new) }
         ensures quiet { OnOk result (D.failures device.new ≡ D.failures device.old) }
         ensures told { IfErr result (λ e. e ≢ Error.DeviceFailed → D.failures device.new ≡ D.failures device.old) }
-        ensures memory { IfErr result (λ e. e ≡ Error.NoMemory → IsSound self.now.geometry (header_sector self.now.geometry self.now.current) (D.history device.old).disk.content TheHeader) }
+        ensures memory { IfErr result (λ e. e ≡ Error.NoMemory → IsSoundIn version self.now.geometry (header_sector_in version self.now.geometry self.now.current) (D.history device.old).disk.content TheHeader) }
         ensures later { D.failures device.old ≤ D.failures device.new }
     {
-        read_half(alloc, device, self.geometry, self.current, sink)
+        let first = self.header_sector_in(version);
+        read_image(alloc, version, device, self.geometry, first, sink)
     }
 
     /// Makes the other half current, whose image and log must be whole: syncs, writes the flip sector, and syncs. The flip
@@ -184,7 +204,16 @@ impl Halves {
         self.current
     }
 
-    /// The sector of the header of the current half's image.
+    /// The sector of the header of the current half's image in a version, which ends within the store.
+    pub fn header_sector_in(&self, version: Version) -> u64
+        ensures value { result ≡ header_sector_in version self.now.geometry self.now.current }
+        ensures inside { image_end_in version self.now.geometry result ≤ sectors_in version self.now.geometry }
+        ensures number { image_end_in version self.now.geometry result < 2 ^ 64 }
+    {
+        self.current.header_sector_in(version, self.geometry())
+    }
+
+    /// The sector of the header of the current half's image in version 2.
     pub fn header_sector(&self) -> u64
         ensures { result ≡ header_sector self.now.geometry self.now.current }
     {
@@ -200,35 +229,21 @@ impl Halves {
         self.current.other().header_sector(self.geometry())
     }
 
-    /// The first sector of the current half's log, which has the geometry's slots and ends within the store.
+    /// The first sector of the current half's log in a version, which has the geometry's slots and ends within the store.
+    pub fn log_first_in(&self, version: Version) -> u64
+        ensures value { result ≡ log_first_in version self.now.geometry self.now.current }
+        ensures inside { result + SLOT_SECTORS * self.now.geometry.slots ≤ sectors_in version self.now.geometry }
+    {
+        self.current.log_first_in(version, self.geometry)
+    }
+
+    /// The first sector of the current half's log in version 2.
     pub fn log_first(&self) -> u64
         ensures value { result ≡ log_first self.now.geometry self.now.current }
         ensures inside { result + SLOT_SECTORS * self.now.geometry.slots ≤ sectors_of self.now.geometry }
     {
         self.current.log_first(self.geometry)
     }
-}
-
-// What `read_image` does, for a half of a store.
-fn read_half<D: Device, S: CellSink, A: Allocator + Copy>(
-    alloc: A,
-    device: &mut D,
-    geometry: Geometry,
-    half: Half,
-    sink: &mut S,
-) -> Result<u64, Error>
-    requires empty { S.cells sink.old ≡ no_cells }
-    requires inside { sectors_of geometry ≤ length (D.history device.old).disk.content }
-    ensures read { IfOk result (λ base. HoldsImage geometry half (D.history device.old).disk.content base (S.cells sink.new)) }
-    ensures refused { IfErr result (IsUnread geometry (header_sector geometry half) (D.history device.old).disk.content (D.failures device.old) (D.failures device.new)) }
-    ensures reads { OnlyReads (D.history device.old) (D.history device.new) }
-    ensures quiet { OnOk result (D.failures device.new ≡ D.failures device.old) }
-    ensures told { IfErr result (λ e. e ≢ Error.DeviceFailed → D.failures device.new ≡ D.failures device.old) }
-    ensures memory { IfErr result (λ e. e ≡ Error.NoMemory → IsSound geometry (header_sector geometry half) (D.history device.old).disk.content TheHeader) }
-    ensures later { D.failures device.old ≤ D.failures device.new }
-{
-    let first = half.header_sector(geometry);
-    read_image(alloc, device, geometry, first, sink)
 }
 
 // Writes what `format` writes, and syncs.
@@ -255,13 +270,12 @@ fn write_store<D: Device>(device: &mut D, geometry: Geometry) -> Result<(), Fail
 }
 
 // The geometry in the superblock.
-fn read_superblock<D: Device>(device: &mut D) -> Result<Geometry, Error>
+fn read_superblock<D: Device>(version: Version, device: &mut D) -> Result<Geometry, Error>
     requires { FRONT_SECTORS ≤ length (D.history device.old).disk.content }
     ensures limits { IfOk result IsGeometry }
-    ensures found { IfOk result (λ geometry. IsSuperblock geometry (sector (D.history device.old).disk.content SUPERBLOCK_SECTOR)) }
+    ensures found { IfOk result (λ geometry. IsSuperblockIn version geometry (sector (D.history device.old).disk.content SUPERBLOCK_SECTOR)) }
     ensures refused { IfErr result (λ e. IsDeviceFailure (D.failures device.old) (D.failures device.new) e
-        ⊎ (((e ≡ Error.NotFormatted) × IsUntitled (D.history device.old).disk.content)
-        ⊎ ((e ≡ Error.Damaged SUPERBLOCK_SECTOR) × IsSuperblockDamaged (D.history device.old).disk.content))) }
+        ⊎ IsSuperblockRefused version (D.history device.old).disk.content e) }
     ensures reads { OnlyReads (D.history device.old) (D.history device.new) }
     ensures quiet { OnOk result (D.failures device.new ≡ D.failures device.old) }
     ensures told { IfErr result (λ e. e ≢ Error.DeviceFailed → D.failures device.new ≡ D.failures device.old) }
@@ -271,7 +285,7 @@ fn read_superblock<D: Device>(device: &mut D) -> Result<Geometry, Error>
     if device.read(SUPERBLOCK_SECTOR, &mut bytes).is_err() {
         return Err(Error::DeviceFailed);
     }
-    geometry_of(&bytes)
+    geometry_of(version, &bytes)
 }
 
 // The half that the flip sector names.

@@ -1,7 +1,7 @@
 //! The half that isn't current is written, part by part or as a whole, without a sync. Until a sync, a sector that was
 //! written may hold anything after a crash; the current half and the sectors in front of the halves stay as they are. Each
 //! call wants a value whose current half is the one that the device names (`current`), so none from before a flip.
-ghost use Rattle.std.specs.Prelude.{◌≡◌, ◌⊎◌, ℕ, ◌+◌, ◌%◌, ◌<◌, ◌≤◌, ◌∷◌, List, Option, true, length, slice_get, Some, None, OnOk};
+ghost use Rattle.std.specs.Prelude.{◌≡◌, ◌⊎◌, ℕ, ◌+◌, ◌%◌, ◌<◌, ◌≤◌, List, Option, true, length, slice_get, Some, OnOk};
 ghost use Rattle.std.specs.FinMap.{empty, entries};
 ghost use Rattle.sector_device.specs.Disk.{sector, SameOutside};
 ghost use Rattle.sector_device.specs.History.{RunsWithin, CountsFailure};
@@ -15,11 +15,12 @@ ghost use Rattle.records.specs.declared.change.TheConstants.{CHANGES_MAX};
 ghost use Rattle.records.specs.declared.number.TheConstants.{LAST_NUMBER};
 ghost use Rattle.records.specs.declared.rid.TheConstants.{SLOTS_PER_PAGE};
 ghost use Rattle.records.specs.declared.geometry.TheConstants.{ENTRIES_PER_SECTOR};
+ghost use Rattle.records.specs.declared.version.Version.TheVariants.{Two};
 ghost use Rattle.model.specs.declared.life.Life.TheVariants.{Building};
 ghost use Rattle.image_parts.specs.declared.head.Head.{Head as HeadValue};
 ghost use Rattle.image_parts.specs.Spelling.{HeadFits};
-ghost use Rattle.image_half.specs.Layout.{InPage, InEntries, InList};
-ghost use Rattle.image_half.specs.Image.{IsHeader, AreHeads, HoldsList, IsRow, IsEntry, row_bytes, entry_bytes, ZerosBehind, ZerosBehindEntries, ZerosBehindItems, InStart, InImageOf};
+ghost use Rattle.image_half.specs.Layout.{page_bytes, InPage, InEntries, InList};
+ghost use Rattle.image_half.specs.Image.{IsHeader, AreHeads, HoldsList, HasEdges, IsRow, IsEntry, row_bytes, entry_bytes, ZerosBehindEntries, InStart, InImageOf};
 ghost use Rattle.image_half.specs.Part.{IsImagePart, HasPage};
 ghost use Rattle.image_half.specs.Source.{FitsImage};
 ghost use Rattle.flip_image.specs.Layout.{other, header_sector, heads_sector, InHalfImage};
@@ -68,8 +69,8 @@ impl Halves {
         write_heads(device, first, heads)
     }
 
-    /// Writes the changes of a head, numbered from 0, as undo items of the image. Of an odd number the item beside the last one
-    /// is zeros then (`rest`). That each sector is written once is only tested.
+    /// Writes the changes of a head, numbered from 0, as undo items of the image, each in a sector of its own. That each sector
+    /// is written once is only tested.
     pub fn write_list<D: Device>(
         &self,
         device: &mut D,
@@ -83,7 +84,6 @@ impl Halves {
         requires positions { (p : ℕ) (c : ChangeValue) → slice_get changes.now p ≡ Some c → c.position ≡ p }
         requires pages { (p : ℕ) (c : ChangeValue) → slice_get changes.now p ≡ Some c → c.rid.page < self.now.geometry.pages }
         ensures written { OnOk result (HoldsList self.now.geometry (header_sector self.now.geometry (other self.now.current)) (D.history device.new).disk.content h changes.now) }
-        ensures rest { OnOk result (ZerosBehindItems (header_sector self.now.geometry (other self.now.current)) (D.history device.new).disk.content h (length changes.now)) }
         ensures outside { SameOutside (InList (header_sector self.now.geometry (other self.now.current)) h (length changes.now)) (D.history device.old).disk.content (D.history device.new).disk.content }
         ensures within { RunsWithin (λ n. InHalfImage self.now.geometry (other self.now.current) n ⊎ ((D.history device.old).disk.unsynced n ≡ true)) (D.history device.old).disk.content (D.history device.old) (D.history device.new) }
         ensures counts { CountsFailure (D.failures device.old) (D.failures device.new) result }
@@ -92,8 +92,8 @@ impl Halves {
         write_list(device, self.geometry(), first, h, changes)
     }
 
-    /// Writes a page of the image, with the rows of its slots in order, or none. That each of its eight sectors is written once
-    /// is only tested.
+    /// Writes a page of the image, with the rows of its slots in order, or none. That each of its sixteen sectors is written
+    /// once is only tested.
     pub fn write_page<D: Device>(
         &self,
         device: &mut D,
@@ -104,7 +104,8 @@ impl Halves {
         requires current { Names (sector (D.history device.old).disk.content FLIP_SECTOR) self.now.current }
         requires rows { length rows.now ≡ SLOTS_PER_PAGE }
         requires page { page < self.now.geometry.pages }
-        ensures written { OnOk result ((i : ℕ) (o : Option RowValue) → slice_get (None ∷ rows.now) i ≡ Some o → IsRow (row_bytes (D.history device.new).disk.content (header_sector self.now.geometry (other self.now.current)) page i) o) }
+        ensures edges { OnOk result (HasEdges Two (page_bytes (D.history device.new).disk.content (header_sector self.now.geometry (other self.now.current)) page)) }
+        ensures written { OnOk result ((slot : ℕ) (o : Option RowValue) → slice_get rows.now slot ≡ Some o → IsRow (row_bytes (D.history device.new).disk.content (header_sector self.now.geometry (other self.now.current)) page slot) o) }
         ensures outside { SameOutside (InPage (header_sector self.now.geometry (other self.now.current)) page) (D.history device.old).disk.content (D.history device.new).disk.content }
         ensures within { RunsWithin (λ n. InHalfImage self.now.geometry (other self.now.current) n ⊎ ((D.history device.old).disk.unsynced n ≡ true)) (D.history device.old).disk.content (D.history device.old) (D.history device.new) }
         ensures counts { CountsFailure (D.failures device.old) (D.failures device.new) result }
@@ -136,8 +137,8 @@ impl Halves {
         write_entries(device, self.geometry(), first, start, entries)
     }
 
-    /// Begins an image of these cells that is written part by part: writes undo items and transaction heads. What is left of
-    /// the sector of each transaction's last change is zeros then (`rest`). That no sector is written twice is only tested.
+    /// Begins an image of these cells that is written part by part: writes undo items and transaction heads. That no sector is
+    /// written twice is only tested.
     pub fn write_start<D: Device, S: CellSource>(
         &self,
         device: &mut D,
@@ -147,7 +148,6 @@ impl Halves {
         requires current { Names (sector (D.history device.old).disk.content FLIP_SECTOR) self.now.current }
         requires fits { FitsImage self.now.geometry (S.cells source.now) }
         ensures written { OnOk result (IsImagePart self.now.geometry (header_sector self.now.geometry (other self.now.current)) (D.history device.new).disk.content 0 (record (S.cells source.now) { rows = empty; entries = empty })) }
-        ensures rest { OnOk result ((h : ℕ) (list : ℕ × List ChangeValue) → slice_get (entries (S.cells source.now).pending) h ≡ Some list → ZerosBehindItems (header_sector self.now.geometry (other self.now.current)) (D.history device.new).disk.content h (length list.1)) }
         ensures outside { SameOutside (InStart (header_sector self.now.geometry (other self.now.current)) (S.cells source.now)) (D.history device.old).disk.content (D.history device.new).disk.content }
         ensures within { RunsWithin (λ n. InHalfImage self.now.geometry (other self.now.current) n ⊎ ((D.history device.old).disk.unsynced n ≡ true)) (D.history device.old).disk.content (D.history device.old) (D.history device.new) }
         ensures counts { CountsFailure (D.failures device.old) (D.failures device.new) result }
@@ -156,8 +156,8 @@ impl Halves {
         write_start(device, self.geometry(), first, source)
     }
 
-    /// Writes a page of the image, with the rows that these cells have there. That each of its eight sectors is written once is
-    /// only tested.
+    /// Writes a page of the image, with the rows that these cells have there. That each of its sixteen sectors is written once
+    /// is only tested.
     pub fn write_rows<D: Device, S: CellSource>(
         &self,
         device: &mut D,
@@ -177,9 +177,8 @@ impl Halves {
     }
 
     /// Writes the image of these cells, which record `base` left: undo items, transaction heads, every page, the entries, and
-    /// the header behind them. What is left of the sector of the last entry, and of that of each transaction's last change, is
-    /// zeros then (`rest`); sectors of undo items and of entries behind those stay as they are (`outside`). That no sector is
-    /// written twice is only tested.
+    /// the header behind them. What is left of the sector of the last entry is zeros then (`rest`); sectors of undo items and of
+    /// entries behind the last ones stay as they are (`outside`). That no sector is written twice is only tested.
     pub fn write_image<D: Device, S: CellSource>(
         &self,
         device: &mut D,
@@ -191,7 +190,7 @@ impl Halves {
         requires fits { FitsImage self.now.geometry (S.cells source.now) }
         requires base { base ≤ LAST_NUMBER }
         ensures written { OnOk result (HoldsImage self.now.geometry (other self.now.current) (D.history device.new).disk.content base (S.cells source.now)) }
-        ensures rest { OnOk result (ZerosBehind self.now.geometry (header_sector self.now.geometry (other self.now.current)) (D.history device.new).disk.content (S.cells source.now)) }
+        ensures rest { OnOk result (ZerosBehindEntries self.now.geometry (header_sector self.now.geometry (other self.now.current)) (D.history device.new).disk.content (length (entries (S.cells source.now).entries))) }
         ensures outside { SameOutside (InImageOf self.now.geometry (header_sector self.now.geometry (other self.now.current)) (S.cells source.now)) (D.history device.old).disk.content (D.history device.new).disk.content }
         ensures within { RunsWithin (λ n. InHalfImage self.now.geometry (other self.now.current) n ⊎ ((D.history device.old).disk.unsynced n ≡ true)) (D.history device.old).disk.content (D.history device.old) (D.history device.new) }
         ensures counts { CountsFailure (D.failures device.old) (D.failures device.new) result }

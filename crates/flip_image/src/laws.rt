@@ -1,7 +1,10 @@
 //! Laws of what a device holds.
 ghost use Rattle.std.specs.Prelude.{◌≡◌, ◌⊎◌, ◌<◌, ◌≤◌, ℕ, length};
-ghost use Rattle.sector_device.specs.Disk.{Image, sector, IsWhole, SameOutside};
+ghost use Rattle.sector_device.specs.Disk.{Image, sector, IsDiskWhole, SameOutside};
 ghost use Rattle.records.specs.declared.error.Error.{Error};
+ghost use Rattle.records.specs.declared.error.Error.TheVariants as errors;
+ghost use Rattle.records.specs.declared.version.Version.{Version};
+ghost use Rattle.records.specs.declared.version.Version.TheVariants.{One};
 ghost use Rattle.records.specs.declared.geometry.TheConstants.{FRONT_SECTORS};
 ghost use Rattle.records.specs.GeometryValue.{GeometryValue, sectors_of};
 ghost use Rattle.model.specs.Cells.{Cells};
@@ -10,17 +13,18 @@ ghost use Rattle.flip_image.specs.declared.half.Half.{Half};
 ghost use Rattle.flip_image.specs.declared.half.Half.TheVariants.{A};
 ghost use Rattle.flip_image.specs.Layout.{other, InHalf, InHalfImage, InLog};
 ghost use Rattle.flip_image.specs.declared.half.TheConstants.{FLIP_SECTOR};
-ghost use Rattle.flip_image.specs.Store.{IsStore, IsFresh, HoldsImage, IsFormatted, IsRefused, IsFirstUsed};
+ghost use Rattle.flip_image.specs.Store.{IsStore, IsStoreIn, IsFresh, HoldsImage, IsFormatted, IsRefused, IsRefusedIn, IsFirstUsed};
 
 use image_half::told_by_its_sectors;
 
-/// A law: an image is of one store at most, with one half that is current, and then no reader refuses it; and it is
-/// refused in one way at most.
+/// A law: an image is of one store of a version at most, with one half that is current, and then no reader of that version
+/// refuses it; and it is refused in one way at most. A store of version 1 is refused by a reader of version 2 as one.
 pub fn one_store()
-    ensures geometry { (g h : GeometryValue) (a b : Half) (image : Image) → IsStore g a image → IsStore h b image → g ≡ h }
-    ensures current { (g h : GeometryValue) (a b : Half) (image : Image) → IsStore g a image → IsStore h b image → a ≡ b }
-    ensures accepted { (g : GeometryValue) (half : Half) (image : Image) (e : Error) → IsStore g half image → ¬ IsRefused image e }
-    ensures refusal { (image : Image) (d e : Error) → IsRefused image d → IsRefused image e → d ≡ e }
+    ensures geometry { (v : Version) (g h : GeometryValue) (a b : Half) (image : Image) → IsStoreIn v g a image → IsStoreIn v h b image → g ≡ h }
+    ensures current { (v : Version) (g h : GeometryValue) (a b : Half) (image : Image) → IsStoreIn v g a image → IsStoreIn v h b image → a ≡ b }
+    ensures accepted { (v : Version) (g : GeometryValue) (half : Half) (image : Image) (e : Error) → IsStoreIn v g half image → ¬ IsRefusedIn v image e }
+    ensures refusal { (v : Version) (image : Image) (d e : Error) → IsRefusedIn v image d → IsRefusedIn v image e → d ≡ e }
+    ensures older { (g : GeometryValue) (half : Half) (image : Image) → IsStoreIn One g half image → IsRefused image errors.OldVersion }
 {}
 
 /// A law: which store an image is of, and that a half is fresh, depends on no sector of that half's log. So what
@@ -58,8 +62,8 @@ pub fn halves_apart()
 
 /// A law: a half is fresh just where it holds the image of nothing, with base 0.
 pub fn fresh_image()
-    ensures image { (g : GeometryValue) (half : Half) (image : Image) → IsWhole image → sectors_of g ≤ length image → IsFresh g half image → HoldsImage g half image 0 no_cells }
-    ensures fresh { (g : GeometryValue) (half : Half) (image : Image) → IsWhole image → sectors_of g ≤ length image → HoldsImage g half image 0 no_cells → IsFresh g half image }
+    ensures image { (g : GeometryValue) (half : Half) (image : Image) → IsDiskWhole image → sectors_of g ≤ length image → IsFresh g half image → HoldsImage g half image 0 no_cells }
+    ensures fresh { (g : GeometryValue) (half : Half) (image : Image) → IsDiskWhole image → sectors_of g ≤ length image → HoldsImage g half image 0 no_cells → IsFresh g half image }
 {}
 
 /// A law: what image a half holds, the sectors of its image tell. So it stays while the other half is written, or the

@@ -2,17 +2,22 @@
 ghost use Rattle.std.specs.Prelude.{◌≡◌, ◌⊎◌, ◌↔◌, ◌≤◌, ◌++◌, length, take, drop, All, IsTrue, IfOk, IfErr};
 ghost use Rattle.records.specs.GeometryValue.{GeometryValue, IsGeometry};
 ghost use Rattle.records.specs.Spelling.{u32, u64};
-ghost use Rattle.flip_image.specs.Store.{title, superblock, IsSuperblock};
+ghost use Rattle.flip_image.specs.Store.{title, number_of, superblock_in, IsSuperblock, IsSuperblockIn, HasOlderNumber};
+ghost use Rattle.flip_image.specs.Steps.{IsOlderNumber};
+ghost use Rattle.records.specs.declared.version.Version.TheVariants.{Two};
 
 use byteorder::{BigEndian, ByteOrder};
-use records::{Error, Geometry};
+use records::{Error, Geometry, Version};
 use sector_device::{SECTOR_SIZE, are_zeros};
 
 /// The sector of the superblock (the format document, "Device").
 pub const SUPERBLOCK_SECTOR: u64 = 0;
 
-/// The version of the format.
-pub const VERSION: u32 = 1;
+/// The version of the format that is written.
+pub const VERSION: u32 = 2;
+
+/// The version before it, which is only read.
+pub const OLD_VERSION: u32 = 1;
 
 /// The bytes of the title.
 pub(crate) const TITLE_SIZE: usize = 8;
@@ -46,7 +51,7 @@ fn write_numbers(bytes: &mut [u8], geometry: Geometry)
 #[tactic(auto, unfolding(records::specs::Spelling::u64))]
 fn write_front(bytes: &mut [u8], geometry: Geometry)
     requires { SUPERBLOCK_SIZE ≤ length bytes.old }
-    ensures { bytes.new ≡ superblock geometry ++ drop SUPERBLOCK_SIZE bytes.old }
+    ensures { bytes.new ≡ superblock_in Two geometry ++ drop SUPERBLOCK_SIZE bytes.old }
 {
     BigEndian::write_u64(bytes, TITLE);
     write_numbers(&mut bytes[TITLE_SIZE..], geometry);
@@ -79,31 +84,55 @@ fn read_front(bytes: &[u8]) -> (u64, u32, u32, u32, u32)
     )
 }
 
-// Whether it is this version, with nothing but zeros behind its numbers.
-fn is_supported(version: u32, rest: &[u8]) -> bool
-    ensures { IsTrue result ↔ ((version ≡ VERSION) × All (λ b. b ≡ 0) rest.now) }
+// The number of a version.
+fn number_of(version: Version) -> u32
+    ensures { result ≡ number_of version }
 {
-    version == VERSION && are_zeros(rest)
+    match version {
+        Version::One => OLD_VERSION,
+        Version::Two => VERSION,
+    }
 }
 
-/// The geometry of the store with this superblock. `NotFormatted` where the bytes have another title, and `Damaged`
-/// where they have the title but are no superblock.
-pub(crate) fn geometry_of(bytes: &[u8]) -> Result<Geometry, Error>
-    requires { length bytes.now ≡ SECTOR_SIZE }
-    ensures ok { IfOk result (λ geometry. IsSuperblock geometry bytes.now) }
-    ensures err { IfErr result (λ e. ((e ≡ Error.NotFormatted) × (¬ (take TITLE_SIZE bytes.now ≡ title)))
-        ⊎ ((e ≡ Error.Damaged SUPERBLOCK_SECTOR) × (take TITLE_SIZE bytes.now ≡ title)
-        × ((g : GeometryValue) → IsGeometry g → ¬ IsSuperblock g bytes.now))) }
+// Whether it is the number of this version, with nothing but zeros behind the numbers.
+fn is_supported(version: Version, number: u32, rest: &[u8]) -> bool
+    ensures { IsTrue result ↔ ((number ≡ number_of version) × All (λ b. b ≡ 0) rest.now) }
 {
-    let (title, version, pages, entries, slots) = read_front(bytes);
+    number == number_of(version) && are_zeros(rest)
+}
+
+// Whether it is the number of an older version.
+fn is_older(version: Version, number: u32) -> bool
+    ensures { IsTrue result ↔ IsOlderNumber version number }
+{
+    match version {
+        Version::One => false,
+        Version::Two => number == OLD_VERSION,
+    }
+}
+
+/// The geometry of the store of a version with this superblock. `NotFormatted` where the bytes have another title, `OldVersion`
+/// where an older version stands behind it, whatever follows, and `Damaged` where they have the title but are no superblock.
+pub(crate) fn geometry_of(version: Version, bytes: &[u8]) -> Result<Geometry, Error>
+    requires { length bytes.now ≡ SECTOR_SIZE }
+    ensures ok { IfOk result (λ geometry. IsSuperblockIn version geometry bytes.now) }
+    ensures err { IfErr result (λ e. ((e ≡ Error.NotFormatted) × (¬ (take TITLE_SIZE bytes.now ≡ title)))
+        ⊎ (((e ≡ Error.OldVersion) × (take TITLE_SIZE bytes.now ≡ title) × HasOlderNumber version bytes.now)
+        ⊎ ((e ≡ Error.Damaged SUPERBLOCK_SECTOR) × (take TITLE_SIZE bytes.now ≡ title) × (¬ HasOlderNumber version bytes.now)
+        × ((g : GeometryValue) → IsGeometry g → ¬ IsSuperblockIn version g bytes.now)))) }
+{
+    let (title, number, pages, entries, slots) = read_front(bytes);
     if title != TITLE {
         return Err(Error::NotFormatted);
+    }
+    if is_older(version, number) {
+        return Err(Error::OldVersion);
     }
     let (_, rest) = bytes.split_at(SUPERBLOCK_SIZE);
     let damaged = Error::Damaged {
         sector: SUPERBLOCK_SECTOR,
     };
-    if !is_supported(version, rest) {
+    if !is_supported(version, number, rest) {
         return Err(damaged);
     }
     let Ok(geometry) = Geometry::new(pages, entries, slots) else {

@@ -26,7 +26,7 @@ use Rattle.store_writer.specs.declared.writer.StepReply.{StepReply}
 use Rattle.store_writer.specs.declared.writer.StepReply.TheVariants.{Taken, StartAgain}
 use Rattle.store_writer.specs.declared.writer.Writer.{Writer}
 use Rattle.flusher.specs.Going.{GoesOn, TakesIn}
-use Rattle.flusher.specs.Part.{FlushValue, GivesBeginning, IsFlusher, IsLeft, Publishes, popped_by}
+use Rattle.flusher.specs.Part.{FlushValue, GivesBeginning, IsFlusher, FlushLeaves, Publishes, popped_by}
 use Rattle.flusher.proofs.Keeping.{is_left}
 
 -- ---- the store is the same
@@ -105,10 +105,9 @@ module _ {D : Type 0} (history : D → History) (failures : D → ℕ) (o : Open
     more = [];
     handed = sym (append-nil f.handed);
     geometry = refl;
-    board = refl;
     rises = omega arith;
     horizon = omega arith;
-    images = started (history (device_of f.writer)) (IsLeft o f) (λ image crash. is_left history o f is image (is.writer.images image crash));
+    images = started (history (device_of f.writer)) (FlushLeaves o f) (λ image crash. is_left history o f is image (is.writer.images image crash));
     later = omega arith;
     counted = counted_same (has_failed f.writer) (has_failed f.writer) (failures (device_of f.writer)) (failures (device_of f.writer)) refl;
   }
@@ -121,20 +120,19 @@ module _ {D : Type 0} (history : D → History) (failures : D → ℕ) (o : Open
     more = takes.more;
     handed = takes.handed;
     geometry = ap (λ (h : HalvesValue). h.geometry) takes.got.halves;
-    board = ap (λ (c : FlusherCount). c.board) takes.published;
     rises = omega (arith, takes.got.synced);
     horizon = omega (arith, ap (λ (c : FlusherCount). c.horizon) takes.published);
     images =
         subst (λ (n : ℕ). LeavesOnly (history (device_of old.writer)) (history (device_of new.writer)) (GivesBeginning o (halves_of new.writer).geometry new.handed n)) takes.got.synced
-        (subst (λ (d : D). LeavesOnly (history d) (history (device_of new.writer)) (IsLeft o new)) takes.got.device
-        (started (history (device_of new.writer)) (IsLeft o new) (λ image crash. is_left history o new is image (is.writer.images image crash))));
+        (subst (λ (d : D). LeavesOnly (history d) (history (device_of new.writer)) (FlushLeaves o new)) takes.got.device
+        (started (history (device_of new.writer)) (FlushLeaves o new) (λ image crash. is_left history o new is image (is.writer.images image crash))));
     later = omega (arith, ap failures takes.got.device);
     counted = counted_same (has_failed old.writer) (has_failed new.writer) (failures (device_of old.writer)) (failures (device_of new.writer)) takes.got.failed;
   }
 
   -- by a call of the writer
   pub goes_by_call : (old new : FlushValue D) → old.published.horizon ≤ synced_of old.writer → Publishes old new → (halves_of new.writer).geometry ≡ (halves_of old.writer).geometry → synced_of old.writer ≤ synced_of new.writer
-      → LeavesOnly (history (device_of old.writer)) (history (device_of new.writer)) (IsLeft o old) → failures (device_of old.writer) ≤ failures (device_of new.writer)
+      → LeavesOnly (history (device_of old.writer)) (history (device_of new.writer)) (FlushLeaves o old) → failures (device_of old.writer) ≤ failures (device_of new.writer)
       → (has_failed new.writer ≡ true → has_failed old.writer ≡ false → Rises (failures (device_of old.writer)) (failures (device_of new.writer))) → GoesOn history failures o old new
   goes_by_call old new low publishes geometry rises images later counted = record {
     popped = [];
@@ -142,10 +140,9 @@ module _ {D : Type 0} (history : D → History) (failures : D → ℕ) (o : Open
     more = [];
     handed = publishes.handed ∙ sym (append-nil old.handed);
     geometry = geometry;
-    board = ap (λ (c : FlusherCount). c.board) publishes.published;
     rises = rises;
     horizon = omega (arith, low, rises, ap (λ (c : FlusherCount). c.horizon) publishes.published);
-    images = weaker (history (device_of old.writer)) (history (device_of new.writer)) (IsLeft o old) (GivesBeginning o (halves_of new.writer).geometry new.handed (synced_of old.writer))
+    images = weaker (history (device_of old.writer)) (history (device_of new.writer)) (FlushLeaves o old) (GivesBeginning o (halves_of new.writer).geometry new.handed (synced_of old.writer))
         (λ image left. subst (λ (rs : List RecordValue). GivesBeginning o (halves_of new.writer).geometry rs (synced_of old.writer) image) (sym publishes.handed)
         (same_store o (halves_of old.writer).geometry (halves_of new.writer).geometry old.handed (synced_of old.writer) image geometry left)) images;
     later = later;
@@ -160,7 +157,6 @@ module _ {D : Type 0} (history : D → History) (failures : D → ℕ) (o : Open
     more = first.more ++ second.more;
     handed = second.handed ∙ ap (λ l. l ++ second.more) first.handed ∙ append_assoc old.handed first.more second.more;
     geometry = second.geometry ∙ first.geometry;
-    board = second.board ∙ first.board;
     rises = omega (arith, first.rises, second.rises);
     horizon = omega (arith, first.horizon, second.horizon);
     images =

@@ -30,7 +30,7 @@ use Rattle.store_reader.specs.Contents.{Gives}
 use Rattle.store_writer.specs.Contents.{LeftBy, StoreHas}
 use Rattle.store_writer.specs.Writer.{AreNext, CanFlip, HasFailed, IsChunk, IsFlipReply, IsFlushReply, IsNotFlushed, IsWriter, longer, opened_run}
 use Rattle.locked_core.specs.Following.{FitPlaces, FollowOpening}
-use Rattle.flusher.specs.Part.{FlushValue, GivesBeginning, IsFlusher, IsLeft, MayOpenAgain, count_of, flush_value, last_handed, popped_by, run_of}
+use Rattle.flusher.specs.Part.{FlushValue, GivesBeginning, IsFlusher, FlushLeaves, MayOpenAgain, count_of, flush_value, last_handed, popped_by, run_of}
 
 -- ---- lists
 
@@ -94,7 +94,7 @@ module _ {D : Type 0} (history : D → History) (o : Opened) where
         opens = λ can. opens can count most;
       }
 
-  pub is_left : (f : FlushValue D) → IsFlusher history o f → (image : Image) → LeftBy (run_of o f) (synced_of f.writer) (last_handed o f) image → IsLeft o f image
+  pub is_left : (f : FlushValue D) → IsFlusher history o f → (image : Image) → LeftBy (run_of o f) (synced_of f.writer) (last_handed o f) image → FlushLeaves o f image
   is_left f is = left_gives (halves_of f.writer).geometry f.handed (synced_of f.writer) is.places is.fits is.opens is.writer.opened
 
   -- the writer has gone on, and stands for the same records
@@ -263,10 +263,10 @@ module _ {D : Type 0} (history : D → History) (o : Opened) where
 
   module _ (old f : FlushValue D) (is : f ≡ old) (new : Writer D Global) where
     pub images_of : IsFlusher history o f → ((run : Run) (n : ℕ) → IsWriter history run n f.writer → LeavesOnly (history (device_of f.writer)) (history (device_of new)) (LeftBy run (synced_of f.writer) n))
-        → LeavesOnly (history (device_of old.writer)) (history (device_of new)) (IsLeft o old)
+        → LeavesOnly (history (device_of old.writer)) (history (device_of new)) (FlushLeaves o old)
     images_of stands images =
-        subst (λ (x : FlushValue D). LeavesOnly (history (device_of x.writer)) (history (device_of new)) (IsLeft o x)) is
-        (weaker (history (device_of f.writer)) (history (device_of new)) (LeftBy (run_of o f) (synced_of f.writer) (last_handed o f)) (IsLeft o f) (is_left history o f stands) (images (run_of o f) (last_handed o f) stands.writer))
+        subst (λ (x : FlushValue D). LeavesOnly (history (device_of x.writer)) (history (device_of new)) (FlushLeaves o x)) is
+        (weaker (history (device_of f.writer)) (history (device_of new)) (LeftBy (run_of o f) (synced_of f.writer) (last_handed o f)) (FlushLeaves o f) (is_left history o f stands) (images (run_of o f) (last_handed o f) stands.writer))
 
     pub nothing_of : (result : Result FlushReply Error) → IsFlusher history o f → (result ≡ Ok Nothing → (run : Run) (n : ℕ) → IsWriter history run n f.writer → synced_of f.writer ≡ n) → result ≡ Ok Nothing → synced_of old.writer ≡ last_handed o old
     nothing_of result stands nothing same = subst (λ (x : FlushValue D). synced_of x.writer ≡ last_handed o x) is (nothing same (run_of o f) (last_handed o f) stands.writer)

@@ -24,7 +24,7 @@ use Rattle.store_writer.specs.Parts.{halves_of, has_failed, image_of}
 use Rattle.store_writer.specs.Places.{IsAtPiece, IsAtPlace}
 use Rattle.store_writer.specs.Writer.{IsChunk, IsPageChunk, MustStartAgain}
 use Rattle.store_writer.specs.declared.image.NewImage.{NewImage}
-use Rattle.flusher.specs.Images.{IsAt, IsDue, TakesNext}
+use Rattle.flusher.specs.Images.{IsAt, IsPieceDue, TakesNext}
 use Rattle.flusher.specs.Part.{FlushValue, IsFlusher, last_handed, run_of}
 
 -- ---- every record made was handed in
@@ -89,7 +89,7 @@ module _ {D : Type 0} (history : D → History) (o : Opened) (f : FlushValue D) 
     abbrev cells : Cells
     cells = cells_at (run_of o f) (last_handed o f)
 
-    piece_then : {A : Type 0} (place : CopyPlace) (piece : Piece A) → IsDue g.pages place (image_of f.writer) → IsPieceOf l.core cells place piece → IsChunk (run_of o f) f.writer (last_handed o f) piece
+    piece_then : {A : Type 0} (place : CopyPlace) (piece : Piece A) → IsPieceDue g.pages place (image_of f.writer) → IsPieceOf l.core cells place piece → IsChunk (run_of o f) f.writer (last_handed o f) piece
     piece_then at.Start (Start life lists) due of = record {
       late = is.writer.reached;
       made = omega arith;
@@ -115,13 +115,13 @@ module _ {D : Type 0} (history : D → History) (o : Opened) (f : FlushValue D) 
     piece_then (at.Entries above) (Start life lists) due of = absurd of
     piece_then (at.Entries above) (Page page rows) due of = absurd of
 
-    pub piece_chunk : {A : Type 0} (place : CopyPlace) (piece : Piece A) → IsDue g.pages place (image_of f.writer) → IsPieceOf l.core (cells_at (lock.run_of g o l) number) place piece → IsChunk (run_of o f) f.writer number piece
+    pub piece_chunk : {A : Type 0} (place : CopyPlace) (piece : Piece A) → IsPieceDue g.pages place (image_of f.writer) → IsPieceOf l.core (cells_at (lock.run_of g o l) number) place piece → IsChunk (run_of o f) f.writer number piece
     piece_chunk {A} place piece due of =
         let now : IsPieceOf l.core cells place piece = subst (λ n. IsPieceOf l.core (cells_at (run_of o f) n) place piece) number_is (subst (λ (r : Run). IsPieceOf l.core (cells_at r number) place piece) same_run of) in
         subst (λ n. IsChunk (run_of o f) f.writer n piece) (sym number_is) (piece_then place piece due now)
 
 -- a piece that may be taken comes where the image is
-pub at_piece : {A D : Type 0} (v : CoreValue) (cells : Cells) (f : FlushValue D) (pages : ℕ) (place : CopyPlace) (piece : Piece A) → IsPieceOf v cells place piece → IsDue pages place (image_of f.writer) → ¬ MustStartAgain piece f.writer → IsAtPiece pages piece (image_of f.writer)
+pub at_piece : {A D : Type 0} (v : CoreValue) (cells : Cells) (f : FlushValue D) (pages : ℕ) (place : CopyPlace) (piece : Piece A) → IsPieceOf v cells place piece → IsPieceDue pages place (image_of f.writer) → ¬ MustStartAgain piece f.writer → IsAtPiece pages piece (image_of f.writer)
 at_piece v now f pages at.Start (Start life lists) of due may = tt
 at_piece v now f pages (at.Page page) (Page copied rows) of due may =
     subst (λ p. IsAtPlace pages (Some (at.Page p)) (image_of f.writer)) (sym of.0) (there pages (Some (at.Page page)) (image_of f.writer) (λ none. may (inl none)) due)

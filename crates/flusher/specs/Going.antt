@@ -25,7 +25,6 @@ pub record GoesOn {D : Type 0} (history : D → History) (failures : D → ℕ) 
   pub more : List RecordValue
   pub handed : new.handed ≡ old.handed ++ more
   pub geometry : (halves_of new.writer).geometry ≡ (halves_of old.writer).geometry
-  pub board : new.published.board ≡ old.published.board
   pub rises : synced_of old.writer ≤ synced_of new.writer
   pub horizon : old.published.horizon ≤ new.published.horizon
   pub images : LeavesOnly (history (device_of old.writer)) (history (device_of new.writer)) (GivesBeginning o (halves_of new.writer).geometry new.handed (synced_of old.writer))

@@ -23,10 +23,10 @@ abbrev pub IsAt : (pages : ℕ) → Option CopyPlace → Option NewImage → Typ
 IsAt pages place image = (image ≡ None) ⊎ IsAtPlace pages place image
 
 -- the piece of this place is due: the start always, and another as an image that is copied in steps is there
-abbrev pub IsDue : (pages : ℕ) → CopyPlace → Option NewImage → Type 0
-IsDue pages at.Start image = Unit {0}
-IsDue pages (at.Page page) image = IsAt pages (Some (at.Page page)) image
-IsDue pages (at.Entries above) image = IsAt pages (Some (at.Entries above)) image
+abbrev pub IsPieceDue : (pages : ℕ) → CopyPlace → Option NewImage → Type 0
+IsPieceDue pages at.Start image = Unit {0}
+IsPieceDue pages (at.Page page) image = IsAt pages (Some (at.Page page)) image
+IsPieceDue pages (at.Entries above) image = IsAt pages (Some (at.Entries above)) image
 
 -- the piece of an image that is due may be taken, as the last record handed in left its cells (no public clause cites this)
 pub record TakesNext {D : Type 0} (o : Opened) (f : FlushValue D) : Type 0 where

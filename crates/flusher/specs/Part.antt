@@ -75,8 +75,8 @@ pub record GivesBeginning (o : Opened) (g : GeometryValue) (handed : List Record
   pub opens : CanOpen o → CanOpen (record o { given = given_after o.given (take count handed) })
 
 -- So does each crash state of the flusher's device: with all that its writer has synced.
-abbrev pub IsLeft : {D : Type 0} → Opened → FlushValue D → Image → Type 0
-IsLeft o f = GivesBeginning o (halves_of f.writer).geometry f.handed (synced_of f.writer)
+abbrev pub FlushLeaves : {D : Type 0} → Opened → FlushValue D → Image → Type 0
+FlushLeaves o f = GivesBeginning o (halves_of f.writer).geometry f.handed (synced_of f.writer)
 
 -- what is published of a writer
 abbrev pub count_of : {D : Type 0} → TableId → Writer D Global → FlusherCount

@@ -7,7 +7,7 @@ ghost use Rattle.nsf_core.specs.Outbox.{HandsOn};
 ghost use Rattle.store_writer.specs.Parts.{halves_of, has_failed, image_of};
 ghost use Rattle.store_writer.specs.Places.{IsAtPiece};
 ghost use Rattle.store_writer.specs.Writer.{IsChunk, MustStartAgain};
-ghost use Rattle.flusher.specs.Images.{IsDue, IsNearlyFull, TakesNext};
+ghost use Rattle.flusher.specs.Images.{IsPieceDue, IsNearlyFull, TakesNext};
 
 use crate::part::FlushPart;
 use image_model::{Chunk, CopyPlace};
@@ -132,7 +132,7 @@ impl<B: Group, D: Device> FlushPart<B, D> {
     ) -> Result<Chunk<Global>, Error>
         requires queue { queue.now ≡ B.site.queue }
         requires sound { has_failed self.old.writer ≡ false }
-        requires due { IsDue (halves_of self.old.writer).geometry.pages place (image_of self.old.writer) }
+        requires due { IsPieceDue (halves_of self.old.writer).geometry.pages place (image_of self.old.writer) }
         ensures takes { TakesIn self.old self.new }
         ensures number { IfOk result (λ chunk. chunk.number ≡ last_handed B.site.opened self.new) }
         ensures last { IfOk result (λ chunk. chunk.number ≡ (locked_of locked.new).core.last) }

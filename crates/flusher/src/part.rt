@@ -77,7 +77,7 @@ fn publish<D: Device>(board: &Board<Global>, view: &mut FlushView, writer: &Stor
 
 impl<B: Group, D: Device> FlushPart<B, D> {
     ghost use Rattle.locked_core.specs.Locked.{locked_of};
-    ghost use Rattle.flusher.specs.Part.{HasGot, IsFlusher, IsLeft, Publishes, last_handed, popped_by, run_of};
+    ghost use Rattle.flusher.specs.Part.{HasGot, IsFlusher, FlushLeaves, Publishes, last_handed, popped_by, run_of};
 
     /// The part of a flusher that has popped nothing, with a writer over what was opened.
     pub fn new(alloc: Global, ends: FlushEnds, writer: StoreWriter<D, Global>) -> FlushPart<B, D>
@@ -173,7 +173,7 @@ impl<B: Group, D: Device> FlushPart<B, D> {
     pub fn flush(&mut self, board: &Board<Global>) -> Result<FlushReply, Error>
         requires { board.now ≡ B.site.board }
         ensures publishes { Publishes self.old self.new }
-        ensures images { LeavesOnly (D.history (device_of self.old.writer)) (D.history (device_of self.new.writer)) (IsLeft B.site.opened self.old) }
+        ensures images { LeavesOnly (D.history (device_of self.old.writer)) (D.history (device_of self.new.writer)) (FlushLeaves B.site.opened self.old) }
         ensures flushed { IfOk result (λ reply. IsFlushReply reply self.old.writer self.new.writer) }
         ensures image { (n : ℕ) → result ≡ Ok (FlushReply.Flushed n) → BecomesImage (halves_of self.old.writer).geometry.slots (synced_of self.old.writer) (n - synced_of self.old.writer) (image_of self.old.writer) (image_of self.new.writer) }
         ensures nothing { result ≡ Ok FlushReply.Nothing → synced_of self.old.writer ≡ last_handed B.site.opened self.old }
@@ -205,7 +205,7 @@ impl<B: Group, D: Device> FlushPart<B, D> {
         requires board { board.now ≡ B.site.board }
         requires chunk { IsChunk (run_of B.site.opened self.old) self.old.writer chunk.number chunk.piece }
         ensures publishes { Publishes self.old self.new }
-        ensures images { LeavesOnly (D.history (device_of self.old.writer)) (D.history (device_of self.new.writer)) (IsLeft B.site.opened self.old) }
+        ensures images { LeavesOnly (D.history (device_of self.old.writer)) (D.history (device_of self.new.writer)) (FlushLeaves B.site.opened self.old) }
         ensures stepped { IfOk result (λ reply. IsStepReply chunk.number chunk.piece reply self.old.writer self.new.writer) }
         ensures place { result ≡ Ok StepReply.Taken → IsAtPiece (halves_of self.old.writer).geometry.pages chunk.piece (image_of self.old.writer) → IsAtPlace (halves_of self.old.writer).geometry.pages (place_behind (halves_of self.old.writer).geometry.pages chunk.piece) (image_of self.new.writer) }
         ensures again { has_failed self.old.writer ≡ false → MustStartAgain chunk.piece self.old.writer → result ≡ Ok StepReply.StartAgain }
@@ -229,7 +229,7 @@ impl<B: Group, D: Device> FlushPart<B, D> {
     pub fn flip(&mut self, board: &Board<Global>) -> Result<FlipReply, Error>
         requires { board.now ≡ B.site.board }
         ensures publishes { Publishes self.old self.new }
-        ensures images { LeavesOnly (D.history (device_of self.old.writer)) (D.history (device_of self.new.writer)) (IsLeft B.site.opened self.old) }
+        ensures images { LeavesOnly (D.history (device_of self.old.writer)) (D.history (device_of self.new.writer)) (FlushLeaves B.site.opened self.old) }
         ensures flipped { IfOk result (λ reply. IsFlipReply (last_handed B.site.opened self.old) reply self.old.writer self.new.writer) }
         ensures behind { has_failed self.old.writer ≡ false → ¬ CanFlip (last_handed B.site.opened self.old) self.old.writer → result ≡ Ok FlipReply.Behind }
         ensures sound { OnOk result ((has_failed self.old.writer ≡ false) × (has_failed self.new.writer ≡ false)) }
@@ -265,7 +265,7 @@ impl<B: Group, D: Device> FlushPart<B, D> {
     pub fn into_parts(self) -> (D, Popper)
         ensures device { result.0 ≡ device_of self.writer }
         ensures popper { result.1 ≡ record { queue = B.site.queue; records = popped_by self } }
-        ensures images { (image : Image) → IsCrashImage (D.history result.0).disk image → IsLeft B.site.opened self image }
+        ensures images { (image : Image) → IsCrashImage (D.history result.0).disk image → FlushLeaves B.site.opened self image }
     {
         let FlushPart {
             alloc: _,

@@ -8,9 +8,11 @@ use Rattle.sector_device.proofs.Sectors.{same_part}
 use Rattle.sector_device.specs.Values.{IsMarked}
 use Rattle.sector_device.proofs.KnownSectors.{zero_not_marked}
 use Rattle.records.specs.RecordValue.{RecordValue}
-use Rattle.gate_log.specs.Group.{IsGroup}
+use Rattle.records.specs.declared.version.Version.{Version}
+use Rattle.records.specs.declared.version.Version.TheVariants.{Two}
+use Rattle.gate_log.specs.Group.{IsGroup, IsGroupIn}
 use Rattle.gate_log.proofs.Groups.{one_group}
-use Rattle.gate_log.specs.Area.{Area, gate, body, InArea, IsOpen, AreGatesZero, HoldsGroups, records_of, IsDamaged, IsFirstDamagedSlot}
+use Rattle.gate_log.specs.Area.{Area, gate, body, InArea, IsOpen, AreGatesZero, HoldsGroups, HoldsGroupsIn, records_of, IsDamagedIn, IsFirstDamagedSlotIn}
 
 -- two images have the same sectors in a slot
 abbrev SameSlot : Area → Image → Image → ℕ → Type 0
@@ -79,8 +81,8 @@ holds_same area image c groups long same held =
     (λ lt is_open. held.closed (length groups) (omega arith) lt (ap (λ (b : List ℕ). slice_index b 0) (sym (same (gate area (length groups)) (omega arith, omega (arith, lt)))) ∙ is_open))
 
 -- an image holds one list of groups at most
-pub one_list : (area : Area) (image : Image) (a b : List (List RecordValue)) → HoldsGroups area image a → HoldsGroups area image b → length a ≡ length b
-one_list area image a b p q =
+pub one_list : (v : Version) (area : Area) (image : Image) (a b : List (List RecordValue)) → HoldsGroupsIn v area image a → HoldsGroupsIn v area image b → length a ≡ length b
+one_list v area image a b p q =
     ⊎_elim
     (λ less. absurd (p.closed (length a) (omega arith) (omega (arith, less, q.room)) (q.opened (length a) less).0))
     (λ le. ⊎_elim
@@ -92,25 +94,25 @@ one_list area image a b p q =
 -- ---- reading
 
 -- one slot more, whose gate is closed
-pub one_closed : (first slot : ℕ) (image : Image) (groups : List (List RecordValue)) → HoldsGroups (record { first = first; slots = slot }) image groups → ¬ IsOpen image (first + 8 * slot) → HoldsGroups (record { first = first; slots = slot + 1 }) image groups
-one_closed first slot image groups held shut = record {
+pub one_closed : (v : Version) (first slot : ℕ) (image : Image) (groups : List (List RecordValue)) → HoldsGroupsIn v (record { first = first; slots = slot }) image groups → ¬ IsOpen image (first + 8 * slot) → HoldsGroupsIn v (record { first = first; slots = slot + 1 }) image groups
+one_closed v first slot image groups held shut = record {
   room = omega (arith, held.room);
   opened = held.opened;
   closed = λ i le lt. ⊎_elim (λ same. subst (λ n. ¬ IsOpen image (first + 8 * n)) (sym same) shut) (λ other. held.closed i le (omega (arith, lt, other))) (cases_eq i slot);
 }
 
 -- one slot more, with a group, where all before it are open
-pub one_open : (first slot : ℕ) (image : Image) (groups : List (List RecordValue)) (records : List RecordValue) → HoldsGroups (record { first = first; slots = slot }) image groups → length groups ≡ slot
-    → IsOpen image (first + 8 * slot) → IsGroup records (body image (first + 8 * slot)) → HoldsGroups (record { first = first; slots = slot + 1 }) image (groups ++ records ∷ [])
-one_open first slot image groups records held all is_open group = record {
+pub one_open : (v : Version) (first slot : ℕ) (image : Image) (groups : List (List RecordValue)) (records : List RecordValue) → HoldsGroupsIn v (record { first = first; slots = slot }) image groups → length groups ≡ slot
+    → IsOpen image (first + 8 * slot) → IsGroupIn v records (body image (first + 8 * slot)) → HoldsGroupsIn v (record { first = first; slots = slot + 1 }) image (groups ++ records ∷ [])
+one_open v first slot image groups records held all is_open group = record {
   room = omega (arith, size, all);
   opened = λ i lt. ⊎_elim
-      (λ same. subst (λ n. IsOpen image (first + 8 * n) × IsGroup (slice_index_or (groups ++ records ∷ []) n []) (body image (first + 8 * n))) (sym (same ∙ all))
-      (is_open, subst (λ (g : List RecordValue). IsGroup g (body image (first + 8 * slot))) (sym (get_or_at groups records [] [] slot all)) group))
+      (λ same. subst (λ n. IsOpen image (first + 8 * n) × IsGroupIn v (slice_index_or (groups ++ records ∷ []) n []) (body image (first + 8 * n))) (sym (same ∙ all))
+      (is_open, subst (λ (g : List RecordValue). IsGroupIn v g (body image (first + 8 * slot))) (sym (get_or_at groups records [] [] slot all)) group))
       (λ other.
       let below : i < length groups = omega (arith, lt, size, other) in
       let there = held.opened i below in
-      (there.0, subst (λ (g : List RecordValue). IsGroup g (body image (first + 8 * i))) (sym (get_or_append_left groups (records ∷ []) [] i below)) there.1))
+      (there.0, subst (λ (g : List RecordValue). IsGroupIn v g (body image (first + 8 * i))) (sym (get_or_append_left groups (records ∷ []) [] i below)) there.1))
       (cases_eq i (length groups));
   closed = λ i le lt. absurd (omega (arith, le, lt, size, all));
 }
@@ -119,8 +121,8 @@ one_open first slot image groups records held all is_open group = record {
     size = omega (arith, length-append {A = List RecordValue} groups (records ∷ []))
 
 -- an open slot that so many open ones are before: the first one is open
-pub first_open : (first slot slots : ℕ) (image : Image) (groups : List (List RecordValue)) → slot < slots → HoldsGroups (record { first = first; slots = slot }) image groups → length groups ≡ slot → IsOpen image (first + 8 * slot) → (0 < slots) × IsOpen image first
-first_open first slot slots image groups inside held all opened = (
+pub first_open : (v : Version) (first slot slots : ℕ) (image : Image) (groups : List (List RecordValue)) → slot < slots → HoldsGroupsIn v (record { first = first; slots = slot }) image groups → length groups ≡ slot → IsOpen image (first + 8 * slot) → (0 < slots) × IsOpen image first
+first_open v first slot slots image groups inside held all opened = (
   omega (arith, inside),
   ⊎_elim
       (λ some. subst (IsOpen image) (omega arith) (held.opened 0 (omega (arith, some, all))).0)
@@ -129,8 +131,8 @@ first_open first slot slots image groups inside held all opened = (
 )
 
 -- no slot so far is damaged
-pub undamaged : (first slot slots : ℕ) (image : Image) (groups : List (List RecordValue)) → HoldsGroups (record { first = first; slots = slot }) image groups → (i : ℕ) → i < slot → ¬ IsDamaged (record { first = first; slots = slots }) image i
-undamaged first slot slots image groups held i lt damaged = ⊎_elim
+pub undamaged : (v : Version) (first slot slots : ℕ) (image : Image) (groups : List (List RecordValue)) → HoldsGroupsIn v (record { first = first; slots = slot }) image groups → (i : ℕ) → i < slot → ¬ IsDamagedIn v (record { first = first; slots = slots }) image i
+undamaged v first slot slots image groups held i lt damaged = ⊎_elim
     (λ below. ⊎_elim
     (λ shut. shut.2 (held.opened shut.0 (omega (arith, shut.1, below))).0)
     (λ none. none (slice_index_or groups i []) (held.opened i below).1)
@@ -139,8 +141,8 @@ undamaged first slot slots image groups held i lt damaged = ⊎_elim
     (cases_lt i (length groups))
 
 -- the first damaged slot
-pub first_damaged : (first slot slots : ℕ) (image : Image) (groups : List (List RecordValue)) → slot < slots → HoldsGroups (record { first = first; slots = slot }) image groups → IsDamaged (record { first = first; slots = slots }) image slot → IsFirstDamagedSlot (record { first = first; slots = slots }) image (first + 8 * slot)
-first_damaged first slot slots image groups inside held damaged = record { slot = slot; inside = inside; gate-is = refl; damaged = damaged; before = undamaged first slot slots image groups held }
+pub first_damaged : (v : Version) (first slot slots : ℕ) (image : Image) (groups : List (List RecordValue)) → slot < slots → HoldsGroupsIn v (record { first = first; slots = slot }) image groups → IsDamagedIn v (record { first = first; slots = slots }) image slot → IsFirstDamagedSlotIn v (record { first = first; slots = slots }) image (first + 8 * slot)
+first_damaged v first slot slots image groups inside held damaged = record { slot = slot; inside = inside; gate-is = refl; damaged = damaged; before = undamaged v first slot slots image groups held }
 
 pub none_here : {T : Type 0} (o : Option T) (P : Type 0) (Q : T → Type 0) → o ≡ None → MatchOption o P Q → P
 none_here o P Q is h = subst (λ x. MatchOption x P Q) is h
@@ -149,8 +151,8 @@ pub some_here : {T : Type 0} (o : Option T) (x : T) (P : Type 0) (Q : T → Type
 some_here o x P Q is h = subst (λ y. MatchOption y P Q) is h
 
 -- a group that is read in a slot is the one that is held there
-pub held_there : (area : Area) (image : Image) (groups : List (List RecordValue)) (slot : ℕ) (records : List RecordValue) → HoldsGroups area image groups → slot < length groups → IsGroup records (body image (gate area slot)) → length records ≡ length (slice_index_or groups slot [])
-held_there area image groups slot records held lt group = ap length (one_group records (slice_index_or groups slot []) (body image (gate area slot)) group (held.opened slot lt).1)
+pub held_there : (v : Version) (area : Area) (image : Image) (groups : List (List RecordValue)) (slot : ℕ) (records : List RecordValue) → HoldsGroupsIn v area image groups → slot < length groups → IsGroupIn v records (body image (gate area slot)) → length records ≡ length (slice_index_or groups slot [])
+held_there v area image groups slot records held lt group = ap length (one_group v records (slice_index_or groups slot []) (body image (gate area slot)) group (held.opened slot lt).1)
 
 -- the records of one group more
 pub records_more : (groups : List (List RecordValue)) (slot : ℕ) → slot < length groups → length (records_of (take (slot + 1) groups)) ≡ length (records_of (take slot groups)) + length (slice_index_or groups slot [])
@@ -161,16 +163,16 @@ records_more groups slot lt =
 
 -- ---- laws
 
-pub one_reading : (area : Area) (image : Image) (a b : List (List RecordValue)) → HoldsGroups area image a → HoldsGroups area image b → a ≡ b
-one_reading area image a b p q =
-    let long = one_list area image a b p q in
-    ext_get_or [] a b long (λ i lt. one_group (slice_index_or a i []) (slice_index_or b i []) (body image (gate area i)) (p.opened i lt).1 (q.opened i (omega (arith, lt, long))).1)
+pub one_reading : (v : Version) (area : Area) (image : Image) (a b : List (List RecordValue)) → HoldsGroupsIn v area image a → HoldsGroupsIn v area image b → a ≡ b
+one_reading v area image a b p q =
+    let long = one_list v area image a b p q in
+    ext_get_or [] a b long (λ i lt. one_group v (slice_index_or a i []) (slice_index_or b i []) (body image (gate area i)) (p.opened i lt).1 (q.opened i (omega (arith, lt, long))).1)
 
-pub not_damaged : (area : Area) (image : Image) (sector : ℕ) (groups : List (List RecordValue)) → IsFirstDamagedSlot area image sector → ¬ HoldsGroups area image groups
-not_damaged area image sector groups first held = undamaged area.first area.slots area.slots image groups held first.slot first.inside first.damaged
+pub not_damaged : (v : Version) (area : Area) (image : Image) (sector : ℕ) (groups : List (List RecordValue)) → IsFirstDamagedSlotIn v area image sector → ¬ HoldsGroupsIn v area image groups
+not_damaged v area image sector groups first held = undamaged v area.first area.slots area.slots image groups held first.slot first.inside first.damaged
 
-pub one_damage : (area : Area) (image : Image) (a b : ℕ) → IsFirstDamagedSlot area image a → IsFirstDamagedSlot area image b → a ≡ b
-one_damage area image a b p q = p.gate-is ∙ ap (gate area) same ∙ sym q.gate-is
+pub one_damage : (v : Version) (area : Area) (image : Image) (a b : ℕ) → IsFirstDamagedSlotIn v area image a → IsFirstDamagedSlotIn v area image b → a ≡ b
+one_damage v area image a b p q = p.gate-is ∙ ap (gate area) same ∙ sym q.gate-is
   where
     same : p.slot ≡ q.slot
     same = ⊎_elim

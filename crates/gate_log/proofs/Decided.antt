@@ -7,10 +7,11 @@ use Rattle.std.proofs.lemmas.List.{get_or_append_left, get_or-append_right, drop
 use Rattle.std.proofs.lemmas.List.Elements.{All-nil, All-cons, All-head, All-tail}
 use Rattle.byteorder.specs.Endian.{big_number}
 use Rattle.byteorder.specs.Numbers.{big_from-lt}
-use Rattle.sector_device.specs.Disk.{Image, sector, IsWhole}
+use Rattle.sector_device.specs.Disk.{Image, sector, IsDiskWhole}
 use Rattle.sector_device.specs.declared.values.TheConstants.{MARK}
 use Rattle.sector_device.proofs.Sectors.{part_more}
 use Rattle.records.specs.RecordValue.{RecordValue}
+use Rattle.records.specs.declared.version.Version.TheVariants.{Two}
 use Rattle.records.specs.Spelling.{spelling, Fits, IsBytes}
 use Rattle.records.proofs.Spellings.{one_spelling, begins_or_not}
 use Rattle.records.proofs.Numbers.{IsBytes-drop, IsBytes-take}
@@ -24,17 +25,17 @@ use Rattle.gate_log.proofs.Areas.{one_closed, one_open, first_damaged}
 
 -- the bytes are so many records, or they are not
 abbrev SpelledOr : ℕ → List ℕ → Type 0
-SpelledOr count bytes = ((records : List RecordValue) × AreSpelled records count bytes) ⊎ ((records : List RecordValue) → ¬ AreSpelled records count bytes)
+SpelledOr count bytes = ((records : List RecordValue) × AreSpelled Two records count bytes) ⊎ ((records : List RecordValue) → ¬ AreSpelled Two records count bytes)
 
 -- of no others, if not of the records behind the first one
-none_behind : (r : RecordValue) (rest bytes : List ℕ) (n : ℕ) → bytes ≡ spelling r ++ rest → Fits r → ((records : List RecordValue) → ¬ AreSpelled records n rest) → (records : List RecordValue) → ¬ AreSpelled records (suc n) bytes
+none_behind : (r : RecordValue) (rest bytes : List ℕ) (n : ℕ) → bytes ≡ spelling r ++ rest → Fits r → ((records : List RecordValue) → ¬ AreSpelled Two records n rest) → (records : List RecordValue) → ¬ AreSpelled Two records (suc n) bytes
 none_behind r rest bytes n is good none [] are = absurd (omega (arith, are.count-is))
 none_behind r rest bytes n is good none (x ∷ xs) are =
     let split = one_spelling r x rest (spellings xs) good (All-head Fits x xs are.each) (sym is ∙ are.spelled ∙ spellings-cons x xs) in
     none xs (record { each = All-tail Fits x xs are.each; count-is = omega (arith, are.count-is); spelled = split.1 })
 
 -- of these, if of the records behind the first one
-one_behind : (r : RecordValue) (rest bytes : List ℕ) (n : ℕ) (records : List RecordValue) → bytes ≡ spelling r ++ rest → Fits r → AreSpelled records n rest → AreSpelled (r ∷ records) (suc n) bytes
+one_behind : (r : RecordValue) (rest bytes : List ℕ) (n : ℕ) (records : List RecordValue) → bytes ≡ spelling r ++ rest → Fits r → AreSpelled Two records n rest → AreSpelled Two (r ∷ records) (suc n) bytes
 one_behind r rest bytes n records is good are = record {
   each = All-cons Fits r records good are.each;
   count-is = omega (arith, are.count-is);
@@ -43,7 +44,7 @@ one_behind r rest bytes n records is good are = record {
 
 spelled_or : (count : ℕ) (bytes : List ℕ) → IsBytes bytes → SpelledOr count bytes
 spelled_or zero [] fits = inl ([], record { each = All-nil Fits; count-is = refl; spelled = sym spellings-nil })
-spelled_or zero (b ∷ bytes) fits = inr (more_spelled [] 0 (b ∷ bytes) (b ∷ bytes) (All-nil Fits) refl (ap (λ (t : List ℕ). t ++ (b ∷ bytes)) (sym spellings-nil)) (omega arith))
+spelled_or zero (b ∷ bytes) fits = inr (more_spelled Two [] 0 (b ∷ bytes) (b ∷ bytes) (All-nil Fits) refl (ap (λ (t : List ℕ). t ++ (b ∷ bytes)) (sym spellings-nil)) (omega arith))
 spelled_or (suc n) bytes fits = ⊎_elim
     (λ begins.
     let r = begins.0 in
@@ -53,7 +54,7 @@ spelled_or (suc n) bytes fits = ⊎_elim
     (λ more. inl (r ∷ more.0, one_behind r rest bytes n more.0 begins.2 begins.3 more.1))
     (λ none. inr (none_behind r rest bytes n begins.2 begins.3 none))
     (spelled_or n rest (subst IsBytes behind (IsBytes-drop (length (spelling r)) bytes fits))))
-    (λ nothing. inr (none_spelled [] (suc n) bytes bytes (All-nil Fits) (omega arith) (ap (λ (t : List ℕ). t ++ bytes) (sym spellings-nil)) nothing))
+    (λ nothing. inr (none_spelled Two [] (suc n) bytes bytes (All-nil Fits) (omega arith) (ap (λ (t : List ℕ). t ++ bytes) (sym spellings-nil)) nothing))
     (begins_or_not bytes fits)
 
 zeros_or : (xs : List ℕ) → All (λ b. b ≡ 0) xs ⊎ ¬ All (λ b. b ≡ 0) xs
@@ -72,7 +73,7 @@ group_or bytes long fits = ⊎_elim
     (λ some. ⊎_elim
     (λ short. ⊎_elim
     (λ zeros. ⊎_elim
-    (λ spelled. inl (spelled.0, from_parts spelled.0 bytes rest count len long is (record { some = some; short = omega (arith, short); are = spelled.1; zeros-are = zeros })))
+    (λ spelled. inl (spelled.0, from_parts Two spelled.0 bytes rest count len long is (record { some = some; short = omega (arith, short); are = spelled.1; zeros-are = zeros })))
     (λ none. inr (λ records group. none records (parts records group).are))
     (spelled_or count (take len rest) (IsBytes-take len rest (IsBytes-drop 4 bytes fits))))
     (λ others. inr (λ records group. others (parts records group).zeros-are))
@@ -94,8 +95,8 @@ group_or bytes long fits = ⊎_elim
     is : bytes ≡ header count len ++ rest
     is = header_front bytes (drop 2 bytes) count len fits (omega (arith, long)) refl refl refl
 
-    parts : (records : List RecordValue) → IsGroup records bytes → IsParted records count len (take len rest) (drop len rest)
-    parts records group = parted records bytes rest count len (big_from-lt 0 2 bytes fits) (big_from-lt 0 2 (drop 2 bytes) (IsBytes-drop 2 bytes fits)) is group
+    parts : (records : List RecordValue) → IsGroup records bytes → IsParted Two records count len (take len rest) (drop len rest)
+    parts records group = parted Two records bytes rest count len (big_from-lt 0 2 bytes fits) (big_from-lt 0 2 (drop 2 bytes) (IsBytes-drop 2 bytes fits)) is group
 
 -- ---- bodies
 
@@ -110,7 +111,7 @@ record AreJoined (bytes : List ℕ) (n : ℕ) : Type 0 where
   pub size : length bytes ≡ 512 * n
   pub fits : IsBytes bytes
 
-joined : (image : Image) (low : ℕ) → IsWhole image → (n : ℕ) → low + n ≤ length image → AreJoined (concat (slice_range image low (low + n))) n
+joined : (image : Image) (low : ℕ) → IsDiskWhole image → (n : ℕ) → low + n ≤ length image → AreJoined (concat (slice_range image low (low + n))) n
 joined image low whole zero room =
     let none : (low + 0) - low ≡ 0 = omega arith in
     subst (λ (m : ℕ). AreJoined (concat (take m (drop low image))) 0) (sym none) (record { size = refl; fits = λ i. omega arith })
@@ -121,14 +122,14 @@ joined image low whole (suc n) room =
     let more = part_more image low n (low + suc n) (omega (arith, room)) (omega arith) in
     subst (λ (b : List ℕ). AreJoined b (suc n)) (sym more) (record { size = omega (arith, length-append {A = ℕ} front (sector image (low + n)), before.size, last.size); fits = IsBytes-append front (sector image (low + n)) before.fits last.are_bytes })
 
-joined_body : (image : Image) (n : ℕ) → IsWhole image → n + 8 ≤ length image → AreJoined (body image n) 7
+joined_body : (image : Image) (n : ℕ) → IsDiskWhole image → n + 8 ≤ length image → AreJoined (body image n) 7
 joined_body image n whole room =
     let same : (n + 1) + 7 ≡ n + 8 = omega arith in
     subst (λ (high : ℕ). AreJoined (concat (slice_range image (n + 1) high)) 7) same (joined image (n + 1) whole 7 (omega (arith, room)))
 
 -- ---- areas
 
-module _ (area : Area) (image : Image) (whole : IsWhole image) (inside : IsAreaInside area image) where
+module _ (area : Area) (image : Image) (whole : IsDiskWhole image) (inside : IsAreaInside area image) where
   -- the first slots hold groups, or the area is damaged
   abbrev ReadOr : ℕ → Type 0
   ReadOr n = ((groups : List (List RecordValue)) × HoldsGroups (record { first = area.first; slots = n }) image groups) ⊎ ((s : ℕ) × IsFirstDamagedSlot area image s)
@@ -137,13 +138,13 @@ module _ (area : Area) (image : Image) (whole : IsWhole image) (inside : IsAreaI
   next_slot : (n : ℕ) (groups : List (List RecordValue)) → n < area.slots → HoldsGroups (record { first = area.first; slots = n }) image groups → ReadOr (n + 1)
   next_slot n groups lt held = ⊎_elim
       (λ opened. ⊎_elim
-      (λ less. inr (_, first_damaged area.first n area.slots image groups lt held (opened, inl (length groups, less, held.closed (length groups) (omega arith) less))))
+      (λ less. inr (_, first_damaged Two area.first n area.slots image groups lt held (opened, inl (length groups, less, held.closed (length groups) (omega arith) less))))
       (λ all. ⊎_elim
-      (λ group. inl (groups ++ group.0 ∷ [], one_open area.first n image groups group.0 held (omega (arith, all, held.room)) opened group.1))
-      (λ none. inr (_, first_damaged area.first n area.slots image groups lt held (opened, inr none)))
+      (λ group. inl (groups ++ group.0 ∷ [], one_open Two area.first n image groups group.0 held (omega (arith, all, held.room)) opened group.1))
+      (λ none. inr (_, first_damaged Two area.first n area.slots image groups lt held (opened, inr none)))
       (let there = joined_body image (area.first + 8 * n) whole (omega (arith, lt, inside)) in group_or (body image (area.first + 8 * n)) there.size there.fits))
       (cases_lt (length groups) n))
-      (λ shut. inl (groups, one_closed area.first n image groups held shut))
+      (λ shut. inl (groups, one_closed Two area.first n image groups held shut))
       (cases_eq (slice_index (sector image (area.first + 8 * n)) 0) MARK)
 
   read_or : (n : ℕ) → n ≤ area.slots → ReadOr n
@@ -156,5 +157,5 @@ module _ (area : Area) (image : Image) (whole : IsWhole image) (inside : IsAreaI
       (read_or n (omega (arith, le)))
 
 -- the area holds groups, or it is damaged
-pub some_reading : (area : Area) (image : Image) → IsWhole image → IsAreaInside area image → ((groups : List (List RecordValue)) × HoldsGroups area image groups) ⊎ ((n : ℕ) × IsFirstDamagedSlot area image n)
+pub some_reading : (area : Area) (image : Image) → IsDiskWhole image → IsAreaInside area image → ((groups : List (List RecordValue)) × HoldsGroups area image groups) ⊎ ((n : ℕ) × IsFirstDamagedSlot area image n)
 some_reading area image whole inside = read_or area image whole inside area.slots (omega arith)

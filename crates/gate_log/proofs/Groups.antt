@@ -6,10 +6,13 @@ use Rattle.std.proofs.lemmas.List.Concat.{flat_map-append}
 use Rattle.std.proofs.lemmas.List.Elements.{All-head, All-tail, All-same, All-replicate}
 use Rattle.byteorder.specs.Endian.{big_number}
 use Rattle.records.specs.RecordValue.{RecordValue}
-use Rattle.records.specs.Spelling.{spelling, u16, Fits, IsBytes}
+use Rattle.records.specs.declared.version.Version.{Version}
+use Rattle.records.specs.declared.version.Version.TheVariants.{Two}
+use Rattle.records.specs.Spelling.{spelling, u16, Fits, FitsIn, IsBytes}
+use Rattle.records.proofs.Wide.{wide}
 use Rattle.records.proofs.Spellings.{one_spelling, spelling_least}
 use Rattle.records.proofs.Numbers.{IsBytes-drop, length-u16, u16_front, u16_once}
-use Rattle.gate_log.specs.Group.{spellings, header, FitsGroup, IsGroup}
+use Rattle.gate_log.specs.Group.{spellings, header, FitsGroup, IsGroup, IsGroupIn}
 use Rattle.gate_log.specs.Steps.{AreSpelled}
 
 pub spellings-nil : spellings [] ≡ []
@@ -31,19 +34,19 @@ count-spellings (r ∷ rs) =
     rw spellings-cons (omega (arith, length-append {A = ℕ} (spelling r) (spellings rs), spelling_least r, count-spellings rs))
 
 -- some of a list of records is told by its spellings
-pub same_front : (done rs : List RecordValue) (rest more : List ℕ) → All Fits done → All Fits rs → length done ≤ length rs → spellings done ++ rest ≡ spellings rs ++ more
+pub same_front : (v : Version) (done rs : List RecordValue) (rest more : List ℕ) → All (FitsIn v) done → All (FitsIn v) rs → length done ≤ length rs → spellings done ++ rest ≡ spellings rs ++ more
     → (rs ≡ done ++ drop (length done) rs) × (rest ≡ spellings (drop (length done) rs) ++ more)
-same_front [] rs rest more fits_done fits long e = (refl, rw spellings-nil at e)
-same_front (d ∷ done) [] rest more fits_done fits long e = absurd (omega arith)
-same_front (d ∷ done) (r ∷ rs) rest more fits_done fits long e =
+same_front v [] rs rest more fits_done fits long e = (refl, rw spellings-nil at e)
+same_front v (d ∷ done) [] rest more fits_done fits long e = absurd (omega arith)
+same_front v (d ∷ done) (r ∷ rs) rest more fits_done fits long e =
     let parts : spelling d ++ (spellings done ++ rest) ≡ spelling r ++ (spellings rs ++ more) =
     sym (append_assoc (spelling d) (spellings done) rest)
     ∙ ap (λ (t : List ℕ). t ++ rest) (sym (spellings-cons d done))
     ∙ e
     ∙ ap (λ (t : List ℕ). t ++ more) (spellings-cons r rs)
     ∙ append_assoc (spelling r) (spellings rs) more in
-    let first = one_spelling d r (spellings done ++ rest) (spellings rs ++ more) (All-head Fits d done fits_done) (All-head Fits r rs fits) parts in
-    let others = same_front done rs rest more (All-tail Fits d done fits_done) (All-tail Fits r rs fits) (omega arith) first.1 in
+    let first = one_spelling d r (spellings done ++ rest) (spellings rs ++ more) (wide v d (All-head (FitsIn v) d done fits_done)) (wide v r (All-head (FitsIn v) r rs fits)) parts in
+    let others = same_front v done rs rest more (All-tail (FitsIn v) d done fits_done) (All-tail (FitsIn v) r rs fits) (omega arith) first.1 in
     (ap (λ (x : RecordValue). x ∷ rs) (sym first.0) ∙ ap (λ (t : List RecordValue). d ∷ t) others.0, others.1)
 
 -- one record more
@@ -89,23 +92,23 @@ all_zeros (x ∷ xs) zeros =
     ap (λ (b : ℕ). b ∷ xs) (All-head (λ b. b ≡ 0) x xs zeros) ∙ ap (λ (t : List ℕ). 0 ∷ t) (all_zeros xs (All-tail (λ b. b ≡ 0) x xs zeros))
 
 -- where the next record can't be read, there are no such records
-pub none_spelled : (done : List RecordValue) (count : ℕ) (bytes rest : List ℕ) → All Fits done → length done < count → bytes ≡ spellings done ++ rest
-    → ((r : RecordValue) (more : List ℕ) → Fits r → rest ≡ spelling r ++ more → ⊥) → (records : List RecordValue) → ¬ AreSpelled records count bytes
-none_spelled done count bytes rest fits less is none records are =
-    let split = same_front done records rest [] fits are.each (omega (arith, less, are.count-is)) (sym is ∙ are.spelled ∙ sym (append-nil (spellings records))) in
-    next (drop (length done) records) (omega (arith, length-drop (length done) records, less, are.count-is)) (subst (λ (rs : List RecordValue). All Fits rs) split.0 are.each) split.1
+pub none_spelled : (v : Version) (done : List RecordValue) (count : ℕ) (bytes rest : List ℕ) → All (FitsIn v) done → length done < count → bytes ≡ spellings done ++ rest
+    → ((r : RecordValue) (more : List ℕ) → FitsIn v r → rest ≡ spelling r ++ more → ⊥) → (records : List RecordValue) → ¬ AreSpelled v records count bytes
+none_spelled v done count bytes rest fits less is none records are =
+    let split = same_front v done records rest [] fits are.each (omega (arith, less, are.count-is)) (sym is ∙ are.spelled ∙ sym (append-nil (spellings records))) in
+    next (drop (length done) records) (omega (arith, length-drop (length done) records, less, are.count-is)) (subst (λ (rs : List RecordValue). All (FitsIn v) rs) split.0 are.each) split.1
   where
-    next : (others : List RecordValue) → 1 ≤ length others → All Fits (done ++ others) → rest ≡ spellings others ++ [] → ⊥
+    next : (others : List RecordValue) → 1 ≤ length others → All (FitsIn v) (done ++ others) → rest ≡ spellings others ++ [] → ⊥
     next [] long each e = omega (arith, long)
     next (r ∷ others) long each e =
-        none r (spellings others ++ []) (subst Fits (get_or_at done r others r (length done) refl) (each (length done) r (omega (arith, length-append {A = RecordValue} done (r ∷ others), long))))
+        none r (spellings others ++ []) (subst (FitsIn v) (get_or_at done r others r (length done) refl) (each (length done) r (omega (arith, length-append {A = RecordValue} done (r ∷ others), long))))
         (e ∙ ap (λ (t : List ℕ). t ++ []) (spellings-cons r others) ∙ append_assoc (spelling r) (spellings others) [])
 
 -- where something is left, there are none either
-pub more_spelled : (done : List RecordValue) (count : ℕ) (bytes rest : List ℕ) → All Fits done → length done ≡ count → bytes ≡ spellings done ++ rest → 1 ≤ length rest
-    → (records : List RecordValue) → ¬ AreSpelled records count bytes
-more_spelled done count bytes rest fits same is long records are =
-    let split = same_front done records rest [] fits are.each (omega (arith, same, are.count-is)) (sym is ∙ are.spelled ∙ sym (append-nil (spellings records))) in
+pub more_spelled : (v : Version) (done : List RecordValue) (count : ℕ) (bytes rest : List ℕ) → All (FitsIn v) done → length done ≡ count → bytes ≡ spellings done ++ rest → 1 ≤ length rest
+    → (records : List RecordValue) → ¬ AreSpelled v records count bytes
+more_spelled v done count bytes rest fits same is long records are =
+    let split = same_front v done records rest [] fits are.each (omega (arith, same, are.count-is)) (sym is ∙ are.spelled ∙ sym (append-nil (spellings records))) in
     let none : drop (length done) records ≡ [] = nil_from_length (drop (length done) records) (omega (arith, length-drop (length done) records, same, are.count-is)) in
     let empty : rest ≡ [] = split.1 ∙ ap (λ (rs : List RecordValue). spellings rs ++ []) none ∙ ap (λ (t : List ℕ). t ++ []) spellings-nil in
     omega (arith, long, ap length empty)
@@ -137,14 +140,14 @@ header_once a b c d x y fa fb fc fd e =
     (first.0, second.0, second.1)
 
 -- what a group's body is made of
-pub record IsParted (records : List RecordValue) (count len : ℕ) (spelled zeros : List ℕ) : Type 0 where
+pub record IsParted (v : Version) (records : List RecordValue) (count len : ℕ) (spelled zeros : List ℕ) : Type 0 where
   pub some : 1 ≤ count
   pub short : len ≤ 3580
-  pub are : AreSpelled records count spelled
+  pub are : AreSpelled v records count spelled
   pub zeros-are : All (λ b. b ≡ 0) zeros
 
-pub parted : (records : List RecordValue) (body rest : List ℕ) (count len : ℕ) → count < 2 ^ 16 → len < 2 ^ 16 → body ≡ header count len ++ rest → IsGroup records body → IsParted records count len (take len rest) (drop len rest)
-parted records body rest count len count_fits len_fits is group =
+pub parted : (v : Version) (records : List RecordValue) (body rest : List ℕ) (count len : ℕ) → count < 2 ^ 16 → len < 2 ^ 16 → body ≡ header count len ++ rest → IsGroupIn v records body → IsParted v records count len (take len rest) (drop len rest)
+parted v records body rest count len count_fits len_fits is group =
     let n = length (spellings records) in
     let zeros : List ℕ = replicate (3580 - length (spellings records)) 0 in
     let few = count-spellings records in
@@ -156,8 +159,8 @@ parted records body rest count len count_fits len_fits is group =
       zeros-are = All-same (λ b. b ≡ 0) (drop len rest) zeros (ap (drop len) same.2 ∙ drop_at (spellings records) zeros len (sym same.1)) (All-replicate (λ b. b ≡ 0) (3580 - length (spellings records)) 0 refl);
     }
 
-pub from_parts : (records : List RecordValue) (body rest : List ℕ) (count len : ℕ) → length body ≡ 3584 → body ≡ header count len ++ rest → IsParted records count len (take len rest) (drop len rest) → IsGroup records body
-from_parts records body rest count len long is parts =
+pub from_parts : (v : Version) (records : List RecordValue) (body rest : List ℕ) (count len : ℕ) → length body ≡ 3584 → body ≡ header count len ++ rest → IsParted v records count len (take len rest) (drop len rest) → IsGroupIn v records body
+from_parts v records body rest count len long is parts =
     let size : length rest ≡ 3580 = omega (arith, long, ap length is, length-append {A = ℕ} (header count len) rest, length-header count len) in
     let n : len ≡ length (spellings records) = omega (arith, ap length parts.are.spelled, length-take len rest, size, parts.short) in
     let zeros : drop len rest ≡ replicate (3580 - length (spellings records)) 0 = all_zeros (drop len rest) parts.zeros-are ∙ ap (λ (k : ℕ). replicate k 0) (omega (arith, length-drop len rest, size, n)) in
@@ -176,14 +179,14 @@ found_map P Q R S (Ok None) f g h = f h
 found_map P Q R S (Err e) f g h = tt
 
 -- a body is of one group
-pub one_group : (a b : List RecordValue) (body : List ℕ) → IsGroup a body → IsGroup b body → a ≡ b
-one_group a b body p q =
+pub one_group : (v : Version) (a b : List RecordValue) (body : List ℕ) → IsGroupIn v a body → IsGroupIn v b body → a ≡ b
+one_group v a b body p q =
     let za : List ℕ = replicate (3580 - length (spellings a)) 0 in
     let zb : List ℕ = replicate (3580 - length (spellings b)) 0 in
     let few_a = count-spellings a in
     let few_b = count-spellings b in
     let same = header_once (length a) (length (spellings a)) (length b) (length (spellings b)) (spellings a ++ za) (spellings b ++ zb) (omega (arith, few_a, p.fits.short)) (omega (arith, p.fits.short)) (omega (arith, few_b, q.fits.short)) (omega (arith, q.fits.short)) (sym p.spelled ∙ q.spelled) in
-    let split = same_front a b za zb p.each q.each (omega (arith, same.0)) same.2 in
+    let split = same_front v a b za zb p.each q.each (omega (arith, same.0)) same.2 in
     let none : drop (length a) b ≡ [] = nil_from_length (drop (length a) b) (omega (arith, length-drop (length a) b, same.0)) in
     sym (split.0 ∙ ap (λ (t : List RecordValue). a ++ t) none ∙ append-nil a)
 

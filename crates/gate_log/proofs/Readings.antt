@@ -2,24 +2,25 @@
 use Rattle.std.proofs.Common.{◌≡◌, ℕ, List, [], ◌∷◌, ◌++◌, length, ◌∙◌, ap, refl, sym, append_assoc, append-nil}
 use Rattle.sector_device.specs.Disk.{Image, sector}
 use Rattle.records.specs.RecordValue.{RecordValue}
-use Rattle.gate_log.specs.Area.{Area, Log, InArea, records_of, HoldsGroups, Stands, IsFirstDamagedSlot}
+use Rattle.records.specs.declared.version.Version.{Version}
+use Rattle.gate_log.specs.Area.{Area, Log, InArea, records_of, HoldsGroups, HoldsGroupsIn, StandsIn, IsFirstDamagedSlotIn}
 use Rattle.gate_log.proofs.Areas as areas
 
 -- an image holds one list of groups at most
-pub one_reading : (area : Area) (image : Image) (a b : List (List RecordValue)) → HoldsGroups area image a → HoldsGroups area image b → a ≡ b
+pub one_reading : (v : Version) (area : Area) (image : Image) (a b : List (List RecordValue)) → HoldsGroupsIn v area image a → HoldsGroupsIn v area image b → a ≡ b
 one_reading = areas.one_reading
 
 -- it is damaged first at one sector at most
-pub one_damage : (area : Area) (image : Image) (a b : ℕ) → IsFirstDamagedSlot area image a → IsFirstDamagedSlot area image b → a ≡ b
+pub one_damage : (v : Version) (area : Area) (image : Image) (a b : ℕ) → IsFirstDamagedSlotIn v area image a → IsFirstDamagedSlotIn v area image b → a ≡ b
 one_damage = areas.one_damage
 
 -- where it is damaged it holds no groups
-pub not_damaged : (area : Area) (image : Image) (sector : ℕ) (groups : List (List RecordValue)) → IsFirstDamagedSlot area image sector → ¬ HoldsGroups area image groups
+pub not_damaged : (v : Version) (area : Area) (image : Image) (sector : ℕ) (groups : List (List RecordValue)) → IsFirstDamagedSlotIn v area image sector → ¬ HoldsGroupsIn v area image groups
 not_damaged = areas.not_damaged
 
 -- a log that stands for some groups stands for any that its area holds
-pub stands_for : (log : Log) (image : Image) (found groups : List (List RecordValue)) → Stands log image found → HoldsGroups log.area image groups → Stands log image groups
-stands_for log image found groups stands held = record { held = held; counted = stands.counted ∙ ap length (one_reading log.area image found groups stands.held held) }
+pub stands_for : (v : Version) (log : Log) (image : Image) (found groups : List (List RecordValue)) → StandsIn v log image found → HoldsGroupsIn v log.area image groups → StandsIn v log image groups
+stands_for v log image found groups stands held = record { held = held; counted = stands.counted ∙ ap length (one_reading v log.area image found groups stands.held held) }
 
 -- ---- records of groups
 

@@ -8,7 +8,9 @@ use Rattle.records.specs.declared.geometry.TheConstants.{SLOT_SECTORS}
 use Rattle.records.specs.declared.error.Error.{Error}
 use Rattle.records.specs.declared.error.Error.TheVariants.{NoMemory, DeviceFailed}
 use Rattle.records.specs.RecordValue.{RecordValue}
-use Rattle.gate_log.specs.Group.{IsGroup}
+use Rattle.records.specs.declared.version.Version.{Version}
+use Rattle.records.specs.declared.version.Version.TheVariants.{Two}
+use Rattle.gate_log.specs.Group.{IsGroupIn}
 
 -- the sector where the slots begin, and how many there are
 pub record Area : Type 0 where
@@ -57,15 +59,22 @@ abbrev pub body : Image → ℕ → List ℕ
 body image n = concat (slice_range image (n + 1) (n + SLOT_SECTORS))
 
 -- In the content the first slots of the area are open, one for each of the groups in order, and the others are closed.
-pub record HoldsGroups (area : Area) (image : Image) (groups : List (List RecordValue)) : Type 0 where
+pub record HoldsGroupsIn (v : Version) (area : Area) (image : Image) (groups : List (List RecordValue)) : Type 0 where
   pub room : length groups ≤ area.slots
-  pub opened : (slot : ℕ) → slot < length groups → IsOpen image (gate area slot) × IsGroup (slice_index_or groups slot []) (body image (gate area slot))
+  pub opened : (slot : ℕ) → slot < length groups → IsOpen image (gate area slot) × IsGroupIn v (slice_index_or groups slot []) (body image (gate area slot))
   pub closed : (slot : ℕ) → length groups ≤ slot → slot < area.slots → ¬ IsOpen image (gate area slot)
 
+-- of version 2, which is written
+abbrev pub HoldsGroups : Area → Image → List (List RecordValue) → Type 0
+HoldsGroups area image groups = HoldsGroupsIn Two area image groups
+
 -- the log's area holds these groups in the content, and the log knows how many they are
-pub record Stands (log : Log) (image : Image) (groups : List (List RecordValue)) : Type 0 where
-  pub held : HoldsGroups log.area image groups
+pub record StandsIn (v : Version) (log : Log) (image : Image) (groups : List (List RecordValue)) : Type 0 where
+  pub held : HoldsGroupsIn v log.area image groups
   pub counted : log.open_slots ≡ length groups
+
+abbrev pub Stands : Log → Image → List (List RecordValue) → Type 0
+Stands log image groups = StandsIn Two log image groups
 
 -- the records of all groups, in order
 abbrev pub records_of : List (List RecordValue) → List RecordValue
@@ -87,18 +96,21 @@ pub record IsAppended (log : Log) (old : Disk) (records : List RecordValue) (ima
 -- ---- damage
 
 -- a slot that can't be: open after a closed one, or open with no group in its body
-abbrev pub IsDamaged : Area → Image → ℕ → Type 0
-IsDamaged area image slot =
+abbrev pub IsDamagedIn : Version → Area → Image → ℕ → Type 0
+IsDamagedIn v area image slot =
     IsOpen image (gate area slot)
-    × (((earlier : ℕ) × (earlier < slot) × (¬ IsOpen image (gate area earlier))) ⊎ ((records : List RecordValue) → ¬ IsGroup records (body image (gate area slot))))
+    × (((earlier : ℕ) × (earlier < slot) × (¬ IsOpen image (gate area earlier))) ⊎ ((records : List RecordValue) → ¬ IsGroupIn v records (body image (gate area slot))))
 
 -- the gate of the first slot that can't be
-pub record IsFirstDamagedSlot (area : Area) (image : Image) (sector : ℕ) : Type 0 where
+pub record IsFirstDamagedSlotIn (v : Version) (area : Area) (image : Image) (sector : ℕ) : Type 0 where
   pub slot : ℕ
   pub inside : slot < area.slots
   pub gate-is : sector ≡ gate area slot
-  pub damaged : IsDamaged area image slot
-  pub before : (earlier : ℕ) → earlier < slot → ¬ IsDamaged area image earlier
+  pub damaged : IsDamagedIn v area image slot
+  pub before : (earlier : ℕ) → earlier < slot → ¬ IsDamagedIn v area image earlier
+
+abbrev pub IsFirstDamagedSlot : Area → Image → ℕ → Type 0
+IsFirstDamagedSlot area image sector = IsFirstDamagedSlotIn Two area image sector
 
 -- there was no memory, or the device failed
 abbrev pub Refuses : ℕ → ℕ → Error → Type 0

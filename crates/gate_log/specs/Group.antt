@@ -2,7 +2,9 @@
 use Rattle.std.specs.Prelude.{◌≡◌, ℕ, ◌≤◌, ◌-◌, List, ◌++◌, length, replicate, All}
 use Rattle.std.specs.List.{flat_map}
 use Rattle.records.specs.RecordValue.{RecordValue}
-use Rattle.records.specs.Spelling.{spelling, u16, Fits}
+use Rattle.records.specs.declared.version.Version.{Version}
+use Rattle.records.specs.declared.version.Version.TheVariants.{Two}
+use Rattle.records.specs.Spelling.{spelling, u16, FitsIn}
 use Rattle.gate_log.specs.declared.group.TheConstants.{GROUP_MAX}
 
 -- the records, spelled one after the other
@@ -18,11 +20,15 @@ pub record FitsGroup (records : List RecordValue) : Type 0 where
   pub some : 1 ≤ length records
   pub short : length (spellings records) ≤ GROUP_MAX
 
--- the body is this group: the header, the records, and zeros to the end
-pub record IsGroup (records : List RecordValue) (body : List ℕ) : Type 0 where
+-- the body is this group of records of a version of the format: the header, the records, and zeros to the end
+pub record IsGroupIn (v : Version) (records : List RecordValue) (body : List ℕ) : Type 0 where
   pub fits : FitsGroup records
-  pub each : All Fits records
+  pub each : All (FitsIn v) records
   pub spelled : body ≡ header (length records) (length (spellings records)) ++ (spellings records ++ replicate (GROUP_MAX - length (spellings records)) 0)
+
+-- of version 2, which is written
+abbrev pub IsGroup : List RecordValue → List ℕ → Type 0
+IsGroup records body = IsGroupIn Two records body
 
 -- the body is some group
 abbrev pub IsSpelledGroup : List ℕ → Type 0

@@ -3,13 +3,14 @@ use Rattle.std.specs.Prelude.{◌≡◌, ◌⊎◌, ℕ, ◌+◌, ◌<◌, ◌�
 use Rattle.sector_device.specs.Disk.{Image, sector, Disk, SameOutside}
 use Rattle.records.specs.declared.geometry.TheConstants.{SLOT_SECTORS}
 use Rattle.records.specs.RecordValue.{RecordValue}
-use Rattle.records.specs.Spelling.{Fits}
+use Rattle.records.specs.declared.version.Version.{Version}
+use Rattle.records.specs.Spelling.{FitsIn}
 use Rattle.gate_log.specs.Group.{spellings}
 use Rattle.gate_log.specs.Area.{body}
 
 -- the bytes are these records, this many of them, spelled one after the other
-pub record AreSpelled (records : List RecordValue) (count : ℕ) (bytes : List ℕ) : Type 0 where
-  pub each : All Fits records
+pub record AreSpelled (v : Version) (records : List RecordValue) (count : ℕ) (bytes : List ℕ) : Type 0 where
+  pub each : All (FitsIn v) records
   pub count-is : length records ≡ count
   pub spelled : bytes ≡ spellings records
 

@@ -5,11 +5,11 @@ ghost use Rattle.sector_device.specs.History.{RunsWithin, OnlyReads, LeavesOnly,
 ghost use Rattle.sector_device.specs.Values.{marked_sector};
 ghost use Rattle.records.specs.RecordValue.{RecordValue};
 ghost use Rattle.gate_log.specs.Group.{FitsGroup, IsGroup, IsSpelledGroup};
-ghost use Rattle.gate_log.specs.Area.{gate, InArea, InSlot, IsGate, IsOpen, IsAreaInside, AreGatesZero, HoldsGroups, Stands, records_of, IsGateOf, IsAppended, IsFirstDamagedSlot, Refuses};
+ghost use Rattle.gate_log.specs.Area.{gate, InArea, InSlot, IsGate, IsOpen, IsAreaInside, AreGatesZero, HoldsGroups, HoldsGroupsIn, Stands, StandsIn, records_of, IsGateOf, IsAppended, IsFirstDamagedSlotIn, Refuses};
 
 use crate::group::spell;
 use crate::slot::{is_open, read_group, write_group};
-use records::{Error, Record, SLOT_SECTORS};
+use records::{Error, Record, SLOT_SECTORS, Version};
 use sector_device::{Device, Failed, write_zeros};
 use std::alloc::Allocator;
 use std::marker::Model;
@@ -160,7 +160,7 @@ impl LogArea {
         Ok(Appended::Done)
     }
 
-    /// The records of all groups, in order. From then on the log knows how many slots are open.
+    /// The records of all groups of a version of the format, in order. From then on the log knows how many slots are open.
     ///
     /// `Damaged` names the gate of the first slot that can't be: an open one after a closed one, or an open one whose
     /// body is no group. `DeviceFailed` where the device failed in the call, and only then. No memory is wanted where the first
@@ -168,16 +168,17 @@ impl LogArea {
     pub fn read_all<D: Device, A: Allocator + Copy>(
         &mut self,
         alloc: A,
+        version: Version,
         device: &mut D,
     ) -> Result<Vec<Record, A>, Error>
         requires inside { IsAreaInside self.old.area (D.history device.old).disk.content }
 
         // These are the only groups, by the law `one_reading`, and where there are such no sector is damaged.
         ensures read { IfOk result (λ records. (groups : List (List RecordValue))
-            × Stands self.new (D.history device.old).disk.content groups
+            × StandsIn version self.new (D.history device.old).disk.content groups
             × (records.items ≡ records_of groups)) }
         ensures refused { IfErr result (λ e. Refuses (D.failures device.old) (D.failures device.new) e
-            ⊎ ((sector : ℕ) × (e ≡ Error.Damaged sector) × IsFirstDamagedSlot self.old.area (D.history device.old).disk.content sector)) }
+            ⊎ ((sector : ℕ) × (e ≡ Error.Damaged sector) × IsFirstDamagedSlotIn version self.old.area (D.history device.old).disk.content sector)) }
         ensures area { self.new.area ≡ self.old.area }
         ensures err { OnErr result (self.new ≡ self.old) }
         ensures reads { OnlyReads (D.history device.old) (D.history device.new) }
@@ -186,7 +187,7 @@ impl LogArea {
         ensures memory { IfErr result (λ e. e ≡ Error.NoMemory → (0 < self.old.area.slots) × IsOpen (D.history device.old).disk.content self.old.area.first) }
         ensures later { D.failures device.old ≤ D.failures device.new }
     {
-        let (records, open_slots) = read_slots(alloc, device, self.first, self.slots)?;
+        let (records, open_slots) = read_slots(alloc, version, device, self.first, self.slots)?;
         self.open_slots = open_slots;
         Ok(records)
     }
@@ -198,12 +199,13 @@ impl LogArea {
     pub fn gate_of<D: Device, A: Allocator + Copy>(
         &self,
         alloc: A,
+        version: Version,
         device: &mut D,
         index: usize,
     ) -> Result<Option<u64>, Error>
         requires inside { IsAreaInside self.now.area (D.history device.old).disk.content }
         ensures found { IfOk result (λ found. (groups : List (List RecordValue))
-            → Stands self.now (D.history device.old).disk.content groups
+            → StandsIn version self.now (D.history device.old).disk.content groups
             → MatchOption found (length (records_of groups) ≤ index) (IsGateOf self.now.area groups index)) }
         ensures refused { IfErr result (Refuses (D.failures device.old) (D.failures device.new)) }
         ensures reads { OnlyReads (D.history device.old) (D.history device.new) }
@@ -212,7 +214,7 @@ impl LogArea {
         ensures memory { IfErr result (λ e. e ≡ Error.NoMemory → 0 < self.now.open_slots) }
         ensures later { D.failures device.old ≤ D.failures device.new }
     {
-        gate_of_record(alloc, device, self.first, self.open_slots, index)
+        gate_of_record(alloc, version, device, self.first, self.open_slots, index)
     }
 
     /// Closes every gate, by a sector of zeros, and syncs. Until then the area may hold anything, and after `DeviceFailed` it may too.
@@ -249,6 +251,7 @@ impl LogArea {
 // The records of all groups, and how many slots are open.
 fn read_slots<D: Device, A: Allocator + Copy>(
     alloc: A,
+    version: Version,
     device: &mut D,
     first: u64,
     slots: u64,
@@ -256,10 +259,10 @@ fn read_slots<D: Device, A: Allocator + Copy>(
     requires inside { first + SLOT_SECTORS * slots ≤ length (D.history device.old).disk.content }
     requires number { first + SLOT_SECTORS * slots < 2 ^ 64 }
     ensures read { IfOk result (λ found. (groups : List (List RecordValue))
-        × HoldsGroups (record { first = first; slots = slots }) (D.history device.old).disk.content groups
+        × HoldsGroupsIn version (record { first = first; slots = slots }) (D.history device.old).disk.content groups
         × (found.1 ≡ length groups) × (found.0.items ≡ records_of groups)) }
     ensures refused { IfErr result (λ e. Refuses (D.failures device.old) (D.failures device.new) e
-        ⊎ ((sector : ℕ) × (e ≡ Error.Damaged sector) × IsFirstDamagedSlot (record { first = first; slots = slots }) (D.history device.old).disk.content sector)) }
+        ⊎ ((sector : ℕ) × (e ≡ Error.Damaged sector) × IsFirstDamagedSlotIn version (record { first = first; slots = slots }) (D.history device.old).disk.content sector)) }
     ensures reads { OnlyReads (D.history device.old) (D.history device.new) }
     ensures quiet { OnOk result (D.failures device.new ≡ D.failures device.old) }
     ensures told { IfErr result (λ e. e ≢ Error.DeviceFailed → D.failures device.new ≡ D.failures device.old) }
@@ -277,7 +280,7 @@ fn read_slots<D: Device, A: Allocator + Copy>(
         if count < slot {
             return Err(damaged);
         }
-        let Some(mut group) = read_group(alloc, device, gate)? else {
+        let Some(mut group) = read_group(alloc, version, device, gate)? else {
             return Err(damaged);
         };
         records.append(&mut group)?;
@@ -289,6 +292,7 @@ fn read_slots<D: Device, A: Allocator + Copy>(
 // The gate of the group that a record is in, of the groups in these slots, which are all open.
 fn gate_of_record<D: Device, A: Allocator + Copy>(
     alloc: A,
+    version: Version,
     device: &mut D,
     first: u64,
     slots: u64,
@@ -297,7 +301,7 @@ fn gate_of_record<D: Device, A: Allocator + Copy>(
     requires inside { first + SLOT_SECTORS * slots ≤ length (D.history device.old).disk.content }
     requires number { first + SLOT_SECTORS * slots < 2 ^ 64 }
     ensures found { IfOk result (λ found. (groups : List (List RecordValue))
-        → HoldsGroups (record { first = first; slots = slots }) (D.history device.old).disk.content groups
+        → HoldsGroupsIn version (record { first = first; slots = slots }) (D.history device.old).disk.content groups
         → length groups ≡ slots
         → MatchOption found (length (records_of groups) ≤ index) (IsGateOf (record { first = first; slots = slots }) groups index)) }
     ensures refused { IfErr result (Refuses (D.failures device.old) (D.failures device.new)) }
@@ -310,7 +314,7 @@ fn gate_of_record<D: Device, A: Allocator + Copy>(
     let mut left = index;
     for slot in 0..slots {
         let gate = first + SLOT_SECTORS * slot;
-        let Some(group) = read_group(alloc, device, gate)? else {
+        let Some(group) = read_group(alloc, version, device, gate)? else {
             return Ok(None);
         };
         if left < group.len() {

@@ -2,11 +2,11 @@
 ghost use Rattle.std.specs.Prelude.{◌≡◌, ◌↔◌, ◌+◌, ◌-◌, ◌≤◌, ◌<◌, ◌++◌, ℕ, List, length, take, drop, All, IfOk, OnOk, IfErr, IsTrue, MatchOption};
 ghost use Rattle.records.specs.RecordValue.{RecordValue};
 ghost use Rattle.records.specs.Spelling.{Fits};
-ghost use Rattle.gate_log.specs.Group.{spellings, header, FitsGroup, IsGroup};
+ghost use Rattle.gate_log.specs.Group.{spellings, header, FitsGroup, IsGroup, IsGroupIn};
 ghost use Rattle.gate_log.specs.Steps.{AreSpelled};
 
 use byteorder::{BigEndian, ByteOrder};
-use records::{Error, Record, SLOT_SECTORS};
+use records::{Error, Record, SLOT_SECTORS, Version};
 use sector_device::{SECTOR_SIZE, are_zeros};
 use std::alloc::{AllocError, Allocator};
 
@@ -101,18 +101,19 @@ fn read_header(body: &[u8]) -> (u16, u16)
 // This many records, spelled one after the other with nothing behind them.
 fn spelled_records<A: Allocator>(
     alloc: A,
+    version: Version,
     count: u16,
     bytes: &[u8],
 ) -> Result<Option<Vec<Record, A>>, Error>
     ensures found { IfOk result (λ found. MatchOption found
-        ((records : List RecordValue) → ¬ AreSpelled records count bytes.now)
-        (λ records. AreSpelled records.items count bytes.now)) }
+        ((records : List RecordValue) → ¬ AreSpelled version records count bytes.now)
+        (λ records. AreSpelled version records.items count bytes.now)) }
     ensures no_memory { IfErr result (λ e. e ≡ Error.NoMemory) }
 {
     let mut records = Vec::new(alloc);
     let mut rest = bytes;
     for _i in 0..count {
-        let Some(found) = Record::decode(rest) else {
+        let Some(found) = Record::decode_in(version, rest) else {
             return Ok(None);
         };
         records.push(found.0)?;
@@ -129,12 +130,13 @@ fn spelled_records<A: Allocator>(
 /// The records of a group with this body, if it is one.
 pub(crate) fn group_records<A: Allocator>(
     alloc: A,
+    version: Version,
     body: &[u8],
 ) -> Result<Option<Vec<Record, A>>, Error>
     requires { length body.now ≡ BODY_SIZE }
     ensures found { IfOk result (λ found. MatchOption found
-        ((records : List RecordValue) → ¬ IsGroup records body.now)
-        (λ records. IsGroup records.items body.now)) }
+        ((records : List RecordValue) → ¬ IsGroupIn version records body.now)
+        (λ records. IsGroupIn version records.items body.now)) }
     ensures no_memory { IfErr result (λ e. e ≡ Error.NoMemory) }
 {
     let (count, len) = read_header(body);
@@ -150,5 +152,5 @@ pub(crate) fn group_records<A: Allocator>(
     if !are_zeros(zeros) {
         return Ok(None);
     }
-    spelled_records(alloc, count, spelled)
+    spelled_records(alloc, version, count, spelled)
 }

@@ -1,16 +1,18 @@
 // Laws of what an area holds.
 ghost use Rattle.std.specs.Prelude.{◌≡◌, ◌⊎◌, ◌++◌, ◌∷◌, [], ℕ, List, length};
-ghost use Rattle.sector_device.specs.Disk.{Image, sector, IsWhole};
+ghost use Rattle.sector_device.specs.Disk.{Image, sector, IsDiskWhole};
 ghost use Rattle.records.specs.RecordValue.{RecordValue};
-ghost use Rattle.gate_log.specs.Area.{Area, InArea, IsAreaInside, HoldsGroups, IsFirstDamagedSlot, records_of};
+ghost use Rattle.records.specs.declared.version.Version.{Version};
+ghost use Rattle.gate_log.specs.Area.{Area, InArea, IsAreaInside, HoldsGroups, HoldsGroupsIn, IsFirstDamagedSlot, IsFirstDamagedSlotIn, records_of};
 
-/// A law: an image has one reading. It holds one list of groups at most, it is damaged first at one sector at most, and
-/// never both; and where it has the whole area, and 512 bytes in each sector, one of the two is so (`some`).
+/// A law: an image has one reading by a version of the format. It holds one list of groups at most, it is damaged first at
+/// one sector at most, and never both; and where it has the whole area, and 512 bytes in each sector, one of the two is so in
+/// version 2 (`some`).
 pub fn one_reading()
-    ensures groups { (area : Area) (image : Image) (a b : List (List RecordValue)) → HoldsGroups area image a → HoldsGroups area image b → a ≡ b }
-    ensures sector { (area : Area) (image : Image) (a b : ℕ) → IsFirstDamagedSlot area image a → IsFirstDamagedSlot area image b → a ≡ b }
-    ensures either { (area : Area) (image : Image) (sector : ℕ) (groups : List (List RecordValue)) → IsFirstDamagedSlot area image sector → ¬ HoldsGroups area image groups }
-    ensures some { (area : Area) (image : Image) → IsWhole image → IsAreaInside area image
+    ensures groups { (v : Version) (area : Area) (image : Image) (a b : List (List RecordValue)) → HoldsGroupsIn v area image a → HoldsGroupsIn v area image b → a ≡ b }
+    ensures sector { (v : Version) (area : Area) (image : Image) (a b : ℕ) → IsFirstDamagedSlotIn v area image a → IsFirstDamagedSlotIn v area image b → a ≡ b }
+    ensures either { (v : Version) (area : Area) (image : Image) (sector : ℕ) (groups : List (List RecordValue)) → IsFirstDamagedSlotIn v area image sector → ¬ HoldsGroupsIn v area image groups }
+    ensures some { (area : Area) (image : Image) → IsDiskWhole image → IsAreaInside area image
         → ((groups : List (List RecordValue)) × HoldsGroups area image groups) ⊎ ((sector : ℕ) × IsFirstDamagedSlot area image sector) }
 {}
 

@@ -4,12 +4,12 @@ ghost use Rattle.sector_device.specs.Disk.{sector, IsSynced, SameOutside};
 ghost use Rattle.sector_device.specs.History.{RunsWithin, OnlyReads, LeavesOnly, CountsFailure};
 ghost use Rattle.sector_device.specs.Values.{marked_sector};
 ghost use Rattle.records.specs.RecordValue.{RecordValue};
-ghost use Rattle.gate_log.specs.Group.{IsGroup};
+ghost use Rattle.gate_log.specs.Group.{IsGroupIn};
 ghost use Rattle.gate_log.specs.Area.{body, IsOpen, Refuses};
 ghost use Rattle.gate_log.specs.Steps.{MayDiffer, IsPartlyWritten};
 
 use crate::group::{BODY_SECTORS, BODY_SIZE, group_records};
-use records::{Error, Record, SLOT_SECTORS};
+use records::{Error, Record, SLOT_SECTORS, Version};
 use sector_device::{Device, Failed, SECTOR_SIZE, is_marked, marked_sector};
 use std::alloc::Allocator;
 
@@ -110,14 +110,15 @@ fn read_body<D: Device, A: Allocator>(
 /// The records of the group behind a gate, if there is one.
 pub(crate) fn read_group<D: Device, A: Allocator + Copy>(
     alloc: A,
+    version: Version,
     device: &mut D,
     gate: u64,
 ) -> Result<Option<Vec<Record, A>>, Error>
     requires inside { gate + SLOT_SECTORS ≤ length (D.history device.old).disk.content }
     requires number { gate + SLOT_SECTORS < 2 ^ 64 }
     ensures found { IfOk result (λ found. MatchOption found
-        ((records : List RecordValue) → ¬ IsGroup records (body (D.history device.old).disk.content gate))
-        (λ records. IsGroup records.items (body (D.history device.old).disk.content gate))) }
+        ((records : List RecordValue) → ¬ IsGroupIn version records (body (D.history device.old).disk.content gate))
+        (λ records. IsGroupIn version records.items (body (D.history device.old).disk.content gate))) }
     ensures reads { OnlyReads (D.history device.old) (D.history device.new) }
     ensures quiet { OnOk result (D.failures device.new ≡ D.failures device.old) }
     ensures told { IfErr result (λ e. e ≢ Error.DeviceFailed → D.failures device.new ≡ D.failures device.old) }
@@ -125,5 +126,5 @@ pub(crate) fn read_group<D: Device, A: Allocator + Copy>(
     ensures refused { IfErr result (Refuses (D.failures device.old) (D.failures device.new)) }
 {
     let bytes = read_body(alloc, device, gate)?;
-    group_records(alloc, &bytes)
+    group_records(alloc, version, &bytes)
 }

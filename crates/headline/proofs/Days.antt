@@ -1,5 +1,5 @@
 -- One day more.
-use Rattle.std.proofs.Common.{◌≡◌, ℕ, ◌+◌, ◌<◌, ◌≤◌, true, false, zero, suc, List, [], ◌∷◌, ◌++◌, Ok, Err, length, take, refl, sym, ap, subst, ◌∙◌, append-nil, append_assoc, arith}
+use Rattle.std.proofs.Common.{max, ◌≡◌, ℕ, ◌+◌, ◌<◌, ◌≤◌, true, false, zero, suc, List, [], ◌∷◌, ◌++◌, Ok, Err, length, take, refl, sym, ap, subst, ◌∙◌, append-nil, append_assoc, arith}
 use Rattle.std.specs.List.{All}
 use Rattle.std.specs.declared.vec.Vec.{Vec}
 use Rattle.std.proofs.lemmas.Bool.{false≢true}
@@ -86,7 +86,7 @@ abbrev pub Rise : Type 0
 Rise = (o : Opened) (last : ℕ) (pairs : List (core.Event × core.Reply)) (s : State) (k : core.Standing) → ServesAll (opened o) (standing_at last) pairs s k → AreRising last (items_of no_writes pairs)
 
 module _ {D M : Type 0} (history : D → History) (g : GeometryValue) (given : Given) (day : Day M) (replies : Vec (Reply M) M) (engine : Parts D M)
-    (rise : Rise) (at : IsAt history (and_then (opening g given) day.requests.items replies.items) engine) (j : ℕ) (image : Image) (left : SurvivesAt (opening g given) day.requests.items replies.items j image) where
+    (rise : Rise) (at : IsAt history (and_then (opening g given) day.requests.items replies.items) engine) (horizon j : ℕ) (image : Image) (left : SurvivesAt (opening g given) day.requests.items replies.items horizon j image) where
   abbrev items : List Item
   items = told_over no_writes (take (j + 1) day.requests.items) (take (j + 1) replies.items)
 
@@ -111,7 +111,7 @@ module _ {D M : Type 0} (history : D → History) (g : GeometryValue) (given : G
   low : acknowledged (take j replies.items) ≤ left.given.last
   low =
       let both = safe_both given.last (take j replies.items) in
-      let floor : run.acknowledged given.last (take j replies.items) ≤ left.given.last = left.beginning.has_floor in
+      let floor : max horizon (run.acknowledged given.last (take j replies.items)) ≤ left.given.last = left.beginning.has_floor in
       omega (arith, both.1, floor)
 
   pub served_day : (day.within ≡ false → j ≡ length day.requests.items) → IsDay day (Ok replies) kept_of

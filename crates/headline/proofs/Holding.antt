@@ -1,12 +1,12 @@
 -- What a store holds that was opened behind its days.
-use Rattle.std.proofs.Common.{◌≡◌, ◌⊎◌, inl, inr, ℕ, Bool, true, false, List, [], None, Some, refl, sym, ap, subst, ◌∙◌}
+use Rattle.std.proofs.Common.{IfErr, IfOk, ◌≡◌, ◌⊎◌, IfSome, Option, ◌↔◌, Result, Ok, Err, inl, inr, ℕ, Bool, true, false, List, [], None, Some, refl, sym, ap, subst, ◌∙◌}
 use Rattle.std.specs.FinMap as map
 use Rattle.records.specs.GeometryValue.{GeometryValue}
 use Rattle.records.specs.declared.error.Error.{Error}
-use Rattle.records.specs.declared.error.Error.TheVariants.{DeviceFailed, DeviceTooSmall, Exhausted, IndexFull, NoIndex, NoMemory}
+use Rattle.records.specs.declared.error.Error.TheVariants.{DeviceFailed, DeviceTooSmall, NoMemory}
 use Rattle.records.specs.declared.pair.Mark.TheVariants.{Live}
 use Rattle.records.specs.declared.pair.Pair.{Pair}
-use Rattle.model.specs.Given.{Given, nothing}
+use Rattle.model.specs.Given.{Given}
 use Rattle.model.specs.Table.{IsPairOf}
 use Rattle.model.specs.declared.life.Life.{Life}
 use Rattle.model.specs.declared.life.Life.TheVariants.{Absent, Building, Complete}
@@ -17,13 +17,13 @@ use Rattle.sector_device.specs.History.{History}
 use Rattle.sector_device.proofs.Sectors.{crash_synced}
 use Rattle.store_reader.specs.Contents.{Gives}
 use Rattle.restart.specs.declared.parts.Parts.{Parts}
-use Rattle.restart.specs.Building.{BuildsWhole, EndsWhole}
+use Rattle.restart.specs.Building.{BuildsWhole, EndsWhole, HasCome}
 use Rattle.restart.specs.Parts.{core_of}
 use Rattle.restart.specs.Reopening.{IsOpened}
 use Rattle.restart.specs.Store.{over}
 use Rattle.headline.specs.declared.day.Day.{Day}
 use Rattle.headline.specs.Days.{Answer}
-use Rattle.headline.specs.Held.{Holds, IsBuiltTo, IsIndexOf}
+use Rattle.headline.specs.Held.{Holds, IsBuiltTo, IsIndexOf, IsNotBuilt, IsUnbuilt}
 use Rattle.headline.specs.Kept.{GivesDays, KeepsDays}
 use Rattle.headline.specs.Stops.{IsFoundAs}
 use Rattle.headline.proofs.Stopped.{Images, can, life_is, now_gives, table_is}
@@ -49,16 +49,16 @@ index_of g given opens = record { sound = opens.sound; whole = shown; gone = ope
 never_both : (life : Life) → life ≡ Absent → life ≡ Complete → ⊥
 never_both life none complete = cc
 
--- ---- a store that was just formatted
+-- ---- a store that begins with this
 
-pub formatted : {D : Type 0} (M : Type 0) (history : D → History) (g : GeometryValue) (old found : D) → Gives (history old).disk.content g nothing → CanOpen (over g nothing) → IsSynced (history old).disk → IsFoundAs (history old).disk (history found)
-    → KeepsDays {M = M} history g [] [] found
-formatted M history g old found gives opens synced is = record { anew = is.anew; each = each }
+pub begun : {D : Type 0} (M : Type 0) (history : D → History) (g : GeometryValue) (given : Given) (old found : D) → Gives (history old).disk.content g given → CanOpen (over g given) → IsSynced (history old).disk → IsFoundAs (history old).disk (history found)
+    → KeepsDays {M = M} history g given [] [] found
+begun M history g given old found gives opens synced is = record { anew = is.anew; each = each }
   where
-    each : (image : Image) → IsCrashImage (history found).disk image → GivesDays {M = M} g [] [] image
+    each : (image : Image) → IsCrashImage (history found).disk image → GivesDays {M = M} g given [] [] image
     each image crash = record {
-      given = nothing;
-      gives = subst (λ (i : Image). Gives i g nothing) (sym (crash_synced (history old).disk image synced (is.left image crash))) gives;
+      given = given;
+      gives = subst (λ (i : Image). Gives i g given) (sym (crash_synced (history old).disk image synced (is.left image crash))) gives;
       kept = [];
       days-are = refl;
       table = refl;
@@ -68,23 +68,23 @@ formatted M history g old found gives opens synced is = record { anew = is.anew;
 
 -- ---- a store that was opened
 
-module _ {D M : Type 0} (history : D → History) (g : GeometryValue) (days : List (Day M)) (answers : List (Answer M)) (before : D) (keeps : KeepsDays history g days answers before) (images : Images) (engine : Parts D M) (is : IsOpened history before engine) where
-  abbrev gives : GivesDays g days answers (history before).disk.content
-  gives = now_gives history g days answers before keeps
+module _ {D M : Type 0} (history : D → History) (g : GeometryValue) (began : Given) (days : List (Day M)) (answers : List (Answer M)) (before : D) (keeps : KeepsDays history g began days answers before) (images : Images) (engine : Parts D M) (is : IsOpened history before engine) where
+  abbrev gives : GivesDays g began days answers (history before).disk.content
+  gives = now_gives history g began days answers before keeps
 
   sound : CanOpen (over is.geometry is.given)
-  sound = can history g days answers before keeps images engine is
+  sound = can history g began days answers before keeps images engine is
 
-  held : Holds days answers false (core_of engine)
+  held : Holds began days answers false (core_of engine)
   held = record {
     kept = gives.kept;
     days-are = gives.days-are;
-    rows = ap (λ (v : CoreValue). v.heap.rows) is.core ∙ table_is history g days answers before keeps images engine is;
-    life = ap (λ (v : CoreValue). v.life) is.core ∙ life_is history g days answers before keeps images engine is;
+    rows = ap (λ (v : CoreValue). v.heap.rows) is.core ∙ table_is history g began days answers before keeps images engine is;
+    life = ap (λ (v : CoreValue). v.life) is.core ∙ life_is history g began days answers before keeps images engine is;
     index = subst (λ (v : CoreValue). IsIndexOf v.heap.rows v.life v.index.entries) (sym is.core) (index_of is.geometry is.given sound);
   }
 
-  built : (new : CoreValue) → EndsWhole (core_of engine) new → Holds days answers true new
+  built : (new : CoreValue) → EndsWhole (core_of engine) new → Holds began days answers true new
   built new ends = record {
     kept = held.kept;
     days-are = held.days-are;
@@ -98,17 +98,33 @@ module _ {D M : Type 0} (history : D → History) (g : GeometryValue) (days : Li
   }
 
   -- it was left as it was opened, or its build was carried to its end
-  pub behind : (build : Bool) (after : Parts D M) → (build ≡ false → after ≡ engine) → (build ≡ true → BuildsWhole (core_of engine) (core_of after)) → Holds days answers build (core_of after)
-  behind false after same builds = subst (λ (e : Parts D M). Holds days answers false (core_of e)) (sym (same refl)) held
+  pub behind : (build : Bool) (after : Parts D M) → (build ≡ false → after ≡ engine) → (build ≡ true → BuildsWhole (core_of engine) (core_of after)) → Holds began days answers build (core_of after)
+  behind false after same builds = subst (λ (e : Parts D M). Holds began days answers false (core_of e)) (sym (same refl)) held
   behind true after same builds = built (core_of after) (builds refl (is.come sound) (ap (λ (v : CoreValue). v.txns.active) is.core))
 
--- ---- a build that is refused
+  -- its build was refused, or wasn't
+  pub unbuilt : (build : Bool) (after : CoreValue) (why : Option Error) → IfSome why (λ e. build ≡ true) → IfSome why (λ e. HasCome (core_of engine) → IsNotBuilt e (core_of engine) after) → IfSome why (λ e. (build ≡ true) × IsUnbuilt began days answers e after)
+  unbuilt build after None wanted refused = tt
+  unbuilt build after (Some e) wanted refused = (wanted, record { opened = core_of engine; held = held; refused = refused (is.come sound) })
 
-abbrev pub IsRefusedSo : (short : Type 0) (build : Bool) → Error → Type 0
-IsRefusedSo short build e = ((e ≡ DeviceTooSmall) × short) ⊎ (e ≡ DeviceFailed) ⊎ (e ≡ NoMemory) ⊎ ((build ≡ true) × ((e ≡ NoIndex) ⊎ (e ≡ IndexFull) ⊎ (e ≡ Exhausted)))
+-- ---- results
 
-pub refused_build : (short : Type 0) (build : Bool) (e : Error) → (build ≡ true) × ((e ≡ NoIndex) ⊎ (e ≡ IndexFull) ⊎ (e ≡ Exhausted) ⊎ (e ≡ NoMemory)) → IsRefusedSo short build e
-refused_build short build e (on, inl none) = inr (inr (inr (on, inl none)))
-refused_build short build e (on, inr (inl full)) = inr (inr (inr (on, inr (inl full))))
-refused_build short build e (on, inr (inr (inl out))) = inr (inr (inr (on, inr (inr out))))
-refused_build short build e (on, inr (inr (inr memory))) = inr (inr (inl memory))
+pub ok_at : {T E : Type 0} (P Q : T → Type 0) (r : Result T E) → ((x : T) → P x → Q x) → IfOk r P → IfOk r Q
+ok_at P Q (Ok x) less is = less x is
+ok_at P Q (Err e) less is = tt
+
+pub err_at : {T E : Type 0} (P Q : E → Type 0) (r : Result T E) → ((e : E) → P e → Q e) → IfErr r P → IfErr r Q
+err_at P Q (Ok x) less is = tt
+err_at P Q (Err e) less is = less e is
+
+-- ---- a device that was large enough
+
+-- the formatting has told, and nothing else says so
+module _ {U : Type 0} (short : Type 0) (formatting : Result U Error) (told : (formatting ≡ Err DeviceTooSmall) ↔ short) (u : U) (well : formatting ≡ Ok u) where
+  large : short → ⊥
+  large less = let small = told.1 less in cc
+
+  pub large_behind : {T : Type 0} (r : Result T Error) → IfErr r (λ e. (e ≡ NoMemory) ⊎ (e ≡ DeviceFailed)) → (r ≡ Err DeviceTooSmall) ↔ short
+  large_behind (Ok lived) is = (λ same. absurd cc, λ less. absurd (large less))
+  large_behind (Err e) (inl memory) = (λ same. absurd cc, λ less. absurd (large less))
+  large_behind (Err e) (inr failed) = (λ same. absurd cc, λ less. absurd (large less))

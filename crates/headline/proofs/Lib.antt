@@ -4,3 +4,4 @@ mod Days
 mod Stopped
 mod Holding
 mod Torn
+mod Moving

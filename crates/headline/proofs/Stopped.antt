@@ -1,8 +1,7 @@
 -- What a device keeps of a store's days, as one day more goes by.
-use Rattle.std.proofs.Common.{◌≡◌, ◌⊎◌, ⊎_elim, inl, inr, ℕ, Bool, true, false, ◌+◌, ◌<◌, ◌≤◌, List, [], ◌∷◌, ◌++◌, Ok, Err, IfOk, IfErr, OnErr, length, get_or, take, sym, refl, ap, subst, ◌∙◌, append-nil, arith}
+use Rattle.std.proofs.Common.{max, ◌≡◌, ◌⊎◌, ⊎_elim, inl, inr, ℕ, Bool, true, false, ◌+◌, ◌<◌, ◌≤◌, List, [], ◌∷◌, ◌++◌, Ok, Err, IfOk, IfErr, OnErr, length, get_or, take, sym, refl, ap, subst, ◌∙◌, append-nil, arith}
 use Rattle.std.proofs.lemmas.Bool.{false≢true}
 use Rattle.std.proofs.lemmas.List.{take_all, take_more}
-use Rattle.std.specs.FinMap as map
 use Rattle.std.specs.declared.vec.Vec.{Vec}
 use Rattle.records.specs.GeometryValue.{GeometryValue}
 use Rattle.records.specs.declared.error.Error.{Error}
@@ -11,19 +10,18 @@ use Rattle.model.specs.Given.{Given}
 use Rattle.model.specs.History.{life_after, table_after}
 use Rattle.model.specs.Table.{Table}
 use Rattle.model.specs.declared.life.Life.{Life}
-use Rattle.model.specs.declared.life.Life.TheVariants.{Absent}
 use Rattle.model.proofs.HistoryLaws.{life_after-append, table_after-append}
 use Rattle.core_model.specs.Histories.{CanOpen}
 use Rattle.sector_device.specs.Disk.{Image}
 use Rattle.sector_device.specs.History.{History, LeavesOnly}
 use Rattle.sector_device.proofs.Moments.{joined, weaker}
 use Rattle.sector_device.proofs.Sectors.{content_is_image}
-use Rattle.recovery.specs.Reopening.{IsLeft, IsWrittenBack}
+use Rattle.store_opener.specs.Reopening.{ReopeningLeaves, IsWrittenBack}
 use Rattle.store_reader.specs.Contents.{Gives, IsUnreadable}
 use Rattle.restart.specs.declared.event.Event.{Event}
 use Rattle.restart.specs.declared.event.Reply.{Reply}
 use Rattle.restart.specs.declared.parts.Parts.{Parts}
-use Rattle.restart.specs.Parts.{device_of}
+use Rattle.restart.specs.Parts.{device_of, horizon_of}
 use Rattle.restart.specs.Ran.{KeepsWholeRun, SurvivesAnyCrash}
 use Rattle.restart.specs.Reopening.{IsNotOpened, IsOpened, IsTurned, opening}
 use Rattle.restart.specs.Store.{IsAt, Past, RunsOn, Survives, SurvivesAt, acknowledged_by, and_then, over}
@@ -43,25 +41,27 @@ abbrev pub GivesBack : Type 0
 GivesBack = (old image : Image) → IsWrittenBack old image → (g : GeometryValue) (given : Given) → Gives old g given → Gives image g given
 
 -- what all of the requests leave is what the last border leaves
-survives_all : {M : Type 0} (past : Past M) (events : List Event) (replies : List (Reply M)) (image : Image) → length replies ≡ length events → Survives (and_then past events replies) (acknowledged_by (and_then past events replies)) image
-    → SurvivesAt past events replies (length events) image
-survives_all past events replies image even it =
+survives_all : {M : Type 0} (past : Past M) (horizon : ℕ) (events : List Event) (replies : List (Reply M)) (image : Image) → length replies ≡ length events → acknowledged_by (and_then past events replies) ≤ horizon
+    → Survives (and_then past events replies) horizon image → SurvivesAt past events replies horizon (length events) image
+survives_all past horizon events replies image even safe it =
     let j = length events in
-    subst (λ (rs : List (Reply _)). Survives (and_then past (take (j + 1) events) (take (j + 1) replies)) (acknowledged_by (and_then past (take j events) rs)) image) (sym (take_all j replies (omega (arith, even))))
-    (subst (λ (rs : List (Reply _)). Survives (and_then past (take (j + 1) events) rs) (acknowledged_by (and_then past (take j events) replies)) image) (sym (take_all (j + 1) replies (omega (arith, even))))
-    (subst (λ (es : List Event). Survives (and_then past es replies) (acknowledged_by (and_then past (take j events) replies)) image) (sym (take_all (j + 1) events (omega arith))) it))
+    let same : horizon ≡ max horizon (acknowledged_by (and_then past (take j events) replies)) = omega (arith, safe) in
+    subst (λ (rs : List (Reply _)). Survives (and_then past (take (j + 1) events) (take (j + 1) replies)) (max horizon (acknowledged_by (and_then past (take j events) rs))) image) (sym (take_all j replies (omega (arith, even))))
+    (subst (λ (rs : List (Reply _)). Survives (and_then past (take (j + 1) events) rs) (max horizon (acknowledged_by (and_then past (take j events) replies))) image) (sym (take_all (j + 1) replies (omega (arith, even))))
+    (subst (λ (es : List Event). Survives (and_then past es replies) (max horizon (acknowledged_by (and_then past (take j events) replies))) image) (sym (take_all (j + 1) events (omega arith)))
+    (subst (λ (floor : ℕ). Survives (and_then past events replies) floor image) same it)))
 
-module _ {D M : Type 0} (history : D → History) (g : GeometryValue) (days : List (Day M)) (answers : List (Answer M)) (before : D) (keeps : KeepsDays history g days answers before) where
+module _ {D M : Type 0} (history : D → History) (g : GeometryValue) (began : Given) (days : List (Day M)) (answers : List (Answer M)) (before : D) (keeps : KeepsDays history g began days answers before) where
   -- what the device gives now
-  pub now_gives : GivesDays g days answers (history before).disk.content
+  pub now_gives : GivesDays g began days answers (history before).disk.content
   now_gives = keeps.each (history before).disk.content (content_is_image (history before).disk (history before).whole)
 
   -- ---- while it is opened
 
-  pub between : GivesBack → (after : D) → IsTurned history before after → LeavesOnly (history before) (history after) (GivesDays g days answers)
-  between back after turned = weaker (history before) (history after) (IsLeft (history before).disk) (GivesDays g days answers) each turned.images
+  pub between : GivesBack → (after : D) → IsTurned history before after → LeavesOnly (history before) (history after) (GivesDays g began days answers)
+  between back after turned = weaker (history before) (history after) (ReopeningLeaves (history before).disk) (GivesDays g began days answers) each turned.images
     where
-      each : (image : Image) → IsLeft (history before).disk image → GivesDays g days answers image
+      each : (image : Image) → ReopeningLeaves (history before).disk image → GivesDays g began days answers image
       each image = ⊎_elim
           (λ crash. keeps.each image crash)
           (λ written. record {
@@ -93,20 +93,20 @@ module _ {D M : Type 0} (history : D → History) (g : GeometryValue) (days : Li
     pub begins : IsAt history (opening g now_gives.given) engine
     begins = subst (λ (x : Given). IsAt history (opening g x) engine) same (subst (λ (x : GeometryValue). IsAt history (opening x is.given) engine) size (is.begins can))
 
-    pub table_is : is.given.table ≡ table_after map.empty now_gives.kept
+    pub table_is : is.given.table ≡ table_after began.table now_gives.kept
     table_is = ap (λ (x : Given). x.table) same ∙ now_gives.table
 
-    pub life_is : is.given.life ≡ life_after Absent now_gives.kept
+    pub life_is : is.given.life ≡ life_after began.life now_gives.kept
     life_is = ap (λ (x : Given). x.life) same ∙ now_gives.life
 
   -- ---- a day more
 
   module _ (today : Day M) (answer : Answer M) where
     abbrev Then : Image → Type 0
-    Then = GivesDays g (days ++ today ∷ []) (answers ++ answer ∷ [])
+    Then = GivesDays g began (days ++ today ∷ []) (answers ++ answer ∷ [])
 
     -- of which nothing was kept
-    quiet : IsDay today answer [] → (image : Image) → GivesDays g days answers image → Then image
+    quiet : IsDay today answer [] → (image : Image) → GivesDays g began days answers image → Then image
     quiet is image gives = record {
       given = gives.given;
       gives = gives.gives;
@@ -118,64 +118,64 @@ module _ {D M : Type 0} (history : D → History) (g : GeometryValue) (days : Li
     }
 
     -- the device stopped
-    stopped : (after found : D) → LeavesOnly (history before) (history after) Then → HasStopped (history after) (history found) → KeepsDays history g (days ++ today ∷ []) (answers ++ answer ∷ []) found
+    stopped : (after found : D) → LeavesOnly (history before) (history after) Then → HasStopped (history after) (history found) → KeepsDays history g began (days ++ today ∷ []) (answers ++ answer ∷ []) found
     stopped after found leaves stop = record {
       anew = stop.found-as.anew;
       each = λ image crash. leaves.each stop.moment image (omega (arith, keeps.anew)) stop.until (stop.found-as.left image crash);
     }
 
   -- nothing was served
-  pub day_passed : (today : Day M) (e : Error) → IsAnswered {M = M} today.requests.items (Err e) → GivesBack → (after found : D) → IsTurned history before after → HasStopped (history after) (history found) → KeepsDays history g (days ++ today ∷ []) (answers ++ Err e ∷ []) found
+  pub day_passed : (today : Day M) (e : Error) → IsAnswered {M = M} today.requests.items (Err e) → GivesBack → (after found : D) → IsTurned history before after → HasStopped (history after) (history found) → KeepsDays history g began (days ++ today ∷ []) (answers ++ Err e ∷ []) found
   day_passed today e is back after found turned stop =
       stopped today (Err e) after found
-      (weaker (history before) (history after) (GivesDays g days answers) (GivesDays g (days ++ today ∷ []) (answers ++ Err e ∷ [])) (quiet today (Err e) (refused_day today e is)) (between back after turned)) stop
+      (weaker (history before) (history after) (GivesDays g began days answers) (GivesDays g began (days ++ today ∷ []) (answers ++ Err e ∷ [])) (quiet today (Err e) (refused_day today e is)) (between back after turned)) stop
 
   -- ---- a day that is served
 
   module _ (images : Images) (back : GivesBack) (rise : Rise) (today : Day M) (engine : Parts D M) (is : IsOpened history before engine) where
     module _ (replies : Vec (Reply M) M) (after : Parts D M) (at : IsAt history (and_then (opening g now_gives.given) today.requests.items replies.items) after) where
-      survived : (image : Image) (j : ℕ) → (today.within ≡ false → j ≡ length today.requests.items) → SurvivesAt (opening g now_gives.given) today.requests.items replies.items j image
-          → GivesDays g (days ++ today ∷ []) (answers ++ Ok replies ∷ []) image
-      survived image j all left =
-          let kept = kept_of history g now_gives.given today replies after rise at j image left in
-          let told = kept_told history g now_gives.given today replies after rise at j image left in
+      survived : (horizon : ℕ) (image : Image) (j : ℕ) → (today.within ≡ false → j ≡ length today.requests.items) → SurvivesAt (opening g now_gives.given) today.requests.items replies.items horizon j image
+          → GivesDays g began (days ++ today ∷ []) (answers ++ Ok replies ∷ []) image
+      survived horizon image j all left =
+          let kept = kept_of history g now_gives.given today replies after rise at horizon j image left in
+          let told = kept_told history g now_gives.given today replies after rise at horizon j image left in
           record {
             given = left.given;
             gives = left.gives;
             kept = now_gives.kept ++ kept;
-            days-are = day_last days answers now_gives.kept today (Ok replies) kept now_gives.days-are (served_day history g now_gives.given today replies after rise at j image left all);
+            days-are = day_last days answers now_gives.kept today (Ok replies) kept now_gives.days-are (served_day history g now_gives.given today replies after rise at horizon j image left all);
             table =
                 left.beginning.table ∙ sym (ap (table_after now_gives.given.table) told)
-                ∙ ap (λ (t : Table). table_after t kept) now_gives.table ∙ sym (table_after-append map.empty now_gives.kept kept);
+                ∙ ap (λ (t : Table). table_after t kept) now_gives.table ∙ sym (table_after-append began.table now_gives.kept kept);
             life =
                 left.beginning.life ∙ sym (ap (life_after now_gives.given.life) told)
-                ∙ ap (λ (l : Life). life_after l kept) now_gives.life ∙ sym (life_after-append Absent now_gives.kept kept);
+                ∙ ap (λ (l : Life). life_after l kept) now_gives.life ∙ sym (life_after-append began.life now_gives.kept kept);
             opens = left.opens;
           }
 
       -- it stopped within the day
       within : today.within ≡ true → SurvivesAnyCrash history today.requests.items replies.items engine after → (found : D) → HasStopped (history (device_of after)) (history found)
-          → KeepsDays history g (days ++ today ∷ []) (answers ++ Ok replies ∷ []) found
+          → KeepsDays history g began (days ++ today ∷ []) (answers ++ Ok replies ∷ []) found
       within so run found stop =
-          let opened : LeavesOnly (history before) (history (device_of engine)) (GivesDays g (days ++ today ∷ []) (answers ++ Ok replies ∷ [])) =
-          weaker (history before) (history (device_of engine)) (GivesDays g days answers) (GivesDays g (days ++ today ∷ []) (answers ++ Ok replies ∷ [])) (quiet today (Ok replies) (quiet_day today (Ok replies) so at.answered)) (between back (device_of engine) is.device) in
-          let served : LeavesOnly (history (device_of engine)) (history (device_of after)) (GivesDays g (days ++ today ∷ []) (answers ++ Ok replies ∷ [])) =
-          weaker (history (device_of engine)) (history (device_of after)) (λ image. (j : ℕ) × (j ≤ length today.requests.items) × SurvivesAt (opening g now_gives.given) today.requests.items replies.items j image) (GivesDays g (days ++ today ∷ []) (answers ++ Ok replies ∷ []))
-          (λ image it. survived image it.0 (λ behind. absurd (false≢true (sym behind ∙ so))) it.2) (run (opening g now_gives.given) (begins images engine is)) in
-          stopped today (Ok replies) (device_of after) found (joined (history before) (history (device_of engine)) (history (device_of after)) (GivesDays g (days ++ today ∷ []) (answers ++ Ok replies ∷ [])) opened served) stop
+          let opened : LeavesOnly (history before) (history (device_of engine)) (GivesDays g began (days ++ today ∷ []) (answers ++ Ok replies ∷ [])) =
+          weaker (history before) (history (device_of engine)) (GivesDays g began days answers) (GivesDays g began (days ++ today ∷ []) (answers ++ Ok replies ∷ [])) (quiet today (Ok replies) (quiet_day today (Ok replies) so at.answered)) (between back (device_of engine) is.device) in
+          let served : LeavesOnly (history (device_of engine)) (history (device_of after)) (GivesDays g began (days ++ today ∷ []) (answers ++ Ok replies ∷ [])) =
+          weaker (history (device_of engine)) (history (device_of after)) (λ image. (j : ℕ) × (j ≤ length today.requests.items) × SurvivesAt (opening g now_gives.given) today.requests.items replies.items (horizon_of engine) j image) (GivesDays g began (days ++ today ∷ []) (answers ++ Ok replies ∷ []))
+          (λ image it. survived (horizon_of engine) image it.0 (λ behind. absurd (false≢true (sym behind ∙ so))) it.2) (run (opening g now_gives.given) (begins images engine is)) in
+          stopped today (Ok replies) (device_of after) found (joined (history before) (history (device_of engine)) (history (device_of after)) (GivesDays g began (days ++ today ∷ []) (answers ++ Ok replies ∷ [])) opened served) stop
 
       -- it stopped behind the last reply
       behind : KeepsWholeRun history today.requests.items replies.items engine after → (found : D) → IsFoundAs (history (device_of after)).disk (history found)
-          → KeepsDays history g (days ++ today ∷ []) (answers ++ Ok replies ∷ []) found
+          → KeepsDays history g began (days ++ today ∷ []) (answers ++ Ok replies ∷ []) found
       behind whole found stop = record {
         anew = stop.anew;
         each = λ image crash.
-            survived image (length today.requests.items) (λ so. refl)
-            (survives_all (opening g now_gives.given) today.requests.items replies.items image at.answered (whole (opening g now_gives.given) (begins images engine is) image (stop.left image crash)));
+            survived (horizon_of after) image (length today.requests.items) (λ so. refl)
+            (survives_all (opening g now_gives.given) (horizon_of after) today.requests.items replies.items image at.answered at.safe (whole (opening g now_gives.given) (begins images engine is) image (stop.left image crash)));
       }
 
       ended : (b : Bool) → today.within ≡ b → SurvivesAnyCrash history today.requests.items replies.items engine after → KeepsWholeRun history today.requests.items replies.items engine after → (found : D)
-          → HasStopped (history (device_of after)) (history found) → (b ≡ false → IsFoundAs (history (device_of after)).disk (history found)) → KeepsDays history g (days ++ today ∷ []) (answers ++ Ok replies ∷ []) found
+          → HasStopped (history (device_of after)) (history found) → (b ≡ false → IsFoundAs (history (device_of after)).disk (history found)) → KeepsDays history g began (days ++ today ∷ []) (answers ++ Ok replies ∷ []) found
       ended true so run whole found stop now = within so run found stop
       ended false so run whole found stop now = behind whole found (now refl)
 
@@ -184,7 +184,7 @@ module _ {D M : Type 0} (history : D → History) (g : GeometryValue) (days : Li
         → IfOk answer (λ replies. SurvivesAnyCrash history today.requests.items replies.items engine after) → IfOk answer (λ replies. KeepsWholeRun history today.requests.items replies.items engine after)
         → IfOk answer (λ replies. RunsOn history today.requests.items replies.items engine after)
         → OnErr answer (after ≡ engine) → IfErr answer (λ e. e ≡ NoMemory) → device ≡ device_of after → HasStopped (history device) (history found) → (today.within ≡ false → IsFoundAs (history device).disk (history found))
-        → KeepsDays history g (days ++ today ∷ []) (answers ++ answer ∷ []) found
+        → KeepsDays history g began (days ++ today ∷ []) (answers ++ answer ∷ []) found
     day_served (Ok replies) after device found crash whole ran unmoved memory out stop now =
         ended replies after (ran (opening g now_gives.given) (begins images engine is)).at today.within refl crash whole found
         (subst (λ (d : D). HasStopped (history d) (history found)) out stop)
@@ -195,9 +195,9 @@ module _ {D M : Type 0} (history : D → History) (g : GeometryValue) (days : Li
 
 -- ---- the days so far
 
-pub day_more : {D M : Type 0} (history : D → History) (g : GeometryValue) (days : List (Day M)) (i : ℕ) (day : Day M) (answers new : List (Answer M)) (answer : Answer M) (found : D) → i < length days → day ≡ get_or days i day → new ≡ answers ++ answer ∷ []
-    → KeepsDays history g (take i days ++ day ∷ []) (answers ++ answer ∷ []) found → KeepsDays history g (take (i + 1) days) new found
-day_more history g days i day answers new answer found below is made keeps =
-    subst (λ (ds : List (Day _)). KeepsDays history g ds new found) (sym (take_more days i day below))
-    (subst (λ (d : Day _). KeepsDays history g (take i days ++ d ∷ []) new found) is
-    (subst (λ (rs : List (Answer _)). KeepsDays history g (take i days ++ day ∷ []) rs found) (sym made) keeps))
+pub day_more : {D M : Type 0} (history : D → History) (g : GeometryValue) (began : Given) (days : List (Day M)) (i : ℕ) (day : Day M) (answers new : List (Answer M)) (answer : Answer M) (found : D) → i < length days → day ≡ get_or days i day → new ≡ answers ++ answer ∷ []
+    → KeepsDays history g began (take i days ++ day ∷ []) (answers ++ answer ∷ []) found → KeepsDays history g began (take (i + 1) days) new found
+day_more history g began days i day answers new answer found below is made keeps =
+    subst (λ (ds : List (Day _)). KeepsDays history g began ds new found) (sym (take_more days i day below))
+    (subst (λ (d : Day _). KeepsDays history g began (take i days ++ d ∷ []) new found) is
+    (subst (λ (rs : List (Answer _)). KeepsDays history g began (take i days ++ day ∷ []) rs found) (sym made) keeps))

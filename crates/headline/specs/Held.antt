@@ -1,15 +1,20 @@
 -- What a store holds, behind its days.
 use Rattle.std.specs.FinMap as map
 use Rattle.std.specs.Ordering.{is_lt}
-use Rattle.std.specs.Prelude.{◌≡◌, Bool, false, if◌then◌else◌, List, None, Some}
+use Rattle.std.specs.Prelude.{◌≡◌, ◌≢◌, ◌⊎◌, ◌≤◌, Bool, false, if◌then◌else◌, List, None, Some}
 use Rattle.records.specs.Orders.{pair_cmp}
+use Rattle.records.specs.declared.error.Error.{Error}
+use Rattle.records.specs.declared.error.Error.TheVariants.{Exhausted, IndexFull, NoIndex, NoMemory}
+use Rattle.records.specs.declared.number.TheConstants.{LAST_NUMBER}
 use Rattle.records.specs.declared.pair.Mark.TheVariants.{Live}
 use Rattle.records.specs.declared.pair.Pair.{Pair}
+use Rattle.model.specs.Given.{Given}
 use Rattle.model.specs.History.{Item, life_after, table_after}
 use Rattle.model.specs.Table.{Index, IsPairOf, Table}
 use Rattle.model.specs.declared.life.Life.{Life}
 use Rattle.model.specs.declared.life.Life.TheVariants.{Absent, Building, Complete}
 use Rattle.nsf_core.specs.View.{CoreValue}
+use Rattle.restart.specs.Building.{IsIndexFull}
 use Rattle.headline.specs.declared.day.Day.{Day}
 use Rattle.headline.specs.Days.{Answer, AreDays}
 
@@ -27,10 +32,24 @@ pub record IsIndexOf (rows : Table) (life : Life) (entries : Index) : Type 0 whe
   pub whole : (pair : Pair) → IsBuiltTo life pair → IsPairOf rows pair → map.get entries pair ≡ Some Live
   pub gone : life ≡ Absent → (pair : Pair) → map.get entries pair ≡ None
 
--- The rows are those of all commits that were kept, in order. The index's life is what was kept of it, or it was built to its end now.
-pub record Holds {M : Type 0} (days : List (Day M)) (answers : List (Answer M)) (built : Bool) (core : CoreValue) : Type 0 where
+-- The rows are those that the store began with, and then of all commits that were kept, in order. The index's life is what was kept
+-- of it, or it was built to its end now.
+pub record Holds {M : Type 0} (began : Given) (days : List (Day M)) (answers : List (Answer M)) (built : Bool) (core : CoreValue) : Type 0 where
   pub kept : List Item
   pub days-are : AreDays days answers kept
-  pub rows : core.heap.rows ≡ table_after map.empty kept
-  pub life : core.life ≡ (if built then Complete else life_after Absent kept)
+  pub rows : core.heap.rows ≡ table_after began.table kept
+  pub life : core.life ≡ (if built then Complete else life_after began.life kept)
   pub index : IsIndexOf core.heap.rows core.life core.index.entries
+
+-- A build was refused, and the rows stay. There was no index; or each of its places is taken or pledged, or no number is left for a
+-- record; or there was no memory.
+pub record IsNotBuilt (error : Error) (old new : CoreValue) : Type 0 where
+  pub rows : new.heap.rows ≡ old.heap.rows
+  pub unfinished : old.life ≢ Complete
+  pub why : ((error ≡ NoIndex) × (old.life ≡ Absent)) ⊎ ((error ≡ IndexFull) × IsIndexFull new) ⊎ ((error ≡ Exhausted) × (LAST_NUMBER ≤ new.last)) ⊎ (error ≡ NoMemory)
+
+-- The build was refused of a store that was opened with what was kept of the days.
+pub record IsUnbuilt {M : Type 0} (began : Given) (days : List (Day M)) (answers : List (Answer M)) (error : Error) (core : CoreValue) : Type 0 where
+  pub opened : CoreValue
+  pub held : Holds began days answers false opened
+  pub refused : IsNotBuilt error opened core

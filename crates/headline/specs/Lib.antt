@@ -3,3 +3,4 @@ pub mod Days
 pub mod Held
 pub mod Stops
 pub mod Kept
+pub mod Moved

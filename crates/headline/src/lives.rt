@@ -1,11 +1,12 @@
 //! A store is formatted, and lives through days of requests.
-ghost use Rattle.std.specs.Prelude.{◌≡◌, ◌⊎◌, ◌<◌, ◌++◌, [], ◌∷◌, List, length, true, false, IfErr, IfOk, OnOk};
+ghost use Rattle.std.specs.Prelude.{◌≡◌, ◌⊎◌, ◌<◌, ◌↔◌, ◌++◌, [], ◌∷◌, List, length, true, false, Err, None, IfErr, IfOk, IfSome};
 ghost use Rattle.records.specs.GeometryValue.{GeometryValue, sectors_of};
-ghost use Rattle.restart.specs.Building.{BuildsWhole};
+ghost use Rattle.model.specs.Given.{Given, nothing};
+ghost use Rattle.restart.specs.Building.{BuildsWhole, HasCome};
 ghost use Rattle.restart.specs.Parts.{core_of};
 ghost use Rattle.headline.specs.Days.{Answer as AnswerValue};
 ghost use Rattle.headline.specs.declared.day.Day.{Day as DayValue};
-ghost use Rattle.headline.specs.Held.{Holds};
+ghost use Rattle.headline.specs.Held.{Holds, IsNotBuilt, IsUnbuilt};
 ghost use Rattle.headline.specs.Kept.{KeepsDays};
 ghost use Rattle.headline.specs.Stops.{HasStopped, IsFoundAs};
 
@@ -13,19 +14,21 @@ use crate::{Day, Mortal};
 use core_contracts::all_replies;
 use flip_image::Halves;
 use records::{Error, Geometry};
-use recovery::written_back;
 use restart::{Engine, Reply, nothing_opens, restart};
 use std::alloc::Allocator;
+use store_opener::written_back;
 use store_reader::{format_gives_nothing, one_answer};
 
 /// The replies of a day, or why nothing was served.
 pub type Answer<A> = Result<Vec<Reply<A>, A>, Error>;
 
-/// What a store answered in its days, and the store as it was opened behind them.
+/// What a store answered in its days, and the store as it was opened behind them. Where the build of its index was to be carried to its
+/// end and was refused, why.
 #[derive(Drop)]
 pub struct Lived<D: Mortal, A: Allocator> {
     pub answers: Vec<Answer<A>, A>,
     pub engine: Engine<D, A>,
+    pub unbuilt: Option<Error>,
 }
 
 // The device stops: at one of its moments, or where it is now.
@@ -43,8 +46,8 @@ fn end_day<D: Mortal>(device: &mut D, within: bool)
 // Opens the store on the device and serves the day's requests, until the device stops: at any moment of that, or behind the
 // last reply. Where the store can't be opened it stops at any moment of that.
 fn live_one_day<D: Mortal, A: Allocator + Copy>(alloc: A, device: D, day: &Day<A>) -> (Answer<A>, D)
-    ensures { (g : GeometryValue) (days : List (DayValue A)) (answers : List (AnswerValue A)) → KeepsDays D.history g days answers device
-        → KeepsDays D.history g (days ++ day.now ∷ []) (answers ++ result.0 ∷ []) result.1 }
+    ensures { (g : GeometryValue) (began : Given) (days : List (DayValue A)) (answers : List (AnswerValue A)) → KeepsDays D.history g began days answers device
+        → KeepsDays D.history g began (days ++ day.now ∷ []) (answers ++ result.0 ∷ []) result.1 }
 {
     one_answer();
     written_back();
@@ -68,7 +71,7 @@ fn live_each_day<D: Mortal, A: Allocator + Copy>(
     mut device: D,
     days: &[Day<A>],
 ) -> Result<(Vec<Answer<A>, A>, D), Error>
-    ensures days { IfOk result (λ r. (g : GeometryValue) → KeepsDays {M = A} D.history g [] [] device → KeepsDays D.history g days.now r.0.items r.1) }
+    ensures days { IfOk result (λ r. (g : GeometryValue) (began : Given) → KeepsDays {M = A} D.history g began [] [] device → KeepsDays D.history g began days.now r.0.items r.1) }
     ensures no_memory { IfErr result (λ e. e ≡ Error.NoMemory) }
 {
     let mut answers = Vec::with_capacity(alloc, days.len())?;
@@ -82,19 +85,51 @@ fn live_each_day<D: Mortal, A: Allocator + Copy>(
     Ok((answers, device))
 }
 
-// Carries the build of the index to its end, where that is wanted.
+// Carries the build of the index to its end, where that is wanted; or tells why it was refused.
 fn finish_build<D: Mortal, A: Allocator + Copy>(
     engine: &mut Engine<D, A>,
     build: bool,
-) -> Result<(), Error>
+) -> Option<Error>
     ensures kept { build ≡ false → engine.new ≡ engine.old }
-    ensures whole { build ≡ true → OnOk result (BuildsWhole (core_of engine.old) (core_of engine.new)) }
-    ensures why { IfErr result (λ e. (build ≡ true) × ((e ≡ Error.NoIndex) ⊎ (e ≡ Error.IndexFull) ⊎ (e ≡ Error.Exhausted) ⊎ (e ≡ Error.NoMemory))) }
+    ensures whole { build ≡ true → result ≡ None → BuildsWhole (core_of engine.old) (core_of engine.new) }
+    ensures wanted { IfSome result (λ e. build ≡ true) }
+    ensures refused { IfSome result (λ e. HasCome (core_of engine.old) → IsNotBuilt e (core_of engine.old) (core_of engine.new)) }
 {
-    if build {
-        engine.build_to_end()?;
+    if !build {
+        return None;
     }
-    Ok(())
+    match engine.build_to_end() {
+        Ok(_) => None,
+        Err(error) => Some(error),
+    }
+}
+
+// Lives through the days of the store on the device, opens it then, and carries its build on where that is wanted.
+pub(crate) fn live_behind<D: Mortal, A: Allocator + Copy>(
+    alloc: A,
+    device: D,
+    days: &[Day<A>],
+    build: bool,
+) -> Result<Lived<D, A>, Error>
+    ensures holds { IfOk result (λ lived. (g : GeometryValue) (began : Given) → KeepsDays {M = A} D.history g began [] [] device
+        → lived.unbuilt ≡ None → Holds began days.now lived.answers.items build (core_of lived.engine)) }
+    ensures unbuilt { IfOk result (λ lived. (g : GeometryValue) (began : Given) → KeepsDays {M = A} D.history g began [] [] device
+        → IfSome lived.unbuilt (λ e. (build ≡ true) × IsUnbuilt began days.now lived.answers.items e (core_of lived.engine))) }
+    ensures refused { IfErr result (λ e. (g : GeometryValue) (began : Given) → KeepsDays {M = A} D.history g began [] [] device
+        → (e ≡ Error.NoMemory) ⊎ (e ≡ Error.DeviceFailed)) }
+{
+    one_answer();
+    let (answers, found) = live_each_day(alloc, device, days)?;
+    let mut engine = match restart(alloc, found) {
+        Ok(engine) => engine,
+        Err((error, _)) => return Err(error),
+    };
+    let unbuilt = finish_build(&mut engine, build);
+    Ok(Lived {
+        answers,
+        engine,
+        unbuilt,
+    })
 }
 
 /// Formats the device, and lives through the days: in each the store is opened, serves the requests in order, and stops. A day that
@@ -110,9 +145,12 @@ fn finish_build<D: Mortal, A: Allocator + Copy>(
 /// committed nothing is there. Each visible entry of the index is the pair of a row. As far as the index was built, the pair of each
 /// row is visible; and once its build was carried to its end, every row's.
 ///
-/// `DeviceTooSmall` where the device has fewer sectors than a store of this geometry takes. `DeviceFailed` and `NoMemory` come of the
-/// formatting, the last opening, and the memory for the answers. Where the build is carried on, its own refusals come too: `NoIndex`,
-/// `IndexFull` and `Exhausted`, and `NoMemory`.
+/// Where the build is refused, `unbuilt` tells why: `NoIndex` where there is none, `IndexFull` where each of its places is taken or
+/// pledged, `Exhausted` where no number is left for a record, or `NoMemory`. The rows stay (`unbuilt`).
+///
+/// `DeviceTooSmall` where the device has fewer sectors than a store of this geometry takes, and only there (`too_small`).
+/// `DeviceFailed` and `NoMemory` come of the formatting, the last opening, and the memory for the answers (`refused`). Which of the two
+/// it is, no clause says: a stop tells nothing of how many calls of the device failed.
 pub fn live_through<D: Mortal, A: Allocator + Copy>(
     alloc: A,
     mut device: D,
@@ -120,19 +158,14 @@ pub fn live_through<D: Mortal, A: Allocator + Copy>(
     days: &[Day<A>],
     build: bool,
 ) -> Result<Lived<D, A>, Error>
-    ensures holds { IfOk result (λ lived. Holds days.now lived.answers.items build (core_of lived.engine)) }
-    ensures refused { IfErr result (λ e. ((e ≡ Error.DeviceTooSmall) × (length (D.history device).disk.content < sectors_of geometry)) ⊎ (e ≡ Error.DeviceFailed) ⊎ (e ≡ Error.NoMemory) ⊎ ((build ≡ true) × ((e ≡ Error.NoIndex) ⊎ (e ≡ Error.IndexFull) ⊎ (e ≡ Error.Exhausted)))) }
+    ensures holds { IfOk result (λ lived. lived.unbuilt ≡ None → Holds nothing days.now lived.answers.items build (core_of lived.engine)) }
+    ensures unbuilt { IfOk result (λ lived. IfSome lived.unbuilt (λ e. (build ≡ true) × IsUnbuilt nothing days.now lived.answers.items e (core_of lived.engine))) }
+    ensures refused { IfErr result (λ e. (e ≡ Error.DeviceTooSmall) ⊎ (e ≡ Error.DeviceFailed) ⊎ (e ≡ Error.NoMemory)) }
+    ensures too_small { (result ≡ Err Error.DeviceTooSmall) ↔ (length (D.history device).disk.content < sectors_of geometry) }
 {
     format_gives_nothing();
     nothing_opens();
-    one_answer();
     Halves::format(&mut device, geometry)?;
     device.stop_now();
-    let (answers, found) = live_each_day(alloc, device, days)?;
-    let mut engine = match restart(alloc, found) {
-        Ok(engine) => engine,
-        Err((error, _)) => return Err(error),
-    };
-    finish_build(&mut engine, build)?;
-    Ok(Lived { answers, engine })
+    live_behind(alloc, device, days, build)
 }

@@ -30,7 +30,11 @@ fn lived<D: Mortal>(
     geometry: Geometry,
     days: &[Day<Global>],
 ) -> Result<Engine<D, Global>, Error> {
-    Ok(live_through(alloc, device, geometry, days, true)?.engine)
+    let lived = live_through(alloc, device, geometry, days, true)?;
+    match lived.unbuilt {
+        Some(error) => Err(error),
+        None => Ok(lived.engine),
+    }
 }
 
 // Where the rows with this key lie.

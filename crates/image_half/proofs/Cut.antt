@@ -3,8 +3,8 @@ use Rattle.std.proofs.Common.{◌≡◌, ℕ, zero, suc, ◌+◌, ◌*◌, ◌-�
 use Rattle.std.specs.Simd.{first_chunks}
 use Rattle.std.proofs.Common.{◌≤◌, length, sym}
 use Rattle.std.proofs.Math.Nat.{mul-le-mul_left}
-use Rattle.std.proofs.lemmas.List.{drop-drop}
-use Rattle.std.proofs.lemmas.Slice.{between-put_mid, between_is, take-put_mid_below}
+use Rattle.std.proofs.lemmas.List.{drop-drop, take_all}
+use Rattle.std.proofs.lemmas.Slice.{between-put_mid, between_is, take-put_mid_below, drop-put_mid}
 use borrow.Rule.Slice.PartMut.{put_mid}
 
 step : (n j : ℕ) → n + n * j ≡ n * suc j
@@ -34,3 +34,24 @@ module _ (n j len : ℕ) (xs ys bytes : List ℕ) (same : ys ≡ bytes) (size : 
       between_is (put_mid (n * j) len xs ys) (n * k) (n * k + n)
       ∙ ap (drop (n * k)) (take-put_mid_below (n * j) len xs ys (n * k + n) low (omega (arith, room)))
       ∙ sym (between_is xs (n * k) (n * k + n))
+
+-- ---- bytes beside those that are overwritten
+
+module _ (a len : ℕ) (xs ys : List ℕ) (inside : a ≤ length xs) where
+  pub part_before : (low high : ℕ) → high ≤ a → slice_range (put_mid a len xs ys) low high ≡ slice_range xs low high
+  part_before low high before =
+      between_is (put_mid a len xs ys) low high
+      ∙ ap (drop low) (take-put_mid_below a len xs ys high before inside)
+      ∙ sym (between_is xs low high)
+
+  pub front_before : (n : ℕ) → n ≤ a → take n (put_mid a len xs ys) ≡ take n xs
+  front_before n before = take-put_mid_below a len xs ys n before inside
+
+  pub rest_behind : (n : ℕ) → a + len ≤ n → length ys ≡ len → drop n (put_mid a len xs ys) ≡ drop n xs
+  rest_behind n behind size = drop-put_mid a len xs ys n behind inside size
+
+-- a piece that is the whole of some bytes
+pub cut_whole : (bytes : List ℕ) (size j : ℕ) → length bytes ≡ size → j ≡ 0 → slice_range bytes (size * j) (size * j + size) ≡ bytes
+cut_whole bytes size j long none =
+    let front : size * j ≡ 0 = ap (λ n. size * n) none ∙ (let z : size * 0 ≡ 0 = grind arith in z) in
+    ap (λ n. slice_range bytes n (n + size)) front ∙ take_all (0 + size - 0) bytes (omega (arith, long))

@@ -1,5 +1,6 @@
 -- Parts of an image are written one after another.
-use Rattle.std.proofs.Common.{◌≡◌, ◌⊎◌, inl, inr, ℕ, true, List, Result, OnOk, OnErr, refl, sym, ◌∙◌}
+use Rattle.std.specs.Prelude.{is_err}
+use Rattle.std.proofs.Common.{◌≡◌, ◌⊎◌, inl, inr, ℕ, true, false, List, Result, Ok, Err, OnOk, OnErr, refl, sym, ◌∙◌}
 use Rattle.std.proofs.lemmas.Bool.{false≢true}
 use Rattle.sector_device.specs.declared.device.Failed.{Failed}
 use Rattle.sector_device.specs.Disk.{Image, after_write, IsFailedWrite, SameOutside}
@@ -44,3 +45,12 @@ writes_one S old mid new n bytes result inside time ok err so_far = record {
   outside = content_after S old.disk.content mid.disk n bytes new.disk result ok err inside so_far.outside;
   within = within_write (λ k. S k ⊎ (old.disk.unsynced k ≡ true)) old.disk.content old mid new so_far.within time n bytes result (inl inside) ok err;
 }
+
+-- two facts of a success
+pub on_ok_both : {T E P Q R : Type 0} (r : Result T E) → (P → Q → R) → OnOk r P → OnOk r Q → OnOk r R
+on_ok_both (Ok x) f p q = f p q
+on_ok_both (Err e) f p q = tt
+
+pub from_ok : {T E : Type 0} (P : Type 0) (r : Result T E) → is_err r ≡ false → OnOk r P → P
+from_ok P (Ok x) is h = h
+from_ok P (Err e) is h = absurd cc

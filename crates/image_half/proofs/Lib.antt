@@ -1,10 +1,12 @@
 mod Lists
 mod Maps
 mod Cut
+mod Places
+mod Zeros
 mod OneImage
 mod Sound
 mod Growing
-mod Bytes
+pub mod Bytes
 mod Refusing
 mod Heads
 pub mod Told

@@ -1,5 +1,5 @@
 -- An image is written part by part.
-use Rattle.std.proofs.Common.{◌≡◌, inl, inr, ⊎_elim, ℕ, zero, suc, ◌+◌, ◌-◌, ◌*◌, ◌/◌, ◌%◌, ◌<◌, ◌≤◌, List, [], ◌∷◌, ◌++◌, length, map, Option, Some, None, refl, sym, ap, ◌∙◌, subst, arith, length-append}
+use Rattle.std.proofs.Common.{◌≡◌, inl, inr, ⊎_elim, ℕ, zero, suc, ◌+◌, ◌-◌, ◌*◌, ◌/◌, ◌%◌, ◌<◌, ◌≤◌, List, [], ◌∷◌, ◌++◌, length, map, Option, Some, refl, sym, ap, ◌∙◌, subst, arith, length-append}
 use Rattle.std.proofs.lemmas.Bool.{cases_lt}
 use Rattle.std.specs.Prelude.{slice_get}
 use Rattle.std.specs.FinMap.{entries, get, empty, get-empty, len-entries, len-empty}
@@ -9,6 +9,7 @@ use Rattle.std.proofs.lemmas.Option.{slice_get-map, slice_get_within, none-some}
 use Rattle.sector_device.specs.Disk.{Image, sector, SameOutside}
 use Rattle.sector_device.specs.History.{History}
 use Rattle.records.specs.ChangeValue.{ChangeValue}
+use Rattle.records.specs.declared.version.Version.TheVariants.{Two}
 use Rattle.records.specs.GeometryValue.{GeometryValue}
 use Rattle.records.specs.Orders.{rid_cmp, pair_cmp}
 use Rattle.records.specs.declared.row.Row.{Row}
@@ -16,13 +17,13 @@ use Rattle.records.specs.declared.pair.Pair.{Pair}
 use Rattle.records.specs.declared.pair.Mark.{Mark}
 use Rattle.model.specs.Table.{Table, Index}
 use Rattle.model.specs.Cells.{Cells}
-use Rattle.image_half.specs.Layout.{heads_at, undo_at, page_at, entries_at, InImage, InPage, InEntries}
-use Rattle.image_half.specs.Image.{IsHeader, AreHeads, HoldsList, IsItem, IsRow, IsEntry, IsImage, row_bytes, entry_bytes, header_of, head_of, item_of, ZerosBehindItems, InLists, InStart}
+use Rattle.image_half.specs.Layout.{heads_at, undo_at, page_at, entries_at, page_bytes, row_of, InImage, InPage, InEntries}
+use Rattle.image_half.specs.Image.{IsHeader, AreHeads, HoldsList, IsItem, HasEdges, IsRow, IsEntry, IsImage, row_bytes, entry_bytes, header_of, head_of, item_of, InLists, InStart}
 use Rattle.image_half.specs.Part.{IsImagePart, HasPage, IsWithPage}
 use Rattle.image_half.specs.Source.{FitsImage}
-use Rattle.image_half.specs.Steps.{ShowsList, WritesIn}
+use Rattle.image_half.specs.Steps.{WritesIn}
 use Rattle.image_half.proofs.Joined.{writes_then, writes_wider}
-use Rattle.image_half.proofs.Kept.{piece_kept, list_kept}
+use Rattle.image_half.proofs.Kept.{piece_kept, list_kept, bytes_kept}
 use Rattle.image_half.proofs.Writing.{list_short}
 
 -- ---- a list behind another
@@ -42,7 +43,7 @@ slice_get-append_back (x ∷ xs) ys (suc i) past = slice_get-append_back xs ys i
 -- what is there stays while other sectors are written
 module _ (g : GeometryValue) (first : ℕ) (image c : Image) (pages : ℕ) (cells : Cells) (P : ℕ → Type 0) (same : SameOutside P image c) (is : IsImagePart g first image pages cells)
     (front : (n : ℕ) → heads_at first ≤ n → n < page_at first 0 → ¬ P n) (behind : (n : ℕ) → page_at first 0 ≤ n → n < page_at first pages → ¬ P n)
-    (last : (i : ℕ) → i < length (entries cells.entries) → ¬ P (entries_at g first + i / 16)) where
+    (last : (i : ℕ) → i < length (entries cells.entries) → ¬ P (entries_at g first + i / 8)) where
   list_stays : (h : ℕ) (list : ℕ × List ChangeValue) → slice_get (entries cells.pending) h ≡ Some list → HoldsList g first c h list.1
   list_stays h list at_h =
       let few : h < 16 = omega (arith, slice_get_within (entries cells.pending) h list at_h, length-map (entries cells.pending) head_of, is.heads-are.count) in
@@ -51,8 +52,11 @@ module _ (g : GeometryValue) (first : ℕ) (image c : Image) (pages : ℕ) (cell
         positions = (is.lists h list at_h).positions;
         items = λ p x at_p.
             let low : p < 64 = omega (arith, slice_get_within list.1 p x at_p, short) in
-            piece_kept P image c same (λ b. IsItem g b (item_of x)) (undo_at first) 256 2 (64 * h + p) (front (undo_at first + (64 * h + p) / 2) (omega (arith, few, low)) (omega (arith, few, low))) ((is.lists h list at_h).items p x at_p);
+            piece_kept P image c same (λ b. IsItem g b (item_of x)) (undo_at first) 512 1 (64 * h + p) (front (undo_at first + (64 * h + p) / 1) (omega (arith, few, low)) (omega (arith, few, low))) ((is.lists h list at_h).items p x at_p);
       }
+
+  page_stays : (page : ℕ) → page < pages → page_bytes c first page ≡ page_bytes image first page
+  page_stays page below = bytes_kept P image c same first page (λ k low. behind (page_at first page + k) (omega arith) (omega (arith, low, below)))
 
   pub part_kept : IsImagePart g first c pages cells
   part_kept = record {
@@ -60,10 +64,10 @@ module _ (g : GeometryValue) (first : ℕ) (image c : Image) (pages : ℕ) (cell
     room = is.room;
     heads-are = subst (λ (b : List ℕ). AreHeads b (map head_of (entries cells.pending))) (sym (same.same (heads_at first) (front (heads_at first) (omega arith) (omega arith)))) is.heads-are;
     lists = list_stays;
-    fronts = λ page below. piece_kept P image c same (λ b. IsRow b None) (page_at first page) 64 8 0 (behind (page_at first page + 0 / 8) (omega (arith, below)) (omega (arith, below))) (is.fronts page below);
-    rows = λ q page slot. piece_kept P image c same (λ b. IsRow b (get cells.rows q)) (page_at first q.page) 64 8 (q.slot + 1) (behind (page_at first q.page + (q.slot + 1) / 8) (omega (arith, page, slot)) (omega (arith, page, slot))) (is.rows q page slot);
+    edges = λ page below. subst (HasEdges Two) (sym (page_stays page below)) (is.edges page below);
+    rows = λ q page slot. subst (λ (b : List ℕ). IsRow (row_of Two b q.slot) (get cells.rows q)) (sym (page_stays q.page page)) (is.rows q page slot);
     within = is.within;
-    entries = λ i e at_i. piece_kept P image c same (λ b. IsEntry g b e) (entries_at g first) 32 16 i (last i (slice_get_within (entries cells.entries) i e at_i)) (is.entries i e at_i);
+    entries = λ i e at_i. piece_kept P image c same (λ b. IsEntry g b e) (entries_at g first) 64 8 i (last i (slice_get_within (entries cells.entries) i e at_i)) (is.entries i e at_i);
   }
 
 module _ (g : GeometryValue) (first : ℕ) (image c : Image) where
@@ -75,7 +79,7 @@ module _ (g : GeometryValue) (first : ℕ) (image c : Image) where
       (λ i below out. out (omega arith, omega (arith, below, is.room)))
     where
       inside_of : (n : ℕ) → (¬ (¬ InImage g first n)) → InImage g first n
-      inside_of n inside = ⊎_elim (λ low. absurd (inside (λ is. omega (arith, low, is.0)))) (λ high. ⊎_elim (λ below. (high, below)) (λ past. absurd (inside (λ is. omega (arith, past, is.1)))) (cases_lt n (entries_at g first + (g.entries + 15) / 16))) (cases_lt n first)
+      inside_of n inside = ⊎_elim (λ low. absurd (inside (λ is. omega (arith, low, is.0)))) (λ high. ⊎_elim (λ below. (high, below)) (λ past. absurd (inside (λ is. omega (arith, past, is.1)))) (cases_lt n (entries_at g first + (g.entries + 7) / 8))) (cases_lt n first)
 
   -- its next page is written
   pub part_page : (page : ℕ) (cells : Cells) (rows : Table) → page < g.pages → IsImagePart g first image page cells → SameOutside (InPage first page) image c → HasPage first c page rows → IsWithPage page cells.rows rows
@@ -88,17 +92,17 @@ module _ (g : GeometryValue) (first : ℕ) (image c : Image) where
         room = kept.room;
         heads-are = kept.heads-are;
         lists = kept.lists;
-        fronts = λ k less. ⊎_elim (λ before. kept.fronts k before) (λ late. subst (λ (x : ℕ). IsRow (row_bytes c first x 0) None) (let e : page ≡ k = omega (arith, less, late) in e) has.front) (cases_lt k page);
+        edges = λ k less. ⊎_elim (λ before. kept.edges k before) (λ late. subst (λ (x : ℕ). HasEdges Two (page_bytes c first x)) (let e : page ≡ k = omega (arith, less, late) in e) has.edges) (cases_lt k page);
         rows = λ q less slot. ⊎_elim
-            (λ before. subst (λ (o : Option Row). IsRow (row_bytes c first q.page (q.slot + 1)) o) (sym (more.earlier q before)) (kept.rows q before slot))
-            (λ late. subst (λ (x : ℕ). IsRow (row_bytes c first x (q.slot + 1)) (get rows (record { page = x; slot = q.slot }))) (let e : page ≡ q.page = omega (arith, less, late) in e) (has.slots q.slot slot))
+            (λ before. subst (λ (o : Option Row). IsRow (row_bytes c first q.page q.slot) o) (sym (more.earlier q before)) (kept.rows q before slot))
+            (λ late. subst (λ (x : ℕ). IsRow (row_bytes c first x q.slot) (get rows (record { page = x; slot = q.slot }))) (let e : page ≡ q.page = omega (arith, less, late) in e) (has.slots q.slot slot))
             (cases_lt q.page page);
         within = more.within;
         entries = kept.entries;
       }
 
   -- its next entries are written, where those before them fill their sectors
-  pub part_entries : (pages : ℕ) (cells : Cells) (index : Index) (more : List (Pair × Mark)) → IsImagePart g first image pages cells → length (entries cells.entries) % 16 ≡ 0 → entries index ≡ entries cells.entries ++ more
+  pub part_entries : (pages : ℕ) (cells : Cells) (index : Index) (more : List (Pair × Mark)) → IsImagePart g first image pages cells → length (entries cells.entries) % 8 ≡ 0 → entries index ≡ entries cells.entries ++ more
       → length (entries cells.entries) + length more ≤ g.entries → SameOutside (InEntries g first (length (entries cells.entries)) (length more)) image c
       → ((i : ℕ) (e : Pair × Mark) → slice_get more i ≡ Some e → IsEntry g (entry_bytes g c first (length (entries cells.entries) + i)) e)
       → IsImagePart g first c pages (record cells { entries = index })
@@ -111,7 +115,7 @@ module _ (g : GeometryValue) (first : ℕ) (image c : Image) where
         room = omega (arith, ap length all, length-append old more, room);
         heads-are = kept.heads-are;
         lists = kept.lists;
-        fronts = kept.fronts;
+        edges = kept.edges;
         rows = kept.rows;
         within = kept.within;
         entries = λ i e at_i.
@@ -131,7 +135,7 @@ module _ (g : GeometryValue) (first : ℕ) (image c : Image) where
         header-is = header;
         heads-are = kept.heads-are;
         lists = kept.lists;
-        fronts = kept.fronts;
+        edges = kept.edges;
         rows = kept.rows;
         within = kept.within;
         entries = kept.entries;
@@ -148,7 +152,7 @@ part_began g first image cells heads lists rows index =
       room = omega (arith, none);
       heads-are = heads;
       lists = lists;
-      fronts = λ page below. absurd (omega (arith, below));
+      edges = λ page below. absurd (omega (arith, below));
       rows = λ q below. absurd (omega (arith, below));
       within = λ q r there. absurd (none-some r (sym (ap (λ (m : Table). get m q) rows ∙ get-empty rid_cmp q) ∙ there));
       entries = λ i e at_i. absurd (omega (arith, slice_get_within (entries cells.entries) i e at_i, none));
@@ -164,12 +168,9 @@ module _ (first : ℕ) (cells : Cells) (old mid : History) where
   start_heads new lists part = writes_then (InStart first cells) (λ n. n ≡ heads_at first) old mid new (λ n is. inl is) (start_lists lists) part
 
 module _ (g : GeometryValue) (first : ℕ) (cells : Cells) (fits : FitsImage g cells) (mid new : History) (part : WritesIn (λ n. n ≡ heads_at first) mid new)
-    (lists : (h : ℕ) (list : ℕ × List ChangeValue) → slice_get (entries cells.pending) h ≡ Some list → ShowsList g first mid.disk.content h list.1) where
-  shown : (h : ℕ) (list : ℕ × List ChangeValue) → slice_get (entries cells.pending) h ≡ Some list → ShowsList g first new.disk.content h list.1
+    (lists : (h : ℕ) (list : ℕ × List ChangeValue) → slice_get (entries cells.pending) h ≡ Some list → HoldsList g first mid.disk.content h list.1) where
+  shown : (h : ℕ) (list : ℕ × List ChangeValue) → slice_get (entries cells.pending) h ≡ Some list → HoldsList g first new.disk.content h list.1
   shown h list at_h = list_kept (λ n. n ≡ heads_at first) mid.disk.content new.disk.content part.outside g first h list.1 (λ p low is. omega (arith, is)) (list_short g cells fits h list at_h) (lists h list at_h)
 
   pub started : AreHeads (sector new.disk.content (heads_at first)) (map head_of (entries cells.pending)) → IsImagePart g first new.disk.content 0 (record cells { rows = empty; entries = empty })
-  started heads = part_began g first new.disk.content (record cells { rows = empty; entries = empty }) heads (λ h list at_h. (shown h list at_h).held) refl refl
-
-  pub start_rest : (h : ℕ) (list : ℕ × List ChangeValue) → slice_get (entries cells.pending) h ≡ Some list → ZerosBehindItems first new.disk.content h (length list.1)
-  start_rest h list at_h = (shown h list at_h).rest
+  started heads = part_began g first new.disk.content (record cells { rows = empty; entries = empty }) heads shown refl refl

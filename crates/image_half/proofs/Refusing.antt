@@ -3,6 +3,7 @@ use Rattle.std.proofs.Common.{◌≡◌, ◌⊎◌, inl, inr, ℕ, ◌<◌, List
 use Rattle.std.specs.Prelude.{slice_get}
 use Rattle.sector_device.specs.Disk.{Image, sector}
 use Rattle.sector_device.specs.History.{Rises}
+use Rattle.records.specs.declared.version.Version.{Version}
 use Rattle.records.specs.GeometryValue.{GeometryValue}
 use Rattle.records.specs.declared.error.Error.{Error}
 use Rattle.model.specs.Table.{Table, Index}
@@ -10,8 +11,8 @@ use Rattle.model.specs.Cells.{Cells, Pending}
 use Rattle.image_parts.specs.declared.head.Head.{Head}
 use Rattle.image_parts.specs.declared.header.Header.{Header}
 use Rattle.image_half.specs.Layout.{heads_at}
-use Rattle.image_half.specs.Image.{IsHeader, AreHeads, IsImage, header_of}
-use Rattle.image_half.specs.Damage.{AnItem, APage, AnEntry, TheHeader, TheHeads, IsSound, IsHindered, IsUnread, sector_of}
+use Rattle.image_half.specs.Image.{IsHeaderIn, AreHeads, IsImageIn, header_of}
+use Rattle.image_half.specs.Damage.{AnItem, APage, AnEntry, TheHeader, TheHeads, IsSoundIn, IsHindered, IsUnreadIn, sector_of}
 use Rattle.records.specs.declared.error.Error.TheVariants.{Damaged}
 use Rattle.image_half.specs.Steps.{HoldsLists, HoldsPages, HoldsEntries, IsItemRefused, AreListsRefused, IsPageRefused, ArePagesRefused, AreEntriesRefused}
 use Rattle.image_half.proofs.Sound.{items_sound, pages_sound, header_first, heads_first, items_first, pages_first, entries_first}
@@ -22,8 +23,8 @@ pub refuses_later : (a b c : ℕ) (e : Error) → b ≡ a → IsHindered b c e �
 refuses_later a b c e same (inl memory) = inl memory
 refuses_later a b c e same (inr failed) = inr (failed.0, subst (λ (n : ℕ). Rises n c) same failed.1)
 
-module _ (g : GeometryValue) (first : ℕ) (image now : Image) (a b c : ℕ) (e : Error) (same : now ≡ image) (quiet : b ≡ a) where
-  pub list_refused : (heads : List Head) (pending : Pending) (h : ℕ) (head : Head) → slice_get heads h ≡ Some head → HoldsLists g first image (take h heads) pending → IsItemRefused g first now h head.changes b c e → AreListsRefused g first image heads a c e
+module _ (v : Version) (g : GeometryValue) (first : ℕ) (image now : Image) (a b c : ℕ) (e : Error) (same : now ≡ image) (quiet : b ≡ a) where
+  pub list_refused : (heads : List Head) (pending : Pending) (h : ℕ) (head : Head) → slice_get heads h ≡ Some head → HoldsLists v g first image (take h heads) pending → IsItemRefused v g first now h head.changes b c e → AreListsRefused v g first image heads a c e
   list_refused heads pending h head at_h held (inl refused) = inl (refuses_later a b c e quiet refused)
   list_refused heads pending h head at_h held (inr (p, below, is, unsound, before)) = inr (
     h,
@@ -32,63 +33,63 @@ module _ (g : GeometryValue) (first : ℕ) (image now : Image) (a b c : ℕ) (e 
     at_h,
     below,
     is,
-    (λ sound. unsound (subst (λ (x : Image). IsSound g first x (AnItem h p)) (sym same) sound)),
-    (λ q less. subst (λ (x : Image). IsSound g first x (AnItem h q)) same (before q less)),
-    (λ k q y less at_y lower. items_sound g first image (take h heads) pending held k q y (slice_get-take h k heads less ∙ at_y) lower),
+    (λ sound. unsound (subst (λ (x : Image). IsSoundIn v g first x (AnItem h p)) (sym same) sound)),
+    (λ q less. subst (λ (x : Image). IsSoundIn v g first x (AnItem h q)) same (before q less)),
+    (λ k q y less at_y lower. items_sound v g first image (take h heads) pending held k q y (slice_get-take h k heads less ∙ at_y) lower),
   )
 
-  pub page_refused : (page : ℕ) (rows : Table) → page < g.pages → HoldsPages g first image page rows → IsPageRefused g first now page b c e → ArePagesRefused g first image a c e
+  pub page_refused : (page : ℕ) (rows : Table) → page < g.pages → HoldsPages v g first image page rows → IsPageRefused v g first now page b c e → ArePagesRefused v g first image a c e
   page_refused page rows below held (inl refused) = inl (refuses_later a b c e quiet refused)
   page_refused page rows below held (inr (is, unsound)) = inr (
     page,
     below,
     is,
-    (λ sound. unsound (subst (λ (x : Image). IsSound g first x (APage page)) (sym same) sound)),
-    (λ earlier less. pages_sound g first image page rows held earlier less),
+    (λ sound. unsound (subst (λ (x : Image). IsSoundIn v g first x (APage page)) (sym same) sound)),
+    (λ earlier less. pages_sound v g first image page rows held earlier less),
   )
 
   -- ---- the whole image
 
-  pub header_unread : IsHindered b c e ⊎ ((e ≡ Damaged first) × (¬ IsSound g first now TheHeader)) → IsUnread g first image a c e
+  pub header_unread : IsHindered b c e ⊎ ((e ≡ Damaged first) × (¬ IsSoundIn v g first now TheHeader)) → IsUnreadIn v g first image a c e
   header_unread (inl refused) = inl (refuses_later a b c e quiet refused)
-  header_unread (inr (is, unsound)) = inr (first, is, header_first g first image (λ sound. unsound (subst (λ (x : Image). IsSound g first x TheHeader) (sym same) sound)))
+  header_unread (inr (is, unsound)) = inr (first, is, header_first v g first image (λ sound. unsound (subst (λ (x : Image). IsSoundIn v g first x TheHeader) (sym same) sound)))
 
-  module _ (header : Header) (is_header : IsHeader g (sector image first) header) where
-    pub heads_unread : IsHindered b c e ⊎ ((e ≡ Damaged (heads_at first)) × (¬ IsSound g first now TheHeads)) → IsUnread g first image a c e
+  module _ (header : Header) (is_header : IsHeaderIn v g (sector image first) header) where
+    pub heads_unread : IsHindered b c e ⊎ ((e ≡ Damaged (heads_at first)) × (¬ IsSoundIn v g first now TheHeads)) → IsUnreadIn v g first image a c e
     heads_unread (inl refused) = inl (refuses_later a b c e quiet refused)
-    heads_unread (inr (is, unsound)) = inr (heads_at first, is, heads_first g first image header is_header (λ sound. unsound (subst (λ (x : Image). IsSound g first x TheHeads) (sym same) sound)))
+    heads_unread (inr (is, unsound)) = inr (heads_at first, is, heads_first v g first image header is_header (λ sound. unsound (subst (λ (x : Image). IsSoundIn v g first x TheHeads) (sym same) sound)))
 
     module _ (heads : List Head) (are_heads : AreHeads (sector image (heads_at first)) heads) where
-      pub lists_unread : AreListsRefused g first now heads b c e → IsUnread g first image a c e
+      pub lists_unread : AreListsRefused v g first now heads b c e → IsUnreadIn v g first image a c e
       lists_unread (inl refused) = inl (refuses_later a b c e quiet refused)
       lists_unread (inr (h, p, x, at_x, below, is, unsound, before, others)) = inr (
-        sector_of g first (AnItem h p),
+        sector_of v g first (AnItem h p),
         is,
-        items_first g first image header is_header heads are_heads h p x at_x below
-            (λ sound. unsound (subst (λ (y : Image). IsSound g first y (AnItem h p)) (sym same) sound))
-            (λ q less. subst (λ (y : Image). IsSound g first y (AnItem h q)) same (before q less))
-            (λ k q y less at_y lower. subst (λ (z : Image). IsSound g first z (AnItem k q)) same (others k q y less at_y lower)),
+        items_first v g first image header is_header heads are_heads h p x at_x below
+            (λ sound. unsound (subst (λ (y : Image). IsSoundIn v g first y (AnItem h p)) (sym same) sound))
+            (λ q less. subst (λ (y : Image). IsSoundIn v g first y (AnItem h q)) same (before q less))
+            (λ k q y less at_y lower. subst (λ (z : Image). IsSoundIn v g first z (AnItem k q)) same (others k q y less at_y lower)),
       )
 
-      module _ (pending : Pending) (lists : HoldsLists g first image heads pending) where
-        pub pages_unread : ArePagesRefused g first now b c e → IsUnread g first image a c e
+      module _ (pending : Pending) (lists : HoldsLists v g first image heads pending) where
+        pub pages_unread : ArePagesRefused v g first now b c e → IsUnreadIn v g first image a c e
         pages_unread (inl refused) = inl (refuses_later a b c e quiet refused)
         pages_unread (inr (page, below, is, unsound, before)) = inr (
-          sector_of g first (APage page),
+          sector_of v g first (APage page),
           is,
-          pages_first g first image header is_header heads are_heads pending lists page below
-              (λ sound. unsound (subst (λ (y : Image). IsSound g first y (APage page)) (sym same) sound))
-              (λ earlier less. subst (λ (y : Image). IsSound g first y (APage earlier)) same (before earlier less)),
+          pages_first v g first image header is_header heads are_heads pending lists page below
+              (λ sound. unsound (subst (λ (y : Image). IsSoundIn v g first y (APage page)) (sym same) sound))
+              (λ earlier less. subst (λ (y : Image). IsSoundIn v g first y (APage earlier)) same (before earlier less)),
         )
 
-        pub entries_unread : (rows : Table) → HoldsPages g first image g.pages rows → AreEntriesRefused g first now header.entries b c e → IsUnread g first image a c e
+        pub entries_unread : (rows : Table) → HoldsPages v g first image g.pages rows → AreEntriesRefused v g first now header.entries b c e → IsUnreadIn v g first image a c e
         entries_unread rows held (inl refused) = inl (refuses_later a b c e quiet refused)
         entries_unread rows held (inr (i, below, is, unsound, before)) = inr (
-          sector_of g first (AnEntry i),
+          sector_of v g first (AnEntry i),
           is,
-          entries_first g first image header is_header heads are_heads pending lists rows held i below
-              (λ sound. unsound (subst (λ (y : Image). IsSound g first y (AnEntry i)) (sym same) sound))
-              (λ j less. subst (λ (y : Image). IsSound g first y (AnEntry j)) same (before j less)),
+          entries_first v g first image header is_header heads are_heads pending lists rows held i below
+              (λ sound. unsound (subst (λ (y : Image). IsSoundIn v g first y (AnEntry i)) (sym same) sound))
+              (λ j less. subst (λ (y : Image). IsSoundIn v g first y (AnEntry j)) same (before j less)),
         )
 
 -- ---- what the sink has
@@ -119,13 +120,13 @@ only_entries start old new m set rest = λ i. record {
 
 -- ---- the image that was read
 
-pub whole_image : (g : GeometryValue) (first : ℕ) (image : Image) (header : Header) (heads : List Head) (cells : Cells) → IsHeader g (sector image first) header → AreHeads (sector image (heads_at first)) heads
-    → HoldsLists g first image heads cells.pending → HoldsPages g first image g.pages cells.rows → HoldsEntries g first image header.entries cells.entries → cells.life ≡ header.life → IsImage g first image header.base cells
-whole_image g first image header heads cells is_header are_heads lists pages entries life = record {
-  header-is = subst (IsHeader g (sector image first)) (let same : header ≡ header_of header.base cells = (λ i. record { life = sym life i; base = header.base; entries = sym entries.count i }) in same) is_header;
+pub whole_image : (v : Version) (g : GeometryValue) (first : ℕ) (image : Image) (header : Header) (heads : List Head) (cells : Cells) → IsHeaderIn v g (sector image first) header → AreHeads (sector image (heads_at first)) heads
+    → HoldsLists v g first image heads cells.pending → HoldsPages v g first image g.pages cells.rows → HoldsEntries v g first image header.entries cells.entries → cells.life ≡ header.life → IsImageIn v g first image header.base cells
+whole_image v g first image header heads cells is_header are_heads lists pages entries life = record {
+  header-is = subst (IsHeaderIn v g (sector image first)) (let same : header ≡ header_of header.base cells = (λ i. record { life = sym life i; base = header.base; entries = sym entries.count i }) in same) is_header;
   heads-are = subst (AreHeads (sector image (heads_at first))) (sym lists.heads-are) are_heads;
   lists = lists.each;
-  fronts = pages.fronts;
+  edges = pages.edges;
   rows = pages.slots;
   within = pages.within;
   entries = entries.each;

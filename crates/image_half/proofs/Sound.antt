@@ -1,5 +1,5 @@
 -- Which sector is the first that is damaged.
-use Rattle.std.proofs.Common.{◌≡◌, inl, inr, ⊎_elim, ℕ, zero, suc, ◌<◌, List, [], ◌∷◌, length, map, Option, Some, None, refl, sym, ap, ◌∙◌, subst, arith, Bool, true, false, ◌&&◌}
+use Rattle.std.proofs.Common.{◌≡◌, inl, inr, ⊎_elim, ℕ, zero, suc, ◌+◌, ◌<◌, List, [], ◌∷◌, length, map, Option, Some, None, refl, sym, ap, ◌∙◌, subst, arith, Bool, true, false, ◌&&◌}
 use Rattle.std.specs.Prelude.{slice_get, T}
 use Rattle.std.specs.Option.{option_map}
 use Rattle.std.specs.declared.cmp.Ordering.{Ordering}
@@ -9,6 +9,7 @@ use Rattle.std.specs.FinMap.{entries, entries_sorted, get, is_sorted}
 use Rattle.std.proofs.lemmas.Bool.{cases_order}
 use Rattle.std.proofs.lemmas.Option.{none-some, same_Some, slice_get-map, slice_get_within}
 use Rattle.sector_device.specs.Disk.{Image, sector}
+use Rattle.records.specs.declared.version.Version.{Version}
 use Rattle.records.specs.GeometryValue.{GeometryValue}
 use Rattle.records.specs.Orders.{pair_cmp}
 use Rattle.records.specs.declared.pair.Pair.{Pair}
@@ -19,11 +20,12 @@ use Rattle.image_parts.specs.declared.head.Head.{Head}
 use Rattle.image_parts.specs.declared.header.Header.{Header}
 use Rattle.image_parts.proofs.OneReading.{one_entry}
 use Rattle.image_half.specs.Layout.{heads_at}
-use Rattle.image_half.specs.Image.{IsHeader, AreHeads, IsImage, header_of, head_of, item_of}
-use Rattle.image_half.specs.Damage.{Part, TheHeader, TheHeads, AnItem, APage, AnEntry, sector_of, IsLookedAt, IsSound, IsDamagedAt, IsFirstDamaged}
+use Rattle.image_half.specs.Image.{IsHeaderIn, AreHeads, IsImageIn, header_of, head_of, item_of}
+use Rattle.image_half.specs.Damage.{Part, TheHeader, TheHeads, AnItem, APage, AnEntry, sector_of, IsLookedAt, IsSoundIn, IsDamagedAtIn, IsFirstDamagedIn}
 use Rattle.image_half.specs.Steps.{HoldsLists, HoldsPages, HoldsEntries}
 use Rattle.image_half.proofs.Lists.{option_cases, not_past}
 use Rattle.image_half.proofs.OneImage.{one_header_at, one_heads}
+use Rattle.image_half.proofs.Places.{item_inside, items_rise, positions_rise, page_inside, pages_begin, pages_rise, entries_rise}
 
 first_of : (a b : Bool) → T (a && b) → T a
 first_of true b p = tt
@@ -55,30 +57,30 @@ at_index xs i below = elim (option_cases (slice_get xs i)) [
   | inr some ↦ some
 ]
 
-module _ (g : GeometryValue) (first : ℕ) (image : Image) where
-  pub first_damaged : (part : Part) → IsLookedAt g first image part → ¬ IsSound g first image part
-      → ((earlier : Part) → IsLookedAt g first image earlier → sector_of g first earlier < sector_of g first part → IsSound g first image earlier)
-      → IsFirstDamaged g first image (sector_of g first part)
+module _ (v : Version) (g : GeometryValue) (first : ℕ) (image : Image) where
+  pub first_damaged : (part : Part) → IsLookedAt v g first image part → ¬ IsSoundIn v g first image part
+      → ((earlier : Part) → IsLookedAt v g first image earlier → sector_of v g first earlier < sector_of v g first part → IsSoundIn v g first image earlier)
+      → IsFirstDamagedIn v g first image (sector_of v g first part)
   first_damaged part looked unsound sound = record {
     damaged = record { part = part; looked = looked; unsound = unsound; sector-is = refl };
     before = λ earlier lt damage. damage.unsound (sound damage.part damage.looked (omega (arith, damage.sector-is, lt)));
   }
 
-  pub one_first : (m n : ℕ) → IsFirstDamaged g first image m → IsFirstDamaged g first image n → m ≡ n
+  pub one_first : (m n : ℕ) → IsFirstDamagedIn v g first image m → IsFirstDamagedIn v g first image n → m ≡ n
   one_first m n p q = ⊎_elim (λ same. same) (λ apart. ⊎_elim (λ lt. absurd (q.before m lt p.damaged)) (λ gt. absurd (p.before n gt q.damaged)) apart) (cases_order m n)
 
   -- the items of lists that are those of the heads
-  pub items_sound : (heads : List Head) (pending : Pending) → HoldsLists g first image heads pending → (h position : ℕ) (x : Head) → slice_get heads h ≡ Some x → position < x.changes → IsSound g first image (AnItem h position)
+  pub items_sound : (heads : List Head) (pending : Pending) → HoldsLists v g first image heads pending → (h position : ℕ) (x : Head) → slice_get heads h ≡ Some x → position < x.changes → IsSoundIn v g first image (AnItem h position)
   items_sound heads pending held h position x at_x below =
       let found = mapped head_of (slice_get (entries pending) h) x (sym (slice_get-map head_of (entries pending) h) ∙ ap (λ (hs : List Head). slice_get hs h) held.heads-are ∙ at_x) in
       let room : position < length found.0.1 = subst (λ (k : Head). position < k.changes) (sym found.2) below in
       let c = at_index found.0.1 position room in
       (item_of c.0, (held.each h found.0 found.1).items position c.0 c.1)
 
-  pub pages_sound : (n : ℕ) (rows : Table) → HoldsPages g first image n rows → (page : ℕ) → page < n → IsSound g first image (APage page)
-  pages_sound n rows held page below = (held.fronts page below, λ slot lt. (get rows (record { page = page; slot = slot }), held.slots (record { page = page; slot = slot }) below lt))
+  pub pages_sound : (n : ℕ) (rows : Table) → HoldsPages v g first image n rows → (page : ℕ) → page < n → IsSoundIn v g first image (APage page)
+  pages_sound n rows held page below = (held.edges page below, λ slot lt. (get rows (record { page = page; slot = slot }), held.slots (record { page = page; slot = slot }) below lt))
 
-  pub entries_sound : (n : ℕ) (m : Index) → HoldsEntries g first image n m → (i : ℕ) → i < n → IsSound g first image (AnEntry i)
+  pub entries_sound : (n : ℕ) (m : Index) → HoldsEntries v g first image n m → (i : ℕ) → i < n → IsSoundIn v g first image (AnEntry i)
   entries_sound n m held i below =
       let e = at_index (entries m) i (omega (arith, held.count, below)) in (
         e.0,
@@ -86,53 +88,62 @@ module _ (g : GeometryValue) (first : ℕ) (image : Image) where
         λ j d next is_d.
             let f = at_index (entries m) j (omega (arith, held.count, below, next)) in
             let is_f = held.each j f.0 f.1 in
-            let same : f.0 ≡ d = one_entry f.0 d is_f.fits is_d.fits (sym is_f.spelled ∙ is_d.spelled) in
+            let same : f.0 ≡ d = one_entry v f.0 d is_f.fits is_d.fits (sym is_f.spelled ∙ is_d.spelled) in
             subst (λ (z : Pair × Mark). pair_cmp z.0 e.0.0 ≡ Less) same (neighbours pair_cmp (entries m) j f.0 e.0 (entries_sorted m) f.1 (subst (λ k. slice_get (entries m) k ≡ Some e.0) (let s : i ≡ suc j = omega (arith, next) in s) e.1)),
       )
 
   -- ---- an image is nowhere damaged
 
-  held_by : (base : ℕ) (cells : Cells) → IsImage g first image base cells → (part : Part) → IsLookedAt g first image part → IsSound g first image part
+  held_by : (base : ℕ) (cells : Cells) → IsImageIn v g first image base cells → (part : Part) → IsLookedAt v g first image part → IsSoundIn v g first image part
   held_by base cells is TheHeader looked = (header_of base cells, is.header-is)
   held_by base cells is TheHeads looked = (map head_of (entries cells.pending), is.heads-are)
   held_by base cells is (AnItem h position) (heads, x, are, at_x, below) =
       items_sound heads cells.pending (record { heads-are = one_heads (sector image (heads_at first)) _ heads is.heads-are are; each = is.lists }) h position x at_x below
-  held_by base cells is (APage page) looked = pages_sound g.pages cells.rows (record { fronts = is.fronts; slots = is.rows; within = is.within }) page looked
+  held_by base cells is (APage page) looked = pages_sound g.pages cells.rows (record { edges = is.edges; slots = is.rows; within = is.within }) page looked
   held_by base cells is (AnEntry i) (h, is_h, below) =
-      let same : h ≡ header_of base cells = one_header_at g (sector image first) h (header_of base cells) is_h is.header-is in
+      let same : h ≡ header_of base cells = one_header_at v g (sector image first) h (header_of base cells) is_h is.header-is in
       entries_sound (length (entries cells.entries)) cells.entries (record { count = refl; each = is.entries }) i (subst (λ (k : Header). i < k.entries) same below)
 
-  pub not_damaged : (base : ℕ) (cells : Cells) (n : ℕ) → IsImage g first image base cells → ¬ IsDamagedAt g first image n
+  pub not_damaged : (base : ℕ) (cells : Cells) (n : ℕ) → IsImageIn v g first image base cells → ¬ IsDamagedAtIn v g first image n
   not_damaged base cells n is damage = damage.unsound (held_by base cells is damage.part damage.looked)
 
   -- ---- the first damage, part by part
 
-  pub header_first : ¬ IsSound g first image TheHeader → IsFirstDamaged g first image first
+  item_late : (h position n : ℕ) → n < 2 → ¬ (sector_of v g first (AnItem h position) < first + n)
+  item_late h position n low lt = omega (arith, low, lt)
+
+  page_late : (page n : ℕ) → n < 2 → ¬ (sector_of v g first (APage page) < first + n)
+  page_late page n low lt = omega (arith, low, lt)
+
+  entry_late : (i n : ℕ) → n < 2 → ¬ (sector_of v g first (AnEntry i) < first + n)
+  entry_late i n low lt = omega (arith, low, lt)
+
+  pub header_first : ¬ IsSoundIn v g first image TheHeader → IsFirstDamagedIn v g first image first
   header_first unsound = first_damaged TheHeader tt unsound sound
     where
-      sound : (earlier : Part) → IsLookedAt g first image earlier → sector_of g first earlier < first → IsSound g first image earlier
+      sound : (earlier : Part) → IsLookedAt v g first image earlier → sector_of v g first earlier < first → IsSoundIn v g first image earlier
       sound TheHeader looked lt = absurd (omega (arith, lt))
       sound TheHeads looked lt = absurd (omega (arith, lt))
-      sound (AnItem h position) looked lt = absurd (omega (arith, lt))
-      sound (APage page) looked lt = absurd (omega (arith, lt))
-      sound (AnEntry i) looked lt = absurd (omega (arith, lt))
+      sound (AnItem h position) looked lt = absurd (item_late h position 0 (omega arith) (omega (arith, lt)))
+      sound (APage page) looked lt = absurd (page_late page 0 (omega arith) (omega (arith, lt)))
+      sound (AnEntry i) looked lt = absurd (entry_late i 0 (omega arith) (omega (arith, lt)))
 
-  module _ (header : Header) (is_header : IsHeader g (sector image first) header) where
-    pub heads_first : ¬ IsSound g first image TheHeads → IsFirstDamaged g first image (heads_at first)
+  module _ (header : Header) (is_header : IsHeaderIn v g (sector image first) header) where
+    pub heads_first : ¬ IsSoundIn v g first image TheHeads → IsFirstDamagedIn v g first image (heads_at first)
     heads_first unsound = first_damaged TheHeads tt unsound sound
       where
-        sound : (earlier : Part) → IsLookedAt g first image earlier → sector_of g first earlier < heads_at first → IsSound g first image earlier
+        sound : (earlier : Part) → IsLookedAt v g first image earlier → sector_of v g first earlier < heads_at first → IsSoundIn v g first image earlier
         sound TheHeader looked lt = (header, is_header)
         sound TheHeads looked lt = absurd (omega (arith, lt))
-        sound (AnItem h position) looked lt = absurd (omega (arith, lt))
-        sound (APage page) looked lt = absurd (omega (arith, lt))
-        sound (AnEntry i) looked lt = absurd (omega (arith, lt))
+        sound (AnItem h position) looked lt = absurd (item_late h position 1 (omega arith) lt)
+        sound (APage page) looked lt = absurd (page_late page 1 (omega arith) lt)
+        sound (AnEntry i) looked lt = absurd (entry_late i 1 (omega arith) lt)
 
     module _ (heads : List Head) (are_heads : AreHeads (sector image (heads_at first)) heads) where
-      pub items_first : (h position : ℕ) (x : Head) → slice_get heads h ≡ Some x → position < x.changes → ¬ IsSound g first image (AnItem h position)
-          → ((q : ℕ) → q < position → IsSound g first image (AnItem h q))
-          → ((k q : ℕ) (y : Head) → k < h → slice_get heads k ≡ Some y → q < y.changes → IsSound g first image (AnItem k q))
-          → IsFirstDamaged g first image (sector_of g first (AnItem h position))
+      pub items_first : (h position : ℕ) (x : Head) → slice_get heads h ≡ Some x → position < x.changes → ¬ IsSoundIn v g first image (AnItem h position)
+          → ((q : ℕ) → q < position → IsSoundIn v g first image (AnItem h q))
+          → ((k q : ℕ) (y : Head) → k < h → slice_get heads k ≡ Some y → q < y.changes → IsSoundIn v g first image (AnItem k q))
+          → IsFirstDamagedIn v g first image (sector_of v g first (AnItem h position))
       items_first h position x at_x below unsound before others = first_damaged (AnItem h position) (heads, x, are_heads, at_x, below) unsound sound
         where
           h_below : h < 16
@@ -141,39 +152,39 @@ module _ (g : GeometryValue) (first : ℕ) (image : Image) where
           p_below : position < 64
           p_below = omega (arith, (are_heads.fits h x at_x).changes, below)
 
-          sound : (earlier : Part) → IsLookedAt g first image earlier → sector_of g first earlier < sector_of g first (AnItem h position) → IsSound g first image earlier
+          sound : (earlier : Part) → IsLookedAt v g first image earlier → sector_of v g first earlier < sector_of v g first (AnItem h position) → IsSoundIn v g first image earlier
           sound TheHeader looked lt = (header, is_header)
           sound TheHeads looked lt = (heads, are_heads)
           sound (AnItem k q) (hs, y, are, at_y, less) lt =
               let at_k : slice_get heads k ≡ Some y = ap (λ (l : List Head). slice_get l k) (one_heads (sector image (heads_at first)) heads hs are_heads are) ∙ at_y in
               ⊎_elim
-              (λ same. subst (λ j. IsSound g first image (AnItem j q)) (sym same) (before q (omega (arith, same, lt))))
-              (λ apart. ⊎_elim (λ lower. others k q y lower at_k less) (λ higher. absurd (omega (arith, higher, lt, p_below))) apart)
+              (λ same. subst (λ j. IsSoundIn v g first image (AnItem j q)) (sym same) (before q (positions_rise g first v h position q (subst (λ j. sector_of v g first (AnItem j q) < sector_of v g first (AnItem h position)) same lt))))
+              (λ apart. ⊎_elim (λ lower. others k q y lower at_k less) (λ higher. absurd (omega (arith, higher, items_rise g first v h position k q (omega (arith, (are_heads.fits k y at_k).changes, less)) lt p_below))) apart)
               (cases_order k h)
-          sound (APage page) looked lt = absurd (omega (arith, lt, h_below, p_below))
-          sound (AnEntry i) looked lt = absurd (omega (arith, lt, h_below, p_below))
+          sound (APage page) looked lt = absurd (omega (arith, lt, item_inside g first v h position h_below p_below, pages_begin g first v page))
+          sound (AnEntry i) looked lt = absurd (omega (arith, lt, item_inside g first v h position h_below p_below, pages_begin g first v g.pages))
 
-      module _ (pending : Pending) (lists : HoldsLists g first image heads pending) where
-        earlier_item : (k q : ℕ) → IsLookedAt g first image (AnItem k q) → IsSound g first image (AnItem k q)
+      module _ (pending : Pending) (lists : HoldsLists v g first image heads pending) where
+        earlier_item : (k q : ℕ) → IsLookedAt v g first image (AnItem k q) → IsSoundIn v g first image (AnItem k q)
         earlier_item k q (hs, y, are, at_y, less) =
             items_sound heads pending lists k q y (ap (λ (l : List Head). slice_get l k) (one_heads (sector image (heads_at first)) heads hs are_heads are) ∙ at_y) less
 
-        pub pages_first : (page : ℕ) → page < g.pages → ¬ IsSound g first image (APage page) → ((earlier : ℕ) → earlier < page → IsSound g first image (APage earlier)) → IsFirstDamaged g first image (sector_of g first (APage page))
+        pub pages_first : (page : ℕ) → page < g.pages → ¬ IsSoundIn v g first image (APage page) → ((earlier : ℕ) → earlier < page → IsSoundIn v g first image (APage earlier)) → IsFirstDamagedIn v g first image (sector_of v g first (APage page))
         pages_first page below unsound before = first_damaged (APage page) below unsound sound
           where
-            sound : (earlier : Part) → IsLookedAt g first image earlier → sector_of g first earlier < sector_of g first (APage page) → IsSound g first image earlier
+            sound : (earlier : Part) → IsLookedAt v g first image earlier → sector_of v g first earlier < sector_of v g first (APage page) → IsSoundIn v g first image earlier
             sound TheHeader looked lt = (header, is_header)
             sound TheHeads looked lt = (heads, are_heads)
             sound (AnItem k q) looked lt = earlier_item k q looked
-            sound (APage other) looked lt = before other (omega (arith, lt))
-            sound (AnEntry i) looked lt = absurd (omega (arith, lt, below))
+            sound (APage other) looked lt = before other (pages_rise g first v other page lt)
+            sound (AnEntry i) looked lt = absurd (omega (arith, lt, page_inside g first v page below))
 
-        pub entries_first : (rows : Table) → HoldsPages g first image g.pages rows → (i : ℕ) → i < header.entries → ¬ IsSound g first image (AnEntry i) → ((j : ℕ) → j < i → IsSound g first image (AnEntry j)) → IsFirstDamaged g first image (sector_of g first (AnEntry i))
+        pub entries_first : (rows : Table) → HoldsPages v g first image g.pages rows → (i : ℕ) → i < header.entries → ¬ IsSoundIn v g first image (AnEntry i) → ((j : ℕ) → j < i → IsSoundIn v g first image (AnEntry j)) → IsFirstDamagedIn v g first image (sector_of v g first (AnEntry i))
         entries_first rows held i below unsound before = first_damaged (AnEntry i) (header, is_header, below) unsound sound
           where
-            sound : (earlier : Part) → IsLookedAt g first image earlier → sector_of g first earlier < sector_of g first (AnEntry i) → IsSound g first image earlier
+            sound : (earlier : Part) → IsLookedAt v g first image earlier → sector_of v g first earlier < sector_of v g first (AnEntry i) → IsSoundIn v g first image earlier
             sound TheHeader looked lt = (header, is_header)
             sound TheHeads looked lt = (heads, are_heads)
             sound (AnItem k q) looked lt = earlier_item k q looked
             sound (APage page) looked lt = pages_sound g.pages rows held page looked
-            sound (AnEntry j) looked lt = before j (omega (arith, lt))
+            sound (AnEntry j) looked lt = before j (entries_rise g first v i j lt)

@@ -13,9 +13,9 @@ use Rattle.records.specs.declared.pair.Mark.{Mark}
 use Rattle.model.specs.Cells.{Cells}
 use Rattle.image_parts.specs.Spelling.{zeros}
 use Rattle.image_half.specs.Layout.{heads_at, entries_at, InImage, InPages, InEntries}
-use Rattle.image_half.specs.Image.{IsHeader, AreHeads, IsEntry, IsImage, entry_bytes, header_of, head_of, ZerosBehind, ZerosBehindEntries, InLists, InImageOf}
+use Rattle.image_half.specs.Image.{IsHeader, AreHeads, IsEntry, IsImage, entry_bytes, HoldsList, header_of, head_of, ZerosBehindEntries, InLists, InImageOf}
 use Rattle.image_half.specs.Source.{FitsImage}
-use Rattle.image_half.specs.Steps.{ShowsList, WritesIn, InUndo}
+use Rattle.image_half.specs.Steps.{WritesIn, InUndo}
 use Rattle.image_half.specs.Part.{HasPage}
 use Rattle.image_half.proofs.Joined.{writes_then, writes_wider}
 use Rattle.image_half.proofs.Kept.{piece_kept, list_kept, page_kept}
@@ -57,18 +57,15 @@ module _ (g : GeometryValue) (first base : ℕ) (cells : Cells) (fits : FitsImag
   pages_stay = same_outside_then (λ n. ¬ InPages g first n) h3.disk.content h4.disk.content h5.disk.content (stays (InEntries g first 0 count) (InPages g first) h3 h4 (λ n is in_it. omega (arith, is.0, in_it.1)) p4)
       (stays (λ n. n ≡ first) (InPages g first) h4 h5 (λ n is in_it. omega (arith, is, in_it.0)) p5)
 
-  module _ (lists : (h : ℕ) (list : ℕ × List ChangeValue) → slice_get (entries cells.pending) h ≡ Some list → ShowsList g first h1.disk.content h list.1) where
-    list_stays : (h : ℕ) (list : ℕ × List ChangeValue) → slice_get (entries cells.pending) h ≡ Some list → ShowsList g first h5.disk.content h list.1
+  module _ (lists : (h : ℕ) (list : ℕ × List ChangeValue) → slice_get (entries cells.pending) h ≡ Some list → HoldsList g first h1.disk.content h list.1) where
+    list_stays : (h : ℕ) (list : ℕ × List ChangeValue) → slice_get (entries cells.pending) h ≡ Some list → HoldsList g first h5.disk.content h list.1
     list_stays h list at_h = list_kept (λ n. ¬ InUndo first n) h1.disk.content h5.disk.content lists_stay g first h list.1
         (λ p low out. out (let few : h < 16 = omega (arith, slice_get_within (entries cells.pending) h list at_h, fits.txns) in (omega (arith, low), omega (arith, low, few)))) (list_short g cells fits h list at_h) (lists h list at_h)
 
-    pub rest_is : ZerosBehindEntries g first h4.disk.content (length (entries cells.entries)) → ZerosBehind g first h5.disk.content cells
-    rest_is rest = record {
-      entries = λ i behind below. piece_kept (λ n. n ≡ first) h4.disk.content h5.disk.content p5.outside (λ (b : List ℕ). b ≡ zeros 32) (entries_at g first) 32 16 i (λ is. omega (arith, is)) (rest i behind below);
-      items = λ h list at_h. (list_stays h list at_h).rest;
-    }
+  pub rest_is : ZerosBehindEntries g first h4.disk.content (length (entries cells.entries)) → ZerosBehindEntries g first h5.disk.content (length (entries cells.entries))
+  rest_is rest = λ i behind below. piece_kept (λ n. n ≡ first) h4.disk.content h5.disk.content p5.outside (λ (b : List ℕ). b ≡ zeros 64) (entries_at g first) 64 8 i (λ is. omega (arith, is)) (rest i behind below)
 
-  pub image_is : ((h : ℕ) (list : ℕ × List ChangeValue) → slice_get (entries cells.pending) h ≡ Some list → ShowsList g first h1.disk.content h list.1)
+  pub image_is : ((h : ℕ) (list : ℕ × List ChangeValue) → slice_get (entries cells.pending) h ≡ Some list → HoldsList g first h1.disk.content h list.1)
       → AreHeads (sector h2.disk.content (heads_at first)) (map head_of (entries cells.pending))
       → ((page : ℕ) → page < g.pages → HasPage first h3.disk.content page cells.rows)
       → ((i : ℕ) (e : Pair × Mark) → slice_get (entries cells.entries) i ≡ Some e → IsEntry g (entry_bytes g h4.disk.content first i) e)
@@ -77,11 +74,11 @@ module _ (g : GeometryValue) (first base : ℕ) (cells : Cells) (fits : FitsImag
   image_is lists heads pages all header = record {
     header-is = header;
     heads-are = subst (λ (b : List ℕ). AreHeads b (map head_of (entries cells.pending))) (sym heads_stay) heads;
-    lists = λ h list at_h. (list_stays lists h list at_h).held;
-    fronts = λ page below. (kept page below).front;
+    lists = λ h list at_h. list_stays lists h list at_h;
+    edges = λ page below. (kept page below).edges;
     rows = λ q page slot. (kept q.page page).slots q.slot slot;
     within = λ q r is. (fits.inside.rows q r is, fits.slots q r is);
-    entries = λ i e at_i. piece_kept (λ n. n ≡ first) h4.disk.content h5.disk.content p5.outside (λ b. IsEntry g b e) (entries_at g first) 32 16 i (λ is. omega (arith, is)) (all i e at_i);
+    entries = λ i e at_i. piece_kept (λ n. n ≡ first) h4.disk.content h5.disk.content p5.outside (λ b. IsEntry g b e) (entries_at g first) 64 8 i (λ is. omega (arith, is)) (all i e at_i);
   }
     where
       kept : (page : ℕ) → page < g.pages → HasPage first h5.disk.content page cells.rows

@@ -1,18 +1,19 @@
 -- An image that is written part by part.
-use Rattle.std.specs.Prelude.{◌≡◌, ℕ, ◌+◌, ◌<◌, ◌≤◌, List, length, map, Some, None, slice_get}
+use Rattle.std.specs.Prelude.{◌≡◌, ℕ, ◌+◌, ◌<◌, ◌≤◌, List, length, map, Some, slice_get}
 use Rattle.std.specs.FinMap as finite
 use Rattle.sector_device.specs.Disk.{Image, sector}
 use Rattle.records.specs.Values.{Place}
 use Rattle.records.specs.ChangeValue.{ChangeValue}
 use Rattle.records.specs.GeometryValue.{GeometryValue}
+use Rattle.records.specs.declared.version.Version.TheVariants.{Two}
 use Rattle.records.specs.declared.rid.TheConstants.{SLOTS_PER_PAGE}
 use Rattle.records.specs.declared.row.Row.{Row}
 use Rattle.records.specs.declared.pair.Pair.{Pair}
 use Rattle.records.specs.declared.pair.Mark.{Mark}
 use Rattle.model.specs.Table.{Table}
 use Rattle.model.specs.Cells.{Cells}
-use Rattle.image_half.specs.Layout.{heads_at}
-use Rattle.image_half.specs.Image.{AreHeads, HoldsList, IsRow, IsEntry, row_bytes, entry_bytes, head_of}
+use Rattle.image_half.specs.Layout.{heads_at, page_bytes}
+use Rattle.image_half.specs.Image.{AreHeads, HoldsList, HasEdges, IsRow, IsEntry, row_bytes, entry_bytes, head_of}
 
 -- From sector `first` on lies what an image of these cells has but for its header: the lists, the rows in the first pages, of
 -- which there are so many, and the entries, each in its place. No row is in a later page.
@@ -21,15 +22,15 @@ pub record IsImagePart (g : GeometryValue) (first : ℕ) (image : Image) (pages 
   pub room : length (finite.entries cells.entries) ≤ g.entries
   pub heads-are : AreHeads (sector image (heads_at first)) (map head_of (finite.entries cells.pending))
   pub lists : (h : ℕ) (list : ℕ × List ChangeValue) → slice_get (finite.entries cells.pending) h ≡ Some list → HoldsList g first image h list.1
-  pub fronts : (page : ℕ) → page < pages → IsRow (row_bytes image first page 0) None
-  pub rows : (q : Place) → q.page < pages → q.slot < SLOTS_PER_PAGE → IsRow (row_bytes image first q.page (q.slot + 1)) (finite.get cells.rows q)
+  pub edges : (page : ℕ) → page < pages → HasEdges Two (page_bytes image first page)
+  pub rows : (q : Place) → q.page < pages → q.slot < SLOTS_PER_PAGE → IsRow (row_bytes image first q.page q.slot) (finite.get cells.rows q)
   pub within : (q : Place) (r : Row) → finite.get cells.rows q ≡ Some r → (q.page < pages) × (q.slot < SLOTS_PER_PAGE)
   pub entries : (i : ℕ) (e : Pair × Mark) → slice_get (finite.entries cells.entries) i ≡ Some e → IsEntry g (entry_bytes g image first i) e
 
--- the page has these rows in its slots, and none in front of them
+-- the page has these rows in its slots, and zeros in front of them and behind
 pub record HasPage (first : ℕ) (image : Image) (page : ℕ) (rows : Table) : Type 0 where
-  pub front : IsRow (row_bytes image first page 0) None
-  pub slots : (slot : ℕ) → slot < SLOTS_PER_PAGE → IsRow (row_bytes image first page (slot + 1)) (finite.get rows (record { page = page; slot = slot }))
+  pub edges : HasEdges Two (page_bytes image first page)
+  pub slots : (slot : ℕ) → slot < SLOTS_PER_PAGE → IsRow (row_bytes image first page slot) (finite.get rows (record { page = page; slot = slot }))
 
 -- the second table has the rows of the first one in the pages before this one, and in this one rows of its slots, and no others
 pub record IsWithPage (page : ℕ) (before rows : Table) : Type 0 where

@@ -6,6 +6,7 @@ use Rattle.sector_device.specs.History.{History, RunsWithin}
 use Rattle.records.specs.Values.{Place}
 use Rattle.records.specs.ChangeValue.{ChangeValue}
 use Rattle.records.specs.GeometryValue.{GeometryValue}
+use Rattle.records.specs.declared.version.Version.{Version}
 use Rattle.records.specs.declared.rid.TheConstants.{SLOTS_PER_PAGE}
 use Rattle.records.specs.declared.row.Row.{Row}
 use Rattle.records.specs.declared.pair.Pair.{Pair}
@@ -16,15 +17,13 @@ use Rattle.model.specs.Table.{Table, Index}
 use Rattle.model.specs.Cells.{Pending}
 use Rattle.model.specs.Extended.{extended}
 use Rattle.image_parts.specs.declared.head.Head.{Head}
-use Rattle.image_parts.specs.declared.item.UndoItem.{UndoItem}
 use Rattle.image_parts.specs.declared.head.TheConstants.{HEAD_SIZE}
-use Rattle.image_parts.specs.declared.item.TheConstants.{ITEM_SIZE}
 use Rattle.image_parts.specs.declared.entry.TheConstants.{ENTRY_SIZE}
 use Rattle.records.specs.Spelling.{PairFits}
-use Rattle.image_parts.specs.Spelling.{zeros, entry, head, item, HeadFits, ItemFits}
-use Rattle.image_half.specs.Layout.{undo_at, page_at, cut}
-use Rattle.image_half.specs.Image.{HoldsList, ZerosBehindItems, IsRow, IsEntry, row_bytes, entry_bytes, head_of, item_of}
-use Rattle.image_half.specs.Damage.{AnItem, APage, AnEntry, sector_of, IsSound, IsHindered}
+use Rattle.image_parts.specs.Spelling.{zeros, entry, head, HeadFits}
+use Rattle.image_half.specs.Layout.{undo_at, page_at, cut, page_bytes_in}
+use Rattle.image_half.specs.Image.{HoldsListIn, HasEdges, IsRowIn, IsEntryIn, row_bytes_in, entry_bytes_in, head_of}
+use Rattle.image_half.specs.Damage.{AnItem, APage, AnEntry, sector_of, IsSoundIn, IsHindered}
 use Rattle.image_half.specs.Source.{IsNextBehind}
 
 -- the head may stand at index k behind these: each of those before it is used, and the last one has a lesser number
@@ -40,9 +39,9 @@ pub record AreFirstHeads (bytes : List ℕ) (k : ℕ) (heads : List Head) : Type
   pub rising : (j : ℕ) (a b : Head) → slice_get heads j ≡ Some a → slice_get heads (j + 1) ≡ Some b → a.txn < b.txn
 
 -- these lists are those of the heads
-pub record HoldsLists (g : GeometryValue) (first : ℕ) (image : Image) (heads : List Head) (pending : Pending) : Type 0 where
+pub record HoldsLists (v : Version) (g : GeometryValue) (first : ℕ) (image : Image) (heads : List Head) (pending : Pending) : Type 0 where
   pub heads-are : map head_of (finite.entries pending) ≡ heads
-  pub each : (h : ℕ) (list : ℕ × List ChangeValue) → slice_get (finite.entries pending) h ≡ Some list → HoldsList g first image h list.1
+  pub each : (h : ℕ) (list : ℕ × List ChangeValue) → slice_get (finite.entries pending) h ≡ Some list → HoldsListIn v g first image h list.1
 
 -- the table of these rows, and the index of these entries
 abbrev pub table_of : List (Place × Row) → Table
@@ -53,14 +52,14 @@ abbrev pub index_of : List (Pair × Mark) → Index
 index_of entries = extended finite.empty entries
 
 -- these rows are those of the first n pages
-pub record HoldsPages (g : GeometryValue) (first : ℕ) (image : Image) (n : ℕ) (rows : Table) : Type 0 where
-  pub fronts : (page : ℕ) → page < n → IsRow (row_bytes image first page 0) None
-  pub slots : (q : Place) → q.page < n → q.slot < SLOTS_PER_PAGE → IsRow (row_bytes image first q.page (q.slot + 1)) (finite.get rows q)
+pub record HoldsPages (v : Version) (g : GeometryValue) (first : ℕ) (image : Image) (n : ℕ) (rows : Table) : Type 0 where
+  pub edges : (page : ℕ) → page < n → HasEdges v (page_bytes_in v image first page)
+  pub slots : (q : Place) → q.page < n → q.slot < SLOTS_PER_PAGE → IsRowIn v (row_bytes_in v image first q.page q.slot) (finite.get rows q)
   pub within : (q : Place) (r : Row) → finite.get rows q ≡ Some r → (q.page < n) × (q.slot < SLOTS_PER_PAGE)
 
 -- these rows are those of the slots before this one of page n, and those of earlier pages
-pub record HoldsSlots (first : ℕ) (image : Image) (n slot : ℕ) (before rows : Table) : Type 0 where
-  pub slots : (q : Place) → q.page ≡ n → q.slot < slot → IsRow (row_bytes image first n (q.slot + 1)) (finite.get rows q)
+pub record HoldsSlots (v : Version) (first : ℕ) (image : Image) (n slot : ℕ) (before rows : Table) : Type 0 where
+  pub slots : (q : Place) → q.page ≡ n → q.slot < slot → IsRowIn v (row_bytes_in v image first n q.slot) (finite.get rows q)
   pub behind : (q : Place) → q.page ≡ n → ¬ (q.slot < slot) → finite.get rows q ≡ None
   pub others : (q : Place) → ¬ (q.page ≡ n) → finite.get rows q ≡ finite.get before q
 
@@ -69,25 +68,15 @@ pub record IsEntryPiece (bytes : List ℕ) (e : Pair × Mark) : Type 0 where
   pub spelled : bytes ≡ entry e
   pub fits : PairFits e.0
 
--- the bytes are this undo item's spelling
-pub record IsItemPiece (bytes : List ℕ) (i : UndoItem) : Type 0 where
-  pub spelled : bytes ≡ item i
-  pub fits : ItemFits i
-
 -- the bytes are the spelling of what there is, and zeros where there is nothing
 abbrev pub IsEntryPlace : List ℕ → Option (Pair × Mark) → Type 0
 IsEntryPlace bytes None = bytes ≡ zeros ENTRY_SIZE
 IsEntryPlace bytes (Some e) = IsEntryPiece bytes e
 
--- the bytes of the place of an undo item: zeros where there is none
-abbrev pub IsItemPlace : List ℕ → Option ChangeValue → Type 0
-IsItemPlace bytes None = bytes ≡ zeros ITEM_SIZE
-IsItemPlace bytes (Some c) = IsItemPiece bytes (item_of c)
-
 -- these are the first n entries
-pub record HoldsEntries (g : GeometryValue) (first : ℕ) (image : Image) (n : ℕ) (entries : Index) : Type 0 where
+pub record HoldsEntries (v : Version) (g : GeometryValue) (first : ℕ) (image : Image) (n : ℕ) (entries : Index) : Type 0 where
   pub count : length (finite.entries entries) ≡ n
-  pub each : (i : ℕ) (e : Pair × Mark) → slice_get (finite.entries entries) i ≡ Some e → IsEntry g (entry_bytes g image first i) e
+  pub each : (i : ℕ) (e : Pair × Mark) → slice_get (finite.entries entries) i ≡ Some e → IsEntryIn v g (entry_bytes_in v g image first i) e
 
 -- the pair of the last of the first n entries
 abbrev pub IsLastPair : Index → ℕ → Option Pair → Type 0
@@ -96,41 +85,36 @@ IsLastPair entries n (Some pair) = (m : ℕ) × (e : Pair × Mark) × (n ≡ m +
 
 -- Why a step of reading was refused: there was no memory, or the device failed, or the part is the first of its kind that
 -- says nothing.
-abbrev pub IsItemRefused : GeometryValue → ℕ → Image → (h count before now : ℕ) → Error → Type 0
-IsItemRefused g first image h count before now e = IsHindered before now e
-    ⊎ ((p : ℕ) × (p < count) × (e ≡ Damaged (sector_of g first (AnItem h p))) × (¬ IsSound g first image (AnItem h p)) × ((q : ℕ) → q < p → IsSound g first image (AnItem h q)))
+abbrev pub IsItemRefused : Version → GeometryValue → ℕ → Image → (h count before now : ℕ) → Error → Type 0
+IsItemRefused v g first image h count before now e = IsHindered before now e
+    ⊎ ((p : ℕ) × (p < count) × (e ≡ Damaged (sector_of v g first (AnItem h p))) × (¬ IsSoundIn v g first image (AnItem h p)) × ((q : ℕ) → q < p → IsSoundIn v g first image (AnItem h q)))
 
 -- why lists are not read: the first undo item, by head and position, that says nothing
-abbrev pub AreListsRefused : GeometryValue → ℕ → Image → List Head → (before now : ℕ) → Error → Type 0
-AreListsRefused g first image heads before now e = IsHindered before now e
-    ⊎ ((h : ℕ) × (p : ℕ) × (x : Head) × (slice_get heads h ≡ Some x) × (p < x.changes) × (e ≡ Damaged (sector_of g first (AnItem h p))) × (¬ IsSound g first image (AnItem h p))
-    × ((q : ℕ) → q < p → IsSound g first image (AnItem h q)) × ((k q : ℕ) (y : Head) → k < h → slice_get heads k ≡ Some y → q < y.changes → IsSound g first image (AnItem k q)))
+abbrev pub AreListsRefused : Version → GeometryValue → ℕ → Image → List Head → (before now : ℕ) → Error → Type 0
+AreListsRefused v g first image heads before now e = IsHindered before now e
+    ⊎ ((h : ℕ) × (p : ℕ) × (x : Head) × (slice_get heads h ≡ Some x) × (p < x.changes) × (e ≡ Damaged (sector_of v g first (AnItem h p))) × (¬ IsSoundIn v g first image (AnItem h p))
+    × ((q : ℕ) → q < p → IsSoundIn v g first image (AnItem h q)) × ((k q : ℕ) (y : Head) → k < h → slice_get heads k ≡ Some y → q < y.changes → IsSoundIn v g first image (AnItem k q)))
 
 -- why a page is not read: it says nothing
-abbrev pub IsPageRefused : GeometryValue → ℕ → Image → (page before now : ℕ) → Error → Type 0
-IsPageRefused g first image page before now e = IsHindered before now e
-    ⊎ ((e ≡ Damaged (sector_of g first (APage page))) × (¬ IsSound g first image (APage page)))
+abbrev pub IsPageRefused : Version → GeometryValue → ℕ → Image → (page before now : ℕ) → Error → Type 0
+IsPageRefused v g first image page before now e = IsHindered before now e
+    ⊎ ((e ≡ Damaged (sector_of v g first (APage page))) × (¬ IsSoundIn v g first image (APage page)))
 
 -- why pages are not read: the first that says nothing
-abbrev pub ArePagesRefused : GeometryValue → ℕ → Image → (before now : ℕ) → Error → Type 0
-ArePagesRefused g first image before now e = IsHindered before now e
-    ⊎ ((page : ℕ) × (page < g.pages) × (e ≡ Damaged (sector_of g first (APage page))) × (¬ IsSound g first image (APage page)) × ((earlier : ℕ) → earlier < page → IsSound g first image (APage earlier)))
+abbrev pub ArePagesRefused : Version → GeometryValue → ℕ → Image → (before now : ℕ) → Error → Type 0
+ArePagesRefused v g first image before now e = IsHindered before now e
+    ⊎ ((page : ℕ) × (page < g.pages) × (e ≡ Damaged (sector_of v g first (APage page))) × (¬ IsSoundIn v g first image (APage page)) × ((earlier : ℕ) → earlier < page → IsSoundIn v g first image (APage earlier)))
 
 -- why entries are not read: the first that says nothing
-abbrev pub AreEntriesRefused : GeometryValue → ℕ → Image → (count before now : ℕ) → Error → Type 0
-AreEntriesRefused g first image count before now e = IsHindered before now e
-    ⊎ ((i : ℕ) × (i < count) × (e ≡ Damaged (sector_of g first (AnEntry i))) × (¬ IsSound g first image (AnEntry i)) × ((j : ℕ) → j < i → IsSound g first image (AnEntry j)))
+abbrev pub AreEntriesRefused : Version → GeometryValue → ℕ → Image → (count before now : ℕ) → Error → Type 0
+AreEntriesRefused v g first image count before now e = IsHindered before now e
+    ⊎ ((i : ℕ) × (i < count) × (e ≡ Damaged (sector_of v g first (AnEntry i))) × (¬ IsSoundIn v g first image (AnEntry i)) × ((j : ℕ) → j < i → IsSoundIn v g first image (AnEntry j)))
 
 -- ---- writing
 
 -- behind the entry of this key comes the n-th one, if there are so many
 abbrev pub IsReached : {K X : Type 0} → List (K × X) → ℕ → Option K → Type 0
 IsReached {K} {X} entries n key = (next : Option (K × X)) → IsNextBehind entries key next → next ≡ slice_get entries n
-
--- the first undo items of a head are these changes, and behind them are zeros
-pub record ShowsList (g : GeometryValue) (first : ℕ) (image : Image) (h : ℕ) (changes : List ChangeValue) : Type 0 where
-  pub held : HoldsList g first image h changes
-  pub rest : ZerosBehindItems first image h (length changes)
 
 -- a sector of the undo items
 abbrev pub InUndo : ℕ → ℕ → Type 0

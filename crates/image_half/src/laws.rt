@@ -5,6 +5,7 @@ ghost use Rattle.sector_device.specs.Disk.{Image, sector, SameOutside};
 ghost use Rattle.records.specs.Values.{Place};
 ghost use Rattle.records.specs.ChangeValue.{ChangeValue};
 ghost use Rattle.records.specs.GeometryValue.{GeometryValue};
+ghost use Rattle.records.specs.declared.version.Version.{Version};
 ghost use Rattle.records.specs.Maps.{set_at};
 ghost use Rattle.records.specs.declared.rid.TheConstants.{SLOTS_PER_PAGE};
 ghost use Rattle.records.specs.declared.change.TheConstants.{CHANGES_MAX};
@@ -17,39 +18,39 @@ ghost use Rattle.model.specs.Table.{Table, Index};
 ghost use Rattle.model.specs.Cells.{Cells, with_list};
 ghost use Rattle.model.specs.Following.{ArePlaced, IsAdmitted};
 ghost use Rattle.model.specs.Inside.{IsLifeWithin};
-ghost use Rattle.image_half.specs.Layout.{heads_at, InImage, InPage, InEntries};
-ghost use Rattle.image_half.specs.Image.{IsHeader, AreHeads, HoldsList, IsEntry, IsImage, entry_bytes, header_of, head_of, no_cells};
+ghost use Rattle.image_half.specs.Layout.{heads_at, InImage, InImageIn, InPage, InEntries};
+ghost use Rattle.image_half.specs.Image.{IsHeader, AreHeads, HoldsList, IsEntry, IsImage, IsImageIn, entry_bytes, header_of, head_of, no_cells};
 ghost use Rattle.image_half.specs.Part.{IsImagePart, HasPage, IsWithPage};
 ghost use Rattle.image_half.specs.Source.{FitsImage};
-ghost use Rattle.image_half.specs.Damage.{IsDamagedAt, IsFirstDamaged};
+ghost use Rattle.image_half.specs.Damage.{IsDamagedAtIn, IsFirstDamagedIn};
 
-/// A law: one image lies in some sectors at most, with one base.
+/// A law: one image of a version lies in some sectors at most, with one base.
 pub fn one_image()
-    ensures base { (g : GeometryValue) (first : ℕ) (image : Image) (m n : ℕ) (x y : Cells) → IsImage g first image m x → IsImage g first image n y → m ≡ n }
-    ensures cells { (g : GeometryValue) (first : ℕ) (image : Image) (m n : ℕ) (x y : Cells) → IsImage g first image m x → IsImage g first image n y → x ≡ y }
+    ensures base { (v : Version) (g : GeometryValue) (first : ℕ) (image : Image) (m n : ℕ) (x y : Cells) → IsImageIn v g first image m x → IsImageIn v g first image n y → m ≡ n }
+    ensures cells { (v : Version) (g : GeometryValue) (first : ℕ) (image : Image) (m n : ℕ) (x y : Cells) → IsImageIn v g first image m x → IsImageIn v g first image n y → x ≡ y }
 {}
 
 /// A law: no sector of an image is damaged, and at most one sector is the first that is damaged.
 pub fn one_damage()
-    ensures none { (g : GeometryValue) (first : ℕ) (image : Image) (base : ℕ) (cells : Cells) (n : ℕ) → IsImage g first image base cells → ¬ IsDamagedAt g first image n }
-    ensures one { (g : GeometryValue) (first : ℕ) (image : Image) (m n : ℕ) → IsFirstDamaged g first image m → IsFirstDamaged g first image n → m ≡ n }
+    ensures none { (v : Version) (g : GeometryValue) (first : ℕ) (image : Image) (base : ℕ) (cells : Cells) (n : ℕ) → IsImageIn v g first image base cells → ¬ IsDamagedAtIn v g first image n }
+    ensures one { (v : Version) (g : GeometryValue) (first : ℕ) (image : Image) (m n : ℕ) → IsFirstDamagedIn v g first image m → IsFirstDamagedIn v g first image n → m ≡ n }
 {}
 
-/// A law: an image is told by its sectors.
+/// A law: an image is told by its sectors, in each version.
 pub fn told_by_its_sectors()
-    ensures { (g : GeometryValue) (first : ℕ) (image other : Image) → ((n : ℕ) → InImage g first n → sector other n ≡ sector image n)
-        → (base : ℕ) (cells : Cells) → IsImage g first image base cells → IsImage g first other base cells }
+    ensures { (v : Version) (g : GeometryValue) (first : ℕ) (image other : Image) → ((n : ℕ) → InImageIn v g first n → sector other n ≡ sector image n)
+        → (base : ℕ) (cells : Cells) → IsImageIn v g first image base cells → IsImageIn v g first other base cells }
 {}
 
 /// A law: each place that an image names has a slot that a page has: those of rows, entries, changes and the highest pair.
 pub fn slots_inside()
-    ensures rows { (g : GeometryValue) (first : ℕ) (image : Image) (base : ℕ) (cells : Cells) → IsImage g first image base cells
+    ensures rows { (v : Version) (g : GeometryValue) (first : ℕ) (image : Image) (base : ℕ) (cells : Cells) → IsImageIn v g first image base cells
         → (q : Place) (r : Row) → finite.get cells.rows q ≡ Some r → q.slot < SLOTS_PER_PAGE }
-    ensures entries { (g : GeometryValue) (first : ℕ) (image : Image) (base : ℕ) (cells : Cells) → IsImage g first image base cells
+    ensures entries { (v : Version) (g : GeometryValue) (first : ℕ) (image : Image) (base : ℕ) (cells : Cells) → IsImageIn v g first image base cells
         → (i : ℕ) (e : Pair × Mark) → slice_get (finite.entries cells.entries) i ≡ Some e → e.0.rid.slot < SLOTS_PER_PAGE }
-    ensures changes { (g : GeometryValue) (first : ℕ) (image : Image) (base : ℕ) (cells : Cells) → IsImage g first image base cells
+    ensures changes { (v : Version) (g : GeometryValue) (first : ℕ) (image : Image) (base : ℕ) (cells : Cells) → IsImageIn v g first image base cells
         → (h p : ℕ) (list : ℕ × List ChangeValue) (c : ChangeValue) → slice_get (finite.entries cells.pending) h ≡ Some list → slice_get list.1 p ≡ Some c → c.rid.slot < SLOTS_PER_PAGE }
-    ensures highest { (g : GeometryValue) (first : ℕ) (image : Image) (base : ℕ) (cells : Cells) → IsImage g first image base cells
+    ensures highest { (v : Version) (g : GeometryValue) (first : ℕ) (image : Image) (base : ℕ) (cells : Cells) → IsImageIn v g first image base cells
         → (p : Pair) → cells.life ≡ Life.Building (Some p) → p.rid.slot < SLOTS_PER_PAGE }
 {}
 

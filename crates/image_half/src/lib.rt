@@ -9,6 +9,7 @@
 #![tactic(auto)]
 
 mod laws;
+mod page;
 mod parts;
 mod pieces;
 mod read;

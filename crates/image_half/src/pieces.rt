@@ -2,36 +2,101 @@
 ghost use Rattle.std.specs.Prelude.{◌≡◌, ◌≢◌, ℕ, ◌+◌, ◌*◌, ◌/◌, ◌%◌, ◌^◌, ◌<◌, ◌≤◌, length, OnOk, IfErr};
 ghost use Rattle.sector_device.specs.Disk.{sector};
 ghost use Rattle.sector_device.specs.History.{OnlyReads};
-ghost use Rattle.image_half.specs.Layout.{cut};
+ghost use Rattle.records.specs.Version.{entries_per_sector};
+ghost use Rattle.image_parts.specs.Spelling.{item_size, entry_size};
+ghost use Rattle.image_half.specs.Layout.{cut, sector_of_piece, undo_at, items_per_sector, page_at_in, entries_at_in, image_end_in};
 ghost use Rattle.image_half.specs.Damage.{IsHindered};
 
-use records::Error;
+use crate::page::page_at;
+use records::{
+    CHANGES_MAX, ENTRIES_PER_SECTOR, Error, Geometry, HEADER_SECTORS, HEADS_SECTORS,
+    OLD_ENTRIES_PER_SECTOR, TXNS_MAX, Version,
+};
 use sector_device::{Device, SECTOR_SIZE};
 
-/// Reads the sector of the i-th piece, of so many to a sector from sector `at` on, where it begins with that piece. The
-/// buffer holds it else.
+/// Where a piece lies: its sector, and which of the pieces of that sector it is.
+#[derive(Clone, Copy)]
+pub(crate) struct PiecePlace {
+    pub(crate) sector: u64,
+    pub(crate) index: usize,
+}
+
+/// Where the undo item of a head at a position lies in the image that begins at sector `first`.
+pub(crate) fn item_place(version: Version, first: u64, h: u64, position: u8) -> PiecePlace
+    requires head { h < TXNS_MAX }
+    requires position { position < CHANGES_MAX }
+    requires number { page_at_in version first 0 < 2 ^ 64 }
+    ensures sector { result.sector ≡ sector_of_piece (undo_at first) (items_per_sector version) (CHANGES_MAX * h + position) }
+    ensures index { result.index ≡ (CHANGES_MAX * h + position) % items_per_sector version }
+    ensures inside { result.sector < page_at_in version first 0 }
+    ensures room { item_size version * result.index + item_size version ≤ SECTOR_SIZE }
+{
+    let at = first + HEADER_SECTORS + HEADS_SECTORS;
+    let i = u64::from(CHANGES_MAX) * h + u64::from(position);
+    match version {
+        Version::One => PiecePlace {
+            sector: at + i / 2,
+            index: (i % 2) as usize,
+        },
+        Version::Two => PiecePlace {
+            sector: at + i,
+            index: 0,
+        },
+    }
+}
+
+/// Where the i-th entry lies in the image that begins at sector `first`.
+pub(crate) fn entry_place(version: Version, geometry: Geometry, first: u64, i: u32) -> PiecePlace
+    requires entry { i < geometry.entries }
+    requires number { image_end_in version geometry first < 2 ^ 64 }
+    ensures sector { result.sector ≡ sector_of_piece (entries_at_in version geometry first) (entries_per_sector version) i }
+    ensures index { result.index ≡ i % entries_per_sector version }
+    ensures inside { result.sector < image_end_in version geometry first }
+    ensures room { entry_size version * result.index + entry_size version ≤ SECTOR_SIZE }
+{
+    let at = page_at(version, first, u64::from(geometry.pages));
+    let i = u64::from(i);
+    match version {
+        Version::One => PiecePlace {
+            sector: at + i / OLD_ENTRIES_PER_SECTOR,
+            index: (i % OLD_ENTRIES_PER_SECTOR) as usize,
+        },
+        Version::Two => PiecePlace {
+            sector: at + i / ENTRIES_PER_SECTOR,
+            index: (i % ENTRIES_PER_SECTOR) as usize,
+        },
+    }
+}
+
+/// Reads the sector of a piece, where it begins with that piece. The buffer holds it else.
 pub(crate) fn load<D: Device>(
     device: &mut D,
     buffer: &mut [u8; SECTOR_SIZE],
-    at: u64,
-    i: u64,
-    to_a_sector: u64,
+    place: PiecePlace,
 ) -> Result<(), Error>
-    requires some { 0 < to_a_sector }
-    requires inside { at + i / to_a_sector < length (D.history device.old).disk.content }
-    requires number { at + i / to_a_sector < 2 ^ 64 }
-    requires held { 0 < i % to_a_sector → buffer.old ≡ sector (D.history device.old).disk.content (at + i / to_a_sector) }
-    ensures loaded { OnOk result (buffer.new ≡ sector (D.history device.old).disk.content (at + i / to_a_sector)) }
+    requires inside { place.sector < length (D.history device.old).disk.content }
+    requires held { 0 < place.index → buffer.old ≡ sector (D.history device.old).disk.content place.sector }
+    ensures loaded { OnOk result (buffer.new ≡ sector (D.history device.old).disk.content place.sector) }
     ensures refused { IfErr result (IsHindered (D.failures device.old) (D.failures device.new)) }
     ensures reads { OnlyReads (D.history device.old) (D.history device.new) }
     ensures quiet { OnOk result (D.failures device.new ≡ D.failures device.old) }
     ensures told { IfErr result (λ e. e ≢ Error.DeviceFailed → D.failures device.new ≡ D.failures device.old) }
     ensures later { D.failures device.old ≤ D.failures device.new }
 {
-    if i % to_a_sector == 0 && device.read(at + i / to_a_sector, buffer).is_err() {
+    if place.index == 0 && device.read(place.sector, buffer).is_err() {
         return Err(Error::DeviceFailed);
     }
     Ok(())
+}
+
+/// The j-th piece of this size.
+pub(crate) fn piece_in(buffer: &[u8; SECTOR_SIZE], size: usize, j: usize) -> &[u8]
+    requires { size * j + size ≤ SECTOR_SIZE }
+    ensures piece { result.now ≡ cut buffer.now size j }
+    ensures size { length result.now ≡ size }
+{
+    let start = size * j;
+    &buffer[start..start + size]
 }
 
 /// The j-th piece of `N` bytes.

@@ -6,42 +6,33 @@ ghost use Rattle.sector_device.specs.History.{OnlyReads};
 ghost use Rattle.records.specs.Maps.{set_at};
 ghost use Rattle.records.specs.declared.txn.TheConstants.{TXNS_MAX};
 ghost use Rattle.records.specs.declared.change.TheConstants.{CHANGES_MAX};
-ghost use Rattle.image_half.specs.Layout.{heads_at, undo_at, page_at, entries_at, image_end};
-ghost use Rattle.image_half.specs.Image.{IsHeader, AreHeads, IsImage, HoldsList, no_cells};
-ghost use Rattle.image_half.specs.Damage.{IsSound, TheHeader, TheHeads, AnItem, APage, AnEntry, IsHindered, IsUnread};
+ghost use Rattle.image_half.specs.Layout.{heads_at, page_at_in, entries_at_in, image_end_in};
+ghost use Rattle.image_half.specs.Image.{IsHeaderIn, AreHeads, IsImageIn, HoldsListIn, no_cells};
+ghost use Rattle.image_half.specs.Damage.{IsSoundIn, TheHeader, TheHeads, IsHindered, IsUnreadIn};
 ghost use Rattle.image_half.specs.Steps.{HoldsLists, HoldsPages, HoldsEntries, IsItemRefused, AreListsRefused, IsPageRefused, ArePagesRefused, AreEntriesRefused, table_of};
 
-use crate::parts::{entry_in, header_in, heads_in, is_above, item_in};
-use crate::pieces::{load, piece_of};
+use crate::page::{page_at, read_bytes};
+use crate::parts::{entry_in, has_edges, header_in, heads_in, is_above, item_in, row_in};
+use crate::pieces::{entry_place, item_place, load, piece_in};
 use crate::sink::CellSink;
-use image_parts::{ENTRY_SIZE, Head, Header, ITEM_SIZE, ROW_SIZE, read_row};
+use image_parts::{Head, Header, entry_size, item_size};
 use records::{
-    CHANGES_MAX, Change, ENTRIES_PER_SECTOR, Error, Geometry, HEADER_SECTORS, HEADS_SECTORS,
-    PAGE_SECTORS, Rid, Row, SLOTS_PER_PAGE, UNDO_SECTORS,
+    CHANGES_MAX, Change, Error, Geometry, HEADER_SECTORS, Rid, Row, SLOTS_PER_PAGE, Version,
 };
-use sector_device::{Device, SECTOR_SIZE, zero_sector};
+use sector_device::{Device, zero_sector};
 use std::alloc::{AllocError, Allocator};
 
-// How many undo items lie in a sector.
-pub(crate) const ITEMS_PER_SECTOR: u64 = 2;
-
-// How many rows lie in a sector.
-pub(crate) const ROWS_PER_SECTOR: u64 = 8;
-
-// The first sector of a page of the image that begins at sector `first`.
-pub(crate) fn page_at(first: u64, page: u64) -> u64
-    requires { page_at first page < 2 ^ 64 }
-    ensures { result ≡ page_at first page }
-{
-    first + HEADER_SECTORS + HEADS_SECTORS + UNDO_SECTORS + PAGE_SECTORS * page
-}
-
 // What the header says.
-fn read_header<D: Device>(device: &mut D, geometry: Geometry, first: u64) -> Result<Header, Error>
+fn read_header<D: Device>(
+    version: Version,
+    device: &mut D,
+    geometry: Geometry,
+    first: u64,
+) -> Result<Header, Error>
     requires inside { first < length (D.history device.old).disk.content }
-    ensures found { IfOk result (IsHeader geometry (sector (D.history device.old).disk.content first)) }
+    ensures found { IfOk result (IsHeaderIn version geometry (sector (D.history device.old).disk.content first)) }
     ensures refused { IfErr result (λ e. IsHindered (D.failures device.old) (D.failures device.new) e
-        ⊎ ((e ≡ Error.Damaged first) × (¬ IsSound geometry first (D.history device.old).disk.content TheHeader))) }
+        ⊎ ((e ≡ Error.Damaged first) × (¬ IsSoundIn version geometry first (D.history device.old).disk.content TheHeader))) }
     ensures reads { OnlyReads (D.history device.old) (D.history device.new) }
     ensures quiet { OnOk result (D.failures device.new ≡ D.failures device.old) }
     ensures told { IfErr result (λ e. e ≢ Error.DeviceFailed → D.failures device.new ≡ D.failures device.old) }
@@ -52,12 +43,13 @@ fn read_header<D: Device>(device: &mut D, geometry: Geometry, first: u64) -> Res
     if device.read(first, &mut bytes).is_err() {
         return Err(Error::DeviceFailed);
     }
-    header_in(geometry, &bytes).ok_or(Error::Damaged { sector: first })
+    header_in(version, geometry, &bytes).ok_or(Error::Damaged { sector: first })
 }
 
 // The transaction heads that are used.
 fn read_heads<D: Device, A: Allocator + Copy>(
     alloc: A,
+    version: Version,
     device: &mut D,
     geometry: Geometry,
     first: u64,
@@ -66,7 +58,7 @@ fn read_heads<D: Device, A: Allocator + Copy>(
     requires number { heads_at first < 2 ^ 64 }
     ensures found { IfOk result (λ heads. AreHeads (sector (D.history device.old).disk.content (heads_at first)) heads.items) }
     ensures refused { IfErr result (λ e. IsHindered (D.failures device.old) (D.failures device.new) e
-        ⊎ ((e ≡ Error.Damaged (heads_at first)) × (¬ IsSound geometry first (D.history device.old).disk.content TheHeads))) }
+        ⊎ ((e ≡ Error.Damaged (heads_at first)) × (¬ IsSoundIn version geometry first (D.history device.old).disk.content TheHeads))) }
     ensures reads { OnlyReads (D.history device.old) (D.history device.new) }
     ensures quiet { OnOk result (D.failures device.new ≡ D.failures device.old) }
     ensures told { IfErr result (λ e. e ≢ Error.DeviceFailed → D.failures device.new ≡ D.failures device.old) }
@@ -83,6 +75,7 @@ fn read_heads<D: Device, A: Allocator + Copy>(
 // The first `count` changes of head h.
 fn read_list<D: Device, A: Allocator + Copy>(
     alloc: A,
+    version: Version,
     device: &mut D,
     geometry: Geometry,
     first: u64,
@@ -91,26 +84,25 @@ fn read_list<D: Device, A: Allocator + Copy>(
 ) -> Result<Vec<Change, A>, Error>
     requires head { h < TXNS_MAX }
     requires count { count ≤ CHANGES_MAX }
-    requires inside { page_at first 0 ≤ length (D.history device.old).disk.content }
-    requires number { page_at first 0 < 2 ^ 64 }
+    requires inside { page_at_in version first 0 ≤ length (D.history device.old).disk.content }
+    requires number { page_at_in version first 0 < 2 ^ 64 }
     ensures count { IfOk result (λ changes. length changes.items ≡ count) }
-    ensures held { IfOk result (λ changes. HoldsList geometry first (D.history device.old).disk.content h changes.items) }
-    ensures refused { IfErr result (IsItemRefused geometry first (D.history device.old).disk.content h count (D.failures device.old) (D.failures device.new)) }
+    ensures held { IfOk result (λ changes. HoldsListIn version geometry first (D.history device.old).disk.content h changes.items) }
+    ensures refused { IfErr result (IsItemRefused version geometry first (D.history device.old).disk.content h count (D.failures device.old) (D.failures device.new)) }
     ensures reads { OnlyReads (D.history device.old) (D.history device.new) }
     ensures quiet { OnOk result (D.failures device.new ≡ D.failures device.old) }
     ensures told { IfErr result (λ e. e ≢ Error.DeviceFailed → D.failures device.new ≡ D.failures device.old) }
     ensures later { D.failures device.old ≤ D.failures device.new }
 {
-    let at = first + HEADER_SECTORS + HEADS_SECTORS;
     let mut buffer = zero_sector();
     let mut changes = Vec::with_capacity(alloc, usize::from(count))?;
     for position in 0..count {
-        let i = u64::from(CHANGES_MAX) * h + u64::from(position);
-        load(device, &mut buffer, at, i, ITEMS_PER_SECTOR)?;
-        let bytes = piece_of::<ITEM_SIZE>(&buffer, (i % ITEMS_PER_SECTOR) as usize);
-        let Some(item) = item_in(geometry, &bytes) else {
+        let place = item_place(version, first, h, position);
+        load(device, &mut buffer, place)?;
+        let bytes = piece_in(&buffer, item_size(version), place.index);
+        let Some(item) = item_in(version, geometry, bytes) else {
             return Err(Error::Damaged {
-                sector: at + i / ITEMS_PER_SECTOR,
+                sector: place.sector,
             });
         };
         changes.push(Change {
@@ -125,6 +117,7 @@ fn read_list<D: Device, A: Allocator + Copy>(
 // The lists of these heads.
 fn read_lists<D: Device, S: CellSink, A: Allocator + Copy>(
     alloc: A,
+    version: Version,
     device: &mut D,
     geometry: Geometry,
     first: u64,
@@ -133,18 +126,26 @@ fn read_lists<D: Device, S: CellSink, A: Allocator + Copy>(
 ) -> Result<(), Error>
     requires heads { AreHeads (sector (D.history device.old).disk.content (heads_at first)) heads.now }
     requires empty { (S.cells sink.old).pending ≡ finite.empty }
-    requires inside { page_at first 0 ≤ length (D.history device.old).disk.content }
-    requires number { page_at first 0 < 2 ^ 64 }
-    ensures held { OnOk result (HoldsLists geometry first (D.history device.old).disk.content heads.now (S.cells sink.new).pending) }
+    requires inside { page_at_in version first 0 ≤ length (D.history device.old).disk.content }
+    requires number { page_at_in version first 0 < 2 ^ 64 }
+    ensures held { OnOk result (HoldsLists version geometry first (D.history device.old).disk.content heads.now (S.cells sink.new).pending) }
     ensures rest { OnOk result (S.cells sink.new ≡ record (S.cells sink.old) { pending = (S.cells sink.new).pending }) }
-    ensures refused { IfErr result (AreListsRefused geometry first (D.history device.old).disk.content heads.now (D.failures device.old) (D.failures device.new)) }
+    ensures refused { IfErr result (AreListsRefused version geometry first (D.history device.old).disk.content heads.now (D.failures device.old) (D.failures device.new)) }
     ensures reads { OnlyReads (D.history device.old) (D.history device.new) }
     ensures quiet { OnOk result (D.failures device.new ≡ D.failures device.old) }
     ensures told { IfErr result (λ e. e ≢ Error.DeviceFailed → D.failures device.new ≡ D.failures device.old) }
     ensures later { D.failures device.old ≤ D.failures device.new }
 {
     for (h, head) in heads.iter().enumerate() {
-        let changes = read_list(alloc, device, geometry, first, h as u64, head.changes)?;
+        let changes = read_list(
+            alloc,
+            version,
+            device,
+            geometry,
+            first,
+            h as u64,
+            head.changes,
+        )?;
         sink.set_list(head.txn, &changes)?;
     }
     Ok(())
@@ -169,7 +170,9 @@ fn add_row<A: Allocator>(
 }
 
 // Adds the rows of a page to those of the pages before it.
-fn read_page<D: Device, A: Allocator>(
+fn read_page<D: Device, A: Allocator + Copy>(
+    alloc: A,
+    version: Version,
     device: &mut D,
     geometry: Geometry,
     first: u64,
@@ -177,31 +180,24 @@ fn read_page<D: Device, A: Allocator>(
     rows: &mut Vec<(Rid, Row), A>,
 ) -> Result<(), Error>
     requires page { page < geometry.pages }
-    requires inside { entries_at geometry first ≤ length (D.history device.old).disk.content }
-    requires number { entries_at geometry first < 2 ^ 64 }
-    requires held { HoldsPages geometry first (D.history device.old).disk.content page (table_of rows.old.items) }
-    ensures held { OnOk result (HoldsPages geometry first (D.history device.old).disk.content (page + 1) (table_of rows.new.items)) }
-    ensures refused { IfErr result (IsPageRefused geometry first (D.history device.old).disk.content page (D.failures device.old) (D.failures device.new)) }
+    requires inside { entries_at_in version geometry first ≤ length (D.history device.old).disk.content }
+    requires number { entries_at_in version geometry first < 2 ^ 64 }
+    requires held { HoldsPages version geometry first (D.history device.old).disk.content page (table_of rows.old.items) }
+    ensures held { OnOk result (HoldsPages version geometry first (D.history device.old).disk.content (page + 1) (table_of rows.new.items)) }
+    ensures refused { IfErr result (IsPageRefused version geometry first (D.history device.old).disk.content page (D.failures device.old) (D.failures device.new)) }
     ensures reads { OnlyReads (D.history device.old) (D.history device.new) }
     ensures quiet { OnOk result (D.failures device.new ≡ D.failures device.old) }
     ensures told { IfErr result (λ e. e ≢ Error.DeviceFailed → D.failures device.new ≡ D.failures device.old) }
     ensures later { D.failures device.old ≤ D.failures device.new }
 {
-    let at = page_at(first, u64::from(page));
-    let mut buffer = zero_sector();
-    load(device, &mut buffer, at, 0, ROWS_PER_SECTOR)?;
-    let front = piece_of::<ROW_SIZE>(&buffer, 0);
-    let Some(front_row) = read_row(&front) else {
-        return Err(Error::Damaged { sector: at });
-    };
-    if front_row.is_some() {
+    let at = page_at(version, first, u64::from(page));
+    let spelled = read_bytes(alloc, device, at, version.page_sectors())?;
+    let bytes = spelled.as_slice();
+    if !has_edges(version, bytes) {
         return Err(Error::Damaged { sector: at });
     }
     for slot in 0..SLOTS_PER_PAGE {
-        let i = u64::from(slot) + 1;
-        load(device, &mut buffer, at, i, ROWS_PER_SECTOR)?;
-        let bytes = piece_of::<ROW_SIZE>(&buffer, (i % ROWS_PER_SECTOR) as usize);
-        let Some(found) = read_row(&bytes) else {
+        let Some(found) = row_in(version, bytes, slot) else {
             return Err(Error::Damaged { sector: at });
         };
         add_row(rows, Rid { page, slot }, found)?;
@@ -210,19 +206,20 @@ fn read_page<D: Device, A: Allocator>(
 }
 
 // The rows of all pages.
-fn read_pages<D: Device, S: CellSink, A: Allocator>(
+fn read_pages<D: Device, S: CellSink, A: Allocator + Copy>(
     alloc: A,
+    version: Version,
     device: &mut D,
     geometry: Geometry,
     first: u64,
     sink: &mut S,
 ) -> Result<(), Error>
     requires empty { (S.cells sink.old).rows ≡ finite.empty }
-    requires inside { entries_at geometry first ≤ length (D.history device.old).disk.content }
-    requires number { entries_at geometry first < 2 ^ 64 }
-    ensures held { OnOk result (HoldsPages geometry first (D.history device.old).disk.content geometry.pages (S.cells sink.new).rows) }
+    requires inside { entries_at_in version geometry first ≤ length (D.history device.old).disk.content }
+    requires number { entries_at_in version geometry first < 2 ^ 64 }
+    ensures held { OnOk result (HoldsPages version geometry first (D.history device.old).disk.content geometry.pages (S.cells sink.new).rows) }
     ensures rest { OnOk result (S.cells sink.new ≡ record (S.cells sink.old) { rows = (S.cells sink.new).rows }) }
-    ensures refused { IfErr result (ArePagesRefused geometry first (D.history device.old).disk.content (D.failures device.old) (D.failures device.new)) }
+    ensures refused { IfErr result (ArePagesRefused version geometry first (D.history device.old).disk.content (D.failures device.old) (D.failures device.new)) }
     ensures reads { OnlyReads (D.history device.old) (D.history device.new) }
     ensures quiet { OnOk result (D.failures device.new ≡ D.failures device.old) }
     ensures told { IfErr result (λ e. e ≢ Error.DeviceFailed → D.failures device.new ≡ D.failures device.old) }
@@ -230,7 +227,7 @@ fn read_pages<D: Device, S: CellSink, A: Allocator>(
 {
     let mut rows = Vec::new(alloc);
     for page in 0..geometry.pages {
-        read_page(device, geometry, first, page, &mut rows)?;
+        read_page(alloc, version, device, geometry, first, page, &mut rows)?;
     }
     sink.set_rows(&rows)?;
     Ok(())
@@ -239,6 +236,7 @@ fn read_pages<D: Device, S: CellSink, A: Allocator>(
 // The first `count` entries.
 fn read_entries<D: Device, S: CellSink, A: Allocator>(
     alloc: A,
+    version: Version,
     device: &mut D,
     geometry: Geometry,
     first: u64,
@@ -247,28 +245,27 @@ fn read_entries<D: Device, S: CellSink, A: Allocator>(
 ) -> Result<(), Error>
     requires count { count ≤ geometry.entries }
     requires empty { (S.cells sink.old).entries ≡ finite.empty }
-    requires inside { image_end geometry first ≤ length (D.history device.old).disk.content }
-    requires number { image_end geometry first < 2 ^ 64 }
-    ensures held { OnOk result (HoldsEntries geometry first (D.history device.old).disk.content count (S.cells sink.new).entries) }
+    requires inside { image_end_in version geometry first ≤ length (D.history device.old).disk.content }
+    requires number { image_end_in version geometry first < 2 ^ 64 }
+    ensures held { OnOk result (HoldsEntries version geometry first (D.history device.old).disk.content count (S.cells sink.new).entries) }
     ensures rest { OnOk result (S.cells sink.new ≡ record (S.cells sink.old) { entries = (S.cells sink.new).entries }) }
-    ensures refused { IfErr result (AreEntriesRefused geometry first (D.history device.old).disk.content count (D.failures device.old) (D.failures device.new)) }
+    ensures refused { IfErr result (AreEntriesRefused version geometry first (D.history device.old).disk.content count (D.failures device.old) (D.failures device.new)) }
     ensures reads { OnlyReads (D.history device.old) (D.history device.new) }
     ensures quiet { OnOk result (D.failures device.new ≡ D.failures device.old) }
     ensures told { IfErr result (λ e. e ≢ Error.DeviceFailed → D.failures device.new ≡ D.failures device.old) }
     ensures later { D.failures device.old ≤ D.failures device.new }
 {
-    let at = page_at(first, u64::from(geometry.pages));
     let mut entries = Vec::with_capacity(alloc, count as usize)?;
     let mut buffer = zero_sector();
     let mut last = None;
     for n in 0..count {
-        let i = u64::from(n);
-        load(device, &mut buffer, at, i, ENTRIES_PER_SECTOR)?;
-        let bytes = piece_of::<ENTRY_SIZE>(&buffer, (i % ENTRIES_PER_SECTOR) as usize);
+        let place = entry_place(version, geometry, first, n);
+        load(device, &mut buffer, place)?;
+        let bytes = piece_in(&buffer, entry_size(version), place.index);
         let damaged = Error::Damaged {
-            sector: at + i / ENTRIES_PER_SECTOR,
+            sector: place.sector,
         };
-        let Some((pair, mark)) = entry_in(geometry, &bytes) else {
+        let Some((pair, mark)) = entry_in(version, geometry, bytes) else {
             return Err(damaged);
         };
         if !is_above(&pair, &last) {
@@ -281,8 +278,8 @@ fn read_entries<D: Device, S: CellSink, A: Allocator>(
     Ok(())
 }
 
-/// Reads the image of a store of this geometry that begins at sector `first`, into an empty sink. The answer is its base,
-/// the number of the last record made as the image began. Nothing is written. That each of its sectors is read once at most is
+/// Reads the image of a store of this geometry that begins at sector `first`, by a version of the format, into an empty sink.
+/// The answer is its base, the number of the last record made as the image began. Nothing is written. That each of its sectors is read once at most is
 /// only tested.
 ///
 /// `Damaged` names the first sector with a part that says nothing: the header, the transaction heads, an undo item of a
@@ -291,29 +288,38 @@ fn read_entries<D: Device, S: CellSink, A: Allocator>(
 /// then. `NoMemory` where there is none for what is read, or the sink has none; a damaged header is told before any is wanted (`memory`).
 pub fn read_image<D: Device, S: CellSink, A: Allocator + Copy>(
     alloc: A,
+    version: Version,
     device: &mut D,
     geometry: Geometry,
     first: u64,
     sink: &mut S,
 ) -> Result<u64, Error>
     requires empty { S.cells sink.old ≡ no_cells }
-    requires inside { image_end geometry first ≤ length (D.history device.old).disk.content }
-    requires number { image_end geometry first < 2 ^ 64 }
+    requires inside { image_end_in version geometry first ≤ length (D.history device.old).disk.content }
+    requires number { image_end_in version geometry first < 2 ^ 64 }
 
     // This is the only image that lies there, by the law `one_image`, and where one does no sector is damaged.
-    ensures read { IfOk result (λ base. IsImage geometry first (D.history device.old).disk.content base (S.cells sink.new)) }
-    ensures refused { IfErr result (IsUnread geometry first (D.history device.old).disk.content (D.failures device.old) (D.failures device.new)) }
+    ensures read { IfOk result (λ base. IsImageIn version geometry first (D.history device.old).disk.content base (S.cells sink.new)) }
+    ensures refused { IfErr result (IsUnreadIn version geometry first (D.history device.old).disk.content (D.failures device.old) (D.failures device.new)) }
     ensures reads { OnlyReads (D.history device.old) (D.history device.new) }
     ensures quiet { OnOk result (D.failures device.new ≡ D.failures device.old) }
     ensures told { IfErr result (λ e. e ≢ Error.DeviceFailed → D.failures device.new ≡ D.failures device.old) }
-    ensures memory { IfErr result (λ e. e ≡ Error.NoMemory → IsSound geometry first (D.history device.old).disk.content TheHeader) }
+    ensures memory { IfErr result (λ e. e ≡ Error.NoMemory → IsSoundIn version geometry first (D.history device.old).disk.content TheHeader) }
     ensures later { D.failures device.old ≤ D.failures device.new }
 {
-    let header = read_header(device, geometry, first)?;
-    let heads = read_heads(alloc, device, geometry, first)?;
-    read_lists(alloc, device, geometry, first, &heads, sink)?;
-    read_pages(alloc, device, geometry, first, sink)?;
-    read_entries(alloc, device, geometry, first, header.entries, sink)?;
+    let header = read_header(version, device, geometry, first)?;
+    let heads = read_heads(alloc, version, device, geometry, first)?;
+    read_lists(alloc, version, device, geometry, first, &heads, sink)?;
+    read_pages(alloc, version, device, geometry, first, sink)?;
+    read_entries(
+        alloc,
+        version,
+        device,
+        geometry,
+        first,
+        header.entries,
+        sink,
+    )?;
     sink.set_life(header.life);
     Ok(header.base)
 }

@@ -10,17 +10,17 @@ ghost use Rattle.records.specs.declared.pair.Mark.{Mark};
 ghost use Rattle.records.specs.declared.number.TheConstants.{LAST_NUMBER};
 ghost use Rattle.image_parts.specs.declared.head.Head.{Head as HeadValue};
 ghost use Rattle.image_half.specs.Layout.{cut, heads_at, page_at, entries_at, image_end, InPage, InPages, InEntries};
-ghost use Rattle.image_half.specs.Image.{AreHeads, IsImage, IsEntry, entry_bytes, head_of, ZerosBehindEntries, ZerosBehindItems, ZerosBehind, InLists, InStart, InImageOf};
+ghost use Rattle.image_half.specs.Image.{AreHeads, HoldsList, IsImage, IsEntry, entry_bytes, head_of, ZerosBehindEntries, InLists, InStart, InImageOf};
 ghost use Rattle.image_half.specs.Source.{FitsImage, IsPassed};
-ghost use Rattle.image_half.specs.Steps.{IsEntryPlace, IsReached, ShowsList, WritesIn};
+ghost use Rattle.image_half.specs.Steps.{IsEntryPlace, IsReached, WritesIn};
 ghost use Rattle.image_half.specs.Part.{IsImagePart, HasPage};
 
+use crate::page::page_at;
 use crate::pieces::put_piece;
-use crate::read::page_at;
 use crate::source::{CellSource, SECTOR_ENTRIES};
 use crate::write::{write_header, write_list, write_page};
 use image_parts::{ENTRY_SIZE, Head, Header, spell_entry, spell_head};
-use records::{ENTRIES_PER_SECTOR, Geometry, HEADER_SECTORS, Mark, Pair, TXNS_MAX, Txn};
+use records::{ENTRIES_PER_SECTOR, Geometry, HEADER_SECTORS, Mark, Pair, TXNS_MAX, Txn, Version};
 use sector_device::{Device, Failed, SECTOR_SIZE, zero_sector};
 
 // Writes the list of each transaction as the undo items of its head.
@@ -33,7 +33,7 @@ fn write_lists<D: Device, S: CellSource>(
     requires fits { FitsImage geometry (S.cells source.now) }
     requires inside { page_at first 0 ≤ length (D.history device.old).disk.content }
     requires number { page_at first 0 < 2 ^ 64 }
-    ensures written { OnOk result ((h : ℕ) (list : ℕ × List ChangeValue) → slice_get (finite.entries (S.cells source.now).pending) h ≡ Some list → ShowsList geometry first (D.history device.new).disk.content h list.1) }
+    ensures written { OnOk result ((h : ℕ) (list : ℕ × List ChangeValue) → slice_get (finite.entries (S.cells source.now).pending) h ≡ Some list → HoldsList geometry first (D.history device.new).disk.content h list.1) }
     ensures part { WritesIn (InLists first (S.cells source.now)) (D.history device.old) (D.history device.new) }
     ensures counts { CountsFailure (D.failures device.old) (D.failures device.new) result }
 {
@@ -188,7 +188,7 @@ fn write_all_entries<D: Device, S: CellSource>(
     ensures part { WritesIn (InEntries geometry first 0 count) (D.history device.old) (D.history device.new) }
     ensures counts { CountsFailure (D.failures device.old) (D.failures device.new) result }
 {
-    let at = page_at(first, u64::from(geometry.pages));
+    let at = page_at(Version::Two, first, u64::from(geometry.pages));
     let mut last = None;
     for k in 0..u64::from(count).div_ceil(ENTRIES_PER_SECTOR) {
         let bytes = entries_sector(source, &mut last);
@@ -197,8 +197,8 @@ fn write_all_entries<D: Device, S: CellSource>(
     Ok(())
 }
 
-/// Begins the image of these cells that is written part by part from sector `first` on: writes undo items and heads. What is
-/// left of the sector of each transaction's last change is zeros then (`rest`). That no sector is written twice is only tested.
+/// Begins the image of these cells that is written part by part from sector `first` on: writes undo items and heads. That no
+/// sector is written twice is only tested.
 pub fn write_start<D: Device, S: CellSource>(
     device: &mut D,
     geometry: Geometry,
@@ -209,7 +209,6 @@ pub fn write_start<D: Device, S: CellSource>(
     requires inside { page_at first 0 ≤ length (D.history device.old).disk.content }
     requires number { page_at first 0 < 2 ^ 64 }
     ensures written { OnOk result (IsImagePart geometry first (D.history device.new).disk.content 0 (record (S.cells source.now) { rows = finite.empty; entries = finite.empty })) }
-    ensures rest { OnOk result ((h : ℕ) (list : ℕ × List ChangeValue) → slice_get (finite.entries (S.cells source.now).pending) h ≡ Some list → ZerosBehindItems first (D.history device.new).disk.content h (length list.1)) }
     ensures outside { SameOutside (InStart first (S.cells source.now)) (D.history device.old).disk.content (D.history device.new).disk.content }
     ensures within { RunsWithin (λ n. InStart first (S.cells source.now) n ⊎ ((D.history device.old).disk.unsynced n ≡ true)) (D.history device.old).disk.content (D.history device.old) (D.history device.new) }
     ensures counts { CountsFailure (D.failures device.old) (D.failures device.new) result }
@@ -218,8 +217,8 @@ pub fn write_start<D: Device, S: CellSource>(
     write_all_heads(device, geometry, first, source)
 }
 
-/// Writes a page of the image that begins at sector `first`, with the rows that these cells have there. That each of its eight
-/// sectors is written once is only tested.
+/// Writes a page of the image that begins at sector `first`, with the rows that these cells have there. That each of its
+/// sixteen sectors is written once is only tested.
 pub fn write_rows<D: Device, S: CellSource>(
     device: &mut D,
     geometry: Geometry,
@@ -240,9 +239,8 @@ pub fn write_rows<D: Device, S: CellSource>(
 }
 
 /// Writes the image of these cells, which record `base` left, from sector `first` on: undo items, heads, every page, the
-/// entries, and the header behind them. What is left of the sector of the last entry, and of that of each transaction's last
-/// change, is zeros then (`rest`); sectors of undo items and of entries behind those stay as they are (`outside`). That no
-/// sector is written twice is only tested.
+/// entries, and the header behind them. What is left of the sector of the last entry is zeros then (`rest`); sectors of undo
+/// items and of entries behind the last ones stay as they are (`outside`). That no sector is written twice is only tested.
 pub fn write_image<D: Device, S: CellSource>(
     device: &mut D,
     geometry: Geometry,
@@ -255,7 +253,7 @@ pub fn write_image<D: Device, S: CellSource>(
     requires inside { image_end geometry first ≤ length (D.history device.old).disk.content }
     requires number { image_end geometry first < 2 ^ 64 }
     ensures written { OnOk result (IsImage geometry first (D.history device.new).disk.content base (S.cells source.now)) }
-    ensures rest { OnOk result (ZerosBehind geometry first (D.history device.new).disk.content (S.cells source.now)) }
+    ensures rest { OnOk result (ZerosBehindEntries geometry first (D.history device.new).disk.content (length (finite.entries (S.cells source.now).entries))) }
     ensures outside { SameOutside (InImageOf geometry first (S.cells source.now)) (D.history device.old).disk.content (D.history device.new).disk.content }
     ensures within { RunsWithin (λ n. InImageOf geometry first (S.cells source.now) n ⊎ ((D.history device.old).disk.unsynced n ≡ true)) (D.history device.old).disk.content (D.history device.old) (D.history device.new) }
     ensures counts { CountsFailure (D.failures device.old) (D.failures device.new) result }

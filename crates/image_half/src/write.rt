@@ -1,5 +1,5 @@
 //! Parts of an image are written, without a sync. Until a sync a sector that was written may hold anything.
-ghost use Rattle.std.specs.Prelude.{◌≡◌, ◌⊎◌, ℕ, ◌+◌, ◌*◌, ◌%◌, ◌^◌, ◌<◌, ◌≤◌, ◌∷◌, Option, true, length, slice_get, Some, None, OnOk};
+ghost use Rattle.std.specs.Prelude.{◌≡◌, ◌⊎◌, ℕ, ◌+◌, ◌*◌, ◌%◌, ◌^◌, ◌<◌, ◌≤◌, Option, true, length, slice_get, Some, OnOk};
 ghost use Rattle.sector_device.specs.Disk.{sector, SameOutside};
 ghost use Rattle.sector_device.specs.History.{RunsWithin, CountsFailure};
 ghost use Rattle.records.specs.ChangeValue.{ChangeValue};
@@ -9,25 +9,26 @@ ghost use Rattle.records.specs.declared.pair.Mark.{Mark};
 ghost use Rattle.image_parts.specs.declared.head.Head.{Head};
 ghost use Rattle.records.specs.declared.number.TheConstants.{LAST_NUMBER};
 ghost use Rattle.image_parts.specs.Spelling.{HeadFits, head};
-ghost use Rattle.image_half.specs.Layout.{cut, heads_at, page_at, entries_at, image_end, InPage, InEntries, InList};
-ghost use Rattle.image_half.specs.Image.{IsHeader, AreHeads, HoldsList, IsRow, IsEntry, row_bytes, entry_bytes, ZerosBehindEntries, ZerosBehindItems};
-ghost use Rattle.image_half.specs.Steps.{IsEntryPlace, IsItemPlace};
+ghost use Rattle.records.specs.declared.version.Version.TheVariants.{Two};
+ghost use Rattle.image_half.specs.Layout.{cut, heads_at, page_at, entries_at, image_end, page_bytes, InPage, InEntries, InList};
+ghost use Rattle.image_half.specs.Image.{IsHeader, AreHeads, HoldsList, HasEdges, IsRow, IsEntry, row_bytes, entry_bytes, ZerosBehindEntries};
+ghost use Rattle.image_half.specs.Steps.{IsEntryPlace};
 
+use crate::page::{page_at, page_of};
 use crate::pieces::put_piece;
-use crate::read::{ITEMS_PER_SECTOR, ROWS_PER_SECTOR, page_at};
 use image_parts::{
-    ENTRY_SIZE, HEAD_SIZE, Head, Header, ITEM_SIZE, ROW_SIZE, UndoItem, spell_entry, spell_head,
-    spell_header, spell_item, spell_row,
+    ENTRY_SIZE, HEAD_SIZE, Head, Header, UndoItem, spell_entry, spell_head, spell_header,
+    spell_item,
 };
 use model::Life;
 use records::{
-    CHANGES_MAX, Change, ENTRIES_PER_SECTOR, Geometry, HEADER_SECTORS, HEADS_SECTORS, Mark,
-    PAGE_SECTORS, Pair, Row, SLOTS_PER_PAGE, TXNS_MAX,
+    CHANGES_MAX, Change, ENTRIES_PER_SECTOR, Geometry, HEADER_SECTORS, HEADS_SECTORS, Mark, Pair,
+    Row, SLOTS_PER_PAGE, TXNS_MAX, Version,
 };
 use sector_device::{Device, Failed, SECTOR_SIZE, zero_sector};
 
-// The sectors that the undo items of one head take.
-const LIST_SECTORS: u64 = 32;
+// The sectors of the undo items of a head, one for each of its changes.
+const LIST_SECTORS: u64 = CHANGES_MAX as u64;
 
 /// Writes the header of the image that begins at sector `first`. It counts the entries that are in the image, so it is
 /// written behind them.
@@ -50,31 +51,8 @@ pub fn write_header<D: Device>(
     device.write(first, &bytes)
 }
 
-// The i-th piece of a page: none in front, and behind it the rows of its slots.
-fn row_behind(rows: &[Option<Row>], i: usize) -> Option<Row>
-    requires { i < length (None ∷ rows.now) }
-    ensures { slice_get (None ∷ rows.now) i ≡ Some result }
-{
-    if i == 0 { None } else { rows[i - 1] }
-}
-
-// The k-th sector of a page with these rows.
-fn page_sector(rows: &[Option<Row>], k: usize) -> [u8; SECTOR_SIZE]
-    requires rows { length rows.now ≡ SLOTS_PER_PAGE }
-    requires sector { k < PAGE_SECTORS }
-    ensures { (j : ℕ) (o : Option Row) → j < ROWS_PER_SECTOR → slice_get (None ∷ rows.now) (ROWS_PER_SECTOR * k + j) ≡ Some o → IsRow (cut result ROW_SIZE j) o }
-{
-    let mut bytes = zero_sector();
-    for j in 0..ROWS_PER_SECTOR as usize {
-        let found = row_behind(rows, ROWS_PER_SECTOR as usize * k + j);
-        let piece = spell_row(&found);
-        put_piece(&mut bytes, j, &piece);
-    }
-    bytes
-}
-
 /// Writes a page of the image that begins at sector `first`, with the rows of its slots in order, or none. That each of its
-/// eight sectors is written once is only tested.
+/// sixteen sectors is written once is only tested.
 pub fn write_page<D: Device>(
     device: &mut D,
     geometry: Geometry,
@@ -86,15 +64,17 @@ pub fn write_page<D: Device>(
     requires page { page < geometry.pages }
     requires inside { entries_at geometry first ≤ length (D.history device.old).disk.content }
     requires number { entries_at geometry first < 2 ^ 64 }
-    ensures written { OnOk result ((i : ℕ) (o : Option Row) → slice_get (None ∷ rows.now) i ≡ Some o → IsRow (row_bytes (D.history device.new).disk.content first page i) o) }
+    ensures edges { OnOk result (HasEdges Two (page_bytes (D.history device.new).disk.content first page)) }
+    ensures written { OnOk result ((slot : ℕ) (o : Option Row) → slice_get rows.now slot ≡ Some o → IsRow (row_bytes (D.history device.new).disk.content first page slot) o) }
     ensures outside { SameOutside (InPage first page) (D.history device.old).disk.content (D.history device.new).disk.content }
     ensures within { RunsWithin (λ n. InPage first page n ⊎ ((D.history device.old).disk.unsynced n ≡ true)) (D.history device.old).disk.content (D.history device.old) (D.history device.new) }
     ensures counts { CountsFailure (D.failures device.old) (D.failures device.new) result }
 {
-    let at = page_at(first, u64::from(page));
-    for k in 0..PAGE_SECTORS {
-        let bytes = page_sector(rows, k as usize);
-        device.write(at + k, &bytes)?;
+    let bytes = page_of(rows);
+    let at = page_at(Version::Two, first, u64::from(page));
+    let (sectors, _) = bytes.as_chunks::<SECTOR_SIZE>();
+    for (k, sector) in sectors.iter().enumerate() {
+        device.write(at + k as u64, sector)?;
     }
     Ok(())
 }
@@ -143,7 +123,8 @@ pub fn write_entries<D: Device>(
     ensures within { RunsWithin (λ n. InEntries geometry first start (length entries.now) n ⊎ ((D.history device.old).disk.unsynced n ≡ true)) (D.history device.old).disk.content (D.history device.old) (D.history device.new) }
     ensures counts { CountsFailure (D.failures device.old) (D.failures device.new) result }
 {
-    let at = page_at(first, u64::from(geometry.pages)) + u64::from(start) / ENTRIES_PER_SECTOR;
+    let at = page_at(Version::Two, first, u64::from(geometry.pages))
+        + u64::from(start) / ENTRIES_PER_SECTOR;
     let sectors = (entries.len() as u64).div_ceil(ENTRIES_PER_SECTOR);
     for k in 0..sectors {
         let bytes = entries_sector(entries, k as usize);
@@ -190,35 +171,8 @@ pub fn write_heads<D: Device>(device: &mut D, first: u64, heads: &[Head]) -> Res
     device.write(first + HEADER_SECTORS, &bytes)
 }
 
-// The spelling of the change at this position, or zeros behind the last one.
-#[tactic(auto, unfolding(image_parts::specs::Spelling::zeros))]
-fn item_piece(changes: &[Change], position: usize) -> [u8; ITEM_SIZE]
-    ensures { IsItemPlace result (slice_get changes.now position) }
-{
-    match changes.get(position) {
-        Some(change) => spell_item(&UndoItem {
-            rid: change.rid,
-            rows: change.rows,
-        }),
-        None => [0; ITEM_SIZE],
-    }
-}
-
-// The k-th sector of these changes.
-fn items_sector(changes: &[Change], k: usize) -> [u8; SECTOR_SIZE]
-    requires { ITEMS_PER_SECTOR * k < length changes.now }
-    ensures { (j : ℕ) → j < ITEMS_PER_SECTOR → IsItemPlace (cut result ITEM_SIZE j) (slice_get changes.now (ITEMS_PER_SECTOR * k + j)) }
-{
-    let mut bytes = zero_sector();
-    for j in 0..ITEMS_PER_SECTOR as usize {
-        let piece = item_piece(changes, ITEMS_PER_SECTOR as usize * k + j);
-        put_piece(&mut bytes, j, &piece);
-    }
-    bytes
-}
-
-/// Writes the changes of a head, numbered from 0, as undo items of the image that begins at sector `first`. Of an odd number
-/// the item beside the last one is zeros then (`rest`). That each sector is written once is only tested.
+/// Writes the changes of a head, numbered from 0, as undo items of the image that begins at sector `first`, each in a sector
+/// of its own. That each sector is written once is only tested.
 pub fn write_list<D: Device>(
     device: &mut D,
     geometry: Geometry,
@@ -233,16 +187,17 @@ pub fn write_list<D: Device>(
     requires inside { page_at first 0 ≤ length (D.history device.old).disk.content }
     requires number { page_at first 0 < 2 ^ 64 }
     ensures written { OnOk result (HoldsList geometry first (D.history device.new).disk.content h changes.now) }
-    ensures rest { OnOk result (ZerosBehindItems first (D.history device.new).disk.content h (length changes.now)) }
     ensures outside { SameOutside (InList first h (length changes.now)) (D.history device.old).disk.content (D.history device.new).disk.content }
     ensures within { RunsWithin (λ n. InList first h (length changes.now) n ⊎ ((D.history device.old).disk.unsynced n ≡ true)) (D.history device.old).disk.content (D.history device.old) (D.history device.new) }
     ensures counts { CountsFailure (D.failures device.old) (D.failures device.new) result }
 {
     let at = first + HEADER_SECTORS + HEADS_SECTORS + LIST_SECTORS * h;
-    let sectors = (changes.len() as u64).div_ceil(ITEMS_PER_SECTOR);
-    for k in 0..sectors {
-        let bytes = items_sector(changes, k as usize);
-        device.write(at + k, &bytes)?;
+    for (position, change) in changes.iter().enumerate() {
+        let bytes = spell_item(&UndoItem {
+            rid: change.rid,
+            rows: change.rows,
+        });
+        device.write(at + position as u64, &bytes)?;
     }
     Ok(())
 }

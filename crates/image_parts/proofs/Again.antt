@@ -1,16 +1,17 @@
 -- What was spelled is read again.
-use Rattle.std.proofs.Common.{◌≡◌, ℕ, ◌-◌, ◌≤◌, true, false, ltb, eqb, List, [], ◌∷◌, ◌++◌, length, take, drop, Option, Some, None, refl, sym, ap, subst, ◌∙◌, append_assoc, arith, length-append, append-nil, Bor}
+use Rattle.std.proofs.Common.{◌≡◌, ℕ, suc, ◌+◌, ◌*◌, ◌-◌, ◌≤◌, true, false, ltb, eqb, List, [], ◌∷◌, ◌++◌, length, take, drop, Option, Some, None, refl, sym, ap, subst, ◌∙◌, append_assoc, arith, length-append, append-nil, Bor}
 use Rattle.std.proofs.lemmas.Bool.{le-ltb, ne_eqb}
 use Rattle.std.proofs.lemmas.List.{take_at, drop_at}
 use Rattle.std.specs.Option.{option_map}
-use Rattle.records.specs.declared.key.TheConstants.{KEY_MAX, BODY_MAX}
+use Rattle.records.specs.Version.{key_max, body_max}
+use Rattle.records.specs.declared.version.Version.{Version}
 use Rattle.records.specs.declared.row.Row.{Row}
 use Rattle.records.specs.declared.pair.Pair.{Pair}
 use Rattle.records.specs.declared.pair.Mark.{Mark}
 use Rattle.records.specs.declared.pair.Mark.TheVariants.{Live, Marked}
 use Rattle.records.specs.declared.change.Rows.{Rows}
 use Rattle.records.specs.declared.change.Rows.TheVariants.{Inserted, Deleted, Updated}
-use Rattle.records.specs.Spelling.{u16, u32, u64, rid, old_row, new_row, PairFits, RowsFit}
+use Rattle.records.specs.Spelling.{u16, u32, u64, rid, old_row, new_row, PairFitsIn, RowsFitIn}
 use Rattle.records.specs.Reading.{byte_at, rows_of}
 use Rattle.records.proofs.Steps.{some_is}
 use Rattle.records.proofs.Fields.{u16_again, u32_again, u64_again, rid_again}
@@ -19,7 +20,7 @@ use Rattle.model.specs.declared.life.Life.TheVariants.{Absent, Building, Complet
 use Rattle.image_parts.specs.declared.head.Head.{Head}
 use Rattle.image_parts.specs.declared.header.Header.{Header}
 use Rattle.image_parts.specs.declared.item.UndoItem.{UndoItem}
-use Rattle.image_parts.specs.Spelling.{zeros, padded, row, pair, mark, entry, head, item, highest, life, header, RowFitsIfSome, HeadFits, HeadFitsIfSome, ItemFits, PairFitsIfSome, LifeFits, HeaderFits}
+use Rattle.image_parts.specs.Spelling.{zeros, padded, row_size, pair_size, item_size, row_in, pair_in, mark, entry_in, head, item_in, highest_in, life_in, header_in, RowFitsInIfSome, HeadFits, HeadFitsIfSome, ItemFitsIn, PairFitsInIfSome, LifeFitsIn, HeaderFitsIn}
 use Rattle.image_parts.specs.Reading.{are_zeros, skipped, padded_at, row_at, pair_at, highest_at, life_at, header_at, head_at, item_at, entry_at}
 use Rattle.image_parts.proofs.Bytes.{length-zeros}
 use Rattle.image_parts.proofs.Zeros.{zeros_tested}
@@ -44,59 +45,62 @@ skipped_again count rest =
     let tested : are_zeros (take count (zeros count ++ rest)) ≡ true = ap are_zeros (take_at (zeros count) rest count (length-zeros count)) ∙ zeros_tested count in
     rw (long, tested, drop_at (zeros count) rest count (length-zeros count)) refl
 
-zeros_64 : zeros 64 ≡ 0 ∷ zeros 63
+zeros_more : (n : ℕ) → zeros (suc n) ≡ 0 ∷ zeros n
 unfolding zeros
-zeros_64 = refl
+zeros_more n = refl
 
-zeros_32 : zeros 32 ≡ 0 ∷ zeros 31
-unfolding zeros
-zeros_32 = refl
+zeros_cons : (n : ℕ) → 1 ≤ n → zeros n ≡ 0 ∷ zeros (n - 1)
+zeros_cons n some = ap zeros (let e : n ≡ suc (n - 1) = omega (arith, some) in e) ∙ zeros_more (n - 1)
 
-no_row : (rest : List ℕ) → row_at (0 ∷ (zeros 63 ++ rest)) ≡ Some (None, rest)
+no_row : (v : Version) (rest : List ℕ) → row_at v (0 ∷ (zeros (row_size v - 1) ++ rest)) ≡ Some (None, rest)
 unfolding row_at byte_at
-no_row rest = rw (skipped_again 63 rest) refl
+no_row v rest = rw (skipped_again (row_size v - 1) rest) refl
 
-some_row : (r : Row) (rest : List ℕ) → RowFitsIfSome (Some r) → row_at (1 ∷ (padded KEY_MAX r.key ++ (padded BODY_MAX r.body ++ rest))) ≡ Some (Some r, rest)
+some_row : (v : Version) (r : Row) (rest : List ℕ) → RowFitsInIfSome v (Some r) → row_at v (1 ∷ (padded (key_max v) r.key ++ (padded (body_max v) r.body ++ rest))) ≡ Some (Some r, rest)
 unfolding row_at byte_at
-some_row r rest fits = rw (padded_again KEY_MAX r.key (padded BODY_MAX r.body ++ rest) fits.key, padded_again BODY_MAX r.body rest fits.body) refl
+some_row v r rest fits = rw (padded_again (key_max v) r.key (padded (body_max v) r.body ++ rest) fits.key, padded_again (body_max v) r.body rest fits.body) refl
 
-pub row_again : (o : Option Row) (rest : List ℕ) → RowFitsIfSome o → row_at (row o ++ rest) ≡ Some (o, rest)
-row_again None rest fits = ap (λ (t : List ℕ). row_at (t ++ rest)) zeros_64 ∙ no_row rest
-row_again (Some r) rest fits = ap (λ (t : List ℕ). row_at (1 ∷ t)) (append_assoc (padded KEY_MAX r.key) (padded BODY_MAX r.body) rest) ∙ some_row r rest fits
+pub row_again : (v : Version) (o : Option Row) (rest : List ℕ) → RowFitsInIfSome v o → row_at v (row_in v o ++ rest) ≡ Some (o, rest)
+row_again v None rest fits = ap (λ (t : List ℕ). row_at v (t ++ rest)) (zeros_cons (row_size v) (omega arith)) ∙ no_row v rest
+row_again v (Some r) rest fits = ap (λ (t : List ℕ). row_at v (1 ∷ t)) (append_assoc (padded (key_max v) r.key) (padded (body_max v) r.body) rest) ∙ some_row v r rest fits
 
-pub pair_again : (p : Pair) (rest : List ℕ) → PairFits p → pair_at (pair p ++ rest) ≡ Some (p, rest)
+pub pair_again : (v : Version) (p : Pair) (rest : List ℕ) → PairFitsIn v p → pair_at v (pair_in v p ++ rest) ≡ Some (p, rest)
 unfolding pair_at
-pair_again p rest fits = ap pair_at (append_assoc (padded KEY_MAX p.key) (rid p.rid) rest) ∙ rw (padded_again KEY_MAX p.key (rid p.rid ++ rest) fits.key, rid_again p.rid rest fits.rid) refl
+pair_again v p rest fits = ap (pair_at v) (append_assoc (padded (key_max v) p.key) (rid p.rid) rest) ∙ rw (padded_again (key_max v) p.key (rid p.rid ++ rest) fits.key, rid_again p.rid rest fits.rid) refl
 
-no_highest : (rest : List ℕ) → highest_at (0 ∷ (zeros 31 ++ rest)) ≡ Some (None, rest)
+no_highest : (v : Version) (rest : List ℕ) → highest_at v (0 ∷ (zeros (pair_size v) ++ rest)) ≡ Some (None, rest)
 unfolding highest_at byte_at
-no_highest rest = rw (skipped_again 31 rest) refl
+no_highest v rest = rw (skipped_again (pair_size v) rest) refl
 
-some_highest : (p : Pair) (rest : List ℕ) → PairFits p → highest_at (1 ∷ (pair p ++ rest)) ≡ Some (Some p, rest)
+some_highest : (v : Version) (p : Pair) (rest : List ℕ) → PairFitsIn v p → highest_at v (1 ∷ (pair_in v p ++ rest)) ≡ Some (Some p, rest)
 unfolding highest_at byte_at
-some_highest p rest fits = rw (pair_again p rest fits) refl
+some_highest v p rest fits = rw (pair_again v p rest fits) refl
 
-pub highest_again : (o : Option Pair) (rest : List ℕ) → PairFitsIfSome o → highest_at (highest o ++ rest) ≡ Some (o, rest)
-highest_again None rest fits = ap (λ (t : List ℕ). highest_at (t ++ rest)) zeros_32 ∙ no_highest rest
-highest_again (Some p) rest fits = some_highest p rest fits
+pub highest_again : (v : Version) (o : Option Pair) (rest : List ℕ) → PairFitsInIfSome v o → highest_at v (highest_in v o ++ rest) ≡ Some (o, rest)
+highest_again v None rest fits = ap (λ (t : List ℕ). highest_at v (t ++ rest)) (zeros_cons (1 + pair_size v) (omega arith) ∙ ap (λ (n : ℕ). 0 ∷ zeros n) (let e : 1 + pair_size v - 1 ≡ pair_size v = omega arith in e)) ∙ no_highest v rest
+highest_again v (Some p) rest fits = some_highest v p rest fits
 
-pub life_again : (l : Life) (rest : List ℕ) → LifeFits l → life_at (life l ++ rest) ≡ Some (l, rest)
+pub life_again : (v : Version) (l : Life) (rest : List ℕ) → LifeFitsIn v l → life_at v (life_in v l ++ rest) ≡ Some (l, rest)
 unfolding life_at byte_at
-life_again Absent rest fits = rw (highest_again None rest tt) refl
-life_again (Building p) rest fits = rw (highest_again p rest fits) refl
-life_again Complete rest fits = rw (highest_again None rest tt) refl
+life_again v Absent rest fits = rw (skipped_again (1 + pair_size v) rest) refl
+life_again v (Building p) rest fits = rw (highest_again v p rest fits) refl
+life_again v Complete rest fits = rw (skipped_again (1 + pair_size v) rest) refl
 
-header_front : (h : Header) (rest : List ℕ) → HeaderFits h → header_at (life h.life ++ (u64 h.base ++ (u32 h.entries ++ rest))) ≡ Some (h, rest)
+pub header_front : (v : Version) (h : Header) (rest : List ℕ) → HeaderFitsIn v h → header_at v (life_in v h.life ++ (u64 h.base ++ (u32 h.entries ++ rest))) ≡ Some (h, rest)
 unfolding header_at
-header_front h rest fits = rw (life_again h.life (u64 h.base ++ (u32 h.entries ++ rest)) fits.life, u64_again h.base (u32 h.entries ++ rest) (omega (arith, fits.base)), u32_again h.entries rest fits.entries) refl
+header_front v h rest fits = rw (life_again v h.life (u64 h.base ++ (u32 h.entries ++ rest)) fits.life, u64_again h.base (u32 h.entries ++ rest) (omega (arith, fits.base)), u32_again h.entries rest fits.entries) refl
 
 abbrev pub IsReadAgain : {X : Type 0} → (List ℕ → Option (X × List ℕ)) → List ℕ → X → Type 0
 IsReadAgain at bytes x = (rest : List ℕ) × (at bytes ≡ Some (x, rest))
 
-pub header_read_again : (h : Header) → HeaderFits h → IsReadAgain header_at (header h) h
-header_read_again h fits =
-    let z : List ℕ = zeros (512 - length (life h.life ++ (u64 h.base ++ u32 h.entries))) in
-    (z, ap header_at (append_assoc (life h.life) (u64 h.base ++ u32 h.entries) z ∙ ap (λ (t : List ℕ). life h.life ++ t) (append_assoc (u64 h.base) (u32 h.entries) z)) ∙ header_front h z fits)
+unfoldable pub header_read_again : (v : Version) (h : Header) → HeaderFitsIn v h → IsReadAgain (header_at v) (header_in v h) h
+header_read_again v h fits =
+    let z : List ℕ = zeros (512 - length (life_in v h.life ++ (u64 h.base ++ u32 h.entries))) in
+    (z, ap (header_at v) (append_assoc (life_in v h.life) (u64 h.base ++ u32 h.entries) z ∙ ap (λ (t : List ℕ). life_in v h.life ++ t) (append_assoc (u64 h.base) (u32 h.entries) z)) ∙ header_front v h z fits)
+
+pub behind_header : (v : Version) (h : Header) (fits : HeaderFitsIn v h) → are_zeros (header_read_again v h fits).0 ≡ true
+unfolding header_read_again
+behind_header v h fits = zeros_tested (512 - length (life_in v h.life ++ (u64 h.base ++ u32 h.entries)))
 
 head_front : (h : Head) (rest : List ℕ) → HeadFits h → head_at (u64 h.txn ++ (u16 h.changes ++ rest)) ≡ Some (Some h, rest)
 unfolding head_at
@@ -124,42 +128,46 @@ both_rows (Inserted new) = refl
 both_rows (Deleted old) = refl
 both_rows (Updated old new) = refl
 
-old_fits : (rows : Rows) → RowsFit rows → RowFitsIfSome (old_row rows)
-old_fits (Inserted new) fits = tt
-old_fits (Deleted old) fits = fits
-old_fits (Updated old new) fits = fits.0
+old_fits : (v : Version) (rows : Rows) → RowsFitIn v rows → RowFitsInIfSome v (old_row rows)
+old_fits v (Inserted new) fits = tt
+old_fits v (Deleted old) fits = fits
+old_fits v (Updated old new) fits = fits.0
 
-new_fits : (rows : Rows) → RowsFit rows → RowFitsIfSome (new_row rows)
-new_fits (Inserted new) fits = fits
-new_fits (Deleted old) fits = tt
-new_fits (Updated old new) fits = fits.1
+new_fits : (v : Version) (rows : Rows) → RowsFitIn v rows → RowFitsInIfSome v (new_row rows)
+new_fits v (Inserted new) fits = fits
+new_fits v (Deleted old) fits = tt
+new_fits v (Updated old new) fits = fits.1
 
-item_front : (i : UndoItem) (rest : List ℕ) → ItemFits i → item_at (1 ∷ (rid i.rid ++ (row (old_row i.rows) ++ (row (new_row i.rows) ++ rest)))) ≡ Some (i, rest)
+pub item_front : (v : Version) (i : UndoItem) (rest : List ℕ) → ItemFitsIn v i → item_at v (1 ∷ (rid i.rid ++ (row_in v (old_row i.rows) ++ (row_in v (new_row i.rows) ++ rest)))) ≡ Some (i, rest)
 unfolding item_at byte_at
-item_front i rest fits = rw (
-  rid_again i.rid (row (old_row i.rows) ++ (row (new_row i.rows) ++ rest)) fits.rid,
-  row_again (old_row i.rows) (row (new_row i.rows) ++ rest) (old_fits i.rows fits.rows),
-  row_again (new_row i.rows) rest (new_fits i.rows fits.rows),
+item_front v i rest fits = rw (
+  rid_again i.rid (row_in v (old_row i.rows) ++ (row_in v (new_row i.rows) ++ rest)) fits.rid,
+  row_again v (old_row i.rows) (row_in v (new_row i.rows) ++ rest) (old_fits v i.rows fits.rows),
+  row_again v (new_row i.rows) rest (new_fits v i.rows fits.rows),
   both_rows i.rows,
 ) refl
 
-pub item_read_again : (i : UndoItem) → ItemFits i → IsReadAgain item_at (item i) i
-item_read_again i fits =
-    let a : List ℕ = row (old_row i.rows) in
-    let b : List ℕ = row (new_row i.rows) in
-    let z : List ℕ = zeros (256 - length (1 ∷ (rid i.rid ++ (a ++ b)))) in
-    (z, ap (λ (t : List ℕ). item_at (1 ∷ t)) (append_assoc (rid i.rid) (a ++ b) z ∙ ap (λ (t : List ℕ). rid i.rid ++ t) (append_assoc a b z)) ∙ item_front i z fits)
+unfoldable pub item_read_again : (v : Version) (i : UndoItem) → ItemFitsIn v i → IsReadAgain (item_at v) (item_in v i) i
+item_read_again v i fits =
+    let a : List ℕ = row_in v (old_row i.rows) in
+    let b : List ℕ = row_in v (new_row i.rows) in
+    let z : List ℕ = zeros (item_size v - length (1 ∷ (rid i.rid ++ (a ++ b)))) in
+    (z, ap (λ (t : List ℕ). item_at v (1 ∷ t)) (append_assoc (rid i.rid) (a ++ b) z ∙ ap (λ (t : List ℕ). rid i.rid ++ t) (append_assoc a b z)) ∙ item_front v i z fits)
 
-entry_front : (p : Pair) (m : Mark) → PairFits p → entry_at (pair p ++ mark m ∷ []) ≡ Some ((p, m), [])
+pub behind_item : (v : Version) (i : UndoItem) (fits : ItemFitsIn v i) → are_zeros (item_read_again v i fits).0 ≡ true
+unfolding item_read_again
+behind_item v i fits = zeros_tested (item_size v - length (1 ∷ (rid i.rid ++ (row_in v (old_row i.rows) ++ row_in v (new_row i.rows)))))
+
+entry_front : (v : Version) (p : Pair) (m : Mark) → PairFitsIn v p → entry_at v (pair_in v p ++ mark m ∷ []) ≡ Some ((p, m), [])
 unfolding entry_at byte_at
-entry_front p Live fits = rw (pair_again p (1 ∷ []) fits) refl
-entry_front p Marked fits = rw (pair_again p (2 ∷ []) fits) refl
+entry_front v p Live fits = rw (pair_again v p (1 ∷ []) fits) refl
+entry_front v p Marked fits = rw (pair_again v p (2 ∷ []) fits) refl
 
-pub entry_read_again : (e : Pair × Mark) → PairFits e.0 → IsReadAgain entry_at (entry e) e
-entry_read_again (p, m) fits = ([], entry_front p m fits)
+pub entry_read_again : (v : Version) (e : Pair × Mark) → PairFitsIn v e.0 → IsReadAgain (entry_at v) (entry_in v e) e
+entry_read_again v (p, m) fits = ([], entry_front v p m fits)
 
-pub row_read_again : (o : Option Row) → RowFitsIfSome o → IsReadAgain row_at (row o) o
-row_read_again o fits = ([], ap row_at (sym (append-nil (row o))) ∙ row_again o [] fits)
+pub row_read_again : (v : Version) (o : Option Row) → RowFitsInIfSome v o → IsReadAgain (row_at v) (row_in v o) o
+row_read_again v o fits = ([], ap (row_at v) (sym (append-nil (row_in v o))) ∙ row_again v o [] fits)
 
 -- ---- what a reader concludes, of what it found at the front of some bytes
 
@@ -188,3 +196,7 @@ module _ {X : Type 0} (at : List ℕ → Option (X × List ℕ)) (bytes text : L
   -- it is the value
   pub value_is : (y : X × Bor (List ℕ)) → found ≡ Some y → y.0 ≡ x
   value_is y is = ap (λ (p : X × List ℕ). p.0) (some_is (y.0, y.1.now) (x, again.0) (sym (ap (option_map front) is) ∙ both))
+
+  -- and what is behind it is known
+  pub rest_is : (y : X × Bor (List ℕ)) → found ≡ Some y → y.1.now ≡ again.0
+  rest_is y is = ap (λ (p : X × List ℕ). p.1) (some_is (y.0, y.1.now) (x, again.0) (sym (ap (option_map front) is) ∙ both))

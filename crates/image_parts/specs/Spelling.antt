@@ -1,20 +1,19 @@
 -- How the parts of an image are spelled, and which values have a spelling.
-use Rattle.std.specs.Prelude.{ℕ, ◌<◌, ◌≤◌, ◌^◌, ◌-◌, List, [], ◌∷◌, ◌++◌, length, replicate, Option, Some, None}
+use Rattle.std.specs.Prelude.{ℕ, ◌<◌, ◌≤◌, ◌^◌, ◌+◌, ◌*◌, ◌-◌, List, [], ◌∷◌, ◌++◌, length, replicate, Option, Some, None}
 use Rattle.sector_device.specs.declared.device.TheConstants.{SECTOR_SIZE}
-use Rattle.records.specs.declared.key.TheConstants.{KEY_MAX, BODY_MAX}
+use Rattle.records.specs.Version.{key_max, body_max}
+use Rattle.records.specs.declared.version.Version.{Version}
+use Rattle.records.specs.declared.version.Version.TheVariants.{Two}
 use Rattle.records.specs.declared.number.TheConstants.{LAST_NUMBER}
 use Rattle.records.specs.declared.change.TheConstants.{CHANGES_MAX}
 use Rattle.records.specs.declared.row.Row.{Row}
 use Rattle.records.specs.declared.pair.Pair.{Pair}
 use Rattle.records.specs.declared.pair.Mark.{Mark}
 use Rattle.records.specs.declared.pair.Mark.TheVariants.{Live, Marked}
-use Rattle.records.specs.Spelling.{short, rid, u16, u32, u64, old_row, new_row, RidFits, RowFits, RowsFit, PairFits, IsTxn}
+use Rattle.records.specs.Spelling.{short, rid, u16, u32, u64, old_row, new_row, RidFits, RowFitsIn, RowsFitIn, PairFitsIn, IsTxn}
 use Rattle.model.specs.declared.life.Life.{Life}
 use Rattle.model.specs.declared.life.Life.TheVariants.{Absent, Building, Complete}
-use Rattle.image_parts.specs.declared.row.TheConstants.{ROW_SIZE}
 use Rattle.image_parts.specs.declared.head.TheConstants.{HEAD_SIZE}
-use Rattle.image_parts.specs.declared.item.TheConstants.{ITEM_SIZE}
-use Rattle.image_parts.specs.declared.header.TheConstants.{HIGHEST_SIZE}
 use Rattle.image_parts.specs.declared.head.Head.{Head}
 use Rattle.image_parts.specs.declared.header.Header.{Header}
 use Rattle.image_parts.specs.declared.item.UndoItem.{UndoItem}
@@ -30,14 +29,32 @@ filled size bytes = bytes ++ zeros (size - length bytes)
 abbrev pub padded : ℕ → List ℕ → List ℕ
 padded max bytes = short bytes ++ zeros (max - length bytes)
 
+-- ---- in a version of the format
+
+-- the bytes of a row
+abbrev pub row_size : Version → ℕ
+row_size v = 3 + key_max v + body_max v
+
+-- the bytes of a pair
+abbrev pub pair_size : Version → ℕ
+pair_size v = 7 + key_max v
+
+-- the bytes of an undo item
+abbrev pub item_size : Version → ℕ
+item_size v = 4 * row_size v
+
+-- the bytes of an entry
+abbrev pub entry_size : Version → ℕ
+entry_size v = 1 + pair_size v
+
 -- 1 and the row, or zeros
-abbrev pub row : Option Row → List ℕ
-row None = zeros ROW_SIZE
-row (Some r) = 1 ∷ (padded KEY_MAX r.key ++ padded BODY_MAX r.body)
+abbrev pub row_in : Version → Option Row → List ℕ
+row_in v None = zeros (row_size v)
+row_in v (Some r) = 1 ∷ (padded (key_max v) r.key ++ padded (body_max v) r.body)
 
 -- a pair: the key with its length in front and zeros behind, then the place
-abbrev pub pair : Pair → List ℕ
-pair p = padded KEY_MAX p.key ++ rid p.rid
+abbrev pub pair_in : Version → Pair → List ℕ
+pair_in v p = padded (key_max v) p.key ++ rid p.rid
 
 -- 1 live, 2 marked
 abbrev pub mark : Mark → ℕ
@@ -45,8 +62,8 @@ mark Live = 1
 mark Marked = 2
 
 -- an entry of the index
-abbrev pub entry : Pair × Mark → List ℕ
-entry e = pair e.0 ++ mark e.1 ∷ []
+abbrev pub entry_in : Version → Pair × Mark → List ℕ
+entry_in v e = pair_in v e.0 ++ mark e.1 ∷ []
 
 -- the head of a transaction, or zeros
 abbrev pub head : Option Head → List ℕ
@@ -54,28 +71,28 @@ head None = zeros HEAD_SIZE
 head (Some h) = filled HEAD_SIZE (u64 h.txn ++ u16 h.changes)
 
 -- a change that may be taken back: 1, its place, and the rows before and after it
-abbrev pub item : UndoItem → List ℕ
-item i = filled ITEM_SIZE (1 ∷ (rid i.rid ++ (row (old_row i.rows) ++ row (new_row i.rows))))
+abbrev pub item_in : Version → UndoItem → List ℕ
+item_in v i = filled (item_size v) (1 ∷ (rid i.rid ++ (row_in v (old_row i.rows) ++ row_in v (new_row i.rows))))
 
 -- 0, or 1 and the pair
-abbrev pub highest : Option Pair → List ℕ
-highest None = zeros HIGHEST_SIZE
-highest (Some p) = 1 ∷ pair p
+abbrev pub highest_in : Version → Option Pair → List ℕ
+highest_in v None = zeros (1 + pair_size v)
+highest_in v (Some p) = 1 ∷ pair_in v p
 
 -- how far the index is, and up to which pair it is built
-abbrev pub life : Life → List ℕ
-life Absent = 0 ∷ highest None
-life (Building p) = 1 ∷ highest p
-life Complete = 2 ∷ highest None
+abbrev pub life_in : Version → Life → List ℕ
+life_in v Absent = 0 ∷ highest_in v None
+life_in v (Building p) = 1 ∷ highest_in v p
+life_in v Complete = 2 ∷ highest_in v None
 
 -- the header's sector: life, base and count of entries, then zeros
-abbrev pub header : Header → List ℕ
-header h = filled SECTOR_SIZE (life h.life ++ (u64 h.base ++ u32 h.entries))
+abbrev pub header_in : Version → Header → List ℕ
+header_in v h = filled SECTOR_SIZE (life_in v h.life ++ (u64 h.base ++ u32 h.entries))
 
 -- The limits of each value. A value of the program is within them, but for a base number and a count of changes.
-abbrev pub RowFitsIfSome : Option Row → Type 0
-RowFitsIfSome None = Unit {0}
-RowFitsIfSome (Some r) = RowFits r
+abbrev pub RowFitsInIfSome : Version → Option Row → Type 0
+RowFitsInIfSome v None = Unit {0}
+RowFitsInIfSome v (Some r) = RowFitsIn v r
 
 -- a head within the format's limits
 pub record HeadFits (h : Head) : Type 0 where
@@ -88,23 +105,61 @@ HeadFitsIfSome None = Unit {0}
 HeadFitsIfSome (Some h) = HeadFits h
 
 -- an undo item within the limits
-pub record ItemFits (i : UndoItem) : Type 0 where
+pub record ItemFitsIn (v : Version) (i : UndoItem) : Type 0 where
   pub rid : RidFits i.rid
-  pub rows : RowsFit i.rows
+  pub rows : RowsFitIn v i.rows
 
 -- a pair within the limits, where there is one
-abbrev pub PairFitsIfSome : Option Pair → Type 0
-PairFitsIfSome None = Unit {0}
-PairFitsIfSome (Some p) = PairFits p
+abbrev pub PairFitsInIfSome : Version → Option Pair → Type 0
+PairFitsInIfSome v None = Unit {0}
+PairFitsInIfSome v (Some p) = PairFitsIn v p
 
 -- the highest pair of an index that is being built is within the limits
-abbrev pub LifeFits : Life → Type 0
-LifeFits Absent = Unit {0}
-LifeFits (Building p) = PairFitsIfSome p
-LifeFits Complete = Unit {0}
+abbrev pub LifeFitsIn : Version → Life → Type 0
+LifeFitsIn v Absent = Unit {0}
+LifeFitsIn v (Building p) = PairFitsInIfSome v p
+LifeFitsIn v Complete = Unit {0}
 
 -- a header within the limits
-pub record HeaderFits (h : Header) : Type 0 where
-  pub life : LifeFits h.life
+pub record HeaderFitsIn (v : Version) (h : Header) : Type 0 where
+  pub life : LifeFitsIn v h.life
   pub base : h.base ≤ LAST_NUMBER
   pub entries : h.entries < 2 ^ 32
+
+-- ---- in version 2, which is written
+
+abbrev pub row : Option Row → List ℕ
+row o = row_in Two o
+
+abbrev pub pair : Pair → List ℕ
+pair p = pair_in Two p
+
+abbrev pub entry : Pair × Mark → List ℕ
+entry e = entry_in Two e
+
+abbrev pub item : UndoItem → List ℕ
+item i = item_in Two i
+
+abbrev pub highest : Option Pair → List ℕ
+highest o = highest_in Two o
+
+abbrev pub life : Life → List ℕ
+life l = life_in Two l
+
+abbrev pub header : Header → List ℕ
+header h = header_in Two h
+
+abbrev pub RowFitsIfSome : Option Row → Type 0
+RowFitsIfSome o = RowFitsInIfSome Two o
+
+abbrev pub ItemFits : UndoItem → Type 0
+ItemFits i = ItemFitsIn Two i
+
+abbrev pub PairFitsIfSome : Option Pair → Type 0
+PairFitsIfSome o = PairFitsInIfSome Two o
+
+abbrev pub LifeFits : Life → Type 0
+LifeFits l = LifeFitsIn Two l
+
+abbrev pub HeaderFits : Header → Type 0
+HeaderFits h = HeaderFitsIn Two h

@@ -1,15 +1,15 @@
 //! The header of an image.
-ghost use Rattle.std.specs.Prelude.{◌≡◌, ◌≤◌, ◌+◌, ◌++◌, length, IfSome};
+ghost use Rattle.std.specs.Prelude.{◌≡◌, ◌≤◌, ◌+◌, ◌++◌, Some, length, IfSome};
 ghost use Rattle.std.specs.Option.{option_map};
 ghost use Rattle.image_parts.specs.declared.header.Header.{Header};
 ghost use Rattle.image_parts.specs.Reading.{highest_at, life_at, header_at};
-ghost use Rattle.image_parts.specs.Spelling.{header, highest, life, PairFitsIfSome, LifeFits, HeaderFits};
+ghost use Rattle.image_parts.specs.Spelling.{header, header_in, highest, life, PairFitsIfSome, LifeFits, HeaderFits, HeaderFitsIn};
 
 use crate::buffer::Buffer;
 use crate::fields::{PAIR_SIZE, put_pair, put_u32, put_u64};
-use crate::take::{byte_of, pair_of, skip, u32_of, u64_of};
+use crate::take::{are_zeros, byte_of, pair_of, skip, u32_of, u64_of};
 use model::Life;
-use records::{LAST_NUMBER, Pair};
+use records::{LAST_NUMBER, Pair, Version};
 use sector_device::SECTOR_SIZE;
 
 // The bytes of a highest pair: whether there is one, and the pair.
@@ -81,44 +81,53 @@ pub fn spell_header(found: &Header) -> [u8; SECTOR_SIZE]
 }
 
 #[tactic(auto, unfolding(crate::specs::Reading::highest_at))]
-fn highest_of(bytes: &[u8]) -> Option<(Option<Pair>, &[u8])>
-    ensures { option_map (λ x. (x.0, x.1.now)) result ≡ highest_at bytes.now }
+fn highest_of(version: Version, bytes: &[u8]) -> Option<(Option<Pair>, &[u8])>
+    ensures { option_map (λ x. (x.0, x.1.now)) result ≡ highest_at version bytes.now }
 {
     let (tag, rest) = byte_of(bytes)?;
     if tag == 0 {
-        let rest = skip(PAIR_SIZE, rest)?;
+        let rest = skip(7 + version.key_max(), rest)?;
         return Some((None, rest));
     }
-    let Some((pair, rest)) = pair_of(rest) else {
+    if tag != 1 {
+        return None;
+    }
+    let Some((pair, rest)) = pair_of(version, rest) else {
         return None;
     };
     Some((Some(pair), rest))
 }
 
 #[tactic(auto, unfolding(crate::specs::Reading::life_at))]
-fn life_of(bytes: &[u8]) -> Option<(Life, &[u8])>
-    ensures { option_map (λ x. (x.0, x.1.now)) result ≡ life_at bytes.now }
+fn life_of(version: Version, bytes: &[u8]) -> Option<(Life, &[u8])>
+    ensures { option_map (λ x. (x.0, x.1.now)) result ≡ life_at version bytes.now }
 {
     let (tag, rest) = byte_of(bytes)?;
-    let Some((highest, rest)) = highest_of(rest) else {
-        return None;
-    };
-    let life = if tag == 0 {
-        Life::Absent
-    } else if tag == 1 {
-        Life::Building { highest }
-    } else {
-        Life::Complete
-    };
-    Some((life, rest))
+    match tag {
+        0 => {
+            let rest = skip(8 + version.key_max(), rest)?;
+            Some((Life::Absent, rest))
+        }
+        1 => {
+            let Some((highest, rest)) = highest_of(version, rest) else {
+                return None;
+            };
+            Some((Life::Building { highest }, rest))
+        }
+        2 => {
+            let rest = skip(8 + version.key_max(), rest)?;
+            Some((Life::Complete, rest))
+        }
+        _ => None,
+    }
 }
 
 // The header at the front, whatever is behind it.
 #[tactic(auto, unfolding(crate::specs::Reading::header_at))]
-fn header_of(bytes: &[u8]) -> Option<(Header, &[u8])>
-    ensures { option_map (λ x. (x.0, x.1.now)) result ≡ header_at bytes.now }
+fn header_of(version: Version, bytes: &[u8]) -> Option<(Header, &[u8])>
+    ensures { option_map (λ x. (x.0, x.1.now)) result ≡ header_at version bytes.now }
 {
-    let Some((life, rest)) = life_of(bytes) else {
+    let Some((life, rest)) = life_of(version, bytes) else {
         return None;
     };
     let (base, rest) = u64_of(rest)?;
@@ -133,21 +142,30 @@ fn header_of(bytes: &[u8]) -> Option<(Header, &[u8])>
     ))
 }
 
+/// What the sector of an image's header says in a version of the format. `None` where it is no header.
+pub fn read_header_in(version: Version, bytes: &[u8; SECTOR_SIZE]) -> Option<Header>
+    ensures found { IfSome result (λ found. bytes.now ≡ header_in version found) }
+    ensures fits { IfSome result (HeaderFitsIn version) }
+    ensures again { (value : Header) → HeaderFitsIn version value → bytes.now ≡ header_in version value → result ≡ Some value }
+{
+    let Some(found) = header_of(version, bytes) else {
+        return None;
+    };
+    if LAST_NUMBER < found.0.base {
+        return None;
+    }
+    if are_zeros(found.1) {
+        Some(found.0)
+    } else {
+        None
+    }
+}
+
 /// What the sector of an image's header says. `None` where it is no header.
 pub fn read_header(bytes: &[u8; SECTOR_SIZE]) -> Option<Header>
     ensures found { IfSome result (λ found. bytes.now ≡ header found) }
     ensures fits { IfSome result HeaderFits }
     ensures again { (value : Header) → HeaderFits value → bytes.now ≡ header value → result ≡ Some value }
 {
-    let Some(found) = header_of(bytes) else {
-        return None;
-    };
-    if LAST_NUMBER < found.0.base {
-        return None;
-    }
-    if spell_header(&found.0) == *bytes {
-        Some(found.0)
-    } else {
-        None
-    }
+    read_header_in(Version::Two, bytes)
 }

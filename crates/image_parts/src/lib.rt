@@ -15,8 +15,8 @@ mod item;
 mod row;
 mod take;
 
-pub use entry::{ENTRY_SIZE, read_entry, spell_entry};
+pub use entry::{ENTRY_SIZE, entry_size, read_entry, read_entry_in, spell_entry};
 pub use head::{HEAD_SIZE, Head, read_head, spell_head};
-pub use header::{Header, read_header, spell_header};
-pub use item::{ITEM_SIZE, UndoItem, read_item, spell_item};
-pub use row::{ROW_SIZE, read_row, spell_row};
+pub use header::{Header, read_header, read_header_in, spell_header};
+pub use item::{ITEM_SIZE, UndoItem, item_size, read_item, read_item_in, spell_item};
+pub use row::{ROW_SIZE, read_row, read_row_in, row_size, spell_row};

@@ -1,12 +1,13 @@
 // What stands at the front of some bytes. Padding within a field is zeros; behind the last field there may be anything.
-ghost use Rattle.std.specs.Prelude.{◌≡◌};
+ghost use Rattle.std.specs.Prelude.{◌≡◌, ◌≤◌, length, IfSome};
+ghost use Rattle.records.specs.Version.{key_max, body_max};
 ghost use Rattle.std.specs.Option.{option_map};
 ghost use Rattle.records.specs.Reading.{u16_at, u32_at, u64_at, byte_at, rid_at, rows_of};
 ghost use Rattle.image_parts.specs.Reading.{are_zeros, skipped, padded_at, row_at, pair_at};
 
-use crate::row::ROW_SIZE;
+use crate::row::row_size;
 use byteorder::{BigEndian, ByteOrder};
-use records::{BODY_MAX, Body, KEY_MAX, Key, Pair, Rid, Row, Rows, SLOTS_PER_PAGE};
+use records::{Body, Key, Pair, Rid, Row, Rows, SLOTS_PER_PAGE, Version};
 
 #[tactic(auto, unfolding(records::specs::Reading::u16_at))]
 pub(crate) fn u16_of(bytes: &[u8]) -> Option<(u16, &[u8])>
@@ -49,7 +50,7 @@ pub(crate) fn byte_of(bytes: &[u8]) -> Option<(u8, &[u8])>
 }
 
 // Whether each byte is zero.
-fn are_zeros(bytes: &[u8]) -> bool
+pub(crate) fn are_zeros(bytes: &[u8]) -> bool
     ensures { result ≡ are_zeros bytes.now }
 {
     let mut any = 0;
@@ -87,71 +88,73 @@ pub(crate) fn rid_of(bytes: &[u8]) -> Option<(Rid, &[u8])>
 }
 
 #[tactic(auto, unfolding(crate::specs::Reading::padded_at))]
-fn key_of(bytes: &[u8]) -> Option<(Key, &[u8])>
-    ensures { option_map (λ x. (x.0, x.1.now)) result ≡ padded_at KEY_MAX bytes.now }
+fn key_of(version: Version, bytes: &[u8]) -> Option<(Key, &[u8])>
+    ensures { option_map (λ x. (x.0, x.1.now)) result ≡ padded_at (key_max version) bytes.now }
 {
+    let max = version.key_max();
     let (len, rest) = byte_of(bytes)?;
     let len = usize::from(len);
-    if KEY_MAX < len {
+    if max < len {
         return None;
     }
-    if rest.len() < KEY_MAX {
+    if rest.len() < max {
         return None;
     }
-    if !are_zeros(&rest[len..KEY_MAX]) {
+    if !are_zeros(&rest[len..max]) {
         return None;
     }
     let (key, _) = rest.split_at(len);
-    let (_, behind) = rest.split_at(KEY_MAX);
+    let (_, behind) = rest.split_at(max);
     Some((Key::new(key).ok()?, behind))
 }
 
 #[tactic(auto, unfolding(crate::specs::Reading::padded_at))]
-fn body_of(bytes: &[u8]) -> Option<(Body, &[u8])>
-    ensures { option_map (λ x. (x.0, x.1.now)) result ≡ padded_at BODY_MAX bytes.now }
+fn body_of(version: Version, bytes: &[u8]) -> Option<(Body, &[u8])>
+    ensures { option_map (λ x. (x.0, x.1.now)) result ≡ padded_at (body_max version) bytes.now }
 {
+    let max = version.body_max();
     let (len, rest) = byte_of(bytes)?;
     let len = usize::from(len);
-    if BODY_MAX < len {
+    if max < len {
         return None;
     }
-    if rest.len() < BODY_MAX {
+    if rest.len() < max {
         return None;
     }
-    if !are_zeros(&rest[len..BODY_MAX]) {
+    if !are_zeros(&rest[len..max]) {
         return None;
     }
     let (body, _) = rest.split_at(len);
-    let (_, behind) = rest.split_at(BODY_MAX);
+    let (_, behind) = rest.split_at(max);
     Some((Body::new(body).ok()?, behind))
 }
 
 #[tactic(auto, unfolding(crate::specs::Reading::row_at))]
-pub(crate) fn row_of(bytes: &[u8]) -> Option<(Option<Row>, &[u8])>
-    ensures { option_map (λ x. (x.0, x.1.now)) result ≡ row_at bytes.now }
+pub(crate) fn row_of(version: Version, bytes: &[u8]) -> Option<(Option<Row>, &[u8])>
+    ensures { option_map (λ x. (x.0, x.1.now)) result ≡ row_at version bytes.now }
 {
     let (tag, rest) = byte_of(bytes)?;
     if tag == 0 {
-        let rest = skip(ROW_SIZE - 1, rest)?;
+        let rest = skip(row_size(version) - 1, rest)?;
         return Some((None, rest));
     }
     if tag != 1 {
         return None;
     }
-    let Some((key, rest)) = key_of(rest) else {
+    let Some((key, rest)) = key_of(version, rest) else {
         return None;
     };
-    let Some((body, rest)) = body_of(rest) else {
+    let Some((body, rest)) = body_of(version, rest) else {
         return None;
     };
     Some((Some(Row { key, body }), rest))
 }
 
 #[tactic(auto, unfolding(crate::specs::Reading::pair_at))]
-pub(crate) fn pair_of(bytes: &[u8]) -> Option<(Pair, &[u8])>
-    ensures { option_map (λ x. (x.0, x.1.now)) result ≡ pair_at bytes.now }
+pub(crate) fn pair_of(version: Version, bytes: &[u8]) -> Option<(Pair, &[u8])>
+    ensures { option_map (λ x. (x.0, x.1.now)) result ≡ pair_at version bytes.now }
 {
-    let Some((key, rest)) = key_of(bytes) else {
+    let Some((key, rest)) = key_of(version, bytes) else {
         return None;
     };
     let Some((rid, rest)) = rid_of(rest) else {

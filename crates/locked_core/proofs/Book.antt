@@ -5,7 +5,7 @@ use Rattle.std.proofs.lemmas.List.{map-set}
 use Rattle.std.specs.Prelude.{slice_get, slice_set, slice_index_or}
 use Rattle.atomic_table.specs.Seated.{TableId}
 use Rattle.sessions.specs.Values.{SessionValue}
-use Rattle.registry.specs.Halves.{HalfValue, IsBook, shown}
+use Rattle.session_halves.specs.Halves.{HalfValue, IsBook, shown}
 
 get_set : {A : Type 0} (l : List A) (i : ℕ) (a : A) → i < length l → slice_get (slice_set l i a) i ≡ Some a
 get_set [] i a lt = absurd (omega arith)

@@ -23,7 +23,7 @@ use Rattle.nsf_core.specs.Undoing.{undone_reply}
 use Rattle.nsf_core.specs.declared.parts.Detached.{Detached}
 use Rattle.nsf_core.specs.declared.parts.Ticket.{Ticket}
 use Rattle.nsf_core.specs.declared.reply.Undone.{Undone}
-use Rattle.registry.specs.Halves.{HalfValue, IsBook, IsNew, shown}
+use Rattle.session_halves.specs.Halves.{HalfValue, IsBook, IsNew, shown}
 use Rattle.sessions.specs.declared.turn.Turn.{Turn}
 use Rattle.sessions.specs.Steps.{begun, changed, committed, ended, rolling_back, with_turn}
 use Rattle.sessions.specs.Values.{empty_session, is_active, is_ready, SessionValue}

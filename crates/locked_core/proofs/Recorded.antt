@@ -13,7 +13,7 @@ use Rattle.nsf_core.specs.View.{CoreValue, Serves}
 use Rattle.nsf_core.specs.declared.parts.Detached.{Detached}
 use Rattle.nsf_core.specs.declared.parts.Ticket.{Ticket}
 use Rattle.sessions.specs.Values.{SessionValue}
-use Rattle.register.specs.Register.{IsKept}
+use Rattle.register.specs.Register.{IsRegisterKept}
 use Rattle.locked_core.proofs.Codes.{coded_record}
 use Rattle.locked_core.specs.Names.{IsShared}
 
@@ -23,7 +23,7 @@ IsRecorded core new action ticket = new.outbox ≡ core.outbox ++ record { numbe
 
 -- a law of what a call of this kind records, of a core that is kept
 abbrev pub Records : Opened → List RecordValue → CoreValue → CoreValue → Event → Action → Type 0
-Records o pushed core new event action = IsKept o pushed core → (ticket : Ticket) → Serves core event (reply_of_ticket ticket) new → IsRecorded core new action ticket
+Records o pushed core new event action = IsRegisterKept o pushed core → (ticket : Ticket) → Serves core event (reply_of_ticket ticket) new → IsRecorded core new action ticket
 
 module _ (o : Opened) (core new : CoreValue) (pushed : List RecordValue) (book : List SessionValue) (shared : ∥ IsShared o core pushed book ∥₁) (event : Event) (action : Action) (law : Records o pushed core new event action) where
   pub recorded : (result : Result Ticket Error) → Serves core event (reply_by reply_of_ticket result) new → IfOk result (IsRecorded core new action)

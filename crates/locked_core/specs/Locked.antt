@@ -3,7 +3,7 @@ use Rattle.std.specs.Prelude.{List, map}
 use Rattle.records.specs.RecordValue.{RecordValue}
 use Rattle.nsf_core.specs.Value.{value_of}
 use Rattle.nsf_core.specs.View.{CoreValue}
-use Rattle.registry.specs.Halves.{shown}
+use Rattle.session_halves.specs.Halves.{shown}
 use Rattle.sessions.specs.Values.{SessionValue}
 use Rattle.locked_core.specs.declared.locked.Locked.{Locked}
 

@@ -32,7 +32,7 @@ ghost use Rattle.sessions.specs.declared.turn.Turn.TheVariants.{Created, Dropped
 ghost use Rattle.sessions.specs.Values.{SessionValue, is_active, is_ready, is_unfinished};
 ghost use Rattle.locked_core.specs.Following.{FitPlaces, FollowOpening};
 ghost use Rattle.locked_core.specs.Names.{IsShared};
-ghost use Rattle.registry.specs.Halves.{IsBook, IsNew, shown};
+ghost use Rattle.session_halves.specs.Halves.{IsBook, IsNew, shown};
 
 use crate::group::Group;
 use crate::outbox::QueueSink;
@@ -42,7 +42,7 @@ use model::Life;
 use nsf_core::{BuildReply, CleanReply, Core, Detached, Ticket, Undone};
 use records::{Body, Error, Key, Rid, Row, Txn};
 use register::each_number;
-use registry::{Half, Registry};
+use session_halves::{Half, Registry};
 use std::alloc::Global;
 use std::marker::PhantomData;
 use std::sync::Wait;

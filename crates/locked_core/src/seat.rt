@@ -4,7 +4,7 @@ ghost use Rattle.sessions.specs.Values.{empty_session, is_active, is_ready, is_u
 
 use crate::group::Group;
 use records::Txn;
-use registry::Half;
+use session_halves::Half;
 use sessions::Session;
 use std::alloc::Global;
 use std::marker::{Model, PhantomData};

@@ -37,9 +37,9 @@ use Rattle.nsf_core.specs.contracts.parts.Parts as CoreParts
 use Rattle.nsf_core.specs.contracts.store.Core as Core
 use Rattle.flusher.below.tail.proofs.queue.Pusher.TheSendSync as pusher
 use Rattle.flusher.below.tail.proofs.queue.RecordQueue.TheSendSync as queue
-use Rattle.registry.specs.contracts.half.Half as Half
-use Rattle.registry.proofs.half.Half.TheSendSync as half
-use Rattle.registry.proofs.table.Registry.TheSendSync as registry
+use Rattle.session_halves.specs.contracts.half.Half as Half
+use Rattle.session_halves.proofs.half.Half.TheSendSync as half
+use Rattle.session_halves.proofs.table.Registry.TheSendSync as registry
 use Rattle.board.proofs.board.Board.TheSendSync as board
 use Rattle.locked_core.specs.declared.group.Group as group
 use Rattle.locked_core.specs.contracts.locked.Locked as Locked

@@ -22,7 +22,7 @@ use Rattle.store_writer.specs.declared.writer.StepReply.{StepReply}
 use Rattle.store_writer.specs.declared.writer.StepReply.TheVariants.{Taken}
 use Rattle.store_writer.specs.declared.writer.Writer.{Writer}
 use Rattle.flusher.specs.Going.{TakesIn}
-use Rattle.flusher.specs.Images.{IsAt, IsDue}
+use Rattle.flusher.specs.Images.{IsAt, IsPieceDue}
 use Rattle.flusher.specs.Part.{FlushValue}
 use Rattle.loops.specs.Copying.{IsCopying, StandsBy}
 use Rattle.loops.specs.declared.flush.Copying.{Copying}
@@ -93,10 +93,10 @@ pub behind_is : {A : Type 0} (piece : Piece A) (g now : GeometryValue) (behind :
 behind_is piece g now behind told is = subst (λ (x : GeometryValue). behind ≡ place_behind x.pages piece) is told
 
 -- the piece that is due
-is_due : (pages : ℕ) (place : CopyPlace) (image : Option NewImage) → IsAt pages (Some place) image → IsDue pages place image
+is_due : (pages : ℕ) (place : CopyPlace) (image : Option NewImage) → IsAt pages (Some place) image → IsPieceDue pages place image
 is_due pages at.Start image is = tt
 is_due pages (at.Page page) image is = is
 is_due pages (at.Entries above) image is = is
 
-pub due_of : {D : Type 0} (copying : Copying) (place : CopyPlace) (f : FlushValue D) → copying ≡ Steps (Some place) → StandsBy copying f → has_failed f.writer ≡ false → IsDue (halves_of f.writer).geometry.pages place (image_of f.writer)
+pub due_of : {D : Type 0} (copying : Copying) (place : CopyPlace) (f : FlushValue D) → copying ≡ Steps (Some place) → StandsBy copying f → has_failed f.writer ≡ false → IsPieceDue (halves_of f.writer).geometry.pages place (image_of f.writer)
 due_of copying place f is was sound = is_due (halves_of f.writer).geometry.pages place (image_of f.writer) (subst (λ (x : Copying). IsCopying (halves_of f.writer).geometry.pages x (image_of f.writer)) is (was sound))

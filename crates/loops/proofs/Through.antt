@@ -14,7 +14,7 @@ use Rattle.store_writer.specs.declared.writer.StepReply.{StepReply}
 use Rattle.flusher.proofs.Going.{counted_by_call, counted_by_flush, flip_geometry, goes_by_call, step_geometry}
 use Rattle.flusher.proofs.Keeping.{flip_rises, flush_rises}
 use Rattle.flusher.specs.Going.{GoesOn, TakesIn}
-use Rattle.flusher.specs.Part.{FlushValue, IsLeft, Publishes, last_handed, run_of}
+use Rattle.flusher.specs.Part.{FlushValue, FlushLeaves, Publishes, last_handed, run_of}
 use Rattle.loops.specs.Through.{Calls, GoesThrough, IsFlip, IsFlush, IsStep, RunsThrough}
 
 module _ {D : Type 0} (history : D → History) (failures : D → ℕ) (o : Opened) where
@@ -48,7 +48,7 @@ module _ {D : Type 0} (history : D → History) (failures : D → ℕ) (o : Open
     pub goes_by : old.published.horizon ≤ synced_of old.writer → Calls history failures o old new → GoesOn history failures o old new
     goes_by low call = goes_by_call history failures o old new low call.publishes call.geometry call.rises call.images call.later (counted call)
 
-    module _ (publishes : Publishes old new) (images : LeavesOnly (history (device_of old.writer)) (history (device_of new.writer)) (IsLeft o old)) (later : failures (device_of old.writer) ≤ failures (device_of new.writer)) where
+    module _ (publishes : Publishes old new) (images : LeavesOnly (history (device_of old.writer)) (history (device_of new.writer)) (FlushLeaves o old)) (later : failures (device_of old.writer) ≤ failures (device_of new.writer)) where
       pub by_flush : (result : Result FlushReply Error) → halves_of new.writer ≡ halves_of old.writer → IfOk result (λ reply. IsFlushReply reply old.writer new.writer) → OnOk result ((has_failed old.writer ≡ false) × (has_failed new.writer ≡ false))
           → IfErr result (λ e. IsNotFlushed failures e old.writer new.writer) → OnErr result (synced_of new.writer ≡ synced_of old.writer) → OnErr result (IsBeforeFlush old.writer new.writer) → Calls history failures o old new
       by_flush result halves flushed sound err kept left = record {

@@ -11,7 +11,7 @@ use Rattle.store_writer.specs.declared.writer.FlipReply.{FlipReply}
 use Rattle.store_writer.specs.declared.writer.FlushReply.{FlushReply}
 use Rattle.store_writer.specs.declared.writer.StepReply.{StepReply}
 use Rattle.flusher.specs.Going.{TakesIn}
-use Rattle.flusher.specs.Part.{FlushValue, IsLeft, Publishes, last_handed, run_of}
+use Rattle.flusher.specs.Part.{FlushValue, FlushLeaves, Publishes, last_handed, run_of}
 
 -- One group was flushed, with this answer of the writer.
 pub record IsFlush {D : Type 0} (failures : D → ℕ) (old new : FlushValue D) : Type 0 where
@@ -47,7 +47,7 @@ pub record Calls {D : Type 0} (history : D → History) (failures : D → ℕ) (
   pub publishes : Publishes old new
   pub geometry : (halves_of new.writer).geometry ≡ (halves_of old.writer).geometry
   pub rises : synced_of old.writer ≤ synced_of new.writer
-  pub images : LeavesOnly (history (device_of old.writer)) (history (device_of new.writer)) (IsLeft o old)
+  pub images : LeavesOnly (history (device_of old.writer)) (history (device_of new.writer)) (FlushLeaves o old)
   pub later : failures (device_of old.writer) ≤ failures (device_of new.writer)
 
 -- from each state to the next by records that were popped and handed in, or by one call of the writer; and it is the last one now

@@ -4,7 +4,7 @@ ghost use Rattle.records.specs.declared.error.Error.TheVariants.{DeviceFailed};
 ghost use Rattle.store_writer.specs.Parts.{halves_of, has_failed, image_of};
 ghost use Rattle.store_writer.specs.Places.{IsAtPiece};
 ghost use Rattle.store_writer.specs.Writer.{IsChunk, MustStartAgain};
-ghost use Rattle.flusher.specs.Images.{IsDue};
+ghost use Rattle.flusher.specs.Images.{IsPieceDue};
 ghost use Rattle.flusher.specs.Going.{GoesOn, TakesIn};
 ghost use Rattle.flusher.specs.Part.{run_of};
 ghost use Rattle.loops.specs.Copying.{StandsBy, steps_of_image};
@@ -290,7 +290,7 @@ fn copy_piece<B: Group, D: Device, R: Wait, G: Gate>(
     gate: &G,
 ) -> Result<(), Error>
     requires copying { StandsBy copying.old part.old }
-    requires due { has_failed part.old.writer ≡ false → IsDue (halves_of part.old.writer).geometry.pages place (image_of part.old.writer) }
+    requires due { has_failed part.old.writer ≡ false → IsPieceDue (halves_of part.old.writer).geometry.pages place (image_of part.old.writer) }
     ensures goes_on { GoesOn D.history D.failures B.site.opened part.old part.new }
     ensures through { RunsThrough D.history D.failures B.site.opened part.old part.new }
     ensures copying { StandsBy copying.new part.new }
@@ -325,7 +325,7 @@ fn copied_piece<B: Group, D: Device, R: Wait>(
     part: &mut FlushPart<B, D>,
     place: CopyPlace,
 ) -> Result<Chunk<Global>, Error>
-    requires due { has_failed part.old.writer ≡ false → IsDue (halves_of part.old.writer).geometry.pages place (image_of part.old.writer) }
+    requires due { has_failed part.old.writer ≡ false → IsPieceDue (halves_of part.old.writer).geometry.pages place (image_of part.old.writer) }
     ensures goes_on { GoesOn D.history D.failures B.site.opened part.old part.new }
     ensures through { RunsThrough D.history D.failures B.site.opened part.old part.new }
     ensures copying { (copying : CopyingValue) → StandsBy copying part.old → StandsBy copying part.new }

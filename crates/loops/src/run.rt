@@ -29,10 +29,9 @@ pub struct Ended<B: Group, D: Device, X> {
     pub build: BuildPart<B>,
     /// How the flusher ended.
     pub flushed: Result<(), Error>,
-    /// The ticket of an index that a core which may lie under the lock completed meanwhile, of several that of the last one (that it
-    /// is the last, no clause says); else why
+    /// The ticket of an index that a core which may lie under the lock completed meanwhile, of several that of the last one; else why
     /// none was, which is `Stopped` where the clients ended first or there was nothing to build. A later build that was refused is told
-    /// in its place.
+    /// in its place. (No clause says that the ticket is the last one, or that no later build was refused.)
     pub built: Result<Ticket, Error>,
 }
 

@@ -4,9 +4,9 @@ use Rattle.records.specs.declared.error.Error.TheVariants.{NoMemory}
 use Rattle.restart.specs.Reopening.{IsNotOpened, IsTurned}
 use Rattle.sector_device.specs.Disk.{IsSynced}
 use Rattle.sector_device.specs.History.{History}
-use Rattle.threads.specs.Openings.{IsNotShared, IsOpenedOver, StoreValue}
-use Rattle.threads.specs.declared.refusal.OpenError.{OpenError}
-use Rattle.threads.specs.declared.refusal.OpenError.TheVariants.{Refused}
+use Rattle.opening.specs.Openings.{IsNotShared, IsOpenedOver, StoreValue}
+use Rattle.opening.specs.declared.refusal.OpenError.{OpenError}
+use Rattle.opening.specs.declared.refusal.OpenError.TheVariants.{Refused}
 
 module _ {D : Type 0} (history : D → History) (failures : D → ℕ) (before : D) (count : ℕ) (s : StoreValue D) (is : IsOpenedOver history failures before count s) where
   -- there was no memory, and the device is that of the store that was opened

@@ -19,4 +19,4 @@ pub use Rattle.loops.specs.Building as Builds
 pub use Rattle.loops.specs.Through
 pub use Rattle.closing.specs.Closing
 pub use Rattle.closing.specs.Gathered
-pub use Rattle.threads.specs.Openings
+pub use Rattle.opening.specs.Openings

@@ -5,14 +5,15 @@ ghost use Rattle.core_model.specs.Histories.{Opened};
 ghost use Rattle.store_writer.specs.Parts.{device_of};
 ghost use Rattle.shared.specs.Seats.{AreNewSeats};
 ghost use Rattle.closing.specs.Gathered.{AreAllSeats};
-ghost use Rattle.threads.specs.Openings.{IsNotShared, Opens};
-ghost use Rattle.threads.specs.declared.refusal.OpenError.TheVariants.{Refused};
+ghost use Rattle.opening.specs.Openings.{IsNotShared, Opens};
+ghost use Rattle.opening.specs.declared.refusal.OpenError.TheVariants.{Refused};
 ghost use Rattle.nsf.specs.Serving.{HasRoom, KeepsSeat, LeavesCommits};
 
 use closing::finish;
 use flusher::FlushPart;
 use loops::{Ended, NoGate, run_beside};
 use nsf_core::Ticket;
+use opening::{OpenError, OpenStore, Parts, open_store};
 use records::Error;
 use sector_device::Device;
 use shared::{BuildPart, Group, Seat, Shared};
@@ -20,7 +21,6 @@ use std::alloc::{AllocError, Global};
 use std::marker::Brand;
 use std::sync::Wait;
 use std::thread::{Threads, for_each_mut};
-use threads::{OpenError, OpenStore, Parts, open_store};
 
 /// Something that uses a store beside others, in a thread of its own with a seat of its own.
 pub trait Client {

@@ -82,9 +82,12 @@
 //!
 //! That what is shared may go to other threads is `Rattle.nsf.proofs.Crosses.shared_sync`.
 //!
+//! A store of version 1 of the format is told as `OldVersion`. `migrate` moves it to another device, which has to have the sectors of
+//! its geometry in version 2 (`Geometry::sectors`), and opens it there.
+//!
 //! # What is promised
 //!
-//! Of one thread: the contracts of `restart`, and above them `live_through` of `headline`. Of many: when all clients of `serve`
+//! Of one thread: the contracts of `restart`, and above them `live_through` and `live_on` of `headline`. Of many: when all clients of `serve`
 //! have ended, a crash leaves what was opened with commits of some seats set over it, up to a record; all of them where nothing was
 //! refused (`leaves`, `written`); as many clients come back as went in (`clients`).
 //! Only tested (`nsf_tests`): both examples. Neither: that a client is called, or that the commits are those of these clients.
@@ -99,11 +102,11 @@ pub use flusher::FlushPart;
 pub use loops::{Ended, Gate, NoGate, Point, build_loop, clean_loop, flush_loop, run_beside};
 pub use model::Life;
 pub use nsf_core::{BuildReply, CleanReply, Core, Ticket};
+pub use opening::{OpenError, OpenStore, Parts, format_store, open_engine, open_store};
 pub use records::{
     BODY_MAX, Body, Error, Geometry, KEY_MAX, Key, Mark, Pair, Rid, Row, SLOTS_PER_PAGE, Txn,
 };
-pub use restart::{Engine, Event, Reply, restart};
+pub use restart::{Engine, Event, MigrateError, Reply, migrate, restart};
 pub use sector_device::{Device, Failed, Fate, FaultDisk, MemDisk, Which};
 pub use sessions::Commit;
 pub use shared::{Ack, BuildPart, Change, Group, GroupView, Seat, Shared};
-pub use threads::{OpenError, OpenStore, Parts, format_store, open_engine, open_store};

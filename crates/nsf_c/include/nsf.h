@@ -31,7 +31,7 @@
 extern "C" {
 #endif
 
-enum { NSF_KEY_MAX = 24, NSF_BODY_MAX = 37, NSF_SLOTS_PER_PAGE = 63, NSF_SECTOR = 512 };
+enum { NSF_KEY_MAX = 56, NSF_BODY_MAX = 69, NSF_SLOTS_PER_PAGE = 63, NSF_SECTOR = 512 };
 
 /* Where a store is, if one is open. */
 typedef struct nsf_handle {
@@ -67,7 +67,8 @@ enum {
     NSF_NOT_BUILT = 19,
     NSF_STOPPED = 20,
     NSF_EXHAUSTED = 21,
-    NSF_NO_SUCH_EVENT = 23,
+    NSF_OLD_VERSION = 23,
+    NSF_NO_SUCH_EVENT = 24,
     NSF_UNREADY = 101 /* of the inline functions alone: the reply was NSF_SKIPPED */
 };
 
@@ -97,6 +98,7 @@ static inline const char *nsf_message(uint32_t refusal)
     case NSF_NOT_BUILT: return "the index is not complete yet";
     case NSF_STOPPED: return "the store was told to stop";
     case NSF_EXHAUSTED: return "the last number that a record may have is given away";
+    case NSF_OLD_VERSION: return "the store is of an older version of the format: it is moved before it is opened";
     case NSF_NO_SUCH_EVENT: return "no event has this kind";
     case NSF_UNREADY: return "the transaction owes a step, has changes left, or is rolling back: nothing was done";
     default: return "no refusal has this number";

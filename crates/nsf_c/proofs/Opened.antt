@@ -2,7 +2,7 @@
 use Rattle.std.proofs.Common.{◌≡◌, ℕ, ◌≤◌, Option, Some, None, Result, Ok, Err, IfOk, IfErr, sym, ◌∙◌, arith}
 use Rattle.std.specs.Global.{Box}
 use Rattle.records.specs.declared.error.Error.{Error}
-use Rattle.records.specs.declared.error.Error.TheVariants.{NoMemory, DeviceFailed, NotFormatted, Damaged, DeviceTooSmall, BadGeometry, TooManyTxns, TooManyChanges, NoSuchTxn, NoSuchRow, RowBusy, HeapFull, IndexFull, KeyTooLong, BodyTooLong, TxnsActive, IndexExists, NoIndex, NotBuilt, Stopped, Exhausted, BadScript}
+use Rattle.records.specs.declared.error.Error.TheVariants.{NoMemory, DeviceFailed, NotFormatted, Damaged, DeviceTooSmall, BadGeometry, TooManyTxns, TooManyChanges, NoSuchTxn, NoSuchRow, RowBusy, HeapFull, IndexFull, KeyTooLong, BodyTooLong, TxnsActive, IndexExists, NoIndex, NotBuilt, Stopped, Exhausted, BadScript, OldVersion}
 use Rattle.records.specs.Refusals.{number_of}
 use Rattle.nsf_c.specs.Handles.{Opened}
 use Rattle.nsf_c.specs.declared.held.Held.{Held}
@@ -31,6 +31,7 @@ some_number NotBuilt = omega arith
 some_number Stopped = omega arith
 some_number Exhausted = omega arith
 some_number (BadScript line) = omega arith
+some_number OldVersion = omega arith
 
 pub put_is : (P : Opened → Type 0) (opened : Result (Box Held) Error) (status : ℕ) (value : Option Held)
     → IfOk opened (λ held. (status ≡ 0) × (value ≡ Some held.value))

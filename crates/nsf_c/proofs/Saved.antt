@@ -5,10 +5,10 @@ use Rattle.sector_device.specs.History.{History}
 use Rattle.file_disk.specs.FileDisk.{history_of}
 use Rattle.serving.specs.Store as serving
 use Rattle.nsf_c.specs.Handles.{Opened}
-use Rattle.nsf_c.specs.Calls.{IsKept, content_of}
+use Rattle.nsf_c.specs.Calls.{IsStoreKept, content_of}
 
 held_now : (h : History) → IsCrashImage h.disk h.disk.content
 held_now h = record { sectors = refl; kept = λ k synced. refl; torn = λ k lt unsynced. h.whole k lt }
 
-pub is_kept : (s : Opened) → serving.LeavesItsRun history_of s (serving.device_of s) → IsKept s (content_of s)
+pub is_kept : (s : Opened) → serving.LeavesItsRun history_of s (serving.device_of s) → IsStoreKept s (content_of s)
 is_kept s leaves past is = leaves past (content_of s) is (held_now (history_of (serving.device_of s)))

@@ -70,4 +70,4 @@ IsBad a key body n =
     ⊎ ((n ≡ 10) × LacksSlot a × (¬ LacksTxn a))
     ⊎ ((n ≡ 14) × HasLongKey a key × (¬ LacksTxn a) × (¬ LacksSlot a))
     ⊎ ((n ≡ 15) × NamesBody a.kind × (BODY_MAX < length body) × (¬ LacksTxn a) × (¬ LacksSlot a) × (¬ HasLongKey a key))
-    ⊎ ((n ≡ 23) × IsNoKind a.kind)
+    ⊎ ((n ≡ 24) × IsNoKind a.kind)

@@ -94,8 +94,8 @@ pub record CopiesOut (content : Image) (first count : ℕ) (old new : Image) : T
 
 -- Whatever run left the store where it is: a device of these sectors holds a beginning of it, with every record up to the horizon, and
 -- so with all that a reply has told to be safe.
-abbrev pub IsKept : Opened → Image → Type 0
-IsKept s image = (past : Past Global) → IsAt history_of past s.engine → Survives past (serving.horizon_of s) image
+abbrev pub IsStoreKept : Opened → Image → Type 0
+IsStoreKept s image = (past : Past Global) → IsAt history_of past s.engine → Survives past (serving.horizon_of s) image
 
 -- ---- opening
 

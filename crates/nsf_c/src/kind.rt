@@ -36,7 +36,7 @@ pub const LIFE: u32 = 16;
 pub const DROP: u32 = 17;
 
 /// The number of the refusal of a kind that is none of these.
-pub const NO_SUCH_EVENT: u32 = 23;
+pub const NO_SUCH_EVENT: u32 = 24;
 
 /// What is told: a refusal. Its number is the call's result; `number` is the damaged sector.
 pub const REFUSED: u32 = 0;

@@ -1,5 +1,5 @@
 //! What a store holds is copied out.
-ghost use Rattle.nsf_c.specs.Calls.{CopiesOut, IsKept, content_of};
+ghost use Rattle.nsf_c.specs.Calls.{CopiesOut, IsStoreKept, content_of};
 ghost use Rattle.nsf_c.specs.Handles.{IsOpen, Reads};
 
 use crate::handle::Handle;
@@ -28,7 +28,7 @@ pub extern "C" fn nsf_save(
 ) -> u64
     requires { IsOpen handle.old }
     ensures copied { Reads (λ store. CopiesOut (content_of store) first result room.old room.new) handle.old handle.new }
-    ensures kept { Reads (λ store. IsKept store (content_of store)) handle.old handle.new }
+    ensures kept { Reads (λ store. IsStoreKept store (content_of store)) handle.old handle.new }
 {
     let held = handle.take(alloc);
     let count = copy_out(held.store.device().content(), first, room);

@@ -34,7 +34,7 @@ use Rattle.core_model.specs.States.{State}
 use Rattle.core_model.specs.Steps.{Attempt, CanFinish, Checkpoint, Finish, MachineStep, Take, above, after, all_reserved, is_pair_of}
 use Rattle.core_contracts.specs.Events as events
 use Rattle.core_contracts.specs.Events.{Event, Refused, Reply, Standing, standing_after}
-use Rattle.core_contracts.specs.Replies.{HasNoPlace, IsBetween, IsDue, IsFirst, IsNextPair, accepted, refusals, refused, refused_last}
+use Rattle.core_contracts.specs.Replies.{HasNoPlace, IsBetween, IsStepDue, IsFirst, IsNextPair, accepted, refusals, refused, refused_last}
 use Rattle.nsf_core.specs.View.{Answers, CoreValue, IsSafe, IsScan, IsState, Serves, Shows}
 use Rattle.nsf_core.specs.Builds as builds
 use Rattle.nsf_core.specs.Private.{HasAttempted, HasPassed, HasTaken, HasNextNumber, IsUnplaced, IsUnrecorded, checkpointed, completed, placed, without_entry}
@@ -169,7 +169,7 @@ module _ (v : CoreValue) (s : State) (k : Standing) (st : IsState v s k) (built 
   first = inr (building_apart s.life built.0 building.1, refl)
 
   -- why a step that is due and makes a record is refused
-  unrecorded : (reply : Reply) (step : MachineStep) → IsDue s k Event.Build reply (Some step) → (HasNoPlace s step → ⊥) → action_of s step ≢ None → (error : Error) → IsUnrecorded v error → Answers v s k Event.Build (Refused error) v
+  unrecorded : (reply : Reply) (step : MachineStep) → IsStepDue s k Event.Build reply (Some step) → (HasNoPlace s step → ⊥) → action_of s step ≢ None → (error : Error) → IsUnrecorded v error → Answers v s k Event.Build (Refused error) v
   unrecorded reply step due roomy makes error (inl why) = subst (λ e. Answers v s k Event.Build (Refused e) v) (sym why.0) (no_number v s k h Event.Build (λ x. x) tt first reply step due roomy makes why.1)
   unrecorded reply step due roomy makes error (inr why) = subst (λ e. Answers v s k Event.Build (Refused e) v) (sym why.0) (wants_memory v s k h Event.Build (λ x. x) tt first reply step due roomy (λ n. why.1) (inl makes))
 
@@ -181,7 +181,7 @@ module _ (v : CoreValue) (s : State) (k : Standing) (st : IsState v s k) (built 
     abbrev marked : Reply
     marked = events.Built (events.BuildReply.Marked p (v.last + 1))
 
-    marked_due : IsDue s k Event.Build marked (Some (Checkpoint p))
+    marked_due : IsStepDue s k Event.Build marked (Some (Checkpoint p))
     marked_due = (events.BuildReply.Marked p (v.last + 1), (building, subst (λ n. ATTEMPTS_PER_CHECKPOINT ≤ n) (sym h.attempts) many, h.bound ∙ last, ticket_is), refl, refl)
 
     pub checkpoint_refused : (error : Error) → IsUnrecorded v error → Answers v s k Event.Build (Refused error) v
@@ -222,7 +222,7 @@ module _ (v : CoreValue) (s : State) (k : Standing) (st : IsState v s k) (built 
       abbrev done : Reply
       done = events.Built (events.Done (v.last + 1))
 
-      done_due : IsDue s k Event.Build done (Some Finish)
+      done_due : IsStepDue s k Event.Build done (Some Finish)
       done_due = (events.Done (v.last + 1), (between, end_is v s k h building (end h.scan.run h.scan.made), ticket_is), refl, refl)
 
       pub finish_refused : (error : Error) → IsUnrecorded v error → Answers v s k Event.Build (Refused error) v
@@ -262,7 +262,7 @@ module _ (v : CoreValue) (s : State) (k : Standing) (st : IsState v s k) (built 
       turn : (page ≡ taken_in_a_row h.scan.run.steps) × (page < h.scan.run.pages)
       turn = subst (λ o. IfSome o (λ n. (n ≡ taken_in_a_row h.scan.run.steps) × (n < h.scan.run.pages))) wanted h.scan.made.wanted
 
-      scanned_due : IsDue s k Event.Build scanned (Some (Take page))
+      scanned_due : IsStepDue s k Event.Build scanned (Some (Take page))
       scanned_due = (events.Scanned page, (between, turn.0 ∙ sym h.scan.in_a_row, subst (λ n. page < n) (pages_are v s k h) turn.1, h.scan.untaken page page wanted (omega arith)), refl, refl)
 
       pub page_refused : Answers v s k Event.Build (Refused Error.NoMemory) v
@@ -349,7 +349,7 @@ module _ (v : CoreValue) (s : State) (k : Standing) (st : IsState v s k) (built 
         abbrev rejected : Reply
         rejected = events.Built (events.Rejected p)
 
-        rejected_due : IsDue s k Event.Build rejected (Some (Attempt p))
+        rejected_due : IsStepDue s k Event.Build rejected (Some (Attempt p))
         rejected_due = (events.Rejected p, (between, next_pair, λ e. there (sym entry_is ∙ e)), refl, refl)
 
         no_record : (o : Option Mark) → o ≢ None → place_action p o ≡ None
@@ -398,7 +398,7 @@ module _ (v : CoreValue) (s : State) (k : Standing) (st : IsState v s k) (built 
         abbrev put : Reply
         put = events.Built (events.Placed p)
 
-        placed_due : IsDue s k Event.Build put (Some (Attempt p))
+        placed_due : IsStepDue s k Event.Build put (Some (Attempt p))
         placed_due = (events.Placed p, (between, next_pair, entry_is ∙ absent), refl, refl)
 
         one_made : action_of s (Attempt p) ≡ place_action p None

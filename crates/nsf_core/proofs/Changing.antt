@@ -28,7 +28,7 @@ use Rattle.core_model.specs.Records.{action_of, first_action}
 use Rattle.core_model.specs.States.{State}
 use Rattle.core_model.specs.Steps.{IsReady, Start, MachineStep, after, txn_at}
 use Rattle.core_contracts.specs.Events.{Event, Refused, Standing, Stepped}
-use Rattle.core_contracts.specs.Replies.{HasNoMoreChanges, IsDue, IsFirst, IsHeldByOther, IsOfNone, IsProper, change_of, refusals, refused, refused_last, unknown}
+use Rattle.core_contracts.specs.Replies.{HasNoMoreChanges, IsStepDue, IsFirst, IsHeldByOther, IsOfNone, IsProper, change_of, refusals, refused, refused_last, unknown}
 use Rattle.nsf_core.specs.Asked.{IsFine, IsRefused}
 use Rattle.nsf_core.proofs.Checking.{unchangeable_by_state}
 use Rattle.nsf_core.specs.View.{Answers, CoreValue, IsState, Serves, Shows}
@@ -92,7 +92,7 @@ pub record IsChange (e : Event) (t : ℕ) (r : Place) (rows : Row → Rows) : Ty
   pub known : (s : State) → (s.txns t ≡ None → ⊥) → IsOfNone s e → ⊥
   pub proper : (s : State) → IsReady (txn_at s t) → IsProper s e
   pub refused : (s : State) (k : Standing) (o : Option Error) → IsFirst ((HasNoMoreChanges s t, TooManyChanges) ∷ (IsHeldByOther s t r, RowBusy) ∷ (get s.rows r ≡ None, NoSuchRow) ∷ []) o → IsFirst (refusals s k e) o
-  pub due : (s : State) (k : Standing) (old : Row) → get s.rows r ≡ Some old → IsDue s k e Stepped (Some (Start t (change_of s t r (rows old))))
+  pub due : (s : State) (k : Standing) (old : Row) → get s.rows r ≡ Some old → IsStepDue s k e Stepped (Some (Start t (change_of s t r (rows old))))
 
 pub deletes : (t : ℕ) (r : Place) → IsChange (Event.Delete t r) t r Deleted
 deletes t r = record { of_none = λ s h. h; known = λ s h. h; proper = λ s h. h; refused = λ s k o h. h; due = λ s k old h. (old, h, refl, refl) }

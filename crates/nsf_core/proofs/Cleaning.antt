@@ -20,7 +20,7 @@ use Rattle.core_model.specs.States.{State}
 use Rattle.core_model.specs.Steps.{CanClean, IsPassed, Keep, MachineStep, Wrap, above, after}
 use Rattle.core_contracts.specs.Events as events
 use Rattle.core_contracts.specs.Events.{Event, Refused, Reply, Standing, standing_after}
-use Rattle.core_contracts.specs.Replies.{IsDue, IsFirst, IsNextEntry, refusals, refused}
+use Rattle.core_contracts.specs.Replies.{IsStepDue, IsFirst, IsNextEntry, refusals, refused}
 use Rattle.nsf_core.specs.View.{Answers, CoreValue, IsScan, IsState, Serves, Shows}
 use Rattle.nsf_core.specs.Private.{HasNextNumber, IsUnrecorded, MayClean, taken_out}
 use Rattle.nsf_core.proofs.Due.{made, no_number, refusal, wants_memory}
@@ -68,7 +68,7 @@ module _ (v : CoreValue) (s : State) (k : Standing) (st : IsState v s k) (indexe
     none_above : (p : Pair) → above s.cleaned p ≡ true → get s.entries p ≡ None
     none_above p over = ap (λ m. get m p) h.entries ∙ none p (after_is v.cleaned p (ap (λ o. above o p) (sym h.cleaned) ∙ over))
 
-    wrapped_due : IsDue s k Event.Clean wrapped (Some Wrap)
+    wrapped_due : IsStepDue s k Event.Clean wrapped (Some Wrap)
     wrapped_due = (events.Wrapped, none_above, refl, refl)
 
     wrapped_shown : Shows (record v { cleaned = None }) (after s Wrap) (standing_after k wrapped)
@@ -132,7 +132,7 @@ module _ (v : CoreValue) (s : State) (k : Standing) (st : IsState v s k) (indexe
       abbrev out : Reply
       out = events.Cleaner (events.Cleaned p)
 
-      out_due : IsDue s k Event.Clean out (Some (MachineStep.Clean p))
+      out_due : IsStepDue s k Event.Clean out (Some (MachineStep.Clean p))
       out_due = (events.Cleaned p, (next, can_is may), refl, refl)
 
       pub clean_refused : (error : Error) → IsUnrecorded v error → Answers v s k Event.Clean (Refused error) v
@@ -169,7 +169,7 @@ module _ (v : CoreValue) (s : State) (k : Standing) (st : IsState v s k) (indexe
       abbrev stays : Reply
       stays = events.Cleaner (events.Kept p)
 
-      stays_due : IsDue s k Event.Clean stays (Some (Keep p))
+      stays_due : IsStepDue s k Event.Clean stays (Some (Keep p))
       stays_due = (events.Kept p, (next, λ can. kept (may_is can)), refl, refl)
 
       stays_shown : Shows (record v { cleaned = Some p }) (after s (Keep p)) (standing_after k stays)

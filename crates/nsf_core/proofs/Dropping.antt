@@ -10,7 +10,7 @@ use Rattle.core_model.proofs.Laws.{not_none}
 use Rattle.core_model.specs.States.{State}
 use Rattle.core_model.specs.Steps.{MachineStep, after}
 use Rattle.core_contracts.specs.Events.{Event, Refused, Reply, Standing, standing_after}
-use Rattle.core_contracts.specs.Replies.{IsDue, IsFirst, refusals, refused}
+use Rattle.core_contracts.specs.Replies.{IsStepDue, IsFirst, refusals, refused}
 use Rattle.nsf_core.specs.Asked.{IsFine, IsRefused}
 use Rattle.records.specs.declared.number.TheConstants.{LAST_NUMBER}
 use Rattle.nsf_core.specs.View.{Answers, AreOne, CoreValue, IsState, Serves, Shows}
@@ -50,7 +50,7 @@ module _ (v : CoreValue) (s : State) (k : Standing) (st : IsState v s k) where
     abbrev reply : Reply
     reply = Reply.Ticketed (v.last + 1)
 
-    due : IsDue s k Event.Drop reply (Some MachineStep.Drop)
+    due : IsStepDue s k Event.Drop reply (Some MachineStep.Drop)
     due = (ap (λ n. Reply.Ticketed (n + 1)) (sym h.made), refl)
 
     pub drop_refused : (error : Error) → IsUnrecorded v error → Answers v s k Event.Drop (Refused error) v

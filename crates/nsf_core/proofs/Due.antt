@@ -9,7 +9,7 @@ use Rattle.core_model.specs.Steps.{MachineStep, after}
 use Rattle.core_contracts.proofs.Laws.{is_move}
 use Rattle.core_model.proofs.Laws.{not_none}
 use Rattle.core_contracts.specs.Events.{BuildReply, Built, CleanReply, Cleaned, Cleaner, Done, Empty, Ended, Event, Found, Idle, Kept, LifeIs, Placed, Refused, Rejected, Reply, RowIs, Scanned, Skipped, Standing, Stepped, Txn, Undone, Wrapped, standing_after}
-use Rattle.core_contracts.specs.Replies.{HasNoPlace, IsAllowed, IsDue, IsFirst, IsOfNone, IsProper, WantsMemory, accepted, after_any, no_memory, refusals, refusals_of, refused_last}
+use Rattle.core_contracts.specs.Replies.{HasNoPlace, IsAllowed, IsStepDue, IsFirst, IsOfNone, IsProper, WantsMemory, accepted, after_any, no_memory, refusals, refusals_of, refused_last}
 use Rattle.core_contracts.specs.Served.{IsMove}
 use Rattle.nsf_core.specs.declared.parts.Ticket.{Ticket}
 use Rattle.nsf_core.specs.Replies.{ticket_by, ticketed}
@@ -29,7 +29,7 @@ ticket_answers v s k e other ticket v' number no_commit a =
     (subst (λ n. Answers v s k e (other n) v') (sym number) a)
 
 -- a step is due that makes a record
-module _ (v : CoreValue) (s : State) (k : Standing) (h : Shows v s k) (e : Event) (known : IsOfNone s e → ⊥) (proper : IsProper s e) (first : IsFirst (refusals s k e) None) (reply : Reply) (step : MachineStep) (due : IsDue s k e reply (Some step)) (roomy : HasNoPlace s step → ⊥) where
+module _ (v : CoreValue) (s : State) (k : Standing) (h : Shows v s k) (e : Event) (known : IsOfNone s e → ⊥) (proper : IsProper s e) (first : IsFirst (refusals s k e) None) (reply : Reply) (step : MachineStep) (due : IsStepDue s k e reply (Some step)) (roomy : HasNoPlace s step → ⊥) where
   pub no_number : action_of s step ≢ None → LAST_NUMBER ≤ v.last → Answers v s k e (Refused Error.Exhausted) v
   no_number makes le = refusal v s k e Error.Exhausted h (refused_last known proper first reply (Some step) due Error.Exhausted (inr (roomy, inl ((subst (λ n. LAST_NUMBER ≤ n) (sym h.made) le, makes), refl))))
 

@@ -15,7 +15,7 @@ use Rattle.model.specs.declared.life.Life.TheVariants.{Absent, Building, Complet
 use Rattle.marked_index.proofs.LivePlaces.{live_places}
 use Rattle.marked_index.specs.Shown.{mark_at}
 use Rattle.core_contracts.specs.Events.{Event, Found, Refused, Standing}
-use Rattle.core_contracts.specs.Replies.{IsDue, IsFirst, accepted, no_memory, refusals, refused}
+use Rattle.core_contracts.specs.Replies.{IsStepDue, IsFirst, accepted, no_memory, refusals, refused}
 use Rattle.core_model.specs.States.{State}
 use Rattle.nsf_core.specs.Replies.{reply_by}
 use Rattle.nsf_core.specs.View.{Answers, CoreValue, IsState, Serves, Shows}
@@ -53,7 +53,7 @@ module _ (v : CoreValue) (key : List ℕ) (complete : v.life ≡ Complete) (s : 
   first : IsFirst (refusals s k (Event.Find key)) None
   first = inr (complete_apart s.life (h.life ∙ complete), inr (λ b. complete_not s.life b.0 (h.life ∙ complete) b.1, refl))
 
-  found_due : (rids : List Place) → IsStrictlySortedBy rid_cmp rids → ((r : Place) → Contains rids r ↔ (mark_at v.index.entries key r ≡ Some Live)) → IsDue s k (Event.Find key) (Found rids) None
+  found_due : (rids : List Place) → IsStrictlySortedBy rid_cmp rids → ((r : Place) → Contains rids r ↔ (mark_at v.index.entries key r ≡ Some Live)) → IsStepDue s k (Event.Find key) (Found rids) None
   found_due rids sorted each = (rids, record { live = λ r. subst (λ m. Contains rids r ↔ (get m (record { key = key; rid = r }) ≡ Some Live)) (sym h.entries) (each r); in_order = sorted }, refl, refl)
 
   found_made : (rids : List Place) → IsStrictlySortedBy rid_cmp rids → ((r : Place) → Contains rids r ↔ (mark_at v.index.entries key r ≡ Some Live)) → Answers v s k (Event.Find key) (Found rids) v
@@ -62,7 +62,7 @@ module _ (v : CoreValue) (key : List ℕ) (complete : v.life ≡ Complete) (s : 
   wants : (error : Error) → error ≡ Error.NoMemory → Answers v s k (Event.Find key) (Refused error) v
   wants error e = subst (λ x. Answers v s k (Event.Find key) (Refused x) v) (sym e) (refusal v s k (Event.Find key) Error.NoMemory h (no_memory (λ x. x) tt first (Found all.0) None all.1 refl tt))
     where
-      all : (rids : List Place) × IsDue s k (Event.Find key) (Found rids) None
+      all : (rids : List Place) × IsStepDue s k (Event.Find key) (Found rids) None
       all = let p = live_places v.index.entries key in (p.0, found_due p.0 p.1 p.2)
 
 -- what a look-up serves whose list was asked for

@@ -31,7 +31,7 @@ use Rattle.core_model.specs.Records.{action_of, first_action}
 use Rattle.core_model.specs.States.{State}
 use Rattle.core_model.specs.Steps.{IsReady, Start, MachineStep, after, all_reserved, places_of, txn_at}
 use Rattle.core_contracts.specs.Events.{Event, Refused, Reply, Standing}
-use Rattle.core_contracts.specs.Replies.{HasNoMoreChanges, IsDue, IsFirst, IsFree, IsLeastFree, change_of, refusals, refused, refused_last, unknown}
+use Rattle.core_contracts.specs.Replies.{HasNoMoreChanges, IsStepDue, IsFirst, IsFree, IsLeastFree, change_of, refusals, refused, refused_last, unknown}
 use Rattle.nsf_core.specs.Asked.{IsFine}
 use Rattle.nsf_core.specs.View.{Answers, AreOne, CoreValue, IsState, Serves, Shows}
 use Rattle.nsf_core.specs.Moves.{IsReadyOrNone, txn_shown}
@@ -166,7 +166,7 @@ module _ (v : CoreValue) (t : ℕ) (row : Row) (asked : IsReadyOrNone (txn_shown
       abbrev step : MachineStep
       step = Start t (change_of s t r (Inserted row))
 
-      due : IsDue s k e (Reply.Rid r) (Some step)
+      due : IsStepDue s k e (Reply.Rid r) (Some step)
       due = (r, least, refl, refl)
 
       there : s.txns t ≡ None → ⊥

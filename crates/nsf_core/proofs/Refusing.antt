@@ -5,12 +5,12 @@ use Rattle.records.specs.declared.error.Error.{Error}
 use Rattle.core_model.specs.States.{State}
 use Rattle.core_model.specs.Steps.{MachineStep}
 use Rattle.core_contracts.specs.Events.{Built, Cleaner, Empty, Ended, Event, Found, LifeIs, Refused, Reply, RowIs, Standing, Stepped, Txn, Undone}
-use Rattle.core_contracts.specs.Replies.{IsAllowed, IsDue, accepted, no_memory, refused, refused_last, skipped, unknown}
+use Rattle.core_contracts.specs.Replies.{IsAllowed, IsStepDue, accepted, no_memory, refused, refused_last, skipped, unknown}
 use Rattle.nsf_core.specs.View.{Answers, CoreValue, IsSafe, Serves}
 
 module _ (s : State) (k : Standing) (error : Error) where
   -- what is due is no refusal
-  due_apart : (e : Event) (reply : Reply) (step : Option MachineStep) → IsDue s k e reply step → reply ≡ Refused error → ⊥
+  due_apart : (e : Event) (reply : Reply) (step : Option MachineStep) → IsStepDue s k e reply step → reply ≡ Refused error → ⊥
   due_apart Event.Begin reply step d is = let other : Txn (k.begun + 1) ≡ Refused error = sym d.0 ∙ is in absurd cc
   due_apart (Event.Insert t row) reply step d is = let other : Reply.Rid d.0 ≡ Refused error = sym d.2 ∙ is in absurd cc
   due_apart (Event.Delete t r) reply step d is = let other : Stepped ≡ Refused error = sym d.2 ∙ is in absurd cc

@@ -48,7 +48,7 @@ impl<A: Allocator + Copy> Core<A> {
 
     /// A core without row, entry, transaction or index; the next record has the number after `base`.
     ///
-    /// The memory of all pages is taken here; the one error is `NoMemory`.
+    /// The memory of all pages is taken here (no clause says so); the one error is `NoMemory`.
     pub fn new(alloc: A, geometry: Geometry, base: u64) -> Result<Self, Error>
         requires { base ≤ LAST_NUMBER }
         ensures made { IfOk result (λ core. value_of core ≡ fresh geometry base) }
@@ -126,7 +126,7 @@ impl<A: Allocator + Copy> Core<A> {
     /// It tells of what is held now, be it of active transactions: where one is, it may be false of a sound core, since an entry
     /// is owed once a row is set, and stays marked once its row was. With none active it is what a restart would begin with.
     ///
-    /// It takes no memory, and goes over every entry and every row once.
+    /// It takes no memory, and goes over every entry and every row once (no clause says so).
     pub fn can_open(&self) -> bool
         ensures { IsTrue result ↔ CanOpen (opened_of (value_of self.now)) }
     {
@@ -202,7 +202,7 @@ impl<A: Allocator + Copy> Core<A> {
         }
     }
 
-    /// Whether no change of the transaction is left to take back.
+    /// Whether no change of the transaction is left to take back; also of one that isn't active.
     pub fn may_end(&self, txn: Txn) -> bool
         ensures { IsTrue result ↔ HasNoChange (txn_shown (value_of self.now) txn) }
     {
@@ -438,8 +438,8 @@ impl<A: Allocator + Copy> Core<A> {
         Ok(self.detach_index()?.ticket)
     }
 
-    /// Drops the index as `drop_index` does, and answers the entries that it had, in the memory that they have: the caller lets
-    /// them go where it has the time.
+    /// Drops the index as `drop_index` does, and answers the entries that it had, in the memory that they have (no clause
+    /// says so): the caller lets them go where it has the time.
     pub fn detach_index(&mut self) -> Result<Detached<A>, Error>
         ensures serves { Serves (value_of self.old) Event.Drop (reply_by reply_of_detached result) (value_of self.new) }
         ensures taken { IfOk result (λ d. entries_of d ≡ (value_of self.old).index.entries) }

@@ -6,3 +6,4 @@ pub mod Fields
 mod Records
 mod Sizes
 mod Lengths
+pub mod Wide

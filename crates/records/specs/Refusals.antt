@@ -1,7 +1,7 @@
 -- The numbers and the names of the refusals.
 use Rattle.std.specs.Prelude.{ℕ, List, codes}
 use Rattle.records.specs.declared.error.Error.{Error}
-use Rattle.records.specs.declared.error.Error.TheVariants.{NoMemory, DeviceFailed, NotFormatted, Damaged, DeviceTooSmall, BadGeometry, TooManyTxns, TooManyChanges, NoSuchTxn, NoSuchRow, RowBusy, HeapFull, IndexFull, KeyTooLong, BodyTooLong, TxnsActive, IndexExists, NoIndex, NotBuilt, Stopped, Exhausted, BadScript}
+use Rattle.records.specs.declared.error.Error.TheVariants.{NoMemory, DeviceFailed, NotFormatted, Damaged, DeviceTooSmall, BadGeometry, TooManyTxns, TooManyChanges, NoSuchTxn, NoSuchRow, RowBusy, HeapFull, IndexFull, KeyTooLong, BodyTooLong, TxnsActive, IndexExists, NoIndex, NotBuilt, Stopped, Exhausted, BadScript, OldVersion}
 
 -- the number of each refusal
 abbrev pub number_of : Error → ℕ
@@ -27,6 +27,7 @@ number_of NotBuilt = 19
 number_of Stopped = 20
 number_of Exhausted = 21
 number_of (BadScript line) = 22
+number_of OldVersion = 23
 
 -- the name of each refusal, as bytes
 abbrev pub name_of : Error → List ℕ
@@ -52,3 +53,4 @@ name_of NotBuilt = codes "NotBuilt"
 name_of Stopped = codes "Stopped"
 name_of Exhausted = codes "Exhausted"
 name_of (BadScript line) = codes "BadScript"
+name_of OldVersion = codes "OldVersion"

@@ -1,7 +1,9 @@
 -- How records are spelled, and which values have a spelling.
 use Rattle.std.specs.Prelude.{ℕ, ◌<◌, ◌≤◌, ◌^◌, List, [], ◌∷◌, ◌++◌, length, Option, Some, None, IsTrue, Bool, true, false, slice_index}
 use Rattle.byteorder.specs.Endian.{big_bytes}
-use Rattle.records.specs.declared.key.TheConstants.{KEY_MAX, BODY_MAX}
+use Rattle.records.specs.Version.{key_max, body_max, HasDrop}
+use Rattle.records.specs.declared.version.Version.{Version}
+use Rattle.records.specs.declared.version.Version.TheVariants.{Two}
 use Rattle.records.specs.declared.rid.TheConstants.{SLOTS_PER_PAGE}
 use Rattle.records.specs.declared.change.TheConstants.{CHANGES_MAX}
 use Rattle.records.specs.declared.number.TheConstants.{LAST_NUMBER}
@@ -115,31 +117,31 @@ txn_of (OfIndex action) = 0
 abbrev pub spelling : RecordValue → List ℕ
 spelling r = u64 r.number ++ (u64 (txn_of r.action) ++ fields_of r.action)
 
--- The limits of each value. A value of the program is within them.
+-- The limits of each value in a version of the format.
 pub record RidFits (r : Place) : Type 0 where
   pub page : r.page < 2 ^ 32
   pub slot : r.slot < SLOTS_PER_PAGE
 
 -- key and body are no longer than they may be
-pub record RowFits (r : Row) : Type 0 where
-  pub key : length r.key ≤ KEY_MAX
-  pub body : length r.body ≤ BODY_MAX
+pub record RowFitsIn (v : Version) (r : Row) : Type 0 where
+  pub key : length r.key ≤ key_max v
+  pub body : length r.body ≤ body_max v
 
 -- so are the rows of a change
-abbrev pub RowsFit : Rows → Type 0
-RowsFit (Inserted new) = RowFits new
-RowsFit (Deleted old) = RowFits old
-RowsFit (Updated old new) = RowFits old × RowFits new
+abbrev pub RowsFitIn : Version → Rows → Type 0
+RowsFitIn v (Inserted new) = RowFitsIn v new
+RowsFitIn v (Deleted old) = RowFitsIn v old
+RowsFitIn v (Updated old new) = RowFitsIn v old × RowFitsIn v new
 
 -- a change within the limits
-pub record ChangeFits (c : ChangeValue) : Type 0 where
+pub record ChangeFitsIn (v : Version) (c : ChangeValue) : Type 0 where
   pub position : c.position < CHANGES_MAX
   pub rid : RidFits c.rid
-  pub rows : RowsFit c.rows
+  pub rows : RowsFitIn v c.rows
 
 -- a pair within the limits
-pub record PairFits (p : Pair) : Type 0 where
-  pub key : length p.key ≤ KEY_MAX
+pub record PairFitsIn (v : Version) (p : Pair) : Type 0 where
+  pub key : length p.key ≤ key_max v
   pub rid : RidFits p.rid
 
 -- a number that a transaction may have
@@ -147,29 +149,54 @@ abbrev pub IsTxn : ℕ → Type 0
 IsTxn n = (1 ≤ n) × (n < 2 ^ 64)
 
 -- a transaction's action within the limits
-abbrev pub TxnActionFits : TxnAction → Type 0
-TxnActionFits (Forward part c) = ChangeFits c
-TxnActionFits (Undo part c last) = ChangeFits c
-TxnActionFits Commit = Unit {0}
-TxnActionFits End = Unit {0}
+abbrev pub TxnActionFitsIn : Version → TxnAction → Type 0
+TxnActionFitsIn v (Forward part c) = ChangeFitsIn v c
+TxnActionFitsIn v (Undo part c last) = ChangeFitsIn v c
+TxnActionFitsIn v Commit = Unit {0}
+TxnActionFitsIn v End = Unit {0}
 
--- an action of the index within the limits
-abbrev pub IndexActionFits : IndexAction → Type 0
-IndexActionFits Create = Unit {0}
-IndexActionFits (BuildPlace p) = PairFits p
-IndexActionFits (BuildCheckpoint p) = PairFits p
-IndexActionFits BuildDone = Unit {0}
-IndexActionFits (Clean p) = PairFits p
-IndexActionFits Drop = Unit {0}
+-- an action of the index within the limits; an index is dropped in versions that have a drop
+abbrev pub IndexActionFitsIn : Version → IndexAction → Type 0
+IndexActionFitsIn v Create = Unit {0}
+IndexActionFitsIn v (BuildPlace p) = PairFitsIn v p
+IndexActionFitsIn v (BuildCheckpoint p) = PairFitsIn v p
+IndexActionFitsIn v BuildDone = Unit {0}
+IndexActionFitsIn v (Clean p) = PairFitsIn v p
+IndexActionFitsIn v Drop = HasDrop v
 
 -- any action within the limits
-abbrev pub ActionFits : Action → Type 0
-ActionFits (OfTxn txn action) = IsTxn txn × TxnActionFits action
-ActionFits (OfIndex action) = IndexActionFits action
+abbrev pub ActionFitsIn : Version → Action → Type 0
+ActionFitsIn v (OfTxn txn action) = IsTxn txn × TxnActionFitsIn v action
+ActionFitsIn v (OfIndex action) = IndexActionFitsIn v action
 
--- a record within the limits of the format
-pub record Fits (r : RecordValue) : Type 0 where
+-- a record within the limits of a version of the format
+pub record FitsIn (v : Version) (r : RecordValue) : Type 0 where
   pub first : 1 ≤ r.number
   pub last : r.number ≤ LAST_NUMBER
   pub rows : IsTrue (has_rows r.action)
-  pub action : ActionFits r.action
+  pub action : ActionFitsIn v r.action
+
+-- The limits of version 2. A value of the program is within them.
+abbrev pub RowFits : Row → Type 0
+RowFits r = RowFitsIn Two r
+
+abbrev pub RowsFit : Rows → Type 0
+RowsFit rows = RowsFitIn Two rows
+
+abbrev pub ChangeFits : ChangeValue → Type 0
+ChangeFits c = ChangeFitsIn Two c
+
+abbrev pub PairFits : Pair → Type 0
+PairFits p = PairFitsIn Two p
+
+abbrev pub TxnActionFits : TxnAction → Type 0
+TxnActionFits a = TxnActionFitsIn Two a
+
+abbrev pub IndexActionFits : IndexAction → Type 0
+IndexActionFits a = IndexActionFitsIn Two a
+
+abbrev pub ActionFits : Action → Type 0
+ActionFits a = ActionFitsIn Two a
+
+abbrev pub Fits : RecordValue → Type 0
+Fits r = FitsIn Two r

@@ -76,10 +76,13 @@ pub enum Error {
     /// This line of a script, from 1, is no command.
     #[error("22 BadScript {line}")]
     BadScript { line: u64 },
+    /// The store is one of version 1, which is only read.
+    #[error("23 OldVersion")]
+    OldVersion,
 }
 
 impl Error {
-    /// The number of the refusal, from 1 to 22.
+    /// The number of the refusal, from 1 to 23.
     pub fn number(self) -> u8
         ensures { result ≡ number_of self }
     {
@@ -106,6 +109,7 @@ impl Error {
             Error::Stopped => 20,
             Error::Exhausted => 21,
             Error::BadScript { .. } => 22,
+            Error::OldVersion => 23,
         }
     }
 
@@ -136,6 +140,7 @@ impl Error {
             Error::Stopped => "Stopped",
             Error::Exhausted => "Exhausted",
             Error::BadScript { .. } => "BadScript",
+            Error::OldVersion => "OldVersion",
         }
     }
 }

@@ -1,9 +1,10 @@
 //! How large a store is.
 ghost use Rattle.std.specs.Prelude.{◌≡◌, ◌<◌, ◌↔◌, IsTrue, IsOk, IfOk, IfErr};
-ghost use Rattle.records.specs.GeometryValue.{IsGeometry, half_sectors_of, sectors_of};
+ghost use Rattle.records.specs.GeometryValue.{IsGeometry, half_sectors_in, sectors_in, half_sectors_of, sectors_of};
 
 use crate::error::Error;
 use crate::rid::Rid;
+use crate::version::Version;
 use std::marker::Model;
 
 /// The most pages of rows.
@@ -31,13 +32,13 @@ pub const HEADER_SECTORS: u64 = 1;
 pub const HEADS_SECTORS: u64 = 1;
 
 /// The sectors of an image's undo items.
-pub const UNDO_SECTORS: u64 = 512;
+pub const UNDO_SECTORS: u64 = 1024;
 
 /// The sectors of a page of rows.
-pub const PAGE_SECTORS: u64 = 8;
+pub const PAGE_SECTORS: u64 = 16;
 
 /// How many entries of the index lie in a sector.
-pub const ENTRIES_PER_SECTOR: u64 = 16;
+pub const ENTRIES_PER_SECTOR: u64 = 8;
 
 /// The sectors of a slot of the log: a gate, and seven of a body.
 pub const SLOT_SECTORS: u64 = 8;
@@ -90,25 +91,41 @@ impl Geometry {
         })
     }
 
-    /// The sectors of one half: header, transaction heads, undo items, pages,
-    /// entries and log (the format document has them in this order).
-    pub fn half_sectors(self) -> u64
-        ensures { result ≡ half_sectors_of self }
+    /// The sectors of one half in a version: header, transaction heads, undo
+    /// items, pages, entries and log (the format document has them in this
+    /// order).
+    pub fn half_sectors_in(self, version: Version) -> u64
+        ensures { result ≡ half_sectors_in version self }
     {
+        let entries = u64::from(self.entries).div_ceil(version.entries_per_sector());
         HEADER_SECTORS
             + HEADS_SECTORS
-            + UNDO_SECTORS
-            + PAGE_SECTORS * u64::from(self.pages)
-            + u64::from(self.entries).div_ceil(ENTRIES_PER_SECTOR)
+            + version.undo_sectors()
+            + version.page_sectors() * u64::from(self.pages)
+            + entries
             + SLOT_SECTORS * u64::from(self.slots)
     }
 
-    /// The least device, in sectors: what stands before the halves, and both
-    /// halves.
+    /// The least device of a version, in sectors: what stands before the
+    /// halves, and both halves.
+    pub fn sectors_in(self, version: Version) -> u64
+        ensures { result ≡ sectors_in version self }
+    {
+        FRONT_SECTORS + 2 * self.half_sectors_in(version)
+    }
+
+    /// The sectors of one half in version 2.
+    pub fn half_sectors(self) -> u64
+        ensures { result ≡ half_sectors_of self }
+    {
+        self.half_sectors_in(Version::Two)
+    }
+
+    /// The least device in version 2, in sectors.
     pub fn sectors(self) -> u64
         ensures { result ≡ sectors_of self }
     {
-        FRONT_SECTORS + 2 * self.half_sectors()
+        self.sectors_in(Version::Two)
     }
 
     /// Whether the place is in one of the pages.

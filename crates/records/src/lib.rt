@@ -23,6 +23,8 @@ mod short_bytes;
 mod sink;
 mod size;
 mod txn;
+mod version;
+mod within;
 
 pub use change::{CHANGES_MAX, Change, Rows};
 pub use error::Error;
@@ -44,3 +46,6 @@ pub use rid::{Rid, SLOTS_PER_PAGE, compare_rids};
 pub use row::Row;
 pub use sink::Sink;
 pub use txn::{TXNS_MAX, Txn};
+pub use version::{
+    OLD_BODY_MAX, OLD_ENTRIES_PER_SECTOR, OLD_KEY_MAX, OLD_PAGE_SECTORS, OLD_UNDO_SECTORS, Version,
+};

@@ -8,12 +8,12 @@ use Rattle.core_model.specs.Histories.{Opened}
 use Rattle.core_model.specs.States.{State}
 use Rattle.core_model.specs.Steps.{MachineStep}
 use Rattle.core_contracts.specs.Events.{after_build, after_clean, BuildReply, CleanReply, Cleaned, Done, Event, Idle, Kept, Placed, Refused, Rejected, Reply, Scanned, Skipped, Standing, standing_after, Wrapped}
-use Rattle.core_contracts.specs.Replies.{IsAllowed, IsDue, accepted, no_memory, refused, refused_last, skipped, unknown}
+use Rattle.core_contracts.specs.Replies.{IsAllowed, IsStepDue, accepted, no_memory, refused, refused_last, skipped, unknown}
 use Rattle.core_contracts.specs.Served.{records_by}
 use Rattle.nsf_core.specs.Replies.{reply_of_ticket, ticket_by}
 use Rattle.nsf_core.specs.View.{Answers, CoreValue, Serves}
 use Rattle.nsf_core.specs.declared.parts.Ticket.{Ticket}
-use Rattle.register.specs.Register.{IsKept, IsNoCommit}
+use Rattle.register.specs.Register.{IsRegisterKept, IsNoCommit}
 
 -- neither a refusal nor left out
 abbrev pub IsAnswer : Reply → Type 0
@@ -21,7 +21,7 @@ IsAnswer Skipped = ⊥
 IsAnswer (Refused error) = ⊥
 IsAnswer _ = Unit {0}
 
-pub due : (s : State) (k : Standing) (e : Event) (reply : Reply) (step : Option MachineStep) → IsAllowed s k e reply step → IsAnswer reply → IsDue s k e reply step
+pub due : (s : State) (k : Standing) (e : Event) (reply : Reply) (step : Option MachineStep) → IsAllowed s k e reply step → IsAnswer reply → IsStepDue s k e reply step
 due s k e reply step (unknown a) answer = absurd answer
 due s k e reply step (skipped a b) answer = absurd answer
 due s k e reply step (refused a b error f) answer = absurd answer
@@ -47,7 +47,7 @@ clean_same k Wrapped = refl
 abbrev commits_after : Standing → Reply → ℕ
 commits_after k reply = (standing_after k reply).commits
 
-due_same : (s : State) (k : Standing) (e : Event) (reply : Reply) (step : Option MachineStep) → IsDue s k e reply step → IsNoCommit e → commits_after k reply ≡ k.commits
+due_same : (s : State) (k : Standing) (e : Event) (reply : Reply) (step : Option MachineStep) → IsStepDue s k e reply step → IsNoCommit e → commits_after k reply ≡ k.commits
 due_same s k Event.Begin reply step d other = ap (commits_after k) d.0
 due_same s k (Event.Insert t row) reply step d other = ap (commits_after k) d.2
 due_same s k (Event.Delete t r) reply step d other = ap (commits_after k) d.2
@@ -89,7 +89,7 @@ is_turn number (Some d) n e = absurd cc
 pub is_txn : (t n : ℕ) → Reply.Txn t ≡ Reply.Txn n → t ≡ n
 is_txn t n e = cc
 
-module _ (o : Opened) (pushed : List RecordValue) (core : CoreValue) (kept : IsKept o pushed core) where
+module _ (o : Opened) (pushed : List RecordValue) (core : CoreValue) (kept : IsRegisterKept o pushed core) where
   abbrev s : State
   s = kept.replied.state
 

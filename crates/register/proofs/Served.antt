@@ -34,7 +34,7 @@ use Rattle.register.proofs.Owned.{next_owner, owned_later, owners_later}
 use Rattle.register.proofs.Seen.{agree_there, owner_is}
 use Rattle.register.proofs.Telling.{opened_tells, Tells}
 use Rattle.register.specs.Agreement.{active_in, Agree, AreOwned, HaveOwners, is_owed, IsRegister, IsSeen, row_held, seen_at}
-use Rattle.register.specs.Register.{AreEmpty, IsKept}
+use Rattle.register.specs.Register.{AreEmpty, IsRegisterKept}
 
 -- ---- whether a transaction owes a step
 
@@ -182,7 +182,7 @@ module _ (o : Opened) (can : CanOpen o) (pushed : List RecordValue) (core : Core
     answer = serves s k so.stands
 
     -- what a call keeps, with the state after its step
-    abbrev pub kept_after : IsKept o pushed new
+    abbrev pub kept_after : IsRegisterKept o pushed new
     kept_after = record {
       calls = r.kept.calls ++ (e, reply) ∷ [];
       replied = record {

@@ -21,7 +21,7 @@ use Rattle.core_model.specs.Histories.{CanOpen, no_writes, Opened, write_of}
 use Rattle.core_model.specs.States.{Active, State}
 use Rattle.core_model.specs.Steps.{CanStart, IsActive, MachineStep, Start, after, new_txn, txn_at}
 use Rattle.core_contracts.specs.Events.{BuildReply, Built, CleanReply, Cleaned, Done, Event, Idle, Kept, Placed, Refused, Rejected, Reply, Scanned, Standing, Wrapped, standing_after}
-use Rattle.core_contracts.specs.Replies.{IsAllowed, IsDue, IsProper, Owes, accepted, after_any, build_step, change_of, clean_step, no_memory, refused, refused_last, skipped, unknown}
+use Rattle.core_contracts.specs.Replies.{IsAllowed, IsStepDue, IsProper, Owes, accepted, after_any, build_step, change_of, clean_step, no_memory, refused, refused_last, skipped, unknown}
 use Rattle.core_contracts.specs.Served.{asked_over, IsEnabledAny, items_at, items_of}
 use Rattle.nsf_core.specs.Replies.{reply_of_ticket}
 use Rattle.nsf_core.specs.Undoing.{undone_reply}
@@ -91,7 +91,7 @@ clean_still s Wrapped = record { txns = λ u. refl; held = λ u q. refl }
 nothing_still : (s : State) → IsStill s s
 nothing_still s = record { txns = λ u. refl; held = λ u q. refl }
 
-due_still : (s : State) (k : Standing) (e : Event) (reply : Reply) (step : Option MachineStep) → IsOfNoSeat e → IsDue s k e reply step → IsStill s (after_any s step)
+due_still : (s : State) (k : Standing) (e : Event) (reply : Reply) (step : Option MachineStep) → IsOfNoSeat e → IsStepDue s k e reply step → IsStill s (after_any s step)
 due_still s k Event.Begin reply step of d = absurd of
 due_still s k (Event.Insert t row) reply step of d = absurd of
 due_still s k (Event.Delete t r) reply step of d = absurd of
@@ -116,7 +116,7 @@ allowed_still s k e reply step of (refused_last a b f r t d error g) = nothing_s
 allowed_still s k e reply step of (no_memory a b f r t d g w) = nothing_still s
 allowed_still s k e reply step of (accepted a b f r t d g) = due_still s k e reply step of d
 
-not_due : (s : State) (k : Standing) (e : Event) (error : Error) (step : Option MachineStep) → IsDue s k e (Refused error) step → ⊥
+not_due : (s : State) (k : Standing) (e : Event) (error : Error) (step : Option MachineStep) → IsStepDue s k e (Refused error) step → ⊥
 not_due s k Event.Begin error step d = let is = d.0 in absurd cc
 not_due s k (Event.Insert t row) error step d = let is = d.2 in absurd cc
 not_due s k (Event.Delete t r) error step d = let is = d.2 in absurd cc
@@ -150,7 +150,7 @@ build_quiet (BuildReply.Marked p n) = λ w. (refl, refl)
 build_quiet (Done n) = λ w. (refl, refl)
 build_quiet Idle = λ w. (refl, refl)
 
-due_quiet : (s : State) (k : Standing) (e : Event) (reply : Reply) (step : Option MachineStep) → IsOfNoSeat e → IsDue s k e reply step → IsQuiet e reply
+due_quiet : (s : State) (k : Standing) (e : Event) (reply : Reply) (step : Option MachineStep) → IsOfNoSeat e → IsStepDue s k e reply step → IsQuiet e reply
 due_quiet s k Event.Begin reply step of d = absurd of
 due_quiet s k (Event.Insert t row) reply step of d = absurd of
 due_quiet s k (Event.Delete t r) reply step of d = absurd of
@@ -207,7 +207,7 @@ module _ (o : Opened) (can : CanOpen o) (pushed : List RecordValue) (core : Core
   allowed_of : (e : Event) (reply : Reply) (new : CoreValue) (sv : Serves core e reply new) → IsAllowed st std e reply (step_of e reply new sv)
   allowed_of e reply new sv = (answer o can pushed core book r e reply new sv).allowed
 
-  pub due_of : (e : Event) (reply : Reply) (new : CoreValue) (sv : Serves core e reply new) → IsAnswer reply → IsDue st std e reply (step_of e reply new sv)
+  pub due_of : (e : Event) (reply : Reply) (new : CoreValue) (sv : Serves core e reply new) → IsAnswer reply → IsStepDue st std e reply (step_of e reply new sv)
   due_of e reply new sv answers = due st std e reply (step_of e reply new sv) (allowed_of e reply new sv) answers
 
   pub enabled_of : (e : Event) (reply : Reply) (new : CoreValue) (sv : Serves core e reply new) (step : Option MachineStep) → step_of e reply new sv ≡ step → IsEnabledAny st step
@@ -334,7 +334,7 @@ module _ (o : Opened) (can : CanOpen o) (pushed : List RecordValue) (core : Core
 
       -- what a commit tells
       module _ (ticket : Ticket) (new : CoreValue) (sv : Serves core (Event.Commit txn) (reply_of_ticket ticket) new) where
-        abbrev d : IsDue st std (Event.Commit txn) (reply_of_ticket ticket) (step_of (Event.Commit txn) (reply_of_ticket ticket) new sv)
+        abbrev d : IsStepDue st std (Event.Commit txn) (reply_of_ticket ticket) (step_of (Event.Commit txn) (reply_of_ticket ticket) new sv)
         d = due_of (Event.Commit txn) (reply_of_ticket ticket) new sv (ticket_answers ticket.«record» ticket.commit)
 
         abbrev asked : ℕ → List Write

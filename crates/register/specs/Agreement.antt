@@ -13,7 +13,7 @@ use Rattle.core_contracts.specs.Events.{Event}
 use Rattle.nsf_core.specs.View.{CoreValue}
 use Rattle.sessions.specs.Values.{active_of, ActiveValue, is_at, SessionValue}
 use Rattle.register.specs.History.{AreOfHistory}
-use Rattle.register.specs.Register.{AreAllCommits, IsKept}
+use Rattle.register.specs.Register.{AreAllCommits, IsRegisterKept}
 
 -- ---- one transaction
 
@@ -93,7 +93,7 @@ IsOfNoSeat _ = ⊥
 
 -- The core has replied to some calls since it was opened. Its active transactions are those of the sessions, each in one of them; and its commits, and what was done to the index, are those of the sessions.
 pub record IsRegister (o : Opened) (pushed : List RecordValue) (core : CoreValue) (book : List SessionValue) : Type 0 where
-  pub kept : IsKept o pushed core
+  pub kept : IsRegisterKept o pushed core
   pub owner : ℕ → ℕ
   pub owned : AreOwned kept.replied.state book owner
   pub owners : HaveOwners kept.replied.state book owner

@@ -8,7 +8,7 @@ use Rattle.core_laws.specs.Calls.{HasReplied}
 use Rattle.sessions.specs.Values.{CommitValue, SessionValue, empty_session}
 
 -- The core has replied to some calls since it was opened, each reply one that was allowed then; and the records that were pushed, with those that wait in it, are all that it made.
-pub record IsKept (o : Opened) (pushed : List RecordValue) (core : CoreValue) : Type 0 where
+pub record IsRegisterKept (o : Opened) (pushed : List RecordValue) (core : CoreValue) : Type 0 where
   pub calls : List (Event × Reply)
   pub replied : HasReplied o calls pushed core
 

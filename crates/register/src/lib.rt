@@ -35,7 +35,7 @@ ghost use Rattle.register.specs.Agreement.{IsOfNoSeat, IsRegister, row_at, row_h
 ghost use Rattle.register.specs.History.{ShowsCommits};
 ghost use Rattle.txn_table.specs.Table.{holder_of};
 ghost use Rattle.register.specs.Reading.{ReadsBack, ShowsRow, unfinished_of};
-ghost use Rattle.register.specs.Register.{AreAllCommits, AreEmpty, IsKept, IsNoCommit};
+ghost use Rattle.register.specs.Register.{AreAllCommits, AreEmpty, IsRegisterKept, IsNoCommit};
 
 use core_laws::each_call;
 
@@ -43,9 +43,9 @@ use core_laws::each_call;
 /// So whoever gets at it finds that its records, those pushed first and then those that wait, are the ones that some allowed
 /// replies made.
 pub fn each_step()
-    ensures begins { (o : Opened) (core : CoreValue) → BeginsWith o core → IsKept o [] core }
-    ensures served { (o : Opened) → CanOpen o → (pushed : List RecordValue) (core : CoreValue) → IsKept o pushed core → (e : Event) (reply : Reply) (new : CoreValue) → Serves core e reply new → IsKept o pushed new }
-    ensures pushed { (o : Opened) (pushed : List RecordValue) (core : CoreValue) → IsKept o pushed core → (new : CoreValue) (after : List RecordValue) → HandsOn core new pushed after → IsKept o after new }
+    ensures begins { (o : Opened) (core : CoreValue) → BeginsWith o core → IsRegisterKept o [] core }
+    ensures served { (o : Opened) → CanOpen o → (pushed : List RecordValue) (core : CoreValue) → IsRegisterKept o pushed core → (e : Event) (reply : Reply) (new : CoreValue) → Serves core e reply new → IsRegisterKept o pushed new }
+    ensures pushed { (o : Opened) (pushed : List RecordValue) (core : CoreValue) → IsRegisterKept o pushed core → (new : CoreValue) (after : List RecordValue) → HandsOn core new pushed after → IsRegisterKept o after new }
 {
     each_call();
 }
@@ -55,22 +55,22 @@ pub fn each_step()
 /// dropping of the index the number of the next record, and they are no commits. The record of that number is the transaction's
 /// commit, the creation, or the dropping.
 pub fn each_number()
-    ensures begin { (o : Opened) (pushed : List RecordValue) (core : CoreValue) → IsKept o pushed core → (txn : ℕ) (new : CoreValue) → Serves core Event.Begin (Reply.Txn txn) new → txn ≡ core.txns.begun + 1 }
-    ensures commit { (o : Opened) (pushed : List RecordValue) (core : CoreValue) → IsKept o pushed core → (txn : ℕ) (ticket : Ticket) (new : CoreValue) → Serves core (Event.Commit txn) (reply_of_ticket ticket) new
+    ensures begin { (o : Opened) (pushed : List RecordValue) (core : CoreValue) → IsRegisterKept o pushed core → (txn : ℕ) (new : CoreValue) → Serves core Event.Begin (Reply.Txn txn) new → txn ≡ core.txns.begun + 1 }
+    ensures commit { (o : Opened) (pushed : List RecordValue) (core : CoreValue) → IsRegisterKept o pushed core → (txn : ℕ) (ticket : Ticket) (new : CoreValue) → Serves core (Event.Commit txn) (reply_of_ticket ticket) new
         → (ticket.«record» ≡ core.last + 1) × (ticket.commit ≡ Some (core.commits + 1)) }
-    ensures counted { (o : Opened) (pushed : List RecordValue) (core : CoreValue) → IsKept o pushed core → (txn : ℕ) (ticket : Ticket) (new : CoreValue) → Serves core (Event.Commit txn) (reply_of_ticket ticket) new
+    ensures counted { (o : Opened) (pushed : List RecordValue) (core : CoreValue) → IsRegisterKept o pushed core → (txn : ℕ) (ticket : Ticket) (new : CoreValue) → Serves core (Event.Commit txn) (reply_of_ticket ticket) new
         → (new.last ≡ core.last + 1) × (new.commits ≡ core.commits + 1) }
-    ensures create { (o : Opened) (pushed : List RecordValue) (core : CoreValue) → IsKept o pushed core → (ticket : Ticket) (new : CoreValue) → Serves core Event.Create (reply_of_ticket ticket) new
+    ensures create { (o : Opened) (pushed : List RecordValue) (core : CoreValue) → IsRegisterKept o pushed core → (ticket : Ticket) (new : CoreValue) → Serves core Event.Create (reply_of_ticket ticket) new
         → (ticket.«record» ≡ core.last + 1) × (ticket.commit ≡ None) }
-    ensures drop { (o : Opened) (pushed : List RecordValue) (core : CoreValue) → IsKept o pushed core → (ticket : Ticket) (new : CoreValue) → Serves core Event.Drop (reply_of_ticket ticket) new
+    ensures drop { (o : Opened) (pushed : List RecordValue) (core : CoreValue) → IsRegisterKept o pushed core → (ticket : Ticket) (new : CoreValue) → Serves core Event.Drop (reply_of_ticket ticket) new
         → (ticket.«record» ≡ core.last + 1) × (ticket.commit ≡ None) }
-    ensures commit_record { (o : Opened) (pushed : List RecordValue) (core : CoreValue) → IsKept o pushed core → (txn : ℕ) (ticket : Ticket) (new : CoreValue) → Serves core (Event.Commit txn) (reply_of_ticket ticket) new
+    ensures commit_record { (o : Opened) (pushed : List RecordValue) (core : CoreValue) → IsRegisterKept o pushed core → (txn : ℕ) (ticket : Ticket) (new : CoreValue) → Serves core (Event.Commit txn) (reply_of_ticket ticket) new
         → new.outbox ≡ core.outbox ++ record { number = ticket.«record»; action = OfTxn txn TxnAction.Commit } ∷ [] }
-    ensures create_record { (o : Opened) (pushed : List RecordValue) (core : CoreValue) → IsKept o pushed core → (ticket : Ticket) (new : CoreValue) → Serves core Event.Create (reply_of_ticket ticket) new
+    ensures create_record { (o : Opened) (pushed : List RecordValue) (core : CoreValue) → IsRegisterKept o pushed core → (ticket : Ticket) (new : CoreValue) → Serves core Event.Create (reply_of_ticket ticket) new
         → new.outbox ≡ core.outbox ++ record { number = ticket.«record»; action = OfIndex IndexAction.Create } ∷ [] }
-    ensures drop_record { (o : Opened) (pushed : List RecordValue) (core : CoreValue) → IsKept o pushed core → (ticket : Ticket) (new : CoreValue) → Serves core Event.Drop (reply_of_ticket ticket) new
+    ensures drop_record { (o : Opened) (pushed : List RecordValue) (core : CoreValue) → IsRegisterKept o pushed core → (ticket : Ticket) (new : CoreValue) → Serves core Event.Drop (reply_of_ticket ticket) new
         → new.outbox ≡ core.outbox ++ record { number = ticket.«record»; action = OfIndex IndexAction.Drop } ∷ [] }
-    ensures others { (o : Opened) (pushed : List RecordValue) (core : CoreValue) → IsKept o pushed core → (e : Event) (reply : Reply) (new : CoreValue) → IsNoCommit e → Serves core e reply new → new.commits ≡ core.commits }
+    ensures others { (o : Opened) (pushed : List RecordValue) (core : CoreValue) → IsRegisterKept o pushed core → (e : Event) (reply : Reply) (new : CoreValue) → IsNoCommit e → Serves core e reply new → new.commits ≡ core.commits }
 {}
 
 /// A law: the commits of all seats have the numbers 1 to n, each once, and each session has its own in their order: in new

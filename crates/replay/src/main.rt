@@ -1,7 +1,7 @@
 //! Runs a script of commands against a store on a disk in memory, and prints each answer; or, asked by `--crash-map`, what a stop at
 //! each write and sync leaves.
 //!
-//! All that it does is in `session` and in `crash_map`.
+//! All that it does is in `script_player` and in `crash_map`.
 #![tactic(auto)]
 
 use std::process::ExitCode;
@@ -16,6 +16,6 @@ fn main(rt: HostRuntime) -> io::Result<ExitCode> {
         let status = crash_map::run(&rt, alloc, &words, &mut rt.reader(), output, errors)?;
         return Ok(ExitCode::from(status));
     }
-    let status = session::run(alloc, words.as_slice(), &mut rt.reader(), output, errors);
+    let status = script_player::run(alloc, words.as_slice(), &mut rt.reader(), output, errors);
     Ok(ExitCode::from(status))
 }

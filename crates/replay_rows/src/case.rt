@@ -1,6 +1,6 @@
 //! A case: a script, and what the program gives on it.
 use crate::streams::{Input, Output};
-use session::run;
+use script_player::run;
 use std::alloc::{AllocError, Global};
 use std::io;
 use std::io::Write;

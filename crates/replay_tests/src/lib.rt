@@ -1,4 +1,4 @@
-//! Tests of the program `nsf-replay`, as `session` runs it, where memory is refused.
+//! Tests of the program `nsf-replay`, as `script_player` runs it, where memory is refused.
 //!
 //! Proved of them is safety.
 #![tactic(auto)]

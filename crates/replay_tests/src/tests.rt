@@ -1,8 +1,8 @@
 //! Allocations that are refused: the tests of this file hold whichever one is.
 use crash_map::{CrashMap, write_table};
 use replay_values::Arguments;
+use script_player::run;
 use sector_device::Fate;
-use session::run;
 use std::alloc::{AllocError, Global};
 use std::io;
 use std::process::Abort;

@@ -27,8 +27,8 @@ use Rattle.restart.specs.declared.event.Event.TheVariants as event
 use Rattle.restart.specs.declared.event.Reply.{Reply}
 use Rattle.restart.specs.Building.{AreBuilt, HasCome, IsIndexWhole, builds}
 use Rattle.restart.specs.Lawful.{ServesInCore}
-use Rattle.restart.specs.Parts.{core_of, device_of, writer_of}
-use Rattle.restart.specs.Store.{CanRun, Past, IsAt, Survives, acknowledged_by, and_then}
+use Rattle.restart.specs.Parts.{core_of, device_of, horizon_of, writer_of}
+use Rattle.restart.specs.Store.{CanRun, Past, IsAt, Survives, and_then}
 use Rattle.restart.proofs.Runs.{and_then_both, and_then_none}
 use Rattle.restart.proofs.Serving.{can_run_by_core, served_by_core}
 use Rattle.restart.proofs.Standing.{Laws}
@@ -132,12 +132,12 @@ module _ {D M : Type 0} where
     can_run_built (r ∷ replies) old new built laws can = can_run_built replies built.0 new built.2 (laws_on old built.0 built.1.rest laws) (can_run_by_core history failures event.Build r old built.0 built.1 laws can)
 
     pub survives_built : (replies : List (Reply M)) (old new : Parts D M) → AreBuilt replies old new → Laws history (writer_of old) → (past : Past M) → IsAt history past old
-        → LeavesOnly (history (device_of old)) (history (device_of new)) (Survives (and_then past (builds replies) replies) (acknowledged_by past))
+        → LeavesOnly (history (device_of old)) (history (device_of new)) (Survives (and_then past (builds replies) replies) (horizon_of old))
     survives_built replies old new built laws past is =
         let same : writer_of new ≡ writer_of old = writer_on replies old new built in
-        subst (λ w. LeavesOnly (history (writer.device_of w)) (history (device_of new)) (Survives (and_then past (builds replies) replies) (acknowledged_by past))) same
-        (started (history (device_of new)) (Survives (and_then past (builds replies) replies) (acknowledged_by past))
-        (crash_since history (and_then past (builds replies) replies) new (at_built replies old new built laws past is) (acknowledged_by past) (omega (arith, is.safe, ap (λ w. writer.synced_of w) same))))
+        subst (λ w. LeavesOnly (history (writer.device_of w)) (history (device_of new)) (Survives (and_then past (builds replies) replies) (horizon_of old))) same
+        (started (history (device_of new)) (Survives (and_then past (builds replies) replies) (horizon_of old))
+        (crash_since history (and_then past (builds replies) replies) new (at_built replies old new built laws past is) (horizon_of old) (omega (arith, ap (λ w. writer.synced_of w) same))))
 
 -- ---- what is built
 

@@ -4,11 +4,11 @@ use Rattle.std.proofs.lemmas.Bool.{le-leb, lt-leb, cases_lt}
 use Rattle.std.proofs.lemmas.List.Elements.{All-cons}
 use Rattle.std.specs.List.{All}
 use Rattle.records.specs.declared.pair.Pair.{Pair}
-use Rattle.model.specs.Given.{Given, nothing}
+use Rattle.model.specs.Given.{Given}
 use Rattle.model.specs.History.{Checkpointed, Committed, Completed, Created, Deed, Dropped, Item, life_after, life_with, up_to}
 use Rattle.model.specs.declared.life.Life.{Life}
 use Rattle.model.specs.declared.life.Life.TheVariants.{Building}
-use Rattle.restart.specs.Story.{IsCommit, IsLastCheckpoint, IsLeftOf, Story}
+use Rattle.restart.specs.Story.{IsCommit, IsFirstCheckpoint, IsLastCheckpoint, IsLeftOf, Story}
 
 -- the last item of the index in a list is the checkpoint of this pair
 record IsLast (items : List Item) (pair : Pair) : Type 0 where
@@ -52,15 +52,15 @@ counted n (y ∷ items) (x ∷ before) behind item same = ⊎_elim
     (λ within. let here : up_to n (y ∷ items) ≡ y ∷ up_to n items = rw (le-leb y.number n within) refl in let e : up_to n items ≡ before ++ item ∷ behind = cc (here, same) in counted n items before behind item e)
     (cases_lt n y.number)
 
-pub last_of_left : (story : Story) (given : Given) (pair : Pair) → IsLeftOf story given → given.life ≡ Building (Some pair) → IsLastCheckpoint story.items given.last pair
+pub last_of_left : (story : Story) (given : Given) (pair : Pair) → IsLeftOf story given → given.life ≡ Building (Some pair) → IsLastCheckpoint story.items given.last pair ⊎ IsFirstCheckpoint story.began story.items given.last pair
 last_of_left story given pair is building = ⊎_elim
-    (λ all. let never : nothing.life ≡ Building (Some pair) = all.0 in absurd cc)
-    (λ last. record {
+    (λ all. inr all)
+    (λ last. inl (record {
       number = last.number;
       counts = counted given.last story.items last.before last.behind (record { number = last.number; deed = Checkpointed pair }) last.there;
       before = last.before;
       behind = last.behind;
       there = last.there;
       commits = last.commits;
-    })
-    (found nothing.life (up_to given.last story.items) pair (sym is.beginning.life ∙ building))
+    }))
+    (found story.began.life (up_to given.last story.items) pair (sym is.beginning.life ∙ building))

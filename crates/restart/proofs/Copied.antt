@@ -36,7 +36,7 @@ use Rattle.store_writer.specs.declared.image.NewImage.{NewImage}
 use Rattle.store_writer.specs.declared.writer.Writer.{Writer}
 use Rattle.txn_table.specs.Sound.{IsSound}
 use Rattle.restart.specs.declared.parts.Parts.{Parts}
-use Rattle.restart.specs.Copies.{CannotFlip, CannotTake, IsCopying, IsDue, IsHalfOpen, IsPieceNow, MakesCurrent, MayFlip, TakesPiece, copies_left, copies_to_flip, left_at, next_place}
+use Rattle.restart.specs.Copies.{CannotFlip, CannotTake, IsCopying, IsPieceDue, IsHalfOpen, IsPieceNow, MakesCurrent, MayFlip, TakesPiece, copies_left, copies_to_flip, left_at, next_place}
 use Rattle.image_model.specs.Places.{place_behind}
 use Rattle.restart.proofs.Fewer.{fewer_taken, flip_bounds, two_left}
 use Rattle.restart.proofs.Keeping.{keeps_same}
@@ -97,7 +97,7 @@ module _ {D M : Type 0} (history : D → History) (run : Run) (handed : ℕ) (s 
   whole_chunk number (Entries entries) told of = absurd of
 
   -- piece by piece
-  pub next_chunk : {A : Type 0} (number : ℕ) (place : CopyPlace) (piece : Piece A) → number ≡ v.last → IsDue run.geometry.pages place (writer.image_of (writer_of engine)) → IsPieceOf v cells place piece → IsChunk run (writer_of engine) number piece
+  pub next_chunk : {A : Type 0} (number : ℕ) (place : CopyPlace) (piece : Piece A) → number ≡ v.last → IsPieceDue run.geometry.pages place (writer.image_of (writer_of engine)) → IsPieceOf v cells place piece → IsChunk run (writer_of engine) number piece
   next_chunk number at.Start (Start life lists) told due of = record {
     late = omega (arith, late, told, last_is);
     made = omega (arith, told, last_is);
@@ -127,16 +127,16 @@ module _ {D M : Type 0} (history : D → History) (run : Run) (handed : ℕ) (s 
   next_chunk number (at.Entries above) (Start life lists) told due of = absurd of
   next_chunk number (at.Entries above) (Page page rows) told due of = absurd of
 
-  pub next_of : {A : Type 0} (number : ℕ) (place : CopyPlace) (piece : Piece A) → number ≡ v.last → IsDue engine.geometry.pages place (writer.image_of (writer_of engine)) → ((cells : Cells) → IsCellsOf v cells → IsPieceOf v cells place piece) → IsChunk run (writer_of engine) number piece
-  next_of number place piece told due of = next_chunk number place piece told (subst (λ (x : GeometryValue). IsDue x.pages place (writer.image_of (writer_of engine))) is.geometry due) (of cells cells_now)
+  pub next_of : {A : Type 0} (number : ℕ) (place : CopyPlace) (piece : Piece A) → number ≡ v.last → IsPieceDue engine.geometry.pages place (writer.image_of (writer_of engine)) → ((cells : Cells) → IsCellsOf v cells → IsPieceOf v cells place piece) → IsChunk run (writer_of engine) number piece
+  next_of number place piece told due of = next_chunk number place piece told (subst (λ (x : GeometryValue). IsPieceDue x.pages place (writer.image_of (writer_of engine))) is.geometry due) (of cells cells_now)
 
 -- where the copying goes on its piece is due
-pub due_there : (pages : ℕ) (place : CopyPlace) (image : Option NewImage) → IsCopying pages (Steps (Some place)) image → IsDue pages place image
+pub due_there : (pages : ℕ) (place : CopyPlace) (image : Option NewImage) → IsCopying pages (Steps (Some place)) image → IsPieceDue pages place image
 due_there pages at.Start image is = tt
 due_there pages (at.Page page) image is = is
 due_there pages (at.Entries above) image is = is
 
-pub due_now : {D M : Type 0} (history : D → History) (engine : Parts D M) (place : CopyPlace) → CanRun history engine → has_failed engine ≡ false → engine.copying ≡ Steps (Some place) → IsDue engine.geometry.pages place (writer.image_of (writer_of engine))
+pub due_now : {D M : Type 0} (history : D → History) (engine : Parts D M) (place : CopyPlace) → CanRun history engine → has_failed engine ≡ false → engine.copying ≡ Steps (Some place) → IsPieceDue engine.geometry.pages place (writer.image_of (writer_of engine))
 due_now history engine place can sound copying =
     let is : StandsAt history can.0 can.1 can.2 can.3 engine = can.4 in
     due_there engine.geometry.pages place (writer.image_of (writer_of engine))
@@ -144,7 +144,7 @@ due_now history engine place can sound copying =
     (subst (λ (x : GeometryValue). IsCopying x.pages engine.copying (writer.image_of (writer_of engine))) (sym is.geometry) (is.copying sound)))
 
 -- a piece that is taken comes where the copying is
-pub at_piece : {A D M : Type 0} (v : CoreValue) (cells : Cells) (w : Writer D M) (pages : ℕ) (place : CopyPlace) (piece : Piece A) → IsPieceOf v cells place piece → IsDue pages place (writer.image_of w) → ¬ MustStartAgain piece w → IsAtPiece pages piece (writer.image_of w)
+pub at_piece : {A D M : Type 0} (v : CoreValue) (cells : Cells) (w : Writer D M) (pages : ℕ) (place : CopyPlace) (piece : Piece A) → IsPieceOf v cells place piece → IsPieceDue pages place (writer.image_of w) → ¬ MustStartAgain piece w → IsAtPiece pages piece (writer.image_of w)
 at_piece v cells w pages at.Start (Start life lists) of due taken = tt
 at_piece v cells w pages (at.Page page) (Page copied rows) of due taken =
     subst (λ p. IsAtPlace pages (Some (at.Page p)) (writer.image_of w)) (sym of.0) (there pages (Some (at.Page page)) (writer.image_of w) (λ none. taken (inl none)) due)
@@ -184,7 +184,7 @@ taken_open slots number (Entries entries) old new (may, (image, kept, (from, pag
 
 -- the next piece, whatever run the engine is of
 module _ {A D M : Type 0} (history : D → History) (engine : Parts D M) (laws : CopyLaws history engine) (sound : has_failed engine ≡ false) (number : ℕ) (place : CopyPlace) (piece : Piece A) (told : number ≡ (core_of engine).last)
-    (due : IsDue engine.geometry.pages place (writer.image_of (writer_of engine))) (of : (cells : Cells) → IsCellsOf (core_of engine) cells → IsPieceOf (core_of engine) cells place piece) where
+    (due : IsPieceDue engine.geometry.pages place (writer.image_of (writer_of engine))) (of : (cells : Cells) → IsCellsOf (core_of engine) cells → IsPieceOf (core_of engine) cells place piece) where
   pub piece_is : (run : Run) (handed : ℕ) (s : State) (k : Standing) → StandsAt history run handed s k engine → IsChunk run (writer_of engine) number piece
   piece_is run handed s k is = next_of history run handed s k engine is sound laws.txns laws.shown laws.one laws.page laws.entries number place piece told due of
 
@@ -247,7 +247,7 @@ module _ {D M : Type 0} (old new : Parts D M) (number : ℕ) (place : CopyPlace)
   }
 
 -- fewer copies are left behind a piece
-pub fewer_now : {D M : Type 0} (history : D → History) (old new : Parts D M) (laws : CopyLaws history old) (sound : has_failed old ≡ false) (number : ℕ) (place : CopyPlace) (piece : Piece M) → number ≡ (core_of old).last → IsDue old.geometry.pages place (writer.image_of (writer_of old))
+pub fewer_now : {D M : Type 0} (history : D → History) (old new : Parts D M) (laws : CopyLaws history old) (sound : has_failed old ≡ false) (number : ℕ) (place : CopyPlace) (piece : Piece M) → number ≡ (core_of old).last → IsPieceDue old.geometry.pages place (writer.image_of (writer_of old))
     → IsPieceNow (core_of old) place piece → next_place old.copying ≡ Some place → (can : CanRun history old) → IsStepReply number piece Taken (writer_of old) (writer_of new) → new.copying ≡ Steps (place_behind old.geometry.pages piece) → new.geometry ≡ old.geometry → core_of new ≡ core_of old → copies_left new < copies_left old
 fewer_now history old new laws sound number place piece told due of next can is behind size same =
     subst (λ n. n < copies_left old) (sym now) (fewer_taken old.geometry (core_of old).last number is.1.0 (writer_of old) size_is (core_of old) cells old.copying place piece next (of cells cells_are) told due is.0 is.1.2)

@@ -8,7 +8,7 @@ use mathlib.Core.HLevel.{⊥_prop}
 use Rattle.records.specs.declared.error.Error.{Error}
 use Rattle.records.specs.declared.number.TheConstants.{LAST_NUMBER}
 use Rattle.records.specs.declared.pair.Pair.{Pair}
-use Rattle.model.specs.declared.life.Life.TheVariants.{Complete}
+use Rattle.model.specs.declared.life.Life.TheVariants.{Absent, Complete}
 use Rattle.core_model.specs.States.{State}
 use Rattle.core_model.specs.Steps.{MachineStep}
 use Rattle.core_contracts.specs.Events as core
@@ -62,9 +62,10 @@ pub record HasBuilt {D M : Type 0} (old now : Parts D M) (scanned : ℕ) : Type 
   pub began : (core_of old).life ≢ Complete
   pub going : ∥ IsGoing (core_of now) scanned ∥₁
   pub unfinished : (core_of now).life ≢ Complete
+  pub none : (core_of now).life ≡ Absent → (core_of old).life ≡ Absent
 
 pub none_built : {D M : Type 0} (old : Parts D M) → (core_of old).life ≢ Complete → HasBuilt old old 0
-none_built old unfinished = record { replies = []; each = refl; underway = λ i d below. absurd (omega (arith, below)); began = unfinished; going = ∥∥₁_map old.core.safe (begins (core_of old)); unfinished = unfinished }
+none_built old unfinished = record { replies = []; each = refl; underway = λ i d below. absurd (omega (arith, below)); began = unfinished; going = ∥∥₁_map old.core.safe (begins (core_of old)); unfinished = unfinished; none = λ none. none }
   where
     begins : (v : CoreValue) → IsSafe v → IsGoing v 0
     begins v safe = record { state = safe.state; standing = safe.standing; is = safe.is; so_many = omega arith }
@@ -85,6 +86,7 @@ module _ {D M : Type 0} (old mid new : Parts D M) (scanned n : ℕ) (so_far : Ha
     began = so_far.began;
     going = ∥∥₁_map so_far.going (λ at. (less at.state at.standing at.is at.so_many).going);
     unfinished = λ complete. ∥∥₁_elim so_far.going ⊥_prop (λ at. (less at.state at.standing at.is at.so_many).unfinished complete);
+    none = λ none. absurd (∥∥₁_elim so_far.going ⊥_prop (λ at. (less at.state at.standing at.is at.so_many).there none));
   }
 
 -- a step that is not the last: less is left, and it is one more of those that were made
@@ -145,6 +147,9 @@ module _ {D M : Type 0} (old mid new : Parts D M) (scanned : ℕ) (so_far : HasB
 
     pub comes_to : HasCome (core_of old) → HasCome (core_of new)
     comes_to come = (comes_on (so_far.replies ++ r ∷ []) old new all_built come).come
+
+    pub rows_stay : HasCome (core_of old) → (core_of new).heap.rows ≡ (core_of old).heap.rows
+    rows_stay come = (comes_on (so_far.replies ++ r ∷ []) old new all_built come).rows
 
     ends_with : EndsWith r (so_far.replies ++ r ∷ [])
     ends_with = record { before = so_far.replies; all = refl; underway = so_far.underway }

@@ -21,7 +21,7 @@ use Rattle.store_writer.specs.declared.image.Stage.TheVariants as stage
 use Rattle.store_writer.specs.declared.writer.Writer.{Writer}
 use Rattle.restart.specs.declared.copying.Copying.{Copying}
 use Rattle.restart.specs.declared.copying.Copying.TheVariants.{GivenUp, Idle, Steps}
-use Rattle.restart.specs.Copies.{IsDue, copies_to_flip, entries_at, entries_copied, left_at, most_copies, next_place}
+use Rattle.restart.specs.Copies.{IsPieceDue, copies_to_flip, entries_at, entries_copied, left_at, most_copies, next_place}
 
 -- ---- from a whole image on
 
@@ -108,7 +108,7 @@ module _ (g : GeometryValue) (last number : ℕ) (image : NewImage) where
       omega (arith, same, less, here, before)
 
   module _ {A D M : Type 0} (w : Writer D M) (size : w.halves.geometry ≡ g) (v : CoreValue) (cells : Cells) where
-    pub fewer_at : (place : CopyPlace) (piece : Piece A) → IsPieceOf v cells place piece → number ≡ last → IsDue g.pages place w.image → ¬ MustStartAgain piece w → HasPiece number piece w image
+    pub fewer_at : (place : CopyPlace) (piece : Piece A) → IsPieceOf v cells place piece → number ≡ last → IsPieceDue g.pages place w.image → ¬ MustStartAgain piece w → HasPiece number piece w image
         → left_at g last (Some image) (Steps (place_behind g.pages piece)) < left_at g last w.image (Steps (Some place))
     fewer_at at.Start (Start life lists) of told due may has =
         let one : copies_to_flip last (Some image) ≡ 1 = flip_one last image (omega (arith, has.0, told)) in
@@ -144,6 +144,6 @@ module _ (g : GeometryValue) (last number : ℕ) (image : NewImage) where
     fewer_at (at.Entries above) (Start life lists) of told due may has = absurd of
     fewer_at (at.Entries above) (Page page rows) of told due may has = absurd of
 
-    pub fewer_taken : (copying : Copying) (place : CopyPlace) (piece : Piece A) → next_place copying ≡ Some place → IsPieceOf v cells place piece → number ≡ last → IsDue g.pages place w.image → ¬ MustStartAgain piece w → HasPiece number piece w image
+    pub fewer_taken : (copying : Copying) (place : CopyPlace) (piece : Piece A) → next_place copying ≡ Some place → IsPieceOf v cells place piece → number ≡ last → IsPieceDue g.pages place w.image → ¬ MustStartAgain piece w → HasPiece number piece w image
         → left_at g last (Some image) (Steps (place_behind g.pages piece)) < left_at g last w.image copying
     fewer_taken copying place piece next of told due may has = subst (λ n. left_at g last (Some image) (Steps (place_behind g.pages piece)) < n) (sym (at_next g last w.image copying place next)) (fewer_at place piece of told due may has)

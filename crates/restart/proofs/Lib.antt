@@ -30,6 +30,7 @@ mod Apart
 mod Flips
 mod Between
 mod Reopened
+mod Migrated
 mod Storied
 mod Grouped
 mod Checkpoints

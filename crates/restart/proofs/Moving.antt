@@ -147,7 +147,7 @@ module _ {D M : Type 0} (history : D → History) where
 
   -- a request that asks the core for nothing
   pub serves_by : (old new : Parts D M) (x : Event) (r : Reply M) → MovesOn history old new → asked x ≡ None → IsOfKind x r → ((n : ℕ) → n ≤ horizon_of new → acknowledged n (r ∷ []) ≤ horizon_of new) → ServesOn history x r old new
-  serves_by old new x r moves none kind safe past is = (at, leaves)
+  serves_by old new x r moves none kind safe past is = (at, leaves, moves.grows)
     where
       has : HasServed (over past.geometry past.given) is.made (core_calls past.events past.replies ++ both (asked x) (answered r)) is.state is.standing
       has = subst (λ (l : List (core.Event × core.Reply)). HasServed (over past.geometry past.given) is.made l is.state is.standing)
@@ -159,9 +159,9 @@ module _ {D M : Type 0} (history : D → History) where
       at : IsAt history (and_then past (x ∷ []) (r ∷ [])) new
       at = at_next history past old new x r kind is is.made moved.0 is.state is.standing has moved.2 (safe (acknowledged_by past) (omega (arith, is.safe, moves.grows)))
 
-      leaves : LeavesOnly (history (device_of old)) (history (device_of new)) (Survives (and_then past (x ∷ []) (r ∷ [])) (acknowledged_by past))
-      leaves = weaker (history (device_of old)) (history (device_of new)) (λ (image : Image). (later : ℕ) × (later ≤ end_of (run_of past is.made)) × LeftBy (run_of past is.made) (horizon_of old) later image) (Survives (and_then past (x ∷ []) (r ∷ [])) (acknowledged_by past))
-          (λ c left. left_then history past old new x r kind is is.made left.0 is.state is.standing has (horizon_of old) is.stands.writer.opened is.safe left.1 c left.2)
+      leaves : LeavesOnly (history (device_of old)) (history (device_of new)) (Survives (and_then past (x ∷ []) (r ∷ [])) (horizon_of old))
+      leaves = weaker (history (device_of old)) (history (device_of new)) (λ (image : Image). (later : ℕ) × (later ≤ end_of (run_of past is.made)) × LeftBy (run_of past is.made) (horizon_of old) later image) (Survives (and_then past (x ∷ []) (r ∷ [])) (horizon_of old))
+          (λ c left. left_then history past old new x r kind is is.made left.0 is.state is.standing has (horizon_of old) is.stands.writer.opened left.1 c left.2)
           (moves.images (run_of past is.made) is.handed is.state is.standing is.stands)
 
 -- ---- where the copying goes on

@@ -19,14 +19,15 @@ use Rattle.core_contracts.specs.Events.{standing_at}
 use Rattle.core_contracts.proofs.Laws.{served_nothing}
 use Rattle.nsf_core.specs.View.{CoreValue}
 use Rattle.core_loader.specs.Loaded.{holding}
-use Rattle.sector_device.specs.Disk.{Disk, Image, IsSynced}
+use Rattle.sector_device.specs.Disk.{Disk, Image, IsCrashImage, IsSynced}
 use Rattle.sector_device.specs.History.{History, LeavesOnly}
 use Rattle.sector_device.proofs.Moments.{weaker}
 use Rattle.gate_log.specs.Area.{Log, Refuses}
 use Rattle.flip_image.specs.Layout.{HalvesValue}
 use Rattle.image_model.specs.Run.{end_of, records_between}
-use Rattle.recovery.specs.Reopening.{IsLeft}
-use Rattle.store_reader.specs.Contents.{Gives}
+use Rattle.store_opener.specs.Reopening.{ReopeningLeaves}
+use Rattle.store_reader.specs.Contents.{Gives, GivesIn}
+use Rattle.records.specs.declared.version.Version.TheVariants.{One, Two}
 use Rattle.store_reader.proofs.Readings.{one_geometry, one_given}
 use Rattle.store_writer.specs.Parts as writer
 use Rattle.store_writer.specs.Writer.{IsOpenedAt, IsWriter, opened_run}
@@ -36,6 +37,7 @@ use Rattle.restart.specs.Copies.{IsCopying}
 use Rattle.restart.specs.declared.copying.Copying.TheVariants.{Idle}
 use Rattle.restart.specs.Parts.{core_of, device_of, horizon_of, writer_of}
 use Rattle.restart.specs.Reopening.{IsCoreOf, IsOpened, IsTurned, Recovers, opening}
+use Rattle.restart.specs.Migrating.{IsMigrated}
 use Rattle.restart.proofs.Moving.{none_open}
 use Rattle.restart.proofs.Numbers.{count_to_end}
 use Rattle.restart.specs.Store.{CanRun, IsAt, Past, StandsAt, Survives, items_told, over, run_of}
@@ -121,10 +123,10 @@ module _ {D M : Type 0} (history : D → History) (before : Image) (engine : Par
   }
     where
       same_size : g ≡ past.geometry
-      same_size = one_geometry before g past.geometry is.given left.given is.gives left.gives
+      same_size = one_geometry Two before g past.geometry is.given left.given is.gives left.gives
 
       same : is.given ≡ left.given
-      same = one_given before g past.geometry is.given left.given is.gives left.gives
+      same = one_given Two before g past.geometry is.given left.given is.gives left.gives
 
       can_past : CanOpen (over past.geometry is.given)
       can_past = subst (λ (x : Given). CanOpen (over past.geometry x)) (sym same) left.opens
@@ -168,13 +170,42 @@ module _ {D M : Type 0} (history : D → History) (before after : D) (engine : P
   pub recovers_made : (past : Past M) (floor : ℕ) → Survives past floor (history before).disk.content → Recovers history past floor engine
   recovers_made past floor left = recovers_run history (history before).disk.content engine halves log moved half lists size idle no_image takes none (reached_is ∙ number) sound past floor left
 
+-- ---- what is moved from another device
+
+-- a device that stays as it is
+still : {D : Type 0} (history : D → History) (d : D) → IsTurned history d d
+still history d = record {
+  images = record { later = omega arith; kept = λ t le. refl; each = λ t image from to crash. inl (subst (λ (x : Disk). IsCrashImage x image) (ap (history d).disk_at (let e : t ≡ (history d).moment = omega (arith, from, to) in e) ∙ (history d).now) crash) };
+  now = inl refl;
+}
+
+module _ {D M : Type 0} (history : D → History) (new : D) (engine : Parts D M) (halves : HalvesValue) (log : Log) (found : IsCoreOf (history new).disk.content (history new) halves log (core_of engine)) (device : device_of engine ≡ new)
+    (half : (pages base : ℕ) (cells : Cells) (s : State) → HasCells s cells → IsLogOf pages base cells [] s) (lists : (o : Opened) → HasLists (opened o) (opening_cells o.given)) (size : engine.geometry ≡ halves.geometry) (idle : engine.copying ≡ Idle) (no_image : writer.image_of (writer_of engine) ≡ None)
+    (synced : ℕ) (synced_is : synced ≡ (core_of engine).last) (writes : (cells : Cells) → IsOpenedAt (history new) halves log synced cells → IsWriter history (opened_run halves synced cells) synced (writer_of engine))
+    (none : engine.outgoing.items ≡ []) (reached_is : horizon_of engine ≡ synced) (sound : writer.has_failed (writer_of engine) ≡ false) where
+  abbrev there : IsCoreOf (history (device_of engine)).disk.content (history (device_of engine)) halves log (core_of engine)
+  there = record {
+    given = found.given;
+    gives = subst (λ d. Gives (history d).disk.content halves.geometry found.given) (sym device) found.gives;
+    holds = found.holds;
+    shown = found.shown;
+    opened-at = subst (λ d. IsOpenedAt (history d) halves log found.given.last (opening_cells found.given)) (sym device) found.opened-at;
+  }
+
+  pub migrated : (old : Image) → GivesIn One old halves.geometry found.given → IsMigrated old history engine
+  unfolding opened_made
+  migrated old gave = record {
+    opened = opened_made history (device_of engine) (device_of engine) engine halves log there refl half lists size idle no_image synced synced_is (λ cells at. writes cells (subst (λ d. IsOpenedAt (history d) halves log synced cells) device at)) none reached_is sound (still history (device_of engine));
+    gave = gave;
+  }
+
 -- ---- the device
 
 module _ {M D : Type 0} (history : D → History) (before after : D) (turned : IsTurned history before after)
-    (same : (old : Disk) (image : Image) → IsSynced old → IsLeft old image → (g : GeometryValue) (given : Given) → Gives old.content g given → Gives image g given) where
+    (same : (old : Disk) (image : Image) → IsSynced old → ReopeningLeaves old image → (g : GeometryValue) (given : Given) → Gives old.content g given → Gives image g given) where
   -- what a run left on a synced device stays
   pub stays_left : IsSynced (history before).disk → (past : Past M) (floor : ℕ) → Survives past floor (history before).disk.content → LeavesOnly (history before) (history after) (Survives past floor)
-  stays_left synced past floor left = weaker (history before) (history after) (IsLeft (history before).disk) (Survives past floor)
+  stays_left synced past floor left = weaker (history before) (history after) (ReopeningLeaves (history before).disk) (Survives past floor)
       (λ c was. record {
         given = left.given;
         gives = same (history before).disk c synced was past.geometry left.given left.gives;

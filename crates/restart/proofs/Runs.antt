@@ -1,5 +1,5 @@
 -- A run goes on by one request more.
-use Rattle.std.proofs.Common.{◌≡◌, ℕ, ◌+◌, ◌<◌, ◌≤◌, List, [], ◌∷◌, ◌++◌, length, take, refl, sym, ◌∙◌, subst, arith, length-append, append_assoc, append-nil}
+use Rattle.std.proofs.Common.{max, ◌≡◌, ℕ, ◌+◌, ◌<◌, ◌≤◌, List, [], ◌∷◌, ◌++◌, length, take, refl, sym, ◌∙◌, subst, arith, length-append, append_assoc, append-nil}
 use Rattle.std.proofs.lemmas.List.{take-append-le, take_all, take_at}
 use Rattle.sector_device.specs.Disk.{Image, Disk}
 use Rattle.sector_device.specs.History.{History, LeavesOnly, Spans}
@@ -8,8 +8,9 @@ use Rattle.restart.specs.declared.event.Event.{Event}
 use Rattle.restart.specs.declared.event.Reply.{Reply}
 use Rattle.restart.specs.declared.parts.Parts.{Parts}
 use Rattle.restart.specs.Lawful.{IsLawful, AreLawful}
-use Rattle.restart.specs.Parts.{device_of}
+use Rattle.restart.specs.Parts.{device_of, horizon_of}
 use Rattle.restart.specs.Store.{Past, acknowledged_by, and_then, Survives, IsAt, ServesOn, SurvivesAt, GoesOn, AreServed}
+use Rattle.restart.proofs.Stories.{survives_lower}
 
 pub spans_rise : (disk_at : ℕ → Disk) (P : ℕ → Image → Type 0) (j from : ℕ) (borders : List ℕ) (to : ℕ) → Spans disk_at P j from borders to → from ≤ to
 spans_rise disk_at P j from [] to is = omega (arith, is)
@@ -30,19 +31,19 @@ pub and_then_both : {M : Type 0} (past : Past M) (es more : List Event) (rs othe
 and_then_both past es more rs others = λ i. record { geometry = past.geometry; given = past.given; events = append_assoc past.events es more i; replies = append_assoc past.replies rs others i }
 
 -- what has been answered earlier stays so
-survives_earlier : {M : Type 0} (past : Past M) (es : List Event) (rs : List (Reply M)) (event : Event) (reply : Reply M) (j : ℕ) (c : Image) → length rs ≡ length es → j < length es → SurvivesAt past es rs j c → SurvivesAt past (es ++ event ∷ []) (rs ++ reply ∷ []) j c
-survives_earlier past es rs event reply j c even below was =
-    subst (λ (xs : List Event). Survives (and_then past xs (take (j + 1) (rs ++ reply ∷ []))) (acknowledged_by (and_then past (take j (es ++ event ∷ [])) (take j (rs ++ reply ∷ [])))) c) (sym (take-append-le (j + 1) es (event ∷ []) (omega (arith, below))))
-    (subst (λ (xs : List (Reply _)). Survives (and_then past (take (j + 1) es) xs) (acknowledged_by (and_then past (take j (es ++ event ∷ [])) (take j (rs ++ reply ∷ [])))) c) (sym (take-append-le (j + 1) rs (reply ∷ []) (omega (arith, below, even))))
-    (subst (λ (xs : List (Reply _)). Survives (and_then past (take (j + 1) es) (take (j + 1) rs)) (acknowledged_by (and_then past (take j (es ++ event ∷ [])) xs)) c) (sym (take-append-le j rs (reply ∷ []) (omega (arith, below, even)))) was))
+survives_earlier : {M : Type 0} (past : Past M) (horizon : ℕ) (es : List Event) (rs : List (Reply M)) (event : Event) (reply : Reply M) (j : ℕ) (c : Image) → length rs ≡ length es → j < length es → SurvivesAt past es rs horizon j c → SurvivesAt past (es ++ event ∷ []) (rs ++ reply ∷ []) horizon j c
+survives_earlier past horizon es rs event reply j c even below was =
+    subst (λ (xs : List Event). Survives (and_then past xs (take (j + 1) (rs ++ reply ∷ []))) (max horizon (acknowledged_by (and_then past (take j (es ++ event ∷ [])) (take j (rs ++ reply ∷ []))))) c) (sym (take-append-le (j + 1) es (event ∷ []) (omega (arith, below))))
+    (subst (λ (xs : List (Reply _)). Survives (and_then past (take (j + 1) es) xs) (max horizon (acknowledged_by (and_then past (take j (es ++ event ∷ [])) (take j (rs ++ reply ∷ []))))) c) (sym (take-append-le (j + 1) rs (reply ∷ []) (omega (arith, below, even))))
+    (subst (λ (xs : List (Reply _)). Survives (and_then past (take (j + 1) es) (take (j + 1) rs)) (max horizon (acknowledged_by (and_then past (take j (es ++ event ∷ [])) xs))) c) (sym (take-append-le j rs (reply ∷ []) (omega (arith, below, even)))) was))
 
 -- and what is answered now
-survives_last : {M : Type 0} (past : Past M) (es : List Event) (rs : List (Reply M)) (event : Event) (reply : Reply M) (j : ℕ) (c : Image) → length rs ≡ length es → j ≡ length es → Survives (and_then (and_then past es rs) (event ∷ []) (reply ∷ [])) (acknowledged_by (and_then past es rs)) c → SurvivesAt past (es ++ event ∷ []) (rs ++ reply ∷ []) j c
-survives_last past es rs event reply j c even last was =
-    subst (λ (xs : List Event). Survives (and_then past xs (take (j + 1) (rs ++ reply ∷ []))) (acknowledged_by (and_then past (take j (es ++ event ∷ [])) (take j (rs ++ reply ∷ [])))) c) (sym (take_all (j + 1) (es ++ event ∷ []) (omega (arith, last, length-append es (event ∷ [])))))
-    (subst (λ (xs : List (Reply _)). Survives (and_then past (es ++ event ∷ []) xs) (acknowledged_by (and_then past (take j (es ++ event ∷ [])) (take j (rs ++ reply ∷ [])))) c) (sym (take_all (j + 1) (rs ++ reply ∷ []) (omega (arith, last, even, length-append rs (reply ∷ [])))))
-    (subst (λ (xs : List (Reply _)). Survives (and_then past (es ++ event ∷ []) (rs ++ reply ∷ [])) (acknowledged_by (and_then past (take j (es ++ event ∷ [])) xs)) c) (sym (take_at rs (reply ∷ []) j (omega (arith, last, even))))
-    (subst (λ (p : Past _). Survives p (acknowledged_by (and_then past es rs)) c) (and_then_both past es (event ∷ []) rs (reply ∷ [])) was)))
+survives_last : {M : Type 0} (past : Past M) (horizon : ℕ) (es : List Event) (rs : List (Reply M)) (event : Event) (reply : Reply M) (j : ℕ) (c : Image) → length rs ≡ length es → j ≡ length es → Survives (and_then (and_then past es rs) (event ∷ []) (reply ∷ [])) (max horizon (acknowledged_by (and_then past es rs))) c → SurvivesAt past (es ++ event ∷ []) (rs ++ reply ∷ []) horizon j c
+survives_last past horizon es rs event reply j c even last was =
+    subst (λ (xs : List Event). Survives (and_then past xs (take (j + 1) (rs ++ reply ∷ []))) (max horizon (acknowledged_by (and_then past (take j (es ++ event ∷ [])) (take j (rs ++ reply ∷ []))))) c) (sym (take_all (j + 1) (es ++ event ∷ []) (omega (arith, last, length-append es (event ∷ [])))))
+    (subst (λ (xs : List (Reply _)). Survives (and_then past (es ++ event ∷ []) xs) (max horizon (acknowledged_by (and_then past (take j (es ++ event ∷ [])) (take j (rs ++ reply ∷ []))))) c) (sym (take_all (j + 1) (rs ++ reply ∷ []) (omega (arith, last, even, length-append rs (reply ∷ [])))))
+    (subst (λ (xs : List (Reply _)). Survives (and_then past (es ++ event ∷ []) (rs ++ reply ∷ [])) (max horizon (acknowledged_by (and_then past (take j (es ++ event ∷ [])) xs))) c) (sym (take_at rs (reply ∷ []) j (omega (arith, last, even))))
+    (subst (λ (p : Past _). Survives p (max horizon (acknowledged_by (and_then past es rs))) c) (and_then_both past es (event ∷ []) rs (reply ∷ [])) was)))
 
 module _ {D M : Type 0} (history : D → History) (past : Past M) where
   pub goes_nowhere : (old : Parts D M) → IsAt history past old → GoesOn history past [] [] old old
@@ -52,26 +53,29 @@ module _ {D M : Type 0} (history : D → History) (past : Past M) where
     borders = [];
     one_each = refl;
     spans = refl;
+    grows = omega arith;
   }
 
   pub goes_further : (es : List Event) (rs : List (Reply M)) (old mid new : Parts D M) (event : Event) (reply : Reply M) → length rs ≡ length es → GoesOn history past es rs old mid → ServesOn history event reply mid new → GoesOn history past (es ++ event ∷ []) (rs ++ reply ∷ []) old new
   goes_further es rs old mid new event reply even ran serves = record {
     at = subst (λ (p : Past _). IsAt history p new) (and_then_both past es (event ∷ []) rs (reply ∷ [])) served.0;
-    kept = λ t le. served.1.kept t (omega (arith, le, spans_rise (history (device_of mid)).disk_at (SurvivesAt past es rs) 0 (history (device_of old)).moment ran.borders (history (device_of mid)).moment ran.spans)) ∙ ran.kept t le;
+    kept = λ t le. served.1.kept t (omega (arith, le, spans_rise (history (device_of mid)).disk_at (SurvivesAt past es rs (horizon_of old)) 0 (history (device_of old)).moment ran.borders (history (device_of mid)).moment ran.spans)) ∙ ran.kept t le;
     borders = ran.borders ++ (history (device_of new)).moment ∷ [];
     one_each = omega (arith, ran.one_each, length-append ran.borders ((history (device_of new)).moment ∷ []), length-append es (event ∷ []));
     spans = spans_push (history (device_of new)).disk_at after 0 (history (device_of old)).moment ran.borders (history (device_of mid)).moment (history (device_of new)).moment
         (spans_kept (history (device_of mid)).disk_at (history (device_of new)).disk_at after 0 (history (device_of old)).moment ran.borders (history (device_of mid)).moment served.1.kept
-        (spans_map (history (device_of mid)).disk_at (SurvivesAt past es rs) after 0 (history (device_of old)).moment ran.borders (history (device_of mid)).moment
-        (λ i low high c was. survives_earlier past es rs event reply i c even (omega (arith, high, ran.one_each)) was) ran.spans))
+        (spans_map (history (device_of mid)).disk_at (SurvivesAt past es rs (horizon_of old)) after 0 (history (device_of old)).moment ran.borders (history (device_of mid)).moment
+        (λ i low high c was. survives_earlier past (horizon_of old) es rs event reply i c even (omega (arith, high, ran.one_each)) was) ran.spans))
         served.1.later
-        (λ t c low high crash. survives_last past es rs event reply (0 + length ran.borders) c even (omega (arith, ran.one_each)) (served.1.each t c low high crash));
+        (λ t c low high crash. survives_last past (horizon_of old) es rs event reply (0 + length ran.borders) c even (omega (arith, ran.one_each))
+        (survives_lower (and_then (and_then past es rs) (event ∷ []) (reply ∷ [])) (horizon_of mid) (max (horizon_of old) (acknowledged_by (and_then past es rs))) c (served.1.each t c low high crash) (omega (arith, ran.grows, ran.at.safe))));
+    grows = omega (arith, ran.grows, served.2);
   }
     where
       after : ℕ → Image → Type 0
-      after = SurvivesAt past (es ++ event ∷ []) (rs ++ reply ∷ [])
+      after = SurvivesAt past (es ++ event ∷ []) (rs ++ reply ∷ []) (horizon_of old)
 
-      served : IsAt history (and_then (and_then past es rs) (event ∷ []) (reply ∷ [])) new × LeavesOnly (history (device_of mid)) (history (device_of new)) (Survives (and_then (and_then past es rs) (event ∷ []) (reply ∷ [])) (acknowledged_by (and_then past es rs)))
+      served : IsAt history (and_then (and_then past es rs) (event ∷ []) (reply ∷ [])) new × LeavesOnly (history (device_of mid)) (history (device_of new)) (Survives (and_then (and_then past es rs) (event ∷ []) (reply ∷ [])) (horizon_of mid)) × (horizon_of mid ≤ horizon_of new)
       served = serves (and_then past es rs) ran.at
 
 pub lawful_last : {D M : Type 0} (failures : D → ℕ) (es : List Event) (rs : List (Reply M)) (event : Event) (reply : Reply M) (old mid new : Parts D M) → AreLawful failures es rs old mid → IsLawful failures event reply mid new → AreLawful failures (es ++ event ∷ []) (rs ++ reply ∷ []) old new

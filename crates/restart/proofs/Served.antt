@@ -1,5 +1,5 @@
 -- A request that the core serves leaves the engine where the run says.
-use Rattle.std.proofs.Common.{◌≡◌, ℕ, List, Option, Some, [], ◌∷◌, ◌++◌, sym, ◌∙◌, ap, subst, arith}
+use Rattle.std.proofs.Common.{◌≡◌, ℕ, ◌≤◌, List, Option, Some, [], ◌∷◌, ◌++◌, sym, ◌∙◌, ap, subst, arith}
 use Rattle.core_contracts.specs.Events as core
 use Rattle.core_contracts.specs.Events.{standing_after}
 use Rattle.core_contracts.specs.Replies.{after_any}
@@ -67,10 +67,10 @@ module _ {D M : Type 0} (history : D → History) (x : Event) (e : core.Event) (
         (stands_then history (run_of past is.made) is.handed is.state is.standing old is.stands laws new e in_core.reply answer in_core.rest)
         (omega (arith, quiet (acknowledged_by past), is.safe, same_horizon))
 
-    pub leaves_then : LeavesOnly (history (device_of (writer_of old))) (history (device_of (writer_of new))) (Survives (and_then past (x ∷ []) (r ∷ [])) (acknowledged_by past))
-    leaves_then = subst (λ w. LeavesOnly (history (device_of w)) (history (device_of (writer_of new))) (Survives (and_then past (x ∷ []) (r ∷ [])) (acknowledged_by past))) (ap (λ (e : Parts D M). writer_of e) in_core.rest)
-        (started (history (device_of (writer_of new))) (Survives (and_then past (x ∷ []) (r ∷ [])) (acknowledged_by past))
-        (λ image crash. crash_since history (and_then past (x ∷ []) (r ∷ [])) new at_then (acknowledged_by past) (omega (arith, is.safe, same_horizon)) image crash))
+    pub leaves_then : LeavesOnly (history (device_of (writer_of old))) (history (device_of (writer_of new))) (Survives (and_then past (x ∷ []) (r ∷ [])) (horizon_of old))
+    leaves_then = subst (λ w. LeavesOnly (history (device_of w)) (history (device_of (writer_of new))) (Survives (and_then past (x ∷ []) (r ∷ [])) (horizon_of old))) (ap (λ (e : Parts D M). writer_of e) in_core.rest)
+        (started (history (device_of (writer_of new))) (Survives (and_then past (x ∷ []) (r ∷ [])) (horizon_of old))
+        (λ image crash. crash_since history (and_then past (x ∷ []) (r ∷ [])) new at_then (horizon_of old) (omega (arith, same_horizon)) image crash))
 
-    pub served : IsAt history (and_then past (x ∷ []) (r ∷ [])) new × LeavesOnly (history (device_of (writer_of old))) (history (device_of (writer_of new))) (Survives (and_then past (x ∷ []) (r ∷ [])) (acknowledged_by past))
-    served = (at_then, leaves_then)
+    pub served : IsAt history (and_then past (x ∷ []) (r ∷ [])) new × LeavesOnly (history (device_of (writer_of old))) (history (device_of (writer_of new))) (Survives (and_then past (x ∷ []) (r ∷ [])) (horizon_of old)) × (horizon_of old ≤ horizon_of new)
+    served = (at_then, leaves_then, omega (arith, same_horizon))

@@ -54,7 +54,7 @@ use Rattle.restart.specs.Copies.{CannotFlip, CannotTake, IsCopyAnswer}
 use Rattle.restart.specs.History.{core_calls, standing_over}
 use Rattle.restart.specs.Parts.{core_of, device_of, has_failed, horizon_of, unhanded, unwritten, writer_of}
 use Rattle.restart.specs.Settling.{CopiesAnew, IsFresh, IsSettled, WritesWhole, giving_up}
-use Rattle.restart.specs.Store.{CanRun, IsAt, Past, ServesOn, StandsAt, Survives, acknowledged_by, and_then}
+use Rattle.restart.specs.Store.{CanRun, IsAt, Past, ServesOn, StandsAt, Survives, and_then}
 use Rattle.restart.proofs.Copied.{all_handed}
 use Rattle.restart.proofs.Numbers.{count_between}
 use Rattle.restart.proofs.Told.{pairs_last}
@@ -351,6 +351,6 @@ written_whole history failures r n old new is told can quiet txns shown one =
           (settled history new can (ap (λ (v : CoreValue). v.txns.active) core_is ∙ quiet) (current.all refl) well.sound (current.emptied refl) current.none
           (subst IsSound (sym (ap (λ (v : CoreValue). v.txns) core_is)) txns) shown one);
       quiet = well.quiet;
-      survives = λ past is. weaker (history (device_of old)) (history (device_of new)) _ (Survives past (acknowledged_by past)) (survives_without past (reply.Flipped n) is.answered (acknowledged_by past)) (copies.runs past is).1;
+      survives = λ past is. weaker (history (device_of old)) (history (device_of new)) _ (Survives past (horizon_of old)) (survives_without past (reply.Flipped n) is.answered (horizon_of old)) (copies.runs past is).1;
       around = copies.around;
     }

@@ -18,7 +18,7 @@ use Rattle.sector_device.specs.History.{History, LeavesOnly}
 use Rattle.sector_device.proofs.Moments.{at_end, weaker}
 use Rattle.sector_device.proofs.Sectors.{content_is_image, crash_synced}
 use Rattle.gate_log.specs.Area.{Refuses}
-use Rattle.recovery.specs.Reopening.{IsLeft, IsWrittenBack}
+use Rattle.store_opener.specs.Reopening.{ReopeningLeaves, IsWrittenBack}
 use Rattle.store_reader.specs.Contents.{Gives, IsUnreadable}
 use Rattle.restart.specs.declared.parts.Parts.{Parts}
 use Rattle.restart.specs.Building.{HasCome}
@@ -26,7 +26,7 @@ use Rattle.restart.specs.History.{core_calls}
 use Rattle.restart.specs.Parts.{core_of}
 use Rattle.restart.specs.Reopening.{IsNotOpened, IsOpened, IsTurned, opening}
 use Rattle.restart.specs.Store.{IsAt, Past, Survives, items_told, over}
-use Rattle.restart.specs.Story.{BeginsOver, GivesStory, IsLeftOf, KeepsStory, Story, and_run, untold}
+use Rattle.restart.specs.Story.{BeginsOver, GivesStory, IsLeftOf, KeepsStory, Story, and_run, begun_with, untold}
 
 -- ---- items up to a number, and then up to a later one
 
@@ -61,6 +61,16 @@ begins_untold g can image gives = record {
     none_there : (p : Pair) → map.get nothing.entries p ≡ Some Live → ⊥
     none_there p live = let none : map.get nothing.entries p ≡ None = map.get-empty pair_cmp p in absurd cc
 
+-- ---- a device to which a store was moved
+
+pub begins_so : (g : GeometryValue) (given : Given) → CanOpen (over g given) → (image : Image) → Gives image g given → GivesStory (begun_with g given) image
+begins_so g given can image gives = record {
+  given = given;
+  gives = gives;
+  left = record { beginning = record { has_floor = omega arith; table = refl; life = refl; shown = can.sound }; within = omega arith };
+  opens = can;
+}
+
 -- ---- a device whose power fails
 
 pub kept_synced : {D : Type 0} (history : D → History) (story : Story) (device : D) → IsSynced (history device).disk → GivesStory story (history device).disk.content → KeepsStory history story device
@@ -79,13 +89,13 @@ module _ {D : Type 0} (history : D → History) (story : Story) (before : D) (ke
   now_gives = kept (history before).disk.content (content_is_image (history before).disk (history before).whole)
 
   module _ (back : (old image : Image) → IsWrittenBack old image → (g : GeometryValue) (given : Given) → Gives old g given → Gives image g given) (after : D) (turned : IsTurned history before after) where
-    each_left : (image : Image) → IsLeft (history before).disk image → GivesStory story image
+    each_left : (image : Image) → ReopeningLeaves (history before).disk image → GivesStory story image
     each_left image = ⊎_elim
         (λ crash. kept image crash)
         (λ written. record { given = now_gives.given; gives = back (history before).disk.content image written story.geometry now_gives.given now_gives.gives; left = now_gives.left; opens = now_gives.opens })
 
     pub kept_between : LeavesOnly (history before) (history after) (GivesStory story)
-    kept_between = weaker (history before) (history after) (IsLeft (history before).disk) (GivesStory story) each_left turned.images
+    kept_between = weaker (history before) (history after) (ReopeningLeaves (history before).disk) (GivesStory story) each_left turned.images
 
     pub kept_behind : KeepsStory history story after
     kept_behind = at_end (history before) (history after) (GivesStory story) kept_between
@@ -126,10 +136,10 @@ module _ {M : Type 0} (story : Story) (past : Past M) (floor : ℕ) (image : Ima
         has_floor = left.beginning.has_floor;
         table =
             left.beginning.table ∙ ap (λ (t : Table). table_after t (up_to left.given.last (items_told past))) is.beginning.table
-            ∙ sym (table_after-append nothing.table (up_to past.given.last story.items) (up_to left.given.last (items_told past))) ∙ ap (table_after nothing.table) (sym both);
+            ∙ sym (table_after-append story.began.table (up_to past.given.last story.items) (up_to left.given.last (items_told past))) ∙ ap (table_after story.began.table) (sym both);
         life =
             left.beginning.life ∙ ap (λ (l : Life). life_after l (up_to left.given.last (items_told past))) is.beginning.life
-            ∙ sym (life_after-append nothing.life (up_to past.given.last story.items) (up_to left.given.last (items_told past))) ∙ ap (life_after nothing.life) (sym both);
+            ∙ sym (life_after-append story.began.life (up_to past.given.last story.items) (up_to left.given.last (items_told past))) ∙ ap (life_after story.began.life) (sym both);
         shown = left.beginning.shown;
       };
       within = left.within;

@@ -92,9 +92,9 @@ module _ {D M : Type 0} (history : D → History) (past : Past M) (old new : Par
       safe = omega (arith, safe, acknowledged_both past.given.last past.replies (r ∷ []));
     }
 
-    -- what a crash leaves while it is served, where the writer has all records up to number `handed`
-    pub left_then : (n : ℕ) → past.given.last ≤ n → acknowledged_by past ≤ n → handed ≤ end_of (run_of past made) → (image : Image) → LeftBy (run_of past made) n handed image → Survives later (acknowledged_by past) image
-    left_then n low reached within image left = survives later made s k is.opens told_then handed n (acknowledged_by past) image within low reached left
+    -- what a crash leaves while it is served, where the writer has all records up to number `handed`, and those up to `n` are synced
+    pub left_then : (n : ℕ) → past.given.last ≤ n → handed ≤ end_of (run_of past made) → (image : Image) → LeftBy (run_of past made) n handed image → Survives later n image
+    left_then n low within image left = survives later made s k is.opens told_then handed n n image within low (omega arith) left
 
 -- ---- at any time
 
@@ -104,7 +104,12 @@ pub crash_since : {D M : Type 0} (history : D → History) (past : Past M) (engi
 crash_since history past engine is floor safe image crash =
     survives past is.made is.state is.standing is.opens is.served is.handed (horizon_of engine) floor image is.stands.writer.made is.stands.writer.opened safe (is.stands.writer.images image crash)
 
--- with all that was acknowledged
-pub crash_now : {D M : Type 0} (history : D → History) (past : Past M) (engine : Parts D M) → IsAt history past engine → (image : Image) → IsCrashImage (history (device_of (writer_of engine))).disk image
-    → Survives past (acknowledged_by past) image
-crash_now history past engine is image crash = crash_since history past engine is (acknowledged_by past) is.safe image crash
+-- what has every item up to a floor has those up to a lower one
+pub survives_lower : {M : Type 0} (past : Past M) (floor lower : ℕ) (image : Image) → Survives past floor image → lower ≤ floor → Survives past lower image
+survives_lower past floor lower image left le = record {
+  given = left.given;
+  gives = left.gives;
+  beginning = lower_floor past.given (items_told past) floor lower left.given left.beginning le;
+  within = left.within;
+  opens = left.opens;
+}

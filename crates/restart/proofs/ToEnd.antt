@@ -2,7 +2,7 @@
 use Rattle.std.proofs.Common.{Option, Some, ap, arith, refl, subst, sym, ℕ, ◌+◌, ◌<◌, ◌∙◌, ◌≡◌, ◌≢◌, ◌≤◌}
 use Rattle.records.specs.declared.pair.Pair.{Pair}
 use Rattle.model.specs.declared.life.Life.{Life}
-use Rattle.model.specs.declared.life.Life.TheVariants.{Building, Complete}
+use Rattle.model.specs.declared.life.Life.TheVariants.{Absent, Building, Complete}
 use Rattle.core_model.specs.States.{State}
 use Rattle.core_model.specs.Steps.{CanAttempt, IsBuilding, MachineStep, attempted}
 use Rattle.core_contracts.specs.Events as core
@@ -64,11 +64,18 @@ building_still life building complete = absurd_building building.0 (sym building
     absurd_building : (highest : Option Pair) → Building highest ≡ Complete → ⊥
     absurd_building highest e = cc
 
+building_there : (life : Life) → IsBuilding life → life ≢ Absent
+building_there life building none = absurd_building building.0 (sym building.1 ∙ none)
+  where
+    absurd_building : (highest : Option Pair) → Building highest ≡ Absent → ⊥
+    absurd_building highest e = cc
+
 -- what a step leaves that isn't the last
 pub record IsLess (v v' : CoreValue) (scanned n : ℕ) : Type 0 where
   pub less : work_of v' n < work_of v scanned
   pub going : IsGoing v' n
   pub unfinished : v'.life ≢ Complete
+  pub there : v'.life ≢ Absent
 
 module _ (v v' : CoreValue) (s : State) (k : Standing) (is : IsState v s k) (scanned : ℕ) (so_many : scanned ≤ k.scanned) where
   falls : (b : core.BuildReply) (a : Answers v s k core.Build (core.Built b) v') (n : ℕ) → work_at (after_any s (build_step b)) (standing_after k (core.Built b)) n < work_at s k scanned → work_of v' n < work_of v scanned
@@ -76,24 +83,25 @@ module _ (v v' : CoreValue) (s : State) (k : Standing) (is : IsState v s k) (sca
       subst (λ m. m < work_of v scanned) (same_work v' (after_any s (build_step b)) (standing_after k (core.Built b)) (shown_then v v' s k is b a) n)
       (subst (λ m. work_at (after_any s (build_step b)) (standing_after k (core.Built b)) n < m) (same_work v s k is.shown scanned) less)
 
-  made_less : (b : core.BuildReply) (a : Answers v s k core.Build (core.Built b) v') (n : ℕ) → n ≤ (standing_after k (core.Built b)).scanned → (after_any s (build_step b)).life ≢ Complete
+  made_less : (b : core.BuildReply) (a : Answers v s k core.Build (core.Built b) v') (n : ℕ) → n ≤ (standing_after k (core.Built b)).scanned → IsBuilding (after_any s (build_step b)).life
       → work_at (after_any s (build_step b)) (standing_after k (core.Built b)) n < work_at s k scanned → IsLess v v' scanned n
   made_less b a n few on less = record {
     less = falls b a n less;
     going = record { state = after_any s (build_step b); standing = standing_after k (core.Built b); is = next v v' s k is b a; so_many = few };
-    unfinished = λ complete. on ((shown_then v v' s k is b a).life ∙ complete);
+    unfinished = λ complete. building_still (after_any s (build_step b)).life on ((shown_then v v' s k is b a).life ∙ complete);
+    there = λ none. building_there (after_any s (build_step b)).life on ((shown_then v v' s k is b a).life ∙ none);
   }
 
   pub after_scan : (page : ℕ) → Answers v s k core.Build (core.Built (core.Scanned page)) v' → IsLess v v' scanned (page + 1)
   after_scan page a =
       let d = (due v v' s k is (core.Scanned page) a).0 in
-      made_less (core.Scanned page) a (page + 1) (omega (arith, d.1)) (building_still s.life d.0.0)
+      made_less (core.Scanned page) a (page + 1) (omega (arith, d.1)) d.0.0
       (scan_falls s.pages s.places s.entries s.bound k.attempts scanned page (omega (arith, d.1, so_many)) d.2)
 
   pub after_mark : (p : Pair) (n : ℕ) → Answers v s k core.Build (core.Built (core.BuildReply.Marked p n)) v' → IsLess v v' scanned scanned
   after_mark p n a =
       let d = (due v v' s k is (core.BuildReply.Marked p n) a).0 in
-      made_less (core.BuildReply.Marked p n) a scanned so_many (building_still (Building (Some p)) (Some p, refl))
+      made_less (core.BuildReply.Marked p n) a scanned so_many (Some p, refl)
       (mark_falls s.pages s.places s.entries s.bound k.attempts scanned d.1)
 
   enabled : (b : core.BuildReply) (a : Answers v s k core.Build (core.Built b) v') → IsEnabledAny s (build_step b)
@@ -105,12 +113,12 @@ module _ (v v' : CoreValue) (s : State) (k : Standing) (is : IsState v s k) (sca
   pub after_placed : (p : Pair) → Answers v s k core.Build (core.Built (core.Placed p)) v' → IsLess v v' scanned 0
   after_placed p a =
       let d = (due v v' s k is (core.Placed p) a).0 in
-      made_less (core.Placed p) a 0 (omega arith) (building_still s.life d.0.0) (attempt_less p (enabled (core.Placed p) a))
+      made_less (core.Placed p) a 0 (omega arith) d.0.0 (attempt_less p (enabled (core.Placed p) a))
 
   pub after_rejected : (p : Pair) → Answers v s k core.Build (core.Built (core.Rejected p)) v' → IsLess v v' scanned 0
   after_rejected p a =
       let d = (due v v' s k is (core.Rejected p) a).0 in
-      made_less (core.Rejected p) a 0 (omega arith) (building_still s.life d.0.0) (attempt_less p (enabled (core.Rejected p) a))
+      made_less (core.Rejected p) a 0 (omega arith) d.0.0 (attempt_less p (enabled (core.Rejected p) a))
 
   pub not_idle : v.life ≢ Complete → Answers v s k core.Build (core.Built core.Idle) v' → ⊥
   not_idle unfinished a = unfinished (sym is.shown.life ∙ (due v v' s k is core.Idle a).0)

@@ -1,7 +1,7 @@
 -- A build that goes on to its end.
 use Rattle.std.specs.List.{All}
-use Rattle.std.specs.Prelude.{max, Err, List, None, Ok, Option, Result, Some, ℕ, ◌+◌, [], ◌++◌, ◌↔◌, ◌∷◌, ◌≡◌, ◌≢◌, ◌⊎◌}
-use Rattle.std.specs.FinMap.{get}
+use Rattle.std.specs.Prelude.{max, Err, List, None, Ok, Option, Result, Some, ℕ, ◌+◌, [], ◌++◌, ◌↔◌, ◌∷◌, ◌≡◌, ◌≢◌, ◌≤◌, ◌⊎◌}
+use Rattle.std.specs.FinMap.{get, len}
 use Rattle.records.specs.RecordValue.{RecordValue}
 use Rattle.records.specs.declared.error.Error.{Error}
 use Rattle.records.specs.declared.pair.Mark.TheVariants.{Live}
@@ -24,8 +24,8 @@ use Rattle.restart.specs.declared.event.Event.TheVariants as event
 use Rattle.restart.specs.declared.event.Reply.{Reply}
 use Rattle.restart.specs.declared.event.Reply.TheVariants as reply
 use Rattle.restart.specs.Lawful.{ServesInCore}
-use Rattle.restart.specs.Parts.{core_of, device_of}
-use Rattle.restart.specs.Store.{Past, IsAt, Survives, acknowledged_by, and_then}
+use Rattle.restart.specs.Parts.{core_of, device_of, horizon_of}
+use Rattle.restart.specs.Store.{Past, IsAt, Survives, and_then}
 
 -- ---- the steps
 
@@ -108,13 +108,17 @@ IsEnd (Err e) replies old = (old.life ≢ Complete) × EndsWith (reply.Refused e
 
 -- The engine went on by steps of the builder alone, to the end that is answered; and where some run had left it, it is
 -- where that run with these requests leaves it, and a crash at any moment of them leaves a prefix of the history with them,
--- which holds what was acknowledged before.
+-- which holds every record up to the horizon before, and so what was acknowledged.
 pub record IsBuiltToEnd {D M : Type 0} (history : D → History) (result : Result Ticket Error) (old new : Parts D M) : Type 0 where
   pub replies : List (Reply M)
   pub each : AreBuilt replies old new
   pub ends : IsEnd result replies (core_of old)
   pub at : (past : Past M) → IsAt history past old → IsAt history (and_then past (builds replies) replies) new
-  pub survives : (past : Past M) → IsAt history past old → LeavesOnly (history (device_of old)) (history (device_of new)) (Survives (and_then past (builds replies) replies) (acknowledged_by past))
+  pub survives : (past : Past M) → IsAt history past old → LeavesOnly (history (device_of old)) (history (device_of new)) (Survives (and_then past (builds replies) replies) (horizon_of old))
+
+-- each place of the index is taken by an entry, or pledged to a transaction
+abbrev pub IsIndexFull : CoreValue → Type 0
+IsIndexFull v = v.index.capacity ≤ len v.index.entries + v.index.pledged
 
 -- ---- what is built
 

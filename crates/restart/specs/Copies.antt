@@ -40,10 +40,10 @@ IsCopying pages (Steps place) image = (image ≡ None) ⊎ IsAtPlace pages place
 IsCopying pages GivenUp image = Unit {0}
 
 -- the piece of this place is due: the start always, and another as an image that is copied in steps is there
-abbrev pub IsDue : (pages : ℕ) → CopyPlace → Option NewImage → Type 0
-IsDue pages at.Start image = Unit {0}
-IsDue pages (at.Page page) image = IsCopying pages (Steps (Some (at.Page page))) image
-IsDue pages (at.Entries above) image = IsCopying pages (Steps (Some (at.Entries above))) image
+abbrev pub IsPieceDue : (pages : ℕ) → CopyPlace → Option NewImage → Type 0
+IsPieceDue pages at.Start image = Unit {0}
+IsPieceDue pages (at.Page page) image = IsCopying pages (Steps (Some (at.Page page))) image
+IsPieceDue pages (at.Entries above) image = IsCopying pages (Steps (Some (at.Entries above))) image
 
 -- the log of an image under way has groups in half its slots at most
 abbrev pub IsHalfOpen : (slots : ℕ) → Option NewImage → Type 0

@@ -9,6 +9,7 @@ pub mod Lawful
 pub mod Ran
 pub mod Building
 pub mod Reopening
+pub mod Migrating
 pub mod Story
 pub mod Groups
 pub mod Repeated

@@ -10,7 +10,7 @@ use Rattle.gate_log.specs.Area.{Log, Refuses}
 use Rattle.flip_image.specs.Layout.{HalvesValue, other}
 use Rattle.flip_image.specs.Store.{IsStore}
 use Rattle.store_reader.specs.Contents.{Gives, IsUnreadable}
-use Rattle.recovery.specs.Reopening.{IsLeft, IsWrittenBack}
+use Rattle.store_opener.specs.Reopening.{ReopeningLeaves, IsWrittenBack}
 use Rattle.core_loader.specs.Loaded.{holding}
 use Rattle.core_model.specs.Histories.{CanOpen, opened}
 use Rattle.core_contracts.specs.Events.{standing_at}
@@ -31,7 +31,7 @@ opening geometry given = record { geometry = geometry; given = given; events = [
 -- this was done: a crash at any moment leaves what one before could, or what gives the same as the device did; and so does the
 -- device, now.
 pub record IsTurned {D : Type 0} (history : D → History) (before after : D) : Type 0 where
-  pub images : LeavesOnly (history before) (history after) (IsLeft (history before).disk)
+  pub images : LeavesOnly (history before) (history after) (ReopeningLeaves (history before).disk)
   pub now : ((history after).disk.content ≡ (history before).disk.content) ⊎ IsWrittenBack (history before).disk.content (history after).disk.content
 
 -- Nothing was written: the device holds what it held, and a crash at any moment leaves what one before could.

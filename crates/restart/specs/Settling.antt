@@ -22,8 +22,8 @@ use Rattle.restart.specs.declared.event.Reply.{Reply}
 use Rattle.restart.specs.declared.event.Reply.TheVariants.{Refused}
 use Rattle.restart.specs.declared.parts.Parts.{Parts}
 use Rattle.restart.specs.Copies.{IsCopyAnswer}
-use Rattle.restart.specs.Parts.{core_of, device_of, writer_of}
-use Rattle.restart.specs.Store.{CopiesAround, InCopy, IsAt, Past, ServesOn, Survives, acknowledged_by}
+use Rattle.restart.specs.Parts.{core_of, device_of, horizon_of, writer_of}
+use Rattle.restart.specs.Store.{CopiesAround, InCopy, IsAt, Past, ServesOn, Survives}
 
 -- A core over the rows, the entries, the index's life and the last record's number that another holds, as a restart makes one: no
 -- transaction was begun in it, and it has built and cleaned nothing.
@@ -58,12 +58,12 @@ pub record CopiesAnew {D M : Type 0} (history : D → History) (failures : D →
   pub around : CopiesAround history old new
 
 -- All that the engine holds was written as a whole image, which is current: its records that weren't synced are in it. No call of the
--- device failed, and a crash at any moment leaves a prefix of whatever run the engine served, with everything acknowledged. No sector
--- was written but those that a copy writes.
+-- device failed, and a crash at any moment leaves a prefix of whatever run the engine served, with every record up to its horizon, and
+-- so with everything acknowledged. No sector was written but those that a copy writes.
 pub record WritesWhole {D M : Type 0} (history : D → History) (failures : D → ℕ) (engine : Parts D M) (w : Writer D M) : Type 0 where
   pub settled : IsSettled history (opened_of (core_of engine)) w
   pub quiet : failures (parts.device_of w) ≡ failures (device_of engine)
-  pub survives : (past : Past M) → IsAt history past engine → LeavesOnly (history (device_of engine)) (history (parts.device_of w)) (Survives past (acknowledged_by past))
+  pub survives : (past : Past M) → IsAt history past engine → LeavesOnly (history (device_of engine)) (history (parts.device_of w)) (Survives past (horizon_of engine))
   pub around : WritesOnly history (InCopy (halves_of (writer_of engine))) (device_of engine) (parts.device_of w)
 
 -- there was no memory for it, or the device failed: the engine's run goes on, by a copy that was refused so

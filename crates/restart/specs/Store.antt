@@ -1,5 +1,5 @@
 -- What the store has done so far, and what a crash of its device leaves.
-use Rattle.std.specs.Prelude.{false, ◌≡◌, ◌≢◌, ◌⊎◌, ◌≤◌, ◌+◌, ℕ, List, [], ◌∷◌, ◌++◌, length, take}
+use Rattle.std.specs.Prelude.{false, max, ◌≡◌, ◌≢◌, ◌⊎◌, ◌≤◌, ◌+◌, ℕ, List, [], ◌∷◌, ◌++◌, length, take}
 use Rattle.records.specs.GeometryValue.{GeometryValue}
 use Rattle.records.specs.RecordValue.{RecordValue}
 use Rattle.model.specs.Given.{Given, IsBeginning, opening_cells}
@@ -106,12 +106,14 @@ pub record IsAt {D M : Type 0} (history : D → History) (past : Past M) (engine
 abbrev pub CanRun : {D M : Type 0} → (D → History) → Parts D M → Type 0
 CanRun {D} {M} history engine = (run : Run) × (handed : ℕ) × (s : State) × (k : Standing) × StandsAt history run handed s k engine
 
--- One request was answered so: the engine is where it leaves it, and a crash at any moment of it leaves a prefix of
--- the history with it, which holds what was acknowledged before.
+-- One request was answered so: the engine is where it leaves it; a crash at any moment of it leaves a prefix of the history with it,
+-- which holds every record up to the horizon that the engine had before, and so what was acknowledged (`safe` of `IsAt`); and the
+-- horizon doesn't fall.
 abbrev pub ServesOn : {D M : Type 0} → (D → History) → Event → Reply M → Parts D M → Parts D M → Type 0
 ServesOn {D} {M} history event reply old new = (past : Past M) → IsAt history past old
     → IsAt history (and_then past (event ∷ []) (reply ∷ [])) new
-    × LeavesOnly (history (device_of old)) (history (device_of new)) (Survives (and_then past (event ∷ []) (reply ∷ [])) (acknowledged_by past))
+    × LeavesOnly (history (device_of old)) (history (device_of new)) (Survives (and_then past (event ∷ []) (reply ∷ [])) (horizon_of old))
+    × (horizon_of old ≤ horizon_of new)
 
 -- Only the store's log was written, and where an image is under way that of its half: each other sector of the device holds what
 -- it held before, and so it does after a crash at any moment of the call, if it was synced before.
@@ -141,26 +143,29 @@ abbrev pub HaveNoCopy : List Event → Type 0
 HaveNoCopy [] = Unit {0}
 HaveNoCopy (event ∷ events) = (event ≢ requests.Copy) × HaveNoCopy events
 
--- what a crash between borders j and j + 1 leaves of a run that answered these requests
-abbrev pub SurvivesAt : {M : Type 0} → Past M → List Event → List (Reply M) → ℕ → Image → Type 0
-SurvivesAt past events replies j = Survives (and_then past (take (j + 1) events) (take (j + 1) replies)) (acknowledged_by (and_then past (take j events) (take j replies)))
+-- What a crash between borders j and j + 1 leaves of a run that answered these requests: it holds every record up to this horizon, the
+-- engine's before the first of them, and what the first j replies acknowledged.
+abbrev pub SurvivesAt : {M : Type 0} → Past M → List Event → List (Reply M) → (horizon : ℕ) → ℕ → Image → Type 0
+SurvivesAt past events replies horizon j = Survives (and_then past (take (j + 1) events) (take (j + 1) replies)) (max horizon (acknowledged_by (and_then past (take j events) (take j replies))))
 
 -- The run went on by these requests: the engine is where they leave it; and there are moments that rise from the
--- call's start to its end, one at the end of each request, between which each crash leaves such a prefix.
+-- call's start to its end, one at the end of each request, between which each crash leaves such a prefix. The horizon doesn't fall.
 pub record GoesOn {D M : Type 0} (history : D → History) (past : Past M) (events : List Event) (replies : List (Reply M)) (old new : Parts D M) : Type 0 where
   pub at : IsAt history (and_then past events replies) new
   pub kept : (t : ℕ) → t ≤ (history (device_of old)).moment → (history (device_of new)).disk_at t ≡ (history (device_of old)).disk_at t
   pub borders : List ℕ
   pub one_each : length borders ≡ length events
-  pub spans : Spans (history (device_of new)).disk_at (SurvivesAt past events replies) 0 (history (device_of old)).moment borders (history (device_of new)).moment
+  pub spans : Spans (history (device_of new)).disk_at (SurvivesAt past events replies (horizon_of old)) 0 (history (device_of old)).moment borders (history (device_of new)).moment
+  pub grows : horizon_of old ≤ horizon_of new
 
--- Each request in turn was answered lawfully, from where the run had left the engine to where it leaves it then.
+-- Each request in turn was answered lawfully, from where the run had left the engine to where it leaves it then; a crash at any moment
+-- of it leaves every record up to the horizon that the engine had as this request began.
 abbrev pub AreServed : {D M : Type 0} → (D → History) → (D → ℕ) → Past M → List Event → List (Reply M) → Parts D M → Parts D M → Type 0
 AreServed history failures past [] [] old new = new ≡ old
 AreServed {D} {M} history failures past (event ∷ events) (reply ∷ replies) old new =
     (mid : Parts D M) × IsLawful failures event reply old mid
     × IsAt history (and_then past (event ∷ []) (reply ∷ [])) mid
-    × LeavesOnly (history (device_of old)) (history (device_of mid)) (Survives (and_then past (event ∷ []) (reply ∷ [])) (acknowledged_by past))
+    × LeavesOnly (history (device_of old)) (history (device_of mid)) (Survives (and_then past (event ∷ []) (reply ∷ [])) (horizon_of old))
     × AreServed history failures (and_then past (event ∷ []) (reply ∷ [])) events replies mid new
 AreServed history failures past [] (reply ∷ replies) old new = ⊥
 AreServed history failures past (event ∷ events) [] old new = ⊥

@@ -1,10 +1,11 @@
--- The story of a store from its formatting on, in words that know no allocator.
+-- The story of a store from its beginning on, in words that know no allocator.
 use Rattle.std.specs.List.{All}
-use Rattle.std.specs.Prelude.{◌≡◌, ◌≤◌, ℕ, List, [], ◌∷◌, ◌++◌}
+use Rattle.std.specs.Prelude.{◌≡◌, ◌≤◌, ℕ, List, [], ◌∷◌, ◌++◌, Some}
 use Rattle.records.specs.GeometryValue.{GeometryValue}
 use Rattle.records.specs.declared.pair.Pair.{Pair}
 use Rattle.model.specs.Given.{Given, IsBeginning, nothing}
 use Rattle.model.specs.History.{Checkpointed, Committed, Completed, Created, Deed, Dropped, Item, up_to}
+use Rattle.model.specs.declared.life.Life.TheVariants.{Building}
 use Rattle.core_model.specs.Histories.{CanOpen}
 use Rattle.sector_device.specs.Disk.{Image, IsCrashImage}
 use Rattle.sector_device.specs.History.{History}
@@ -15,22 +16,27 @@ use Rattle.restart.specs.Parts.{core_of}
 use Rattle.restart.specs.Reopening.{opening}
 use Rattle.restart.specs.Store.{IsAt, Past, items_told, last_made, over}
 
--- How large the store is, the items of its history in order, and the numbers of the last record that was made and of the last one
--- that was told to be safe.
+-- How large the store is, what it began with, the items of its history in order, and the numbers of the last record that was made
+-- and of the last one that was told to be safe.
 pub record Story : Type 0 where
   pub geometry : GeometryValue
+  pub began : Given
   pub items : List Item
   pub made : ℕ
   pub safe : ℕ
 
+-- of a store that begins with this
+abbrev pub begun_with : GeometryValue → Given → Story
+begun_with g given = record { geometry = g; began = given; items = []; made = given.last; safe = given.last }
+
 -- of a store that was just formatted
 abbrev pub untold : GeometryValue → Story
-untold g = record { geometry = g; items = []; made = 0; safe = 0 }
+untold g = begun_with g nothing
 
--- This is what a prefix of the story's history makes of nothing, one that has every item up to the last that was told to be
--- safe, and no record that wasn't made.
+-- This is what a prefix of the story's history makes of what it began with, one that has every item up to the last that was told to
+-- be safe, and no record that wasn't made.
 pub record IsLeftOf (story : Story) (given : Given) : Type 0 where
-  pub beginning : IsBeginning nothing story.items story.safe given
+  pub beginning : IsBeginning story.began story.items story.safe given
   pub within : given.last ≤ story.made
 
 -- Such a thing is what the content gives, and a core may begin with it.
@@ -54,7 +60,7 @@ pub record BeginsOver {D M : Type 0} (history : D → History) (story : Story) (
 -- The story goes on with a run: behind what was left of its history comes what the run's replies tell, and records up to this
 -- number were told to be safe.
 abbrev pub and_run : {M : Type 0} → Story → Past M → (safe : ℕ) → Story
-and_run story past safe = record { geometry = story.geometry; items = up_to past.given.last story.items ++ items_told past; made = last_made past; safe = safe }
+and_run story past safe = record { geometry = story.geometry; began = story.began; items = up_to past.given.last story.items ++ items_told past; made = last_made past; safe = safe }
 
 -- ---- the last checkpoint
 
@@ -65,6 +71,10 @@ IsCommit Created = ⊥
 IsCommit (Checkpointed pair) = ⊥
 IsCommit Completed = ⊥
 IsCommit Dropped = ⊥
+
+-- The store began with an index built up to this pair, and each item up to record `last` is a commit.
+abbrev pub IsFirstCheckpoint : Given → List Item → ℕ → Pair → Type 0
+IsFirstCheckpoint began items last pair = (began.life ≡ Building (Some pair)) × All (λ (item : Item). IsCommit item.deed) (up_to last items)
 
 -- Of the items up to record `last` the last one that is of the index is the checkpoint of this pair.
 pub record IsLastCheckpoint (items : List Item) (last : ℕ) (pair : Pair) : Type 0 where

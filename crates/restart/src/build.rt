@@ -13,7 +13,8 @@ use sector_device::Device;
 use std::alloc::Allocator;
 
 impl<D: Device, A: Allocator + Copy> Parts<D, A> {
-    ghost use Rattle.restart.specs.Building.{IsBuiltToEnd, BuildsWhole, HasCome};
+    ghost use Rattle.model.specs.declared.life.Life.TheVariants.{Absent};
+    ghost use Rattle.restart.specs.Building.{IsBuiltToEnd, IsIndexFull, BuildsWhole, HasCome};
     ghost use Rattle.restart.specs.Parts.{core_of};
     ghost use Rattle.restart.specs.Store.{CanRun};
 
@@ -23,7 +24,11 @@ impl<D: Device, A: Allocator + Copy> Parts<D, A> {
         ensures built { IsBuiltToEnd D.history result self.old self.new }
         ensures whole { OnOk result (BuildsWhole (core_of self.old) (core_of self.new)) }
         ensures why { IfErr result (λ e. (e ≡ Error.NoIndex) ⊎ (e ≡ Error.IndexFull) ⊎ (e ≡ Error.Exhausted) ⊎ (e ≡ Error.NoMemory)) }
+        ensures no_index { IfErr result (λ e. e ≡ Error.NoIndex → (core_of self.old).life ≡ Absent) }
+        ensures full { IfErr result (λ e. e ≡ Error.IndexFull → IsIndexFull (core_of self.new)) }
+        ensures exhausted { IfErr result (λ e. e ≡ Error.Exhausted → LAST_NUMBER ≤ (core_of self.new).last) }
         ensures come { HasCome (core_of self.old) → HasCome (core_of self.new) }
+        ensures rows { HasCome (core_of self.old) → (core_of self.new).heap.rows ≡ (core_of self.old).heap.rows }
         ensures can_run { CanRun D.history self.new }
     {
         each_half();

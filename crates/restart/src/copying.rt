@@ -48,7 +48,7 @@ impl<D: Device, A: Allocator + Copy> Parts<D, A> {
     ghost use Rattle.image_model.specs.Run.{Run};
     ghost use Rattle.restart.specs.declared.copying.Copying.TheVariants.{Steps, GivenUp};
     ghost use Rattle.restart.specs.declared.event.Event.TheVariants as event;
-    ghost use Rattle.restart.specs.Copies.{IsCopyAnswer, IsDue, next_place};
+    ghost use Rattle.restart.specs.Copies.{IsCopyAnswer, IsPieceDue, next_place};
     ghost use Rattle.restart.specs.Groups.{CopiesByGroups, WritesByGroups};
     ghost use Rattle.restart.specs.Handing.{FlushesFirst, MovesOn};
     ghost use Rattle.restart.specs.Parts.{has_failed, unhanded, writer_of};
@@ -97,7 +97,7 @@ impl<D: Device, A: Allocator + Copy> Parts<D, A> {
         requires runs { CanRun D.history self.old }
         requires all { unhanded self.old ≡ [] }
         requires sound { has_failed self.old ≡ false }
-        requires due { IsDue self.old.geometry.pages place (image_of (writer_of self.old)) }
+        requires due { IsPieceDue self.old.geometry.pages place (image_of (writer_of self.old)) }
         requires next { next_place self.old.copying ≡ Some place }
         ensures moves { MovesOn D.history self.old self.new }
         ensures answer { IsCopyAnswer D.failures result self.old self.new }

@@ -1,5 +1,5 @@
 //! The engine: a store that serves requests, whatever was asked of it before.
-ghost use Rattle.std.specs.Prelude.{◌≡◌, ◌≢◌, ◌⊎◌, [], OnErr, OnOk, IfOk, IfErr};
+ghost use Rattle.std.specs.Prelude.{◌≡◌, ◌≢◌, ◌⊎◌, ◌≤◌, [], OnErr, OnOk, IfOk, IfErr};
 
 use crate::parts::Parts;
 use crate::{Event, Reply};
@@ -35,17 +35,20 @@ impl<D: Device, A: Allocator> Model for Engine<D, A> {
 }
 
 impl<D: Device, A: Allocator + Copy> Engine<D, A> {
+    ghost use Rattle.model.specs.declared.life.Life.TheVariants.{Absent};
     ghost use Rattle.nsf_core.specs.Value.{value_of};
+    ghost use Rattle.records.specs.declared.number.TheConstants.{LAST_NUMBER};
     ghost use Rattle.restart.specs.Parts.{core_of, device_of, horizon_of};
     ghost use Rattle.restart.specs.Groups.{CopiesByGroups};
     ghost use Rattle.restart.specs.Lawful.{IsLawful, AreLawful};
     ghost use Rattle.restart.specs.Store.{ServesOn, RunsOn, RunsLawfully, KeepsRun, KeepsAround, KeepsSectors, OpensSlotsAlone, CopiesAround, HaveNoCopy};
     ghost use Rattle.restart.specs.Parted.{ArePartsOf, LeavesPartsOf, IsGivenBack};
     ghost use Rattle.restart.specs.Ran.{KeepsWholeRun, SurvivesAnyCrash};
-    ghost use Rattle.restart.specs.Building.{IsBuiltToEnd, BuildsWhole, HasCome};
+    ghost use Rattle.restart.specs.Building.{IsBuiltToEnd, IsIndexFull, BuildsWhole, HasCome};
 
-    /// Serves one request. A crash at any moment of the call leaves a store that `restart` takes back to what was
-    /// told by a prefix of the requests, and nothing that an earlier reply has told to be safe is lost (`serves`). But by a
+    /// Serves one request. Of an engine that a run left, or that was opened over what a core may begin with: a crash at any
+    /// moment of the call leaves a store that `restart` takes back to what was told by a prefix of the requests, and no record up to
+    /// the horizon is lost (`serves`). But by a
     /// copy no sector is written but those of the store's log and, where an image is under way, of the log of its half
     /// (`around`), and by a flush none but those of the slot that it opens there (`slot`); and by a copy none but those of the log, of
     /// the half that isn't current, and the one that tells which half is (`copied`). A copy that finds a whole image waiting writes
@@ -67,8 +70,11 @@ impl<D: Device, A: Allocator + Copy> Engine<D, A> {
     /// `NoMemory`, where there is a request and was no room for the replies,
     /// and then nothing was served.
     ///
-    /// A crash at any moment, between the replies or within a request, leaves a store that `restart` takes back to what
-    /// was told by a prefix of the requests, and nothing that a reply has told to be safe is lost (`ran`).
+    /// Of an engine that a run left, or that was opened over what a core may begin with: a crash at any moment, between the
+    /// replies or within a request, leaves a store that `restart` takes back to what was told by a prefix of the requests, and
+    /// no record is lost that the horizon before the call, or a reply, has told to be safe (`ran`); within a request none up to the
+    /// horizon as that request began (`served`), and behind the last one none up to the horizon then (`at_end`). The device has as
+    /// many sectors as before (`sectors`).
     pub fn run(&mut self, events: &[Event]) -> Result<Vec<Reply<A>, A>, Error>
         ensures any_crash { IfOk result (λ replies. SurvivesAnyCrash D.history events.now replies.items self.old self.new) }
         ensures at_end { IfOk result (λ replies. KeepsWholeRun D.history events.now replies.items self.old self.new) }
@@ -76,6 +82,7 @@ impl<D: Device, A: Allocator + Copy> Engine<D, A> {
         ensures served { IfOk result (λ replies. RunsLawfully D.history D.failures events.now replies.items self.old self.new) }
         ensures lawful { IfOk result (λ replies. AreLawful D.failures events.now replies.items self.old self.new) }
         ensures around { OnOk result (HaveNoCopy events.now → KeepsAround D.history self.old self.new) }
+        ensures sectors { OnOk result (KeepsSectors D.history self.old self.new) }
         ensures refused { OnErr result (self.new ≡ self.old) }
         ensures no_memory { IfErr result (λ e. e ≡ Error.NoMemory) }
         ensures some { OnErr result (events.now ≢ []) }
@@ -93,21 +100,25 @@ impl<D: Device, A: Allocator + Copy> Engine<D, A> {
     /// Makes steps of the builder until the index is complete, and answers the record of its end. Where it is complete
     /// already, the answer is the number of the last record made, or 1 where there is none, and nothing changes.
     ///
-    /// A refusal is that of the step that met it, and ends the steps; what was built before it stays. `NoIndex`, then
-    /// `IndexFull` where a pair that has no entry meets no free place, `Exhausted` where a record is to be made and no
-    /// number is left, and `NoMemory` (`why`; when each comes, `built`).
+    /// A refusal is that of the step that met it, and ends the steps; what was built before it stays (`built`). `NoIndex` comes only
+    /// where there is none (`no_index`); `IndexFull` where a pair that has no entry meets no free place: each is taken or pledged
+    /// (`full`); `Exhausted` where a record is to be made and no number is left (`exhausted`); and else it is `NoMemory` (`why`).
     ///
     /// With no transaction active and the answer `Ok`, the rows are as they were, and the visible entries are just their
     /// pairs (`whole`). This is promised of an engine that a run left, and of one that was opened over what a run left; of
     /// one that was opened over any other store it is where, in what the store gave, each visible entry named a row, the
     /// pair of each row was visible as far as the index was built and nowhere marked, and without an index there was no
     /// entry (`CanOpen`): a builder leaves a marked entry as it is. It stays so whatever the answer is (`come`), so that a
-    /// build may be gone on with.
+    /// build may be gone on with; and no row changes (`rows`).
     pub fn build_to_end(&mut self) -> Result<Ticket, Error>
         ensures built { IsBuiltToEnd D.history result self.old self.new }
         ensures whole { OnOk result (BuildsWhole (core_of self.old) (core_of self.new)) }
         ensures why { IfErr result (λ e. (e ≡ Error.NoIndex) ⊎ (e ≡ Error.IndexFull) ⊎ (e ≡ Error.Exhausted) ⊎ (e ≡ Error.NoMemory)) }
+        ensures no_index { IfErr result (λ e. e ≡ Error.NoIndex → (core_of self.old).life ≡ Absent) }
+        ensures full { IfErr result (λ e. e ≡ Error.IndexFull → IsIndexFull (core_of self.new)) }
+        ensures exhausted { IfErr result (λ e. e ≡ Error.Exhausted → LAST_NUMBER ≤ (core_of self.new).last) }
         ensures come { HasCome (core_of self.old) → HasCome (core_of self.new) }
+        ensures rows { HasCome (core_of self.old) → (core_of self.new).heap.rows ≡ (core_of self.old).heap.rows }
     {
         self.parts.build_to_end()
     }
@@ -119,15 +130,16 @@ impl<D: Device, A: Allocator + Copy> Engine<D, A> {
         &self.parts.core
     }
 
-    /// How far the records are synced: a crash leaves each one up to this number (`survives` of [`Engine::device`]).
+    /// How far the records are synced: a crash leaves each one up to this number, between calls (`survives` of [`Engine::device`]) and
+    /// at any moment of the next one (`serves`, `ran`, `built`, `written`).
     pub fn horizon(&self) -> u64
         ensures { result ≡ horizon_of self.now }
     {
         self.parts.writer.synced()
     }
 
-    /// The device as it is now. A crash of it leaves what `restart` takes back to a prefix of the history, with every record up to the
-    /// horizon, and so with everything that was acknowledged.
+    /// The device as it is now. Of an engine that a run left, a crash of it leaves what `restart` takes back to a prefix of the
+    /// history, with every record up to the horizon, and so with everything that was acknowledged.
     pub fn device(&self) -> &D
         ensures device { result.now ≡ device_of self.now }
         ensures survives { KeepsRun D.history self.now result.now }
@@ -136,7 +148,7 @@ impl<D: Device, A: Allocator + Copy> Engine<D, A> {
     }
 
     /// The core, and the writer that owns the device, with every record that the core made (`left`): the device is as it was.
-    /// The writer gives an image under way up at the first piece of another one. The core goes on counting its transactions and
+    /// The writer gives an image under way up at the first piece of another one (`checkpoint_step` of `store_writer`). The core goes on counting its transactions and
     /// commits; one that served nothing is as `restart` loaded it.
     ///
     /// An `Err` gives the engine back, for want of memory to hand the records over: no record is lost, and the run goes on (`back`).

@@ -66,7 +66,7 @@ pub enum Event {
     Get {
         rid: Rid,
     },
-    /// Asks for the rows with a key, by the complete index.
+    /// Asks for the places of the rows with a key, by the complete index.
     Find {
         key: Key,
     },
@@ -120,7 +120,7 @@ pub enum Reply<A: Allocator> {
     Built(BuildReply),
     /// What the cleaner did.
     Cleaned(CleanReply),
-    /// All records up to this number are in the log, and synced.
+    /// All records up to this number are synced.
     Horizon(u64),
     /// Every slot of the log is open, and a record waits.
     LogFull,

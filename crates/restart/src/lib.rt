@@ -1,12 +1,14 @@
 //! A store over two halves: it is opened, serves requests in order, and survives a crash at any moment.
 //!
-//! Proved: a crash at any moment of `run`, within any write or sync, leaves what the first requests committed, with all that was
-//! acknowledged before (`any_crash`, `at_end`: of an engine that is where a run left it). Each reply is lawful (`lawful`).
+//! Proved: a crash at any moment of `run`, within any write or sync, leaves what the first requests committed, with each record up to
+//! the horizon before, and all that was acknowledged (`any_crash`, `at_end`: of an engine that is where a run left it). Each reply is
+//! lawful (`lawful`).
 //! `restart` opens what a crash of such a run left, and is refused there only for want of memory or by a device that fails
 //! (`recovers`, `readable`). With no transaction active, an `Ok` of `build_to_end` over such a store leaves the visible entries
 //! just the pairs of the rows (`whole`). `copies_flip`: so many copies make an image current. With none active an engine that served
 //! is left as a restart would leave it: `into_writer` gives the writer, with all that the engine holds synced (`written`), and
-//! `fresh_core` a core over it (`fresh`).
+//! `fresh_core` a core over it (`fresh`). `migrate` opens over a new device what an old one gives by version 1, and writes nothing
+//! on the old one (`migrated`, `kept`).
 //! Only tested (`store_tests`): each allocation refused, and each call of the device failing, in turn; that calls succeed where
 //! there is memory. Neither: time; that an engine is left so without its device being read, or with each sector written once at most.
 #![tactic(auto)]
@@ -17,6 +19,7 @@ mod copying;
 mod engine;
 mod event;
 mod lives;
+mod migration;
 mod parts;
 mod reopen;
 mod repeat;
@@ -28,5 +31,6 @@ pub use copying::{copies_flip, copies_flip_between};
 pub use engine::Engine;
 pub use event::{Event, Reply};
 pub use lives::nothing_opens;
+pub use migration::{MigrateError, migrate};
 pub use reopen::restart;
 pub use story::{come_by_a_run, every_story, last_checkpoint};

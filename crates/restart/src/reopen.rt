@@ -21,9 +21,9 @@ use flip_image::Halves;
 use gate_log::LogArea;
 use nsf_core::Core;
 use records::Error;
-use recovery::{reopen, written_back};
 use sector_device::Device;
 use std::alloc::Allocator;
+use store_opener::{reopen, written_back};
 use store_writer::StoreWriter;
 
 /// Opens the store on the device: syncs it, reads it, and takes back what the transactions did that neither committed nor
@@ -33,8 +33,8 @@ use store_writer::StoreWriter;
 /// At any moment of the call a crash leaves what one before it could, or what gives the same as the device did (`IsTurned`). So
 /// a crash within a restart loses nothing that a run had left synced (`stays`).
 ///
-/// `DeviceTooSmall`, `NotFormatted` and `Damaged` where the device holds no store, or one that was harmed; none of them
-/// comes after a crash of a device that was formatted and then written by this engine alone (`readable`). `NoMemory` comes
+/// `DeviceTooSmall`, `NotFormatted`, `OldVersion` and `Damaged` where the device holds no store, one of version 1, or one that
+/// was harmed; none of them comes after a crash of a device that was formatted and then written by this engine alone (`readable`). `NoMemory` comes
 /// only where the device holds a store, whose current half begins with a header (`memory`), and `DeviceFailed` where the device
 /// failed in the call, and only then. With any other refusal the device is synced; and where it isn't `NoMemory`, which may come
 /// once all is written, nothing was written (`unwritten`).
@@ -95,6 +95,6 @@ fn open_core<D: Device, A: Allocator + Copy>(
     ensures memory { IfErr result (λ e. e ≡ Error.NoMemory → HasHeader (D.history device.old).disk.content) }
 {
     let found = reopen(alloc, device)?;
-    let core = load(alloc, found.restored)?;
+    let core = load(alloc, &found.restored)?;
     Ok((core, found.halves, found.log))
 }

@@ -45,7 +45,7 @@ impl<D: Device, A: Allocator + Copy> Parts<D, A> {
             life,
             last: number,
         };
-        load(self.alloc, found)
+        load(self.alloc, &found)
     }
 
     // Gives an image under way up, and takes a whole one at once.

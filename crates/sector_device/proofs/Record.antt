@@ -10,7 +10,7 @@ use Rattle.std.proofs.lemmas.Grind.{get_or-set_at}
 use Rattle.std.proofs.Math.ListN.{length-replicate, get_or-replicate}
 use Rattle.sector_device.specs.declared.call.Call.{Call}
 use Rattle.sector_device.specs.declared.call.Call.TheVariants.{Write, Sync}
-use Rattle.sector_device.specs.Disk.{Image, sector, IsSector, IsWhole, Disk, after_write, after_sync}
+use Rattle.sector_device.specs.Disk.{Image, sector, IsSector, IsDiskWhole, Disk, after_write, after_sync}
 use Rattle.sector_device.specs.History.{Elapses}
 use Rattle.sector_device.specs.Values.{zero_sector}
 use Rattle.sector_device.specs.Memory.{MemoryState, initial_state, step, state_after, disk_of, memory_history, unsynced_since, Represents}
@@ -24,7 +24,7 @@ state_after-push s (c ∷ calls) call = state_after-push (step s c) calls call
 past : Image → List Call → Disk
 past first calls = disk_of (state_after (initial_state first) calls)
 
-module _ (first : Image) (calls later : List Call) (whole : IsWhole (state_after (initial_state first) calls).content) (later_whole : IsWhole (state_after (initial_state first) later).content) where
+module _ (first : Image) (calls later : List Call) (whole : IsDiskWhole (state_after (initial_state first) calls).content) (later_whole : IsDiskWhole (state_after (initial_state first) later).content) where
   -- no time passes
   pub elapses_same : later ≡ calls → Elapses (memory_history first calls whole) (memory_history first later later_whole)
   elapses_same is = record {
@@ -149,7 +149,7 @@ module _ (s : MemoryState) (calls : ℕ) (content before : Image) (written_at : 
         | inr other ↦ let set = get_or-set_other written_at n k now 0 other in omega (arith, set, represents.last_writes k)
       ]
 
-      whole : IsWhole (slice_set s.content n bytes)
+      whole : IsDiskWhole (slice_set s.content n bytes)
       whole k lt = elim (cases_eq k n) [
         | inl equal ↦ subst IsSector (sym (get_or-set_at s.content n k bytes [] equal (omega (arith, below, sizes)))) all_bytes
         | inr other ↦ subst IsSector (sym (get_or-set_other s.content n k bytes [] other)) (represents.whole k (omega (arith, lt, length-set s.content n bytes)))
@@ -195,7 +195,7 @@ pub disk_push : (first : Image) (calls later : List Call) (call : Call) → late
 disk_push first calls later call is = ap disk_of (state_push first calls later call is)
 
 -- the record begins anew
-pub represents_initial : (image before : Image) (written_at : List ℕ) → IsWhole image → length before ≡ length image → length written_at ≡ length image → ((k : ℕ) → slice_index written_at k ≡ 0) → Represents (initial_state image) 0 image before written_at 0
+pub represents_initial : (image before : Image) (written_at : List ℕ) → IsDiskWhole image → length before ≡ length image → length written_at ≡ length image → ((k : ℕ) → slice_index written_at k ≡ 0) → Represents (initial_state image) 0 image before written_at 0
 represents_initial image before written_at whole before_size written_size zeros = record {
   content_is = refl;
   unsynced_is = sym (none_unsynced 0 written_at (λ k. omega (arith, zeros k)) ∙ ap (λ (n : ℕ). replicate n false) written_size);
@@ -217,7 +217,7 @@ written_back new old n same size =
     ∙ take_all n new (omega (arith, same, size))
 
 -- the record begins anew after a crash
-pub represents_crashed : (first image before : Image) (calls : List Call) (written_at : List ℕ) → first ≡ image → calls ≡ [] → IsWhole image → length before ≡ length image → length written_at ≡ length image → ((k : ℕ) → slice_index written_at k ≡ 0)
+pub represents_crashed : (first image before : Image) (calls : List Call) (written_at : List ℕ) → first ≡ image → calls ≡ [] → IsDiskWhole image → length before ≡ length image → length written_at ≡ length image → ((k : ℕ) → slice_index written_at k ≡ 0)
     → Represents (state_after (initial_state first) calls) (length calls) image before written_at 0
 represents_crashed first image before calls written_at is no_calls whole before_size written_size zeros =
     subst (λ l. Represents (state_after (initial_state first) l) (length l) image before written_at 0) (sym no_calls)
@@ -244,5 +244,5 @@ zeros_are_sector = filled 512 refl
     filled : (n : ℕ) → n ≡ 512 → IsSector (replicate n 0)
     filled n is = record { size = length-replicate n 0 ∙ is; are_bytes = λ i. ⊎_elim (λ below. rw (get_or-replicate {A = ℕ} n i 0 0 below) (omega arith)) (λ past. rw (get_or_past {X = ℕ} (replicate n 0) i 0 (omega (arith, past, length-replicate {A = ℕ} n 0))) (omega arith)) (cases_lt i n) }
 
-pub zeros_are_whole : (n : ℕ) → IsWhole (replicate n zero_sector)
+pub zeros_are_whole : (n : ℕ) → IsDiskWhole (replicate n zero_sector)
 zeros_are_whole n k below = subst IsSector (sym (get_or-replicate n k zero_sector [] (omega (arith, below, length-replicate n zero_sector)))) zeros_are_sector

@@ -6,7 +6,7 @@ use Rattle.std.proofs.lemmas.Bool.Decides.{nat_tests}
 use Rattle.std.proofs.lemmas.List.{get_or-set_same, get_or-set_other, get_or-take, get_or-drop, ext_get_or, take_more, append-nil, append_assoc, get_or_past}
 use Rattle.std.proofs.lemmas.Grind.{get_or-set_at}
 use Rattle.sector_device.specs.declared.device.Failed.{Failed}
-use Rattle.sector_device.specs.Disk.{Image, sector, IsSector, IsWhole, Disk, after_write, after_sync, IsFailedWrite, IsSynced, IsCrashImage, SameOutside, SyncedOutside}
+use Rattle.sector_device.specs.Disk.{Image, sector, IsSector, IsDiskWhole, Disk, after_write, after_sync, IsFailedWrite, IsSynced, IsCrashImage, SameOutside, SyncedOutside}
 
 -- ---- one call
 
@@ -87,11 +87,11 @@ sector_past : (image : Image) (k : ℕ) → length image ≤ k → sector image 
 sector_past image k past = get_or_past image k [] past
 
 -- a content is one of its own crash images
-pub content_is_image : (disk : Disk) → IsWhole disk.content → IsCrashImage disk disk.content
+pub content_is_image : (disk : Disk) → IsDiskWhole disk.content → IsCrashImage disk disk.content
 content_is_image disk whole = record { sectors = refl; kept = λ k is. refl; torn = λ k below is. whole k below }
 
 -- each sector of a crash image has its 512 bytes
-pub image_is_whole : (disk : Disk) (c : Image) → IsWhole disk.content → IsCrashImage disk c → IsWhole c
+pub image_is_whole : (disk : Disk) (c : Image) → IsDiskWhole disk.content → IsCrashImage disk c → IsDiskWhole c
 image_is_whole disk c whole crash k below = go (disk.unsynced k) refl
   where
     go : (is : Bool) → disk.unsynced k ≡ is → IsSector (sector c k)
@@ -103,7 +103,7 @@ pub crash_synced : (disk : Disk) (c : Image) → IsSynced disk → IsCrashImage 
 crash_synced disk c all crash = ext_get_or [] c disk.content crash.sectors (λ k below. crash.kept k (all k))
 
 -- a crash image after a write is one from before it, but for the sector
-pub image_before_write : (disk : Disk) (n : ℕ) (bytes : List ℕ) (c : Image) → IsWhole disk.content → IsCrashImage (after_write disk n bytes) c → IsCrashImage disk (slice_set c n (sector disk.content n)) × SameOutside (λ k. k ≡ n) (slice_set c n (sector disk.content n)) c
+pub image_before_write : (disk : Disk) (n : ℕ) (bytes : List ℕ) (c : Image) → IsDiskWhole disk.content → IsCrashImage (after_write disk n bytes) c → IsCrashImage disk (slice_set c n (sector disk.content n)) × SameOutside (λ k. k ≡ n) (slice_set c n (sector disk.content n)) c
 image_before_write disk n bytes c whole crash = (
   record { sectors = long; kept = kept; torn = torn },
   record { sectors = sym (length-set c n there); same = λ k other. sym (get_or-set_other c n k there [] other) },

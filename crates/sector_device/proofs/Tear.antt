@@ -6,7 +6,7 @@ use Rattle.std.proofs.Math.ListN.{length-replicate, get_or-replicate}
 use Rattle.std.proofs.lemmas.Grind.{common_steps}
 use Rattle.sector_device.specs.declared.call.Fate.{Fate}
 use Rattle.sector_device.specs.declared.call.Fate.TheVariants.{Old, New, Zero, Gate, Junk}
-use Rattle.sector_device.specs.Disk.{Image, sector, IsSector, IsWhole, IsCrashImage}
+use Rattle.sector_device.specs.Disk.{Image, sector, IsSector, IsDiskWhole, IsCrashImage}
 use Rattle.sector_device.specs.Memory.{MemoryState, disk_of, unsynced_since, Represents}
 use Rattle.sector_device.specs.Crash.{IsJunk, IsFilled, HasFate, fate_at, unsynced_below, IsCrashed}
 
@@ -106,7 +106,7 @@ crashed_state fates s calls content before written_at synced_at image represents
         (subst (λ b. HasFate (fate_at fates (unsynced_below (unsynced_since synced_at written_at) k)) b (sector content k) (sector image k)) (sym (represents.before_is k is)) fate))
 
 -- it is a crash image of the disk
-pub crash_image : (fates : List Fate) (s : MemoryState) (image : Image) → IsWhole s.content → ((k : ℕ) → k < length s.content → IsSector (sector s.synced k)) → IsCrashed fates s image → IsCrashImage (disk_of s) image
+pub crash_image : (fates : List Fate) (s : MemoryState) (image : Image) → IsDiskWhole s.content → ((k : ℕ) → k < length s.content → IsSector (sector s.synced k)) → IsCrashed fates s image → IsCrashImage (disk_of s) image
 crash_image fates s image whole synced_whole crashed = record {
   sectors = crashed.sectors;
   kept = crashed.synced;

@@ -15,8 +15,8 @@ pub record IsSector (bytes : List ℕ) : Type 0 where
   pub are_bytes : (i : ℕ) → slice_index bytes i < 256
 
 -- each sector has its 512 bytes
-abbrev pub IsWhole : Image → Type 0
-IsWhole image = (n : ℕ) → n < length image → IsSector (sector image n)
+abbrev pub IsDiskWhole : Image → Type 0
+IsDiskWhole image = (n : ℕ) → n < length image → IsSector (sector image n)
 
 -- what each sector holds, and which sectors were written since the last sync that succeeded
 pub record Disk : Type 0 where

@@ -21,8 +21,8 @@ module _ {D : Type 0} where
   made_of f = f.made
 
   -- the next counted call is the one that fails
-  abbrev pub IsDue : FaultDisk D → Type 0
-  IsDue f = f.made + 1 ≡ f.fails_at
+  abbrev pub IsFailureDue : FaultDisk D → Type 0
+  IsFailureDue f = f.made + 1 ≡ f.fails_at
 
   -- one call more was counted
   pub record CountsCall (old new : FaultDisk D) : Type 0 where

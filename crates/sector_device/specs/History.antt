@@ -1,6 +1,6 @@
 -- A disk as time goes on: its moments, what a crash between two of them leaves, and the count of failures.
 use Rattle.std.specs.Prelude.{◌≡◌, ◌⊎◌, ℕ, ◌+◌, ◌-◌, ◌^◌, ◌<◌, ◌≤◌, List, [], ◌∷◌, Result, OnOk, OnErr}
-use Rattle.sector_device.specs.Disk.{Image, IsWhole, Disk, IsCrashImage, SameOutside, SyncedOutside}
+use Rattle.sector_device.specs.Disk.{Image, IsDiskWhole, Disk, IsCrashImage, SameOutside, SyncedOutside}
 
 -- the past of a disk: as it is, and as it was at each moment until now
 pub record History : Type 0 where
@@ -8,7 +8,7 @@ pub record History : Type 0 where
   pub moment : ℕ
   pub disk_at : ℕ → Disk
   pub now : disk_at moment ≡ disk
-  pub whole : IsWhole disk.content
+  pub whole : IsDiskWhole disk.content
 
 -- A call was made: what was stays, and at each moment since the disk is as before the call or as after it.
 pub record Elapses (old new : History) : Type 0 where

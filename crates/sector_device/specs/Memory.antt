@@ -5,7 +5,7 @@ use Rattle.std.proofs.Math.Nat.{le_refl}
 use Rattle.std.proofs.lemmas.List.{take_all}
 use Rattle.sector_device.specs.declared.call.Call.{Call}
 use Rattle.sector_device.specs.declared.call.Call.TheVariants.{Write, Sync}
-use Rattle.sector_device.specs.Disk.{Image, sector, IsSector, IsWhole, Disk}
+use Rattle.sector_device.specs.Disk.{Image, sector, IsSector, IsDiskWhole, Disk}
 use Rattle.sector_device.specs.History.{History}
 
 -- the content, the content at the last sync, and for each sector whether it is unsynced
@@ -33,7 +33,7 @@ abbrev pub disk_of : MemoryState → Disk
 disk_of s = record { content = s.content; unsynced = λ k. slice_index_or s.unsynced k false }
 
 -- the disk after each number of the calls
-abbrev pub memory_history : (first : Image) (calls : List Call) → IsWhole (state_after (initial_state first) calls).content → History
+abbrev pub memory_history : (first : Image) (calls : List Call) → IsDiskWhole (state_after (initial_state first) calls).content → History
 memory_history first calls whole = record {
   disk = disk_of (state_after (initial_state first) calls);
   moment = length calls;
@@ -57,5 +57,5 @@ pub record Represents (s : MemoryState) (calls : ℕ) (content before : Image) (
   pub written_size : length written_at ≡ length content
   pub last_sync : synced_at ≤ calls
   pub last_writes : (k : ℕ) → slice_index written_at k ≤ calls
-  pub whole : IsWhole s.content
+  pub whole : IsDiskWhole s.content
   pub synced_whole : (k : ℕ) → k < length s.content → IsSector (sector s.synced k)

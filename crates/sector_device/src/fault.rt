@@ -1,7 +1,7 @@
 // A device that fails once.
 ghost use Rattle.std.specs.Prelude.{◌≡◌, ◌+◌, ◌-◌, ◌^◌, ◌⊎◌, ◌↔◌, ◌<◌, length, if◌then◌else◌, IsTrue, IsErr, OnErr, OnOk};
 ghost use Rattle.sector_device.specs.Fault.{fault_count};
-ghost use Rattle.sector_device.specs.FaultDisk.{IsDue, CountsCall, CountsNone, device_of, which_of, fails_at_of, made_of};
+ghost use Rattle.sector_device.specs.FaultDisk.{IsFailureDue, CountsCall, CountsNone, device_of, which_of, fails_at_of, made_of};
 ghost use Rattle.sector_device.specs.Disk.{sector, after_write, after_sync, IsFailedWrite};
 ghost use Rattle.sector_device.specs.History.{Elapses, Rises, CountsFailure};
 
@@ -56,7 +56,7 @@ impl<D: Device> FaultDisk<D> {
 
     // Counts a call, and answers whether it is to fail.
     fn count(&mut self) -> bool
-        ensures due { IsTrue result ↔ IsDue self.old }
+        ensures due { IsTrue result ↔ IsFailureDue self.old }
         ensures call { CountsCall self.old self.new }
         ensures device { device_of self.new ≡ device_of self.old }
         ensures fails { fault_count self.new.fails_at self.new.made
@@ -93,9 +93,9 @@ impl<D: Device> Device for FaultDisk<D> {
         // It fails at the call that is due, and where the device below fails.
         ensures call { which_of self.old ≡ Which.All → CountsCall self.old self.new }
         ensures no_call { which_of self.old ≡ Which.WritesAndSyncs → CountsNone self.old self.new }
-        ensures due { which_of self.old ≡ Which.All → IsDue self.old
+        ensures due { which_of self.old ≡ Which.All → IsFailureDue self.old
             → IsErr result × (device_of self.new ≡ device_of self.old) }
-        ensures otherwise { OnErr result (((which_of self.old ≡ Which.All) × IsDue self.old)
+        ensures otherwise { OnErr result (((which_of self.old ≡ Which.All) × IsFailureDue self.old)
             ⊎ Rises (D.failures (device_of self.old)) (D.failures (device_of self.new))) }
     {
         if self.which == Which::All && self.count() {
@@ -118,8 +118,8 @@ impl<D: Device> Device for FaultDisk<D> {
 
         // It fails at the call that is due, and where the device below fails.
         ensures call { CountsCall self.old self.new }
-        ensures due { IsDue self.old → IsErr result }
-        ensures otherwise { OnErr result (IsDue self.old
+        ensures due { IsFailureDue self.old → IsErr result }
+        ensures otherwise { OnErr result (IsFailureDue self.old
             ⊎ Rises (D.failures (device_of self.old)) (D.failures (device_of self.new))) }
         ensures new_bytes { OnErr result (((D.history (device_of self.new)).disk
             ≡ after_write (D.history (device_of self.old)).disk n bytes.now)
@@ -142,8 +142,8 @@ impl<D: Device> Device for FaultDisk<D> {
 
         // It fails at the call that is due, and where the device below fails.
         ensures call { CountsCall self.old self.new }
-        ensures due { IsDue self.old → IsErr result × (device_of self.new ≡ device_of self.old) }
-        ensures otherwise { OnErr result (IsDue self.old
+        ensures due { IsFailureDue self.old → IsErr result × (device_of self.new ≡ device_of self.old) }
+        ensures otherwise { OnErr result (IsFailureDue self.old
             ⊎ Rises (D.failures (device_of self.old)) (D.failures (device_of self.new))) }
     {
         if self.count() {

@@ -16,7 +16,7 @@ use Rattle.core_model.specs.States.{Active, State}
 use Rattle.core_model.specs.Steps.{after, CanStart, MachineStep, Next, Start, txn_at}
 use Rattle.core_contracts.proofs.Laws.{is_move}
 use Rattle.core_contracts.specs.Events.{Event, Refused, Reply, Skipped, Standing, standing_after, Stepped}
-use Rattle.core_contracts.specs.Replies.{accepted, after_any, change_of, IsAllowed, IsDue, IsProper, no_memory, Owes, refused, refused_last, skipped, unknown}
+use Rattle.core_contracts.specs.Replies.{accepted, after_any, change_of, IsAllowed, IsStepDue, IsProper, no_memory, Owes, refused, refused_last, skipped, unknown}
 use Rattle.core_contracts.specs.Served.{IsEnabledAny}
 use Rattle.nsf_core.specs.View.{Answers, CoreValue, Serves, Shows}
 use Rattle.txn_table.specs.Table.{state_of}
@@ -35,7 +35,7 @@ IsAnswer Skipped = ⊥
 IsAnswer (Refused error) = ⊥
 IsAnswer _ = Unit {0}
 
-pub due : (s : State) (k : Standing) (e : Event) (reply : Reply) (step : Option MachineStep) → IsAllowed s k e reply step → IsAnswer reply → IsProper s e × IsDue s k e reply step
+pub due : (s : State) (k : Standing) (e : Event) (reply : Reply) (step : Option MachineStep) → IsAllowed s k e reply step → IsAnswer reply → IsProper s e × IsStepDue s k e reply step
 due s k e reply step (unknown a) answer = absurd answer
 due s k e reply step (skipped a b) answer = absurd answer
 due s k e reply step (refused a b error f) answer = absurd answer

@@ -4,7 +4,7 @@ use Rattle.std.proofs.lemmas.List.{length-append}
 use Rattle.std.specs.Prelude.{slice_get}
 use Rattle.atomic_table.specs.Seated.{TableId}
 use Rattle.sessions.specs.Values.{empty_session}
-use Rattle.registry.specs.Halves.{HalfValue}
+use Rattle.session_halves.specs.Halves.{HalfValue}
 use Rattle.board.specs.Views.{Sighting}
 use Rattle.shared.specs.Seats.{AreNewSeats, HasSeenNothing, IsNewSeat, SeatValue}
 

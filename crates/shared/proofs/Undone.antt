@@ -9,7 +9,7 @@ use Rattle.core_model.specs.Histories.{Opened}
 use Rattle.core_model.specs.States.{Active, State}
 use Rattle.core_model.specs.Steps.{new_txn, txn_at}
 use Rattle.core_contracts.specs.Events.{Event, Reply, Standing}
-use Rattle.core_contracts.specs.Replies.{IsDue, IsProper}
+use Rattle.core_contracts.specs.Replies.{IsStepDue, IsProper}
 use Rattle.nsf_core.specs.Moves.{HasNoChange, txn_shown}
 use Rattle.nsf_core.specs.Undoing.{undone_reply}
 use Rattle.nsf_core.specs.View.{Answers, AreOne, CoreValue, Serves, Shows}
@@ -43,7 +43,7 @@ module _ (o : Opened) (core new : CoreValue) (pushed : List RecordValue) (book :
       a : Answers core s k (Event.Undo t) Reply.Empty new
       a = serves s k all.register.kept.replied.stands
 
-      d : IsProper s (Event.Undo t) × IsDue s k (Event.Undo t) Reply.Empty a.step
+      d : IsProper s (Event.Undo t) × IsStepDue s k (Event.Undo t) Reply.Empty a.step
       d = due s k (Event.Undo t) Reply.Empty a.step a.allowed tt
 
       never : Reply.Empty ≡ Reply.Undone → ⊥

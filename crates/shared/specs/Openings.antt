@@ -6,7 +6,7 @@ use Rattle.core_model.specs.Histories.{CanOpen, Opened}
 use Rattle.nsf_core.specs.Value.{value_of}
 use Rattle.nsf_core.specs.View.{CoreValue}
 use Rattle.locked_core.specs.Names.{Names}
-use Rattle.registry.specs.Halves.{IsNew}
+use Rattle.session_halves.specs.Halves.{IsNew}
 use Rattle.shared.specs.declared.opening.Opening.{Opening}
 
 -- what a core that was just opened was opened with

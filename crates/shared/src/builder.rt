@@ -1,7 +1,8 @@
 //! The builder's part.
-ghost use Rattle.std.specs.Prelude.{◌≡◌, max};
+ghost use Rattle.std.specs.Prelude.{◌≡◌, ◌≤◌, max};
 
 use crate::shared::Shared;
+use crate::views::GroupView;
 use board::BuildView;
 use locked_core::Group;
 use std::marker::{Model, PhantomData};
@@ -30,5 +31,15 @@ impl<B: Group> BuildPart<B> {
         ensures { self.new ≡ record { progress = max self.old.progress progress } }
     {
         shared.board.raise_progress(&mut self.view, progress);
+    }
+
+    /// Compares what a view has seen with what was published: no count of attempts that it has seen is above the builder's own.
+    /// Nothing changes but the view, which has now seen the count that was published.
+    pub fn settle(&mut self, shared: &Shared<B>, view: &mut GroupView<B>)
+        ensures same { self.new ≡ self.old }
+        ensures progress { view.old.progress ≤ self.old.progress }
+        ensures informed { view.new ≡ record view.old { progress = self.old.progress } }
+    {
+        shared.board.settle_progress(&mut self.view, &mut view.view);
     }
 }

@@ -3,7 +3,7 @@ ghost use Rattle.std.specs.Prelude.{◌≡◌, [], false, length, IfErr, IfOk};
 ghost use Rattle.board.specs.Views.{nothing_seen};
 ghost use Rattle.nsf_core.specs.Value.{value_of};
 ghost use Rattle.records.specs.declared.error.Error.TheVariants.{NoMemory};
-ghost use Rattle.registry.specs.Halves.{IsNew};
+ghost use Rattle.session_halves.specs.Halves.{IsNew};
 ghost use Rattle.shared.specs.Openings.{IsJustOpened, IsOpening, names_of};
 ghost use Rattle.shared.specs.Seats.{AreNewSeats};
 
@@ -15,7 +15,7 @@ use flusher::FlushEnds;
 use locked_core::{Group, Locked, SeatPart};
 use nsf_core::Core;
 use records::Error;
-use registry::{Half, Registry};
+use session_halves::{Half, Registry};
 use std::alloc::Global;
 use std::marker::PhantomData;
 use std::sync::Mutex;

@@ -3,7 +3,7 @@ ghost use Rattle.std.specs.Prelude.{◌≡◌};
 
 use board::Board;
 use locked_core::{Group, Locked};
-use registry::Registry;
+use session_halves::Registry;
 use std::alloc::Global;
 use std::marker::PhantomData;
 use std::sync::{Mutex, MutexGuard, Wait};

@@ -5,7 +5,7 @@ ghost use Rattle.locked_core.specs.Locked.{locked_of};
 use crate::seat::{Ack, Seat};
 use board::View;
 use locked_core::{Group, Locked};
-use registry::Registry;
+use session_halves::Registry;
 use sessions::Session;
 
 impl<B: Group> Seat<B> {

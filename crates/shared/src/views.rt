@@ -1,11 +1,14 @@
 //! Views of the board for threads that have no seat.
-ghost use Rattle.std.specs.Prelude.{◌≡◌, ◌≤◌, [], false, IsTrue};
+ghost use Rattle.std.specs.Prelude.{◌≡◌, ◌≤◌, [], false, true, IsTrue};
 ghost use Rattle.board.specs.Views.{leaves_as, stays_as};
+ghost use Rattle.store_writer.specs.Parts.{has_failed, synced_of};
 
 use crate::seat::Seat;
 use crate::shared::Shared;
 use board::View;
+use flusher::FlushPart;
 use locked_core::Group;
+use sector_device::Device;
 use std::marker::{Model, PhantomData};
 
 /// A view of the group's board for a thread that has no seat, as a loop. To a contract it is a `Sighting`.
@@ -40,6 +43,53 @@ impl<B: Group> Shared<B> {
 }
 
 impl<B: Group> GroupView<B> {
+    /// Makes a view for one more thread that has no seat. It has seen what this one has.
+    pub fn another_view(&mut self, shared: &Shared<B>) -> GroupView<B>
+        ensures stays { self.new ≡ record self.old { name = stays_as self.old.name } }
+        ensures leaves { result ≡ record self.old { name = leaves_as self.old.name; stops = false } }
+    {
+        GroupView {
+            view: shared.board.another(&mut self.view),
+            site: PhantomData,
+        }
+    }
+
+    /// The horizon: the number of the last record that the flusher has published as safe on the device.
+    pub fn horizon(&mut self, shared: &Shared<B>) -> u64
+        ensures seen { self.new ≡ record self.old { horizon = result; checked = false } }
+        ensures rises { self.old.horizon ≤ result }
+    {
+        shared.board.horizon(&mut self.view)
+    }
+
+    /// Whether the flusher has published that its device failed. It stays true once this view has seen it.
+    pub fn failed(&mut self, shared: &Shared<B>) -> bool
+        ensures seen { self.new ≡ record self.old { failed = result; checked = true } }
+        ensures stays { IsTrue self.old.failed → IsTrue result }
+    {
+        shared.board.failed(&mut self.view)
+    }
+
+    /// Compares what this view has seen with what the flusher has published: no horizon that it has seen is above the last synced
+    /// record, and a failed flag that it has seen is true. Nothing changes but the view, which has now seen the horizon and the failed
+    /// flag that were published.
+    pub fn settle<D: Device>(&mut self, shared: &Shared<B>, flush: &mut FlushPart<B, D>)
+        ensures same { flush.new ≡ flush.old }
+        ensures synced { self.old.horizon ≤ synced_of flush.old.writer }
+        ensures failed { IsTrue self.old.failed → has_failed flush.old.writer ≡ true }
+        ensures informed { self.new ≡ record self.old { horizon = flush.old.published.horizon; failed = flush.old.published.failed } }
+    {
+        flush.settle(&shared.board, &mut self.view);
+    }
+
+    /// Sets the stop flag, by which all threads are asked to stop. It takes no memory and waits for nothing. (That those that sleep are
+    /// woken, no clause says.)
+    pub fn stop(&mut self, shared: &Shared<B>)
+        ensures { self.new ≡ record self.old { stopped = true; stops = true } }
+    {
+        shared.board.stop(&mut self.view);
+    }
+
     /// Whether all threads are asked to stop. It stays true once this view has seen it.
     pub fn stopped(&mut self, shared: &Shared<B>) -> bool
         ensures seen { self.new ≡ record self.old { stopped = result } }

@@ -23,14 +23,20 @@ impl Model for Disk {
 }
 
 impl Disk {
-    /// A disk with a store that was just formatted, of so many pages and slots. No call of it fails.
-    pub fn formatted(alloc: Global, pages: u32, slots: u32) -> Result<Disk, Error> {
-        let geometry = Geometry::new(pages, pages.saturating_mul(64), slots)?;
-        let mut disk = MemDisk::new(alloc, geometry.sectors(), CALLS)?;
-        Halves::format(&mut disk, geometry)?;
+    /// A disk of so many sectors of zeros. No call of it fails.
+    pub fn bare(alloc: Global, sectors: u64) -> Result<Disk, Error> {
+        let disk = MemDisk::new(alloc, sectors, CALLS)?;
         Ok(Disk {
             device: FaultDisk::new(disk, Which::All, 0),
         })
+    }
+
+    /// A disk with a store that was just formatted, of so many pages and slots. No call of it fails.
+    pub fn formatted(alloc: Global, pages: u32, slots: u32) -> Result<Disk, Error> {
+        let geometry = Geometry::new(pages, pages.saturating_mul(64), slots)?;
+        let mut disk = Disk::bare(alloc, geometry.sectors())?;
+        Halves::format(&mut disk.device, geometry)?;
+        Ok(disk)
     }
 
     /// The disk, where from now on the call of this number fails, of those that are counted; or none at 0.

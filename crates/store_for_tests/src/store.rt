@@ -4,7 +4,7 @@ use crate::contents::{Contents, contents_of, entries_of};
 use crate::disk::Disk;
 use nsf_core::Core;
 use records::Error;
-use restart::{Engine, Event, Reply, restart};
+use restart::{Engine, Event, MigrateError, Reply, migrate, restart};
 use sector_device::{Device, FaultDisk, MemDisk};
 use std::alloc::{Allocator, Global};
 use std::marker::Model;
@@ -13,6 +13,14 @@ use std::marker::Model;
 
 fn opened<D: Device, A: Allocator + Copy>(alloc: A, device: D) -> Result<Engine<D, A>, (Error, D)> {
     restart(alloc, device)
+}
+
+fn moved<O: Device, N: Device, A: Allocator + Copy>(
+    alloc: A,
+    old: &mut O,
+    new: N,
+) -> Result<Engine<N, A>, (MigrateError, N)> {
+    migrate(alloc, old, new)
 }
 
 fn replies_to<D: Device, A: Allocator + Copy>(
@@ -56,6 +64,14 @@ impl<A: Allocator + Copy> Store<A> {
     /// Opens the store on the disk, or gives it back.
     pub fn open(alloc: A, disk: Disk) -> Result<Store<A>, (Error, Disk)> {
         match opened(alloc, disk.device) {
+            Ok(engine) => Ok(Store { engine }),
+            Err((error, device)) => Err((error, Disk { device })),
+        }
+    }
+
+    /// Moves the store of version 1 on the old disk to the new one, and opens it there; or gives the new one back.
+    pub fn moved(alloc: A, old: &mut Disk, new: Disk) -> Result<Store<A>, (MigrateError, Disk)> {
+        match moved(alloc, &mut old.device, new.device) {
             Ok(engine) => Ok(Store { engine }),
             Err((error, device)) => Err((error, Disk { device })),
         }

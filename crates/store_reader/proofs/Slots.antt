@@ -1,5 +1,5 @@
 -- Rows and changes are of slots that a page has: after the records of a log, and with changes taken back.
-use Rattle.std.proofs.Common.{◌≡◌, ℕ, suc, ◌<◌, Bool, true, false, cond, List, [], ◌∷◌, All, length, slice_index_or, Option, Some, unwrap_or, inl, inr, refl, sym, ap, subst, ◌∙◌, arith}
+use Rattle.std.proofs.Common.{get_or, ◌≡◌, ℕ, suc, ◌<◌, Bool, true, false, cond, List, [], ◌∷◌, All, length, slice_index_or, Option, Some, unwrap_or, inl, inr, refl, sym, ap, subst, ◌∙◌, arith}
 use Rattle.std.proofs.lemmas.Bool.{cases_eq}
 use Rattle.std.proofs.lemmas.List.Elements.{All-nil, All-head, All-tail, All-append, All-cons, All-take, All-same}
 use Rattle.std.specs.List.{AllByRecursion}
@@ -8,7 +8,9 @@ use Rattle.std.specs.FinMap as map
 use Rattle.records.specs.Values.{Place}
 use Rattle.records.specs.ChangeValue.{ChangeValue}
 use Rattle.records.specs.RecordValue.{RecordValue}
-use Rattle.records.specs.Spelling.{old_row, new_row, Fits, ActionFits, TxnActionFits}
+use Rattle.records.specs.declared.version.Version.{Version}
+use Rattle.records.proofs.Wide.{wide}
+use Rattle.records.specs.Spelling.{old_row, new_row, Fits, FitsIn, ActionFits, TxnActionFits}
 use Rattle.records.specs.Orders.{rid_cmp}
 use Rattle.records.specs.Maps.{set_at, rid_exact, key_is, get-set_at}
 use Rattle.records.specs.declared.rid.TheConstants.{SLOTS_PER_PAGE}
@@ -85,9 +87,9 @@ after_slotted cells [] fits is = is
 after_slotted cells (r ∷ records) fits is = after_slotted (set_by cells r.action) records (All-tail Fits r records fits) (step_slotted cells r.action (All-head Fits r records fits).action is)
 
 -- the records of groups, where those of each group fit
-pub groups_fit : (groups : List (List RecordValue)) → ((slot : ℕ) → slot < length groups → All Fits (slice_index_or groups slot [])) → All Fits (records_of groups)
-groups_fit [] each = All-nil Fits
-groups_fit (group ∷ groups) each = All-append Fits group (records_of groups) (each 0 (omega arith)) (groups_fit groups (λ slot below. each (suc slot) (omega (arith, below))))
+pub groups_fit : (v : Version) (groups : List (List RecordValue)) → ((slot : ℕ) → slot < length groups → All (FitsIn v) (slice_index_or groups slot [])) → All Fits (records_of groups)
+groups_fit v [] each = All-nil Fits
+groups_fit v (group ∷ groups) each = All-append Fits group (records_of groups) (λ k d below. wide v (get_or group k d) (each 0 (omega arith) k d below)) (groups_fit v groups (λ slot below. each (suc slot) (omega (arith, below))))
 
 -- ---- changes taken back
 

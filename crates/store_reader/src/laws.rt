@@ -1,11 +1,14 @@
 //! Laws of what an image gives.
 ghost use Rattle.std.specs.Prelude.{◌≡◌, ◌≤◌, ℕ, List, length};
 ghost use Rattle.std.specs.FinMap.{entries, len};
-ghost use Rattle.sector_device.specs.Disk.{Image, IsWhole, SameOutside};
+ghost use Rattle.sector_device.specs.Disk.{Image, IsDiskWhole, SameOutside};
 ghost use Rattle.records.specs.RecordValue.{RecordValue};
 ghost use Rattle.records.specs.GeometryValue.{GeometryValue};
 ghost use Rattle.records.specs.declared.change.TheConstants.{CHANGES_MAX};
 ghost use Rattle.records.specs.declared.error.Error.{Error};
+ghost use Rattle.records.specs.declared.error.Error.TheVariants.{OldVersion};
+ghost use Rattle.records.specs.declared.version.Version.{Version};
+ghost use Rattle.records.specs.declared.version.Version.TheVariants.{One};
 ghost use Rattle.records.specs.declared.number.TheConstants.{LAST_NUMBER};
 ghost use Rattle.records.specs.declared.txn.TheConstants.{TXNS_MAX};
 ghost use Rattle.model.specs.Cells.{Cells, list_of};
@@ -18,7 +21,7 @@ ghost use Rattle.image_half.specs.Source.{FitsImage};
 ghost use Rattle.flip_image.specs.declared.half.Half.{Half};
 ghost use Rattle.flip_image.specs.declared.half.Half.TheVariants.{A};
 ghost use Rattle.flip_image.specs.Store.{IsStore, IsFormatted, AreGatesClosed, HoldsImage};
-ghost use Rattle.store_reader.specs.Contents.{log_area, given_over, Gives, IsFound, IsUnreadable, IsUntouched};
+ghost use Rattle.store_reader.specs.Contents.{log_area, given_over, Gives, GivesIn, IsFound, IsUnreadable, IsUnreadableIn, IsUntouched};
 
 use flip_image::fresh_image;
 use image_half::fitting_cells;
@@ -34,10 +37,19 @@ pub fn one_answer()
     ensures refusal { (image : Image) (d e : Error) → IsUnreadable image d → IsUnreadable image e → d ≡ e }
 {}
 
+/// A law: the same of an image read by version 1; and what gives something by version 1 a reader of version 2 refuses as old.
+pub fn one_old_answer()
+    ensures geometry { (image : Image) (g h : GeometryValue) (x y : Given) → GivesIn One image g x → GivesIn One image h y → g ≡ h }
+    ensures given { (image : Image) (g h : GeometryValue) (x y : Given) → GivesIn One image g x → GivesIn One image h y → x ≡ y }
+    ensures readable { (image : Image) (g : GeometryValue) (given : Given) (e : Error) → GivesIn One image g given → ¬ IsUnreadableIn One image e }
+    ensures refusal { (image : Image) (d e : Error) → IsUnreadableIn One image d → IsUnreadableIn One image e → d ≡ e }
+    ensures older { (image : Image) (g : GeometryValue) (given : Given) → GivesIn One image g given → IsUnreadable image OldVersion }
+{}
+
 /// A law: what `format` leaves gives nothing, and is told to be untouched.
 pub fn format_gives_nothing()
-    ensures gives { (g : GeometryValue) (image : Image) → IsWhole image → IsFormatted g image → AreGatesClosed g A image → Gives image g nothing }
-    ensures untouched { (g : GeometryValue) (image : Image) → IsWhole image → IsFormatted g image → AreGatesClosed g A image → IsUntouched image g }
+    ensures gives { (g : GeometryValue) (image : Image) → IsDiskWhole image → IsFormatted g image → AreGatesClosed g A image → Gives image g nothing }
+    ensures untouched { (g : GeometryValue) (image : Image) → IsDiskWhole image → IsFormatted g image → AreGatesClosed g A image → IsUntouched image g }
 {
     beginnings();
     fresh_image();
@@ -67,9 +79,10 @@ pub fn image_inside()
     ensures placed { (g : GeometryValue) (half : Half) (image : Image) (base : ℕ) (cells : Cells) → HoldsImage g half image base cells → (txn : ℕ) → ArePlaced g.pages 0 (list_of cells.pending txn) }
 {}
 
-/// A law: an image of a store has room for what the store gives.
+/// A law: an image of a store has room for what the store gives, and so has one of version 2 for what a store of version 1
+/// gives.
 pub fn room_for_given()
-    ensures { (image : Image) (g : GeometryValue) (given : Given) → Gives image g given → FitsImage g (opening_cells given) }
+    ensures { (v : Version) (image : Image) (g : GeometryValue) (given : Given) → GivesIn v image g given → FitsImage g (opening_cells given) }
 {
     fitting_cells();
 }

@@ -1,9 +1,9 @@
 //! What a store on a device gives: what the records of its current half's log make of the cells of that half's image, with
 //! every unfinished transaction taken back.
 //!
-//! Proved: `read_store` answers what the image gives, with its log (`found`, `Gives`), or names the first thing that is wrong
-//! (`refused`). It writes nothing (`reads`). An image gives one thing at most, and is refused in one way at most (the law
-//! `one_answer`).
+//! Proved: `read_store_in` answers what the image gives by a version of the format, with its log (`found`, `GivesIn`), or names
+//! the first thing that is wrong (`refused`). It writes nothing (`reads`). An image gives one thing at most, and is refused in
+//! one way at most (the law `one_answer`).
 //! Only tested: that it succeeds where there is memory.
 #![tactic(auto)]
 
@@ -11,6 +11,7 @@ mod laws;
 mod reader;
 
 pub use laws::{
-    format_gives_nothing, image_inside, log_alone, one_answer, over_no_cells, room_for_given,
+    format_gives_nothing, image_inside, log_alone, one_answer, one_old_answer, over_no_cells,
+    room_for_given,
 };
-pub use reader::{Found, read_store};
+pub use reader::{Found, read_store, read_store_in};

@@ -6,16 +6,16 @@ ghost use Rattle.records.specs.GeometryValue.{GeometryValue};
 ghost use Rattle.records.specs.declared.number.TheConstants.{LAST_NUMBER};
 ghost use Rattle.model.specs.Given.{Given};
 ghost use Rattle.redo.specs.Restored.{given_in};
-ghost use Rattle.gate_log.specs.Area.{IsAreaInside, Stands, records_of, IsGateOf, Refuses};
+ghost use Rattle.gate_log.specs.Area.{IsAreaInside, StandsIn, records_of, IsGateOf, Refuses};
 ghost use Rattle.image_half.specs.Image.{no_cells};
-ghost use Rattle.image_half.specs.Damage.{IsSound, TheHeader, IsUnread};
-ghost use Rattle.flip_image.specs.Layout.{header_sector};
-ghost use Rattle.flip_image.specs.Store.{IsStore, HoldsImage};
-ghost use Rattle.store_reader.specs.Contents.{Gives, HasHeader, IsFound, IsUnreadable, IsUntouched};
+ghost use Rattle.image_half.specs.Damage.{IsSoundIn, TheHeader, IsUnreadIn};
+ghost use Rattle.flip_image.specs.Layout.{header_sector_in};
+ghost use Rattle.flip_image.specs.Store.{IsStore, IsStoreIn, HoldsImageIn};
+ghost use Rattle.store_reader.specs.Contents.{Gives, GivesIn, HasHeader, HasHeaderIn, IsFound, IsFoundIn, IsUnreadable, IsUnreadableIn, IsUntouched, IsUntouchedIn};
 
 use flip_image::Halves;
 use gate_log::LogArea;
-use records::{Error, Record};
+use records::{Error, Record, Version};
 use redo::{ImageCells, Refusal, Restored, StoreCells};
 use sector_device::Device;
 use std::alloc::Allocator;
@@ -36,22 +36,23 @@ pub struct Found<A: Allocator> {
 // The cells of the image of the current half, and whether there are none, with base 0.
 fn read_cells<D: Device, A: Allocator + Copy>(
     alloc: A,
+    version: Version,
     device: &mut D,
     halves: &Halves,
 ) -> Result<(StoreCells<A>, bool), Error>
-    requires { IsStore halves.now.geometry halves.now.current (D.history device.old).disk.content }
+    requires { IsStoreIn version halves.now.geometry halves.now.current (D.history device.old).disk.content }
     ensures geometry { IfOk result (λ r. r.0.geometry ≡ halves.now.geometry) }
-    ensures imaged { IfOk result (λ r. HoldsImage halves.now.geometry halves.now.current (D.history device.old).disk.content r.0.last r.0.cells) }
+    ensures imaged { IfOk result (λ r. HoldsImageIn version halves.now.geometry halves.now.current (D.history device.old).disk.content r.0.last r.0.cells) }
     ensures bare { IfOk result (λ r. IsTrue r.1 ↔ (r.0.last ≡ 0) × (r.0.cells ≡ no_cells)) }
-    ensures refused { IfErr result (IsUnread halves.now.geometry (header_sector halves.now.geometry halves.now.current) (D.history device.old).disk.content (D.failures device.old) (D.failures device.new)) }
+    ensures refused { IfErr result (IsUnreadIn version halves.now.geometry (header_sector_in version halves.now.geometry halves.now.current) (D.history device.old).disk.content (D.failures device.old) (D.failures device.new)) }
     ensures reads { OnlyReads (D.history device.old) (D.history device.new) }
     ensures quiet { OnOk result (D.failures device.new ≡ D.failures device.old) }
     ensures told { IfErr result (λ e. e ≢ Error.DeviceFailed → D.failures device.new ≡ D.failures device.old) }
-    ensures memory { IfErr result (λ e. e ≡ Error.NoMemory → IsSound halves.now.geometry (header_sector halves.now.geometry halves.now.current) (D.history device.old).disk.content TheHeader) }
+    ensures memory { IfErr result (λ e. e ≡ Error.NoMemory → IsSoundIn version halves.now.geometry (header_sector_in version halves.now.geometry halves.now.current) (D.history device.old).disk.content TheHeader) }
     ensures later { D.failures device.old ≤ D.failures device.new }
 {
     let mut image = ImageCells::new(alloc);
-    let base = halves.read_image(alloc, device, &mut image)?;
+    let base = halves.read_image(alloc, version, device, &mut image)?;
     let bare = base == 0 && image.is_empty();
     Ok((StoreCells::over(image, halves.geometry(), base), bare))
 }
@@ -59,21 +60,22 @@ fn read_cells<D: Device, A: Allocator + Copy>(
 // The halves of the store, the cells of the current one's image, and whether there are none, with base 0.
 fn open_store<D: Device, A: Allocator + Copy>(
     alloc: A,
+    version: Version,
     device: &mut D,
 ) -> Result<(Halves, StoreCells<A>, bool), Error>
-    ensures opened { IfOk result (λ r. IsStore r.0.geometry r.0.current (D.history device.old).disk.content) }
+    ensures opened { IfOk result (λ r. IsStoreIn version r.0.geometry r.0.current (D.history device.old).disk.content) }
     ensures geometry { IfOk result (λ r. r.1.geometry ≡ r.0.geometry) }
-    ensures imaged { IfOk result (λ r. HoldsImage r.0.geometry r.0.current (D.history device.old).disk.content r.1.last r.1.cells) }
+    ensures imaged { IfOk result (λ r. HoldsImageIn version r.0.geometry r.0.current (D.history device.old).disk.content r.1.last r.1.cells) }
     ensures bare { IfOk result (λ r. IsTrue r.2 ↔ (r.1.last ≡ 0) × (r.1.cells ≡ no_cells)) }
-    ensures refused { IfErr result (λ e. Refuses (D.failures device.old) (D.failures device.new) e ⊎ IsUnreadable (D.history device.old).disk.content e) }
-    ensures memory { IfErr result (λ e. e ≡ Error.NoMemory → HasHeader (D.history device.old).disk.content) }
+    ensures refused { IfErr result (λ e. Refuses (D.failures device.old) (D.failures device.new) e ⊎ IsUnreadableIn version (D.history device.old).disk.content e) }
+    ensures memory { IfErr result (λ e. e ≡ Error.NoMemory → HasHeaderIn version (D.history device.old).disk.content) }
     ensures reads { OnlyReads (D.history device.old) (D.history device.new) }
     ensures quiet { OnOk result (D.failures device.new ≡ D.failures device.old) }
     ensures told { IfErr result (λ e. e ≢ Error.DeviceFailed → D.failures device.new ≡ D.failures device.old) }
     ensures later { D.failures device.old ≤ D.failures device.new }
 {
-    let halves = Halves::open(device)?;
-    let (cells, bare) = read_cells(alloc, device, &halves)?;
+    let halves = Halves::open_in(version, device)?;
+    let (cells, bare) = read_cells(alloc, version, device, &halves)?;
     Ok((halves, cells, bare))
 }
 
@@ -87,37 +89,84 @@ fn is_untouched(bare: bool, records: &[Record]) -> bool
 // Names the gate of the group of a record that is misplaced.
 fn misplaced<D: Device, A: Allocator + Copy>(
     alloc: A,
+    version: Version,
     device: &mut D,
     log: &LogArea,
     index: usize,
 ) -> Error
     requires inside { IsAreaInside log.now.area (D.history device.old).disk.content }
-    requires stands { (groups : List (List RecordValue)) × Stands log.now (D.history device.old).disk.content groups × (index < length (records_of groups)) }
+    requires stands { (groups : List (List RecordValue)) × StandsIn version log.now (D.history device.old).disk.content groups × (index < length (records_of groups)) }
     ensures told { Refuses (D.failures device.old) (D.failures device.new) result
-        ⊎ ((sector : ℕ) × (result ≡ Error.Damaged sector) × ((groups : List (List RecordValue)) → Stands log.now (D.history device.old).disk.content groups → IsGateOf log.now.area groups index sector)) }
+        ⊎ ((sector : ℕ) × (result ≡ Error.Damaged sector) × ((groups : List (List RecordValue)) → StandsIn version log.now (D.history device.old).disk.content groups → IsGateOf log.now.area groups index sector)) }
     ensures reads { OnlyReads (D.history device.old) (D.history device.new) }
     ensures quiet { result ≢ Error.DeviceFailed → D.failures device.new ≡ D.failures device.old }
     ensures later { D.failures device.old ≤ D.failures device.new }
 {
-    match log.gate_of(alloc, device, index) {
+    match log.gate_of(alloc, version, device, index) {
         Ok(Some(sector)) => Error::Damaged { sector },
         Ok(None) => unreachable!(),
         Err(error) => error,
     }
 }
 
-/// Reads the store on the device, as it is: its superblock, its flip sector, and the current half. The records of that
+/// Reads the store of a version on the device, as it is: its superblock, its flip sector, and the current half. The records of that
 /// half's log are redone over its image, and what is unfinished then is taken back. Nothing is written, and the caller has
 /// synced. Each sector is read once at most, but for those of the log's groups where a record can't follow, whose gate is
 /// then looked for.
 ///
-/// The refusals, the first that fits: `DeviceTooSmall`, `NotFormatted` and `Damaged` with the superblock's sector, as
-/// `Halves::open` answers them; `Damaged` with the first sector of the image that says nothing, as `Halves::read_image`
+/// The refusals, the first that fits: `DeviceTooSmall`, `NotFormatted`, `OldVersion` and `Damaged` with the superblock's
+/// sector, as `Halves::open_in` answers them; `Damaged` with the first sector of the image that says nothing, as `Halves::read_image`
 /// names it; `Damaged` with the gate of the log's first slot that can't be; `Damaged` with the gate of the group of the
 /// first record that can't follow the ones before it; `Damaged` with the header's sector where there are more entries in the
 /// end than the geometry has places. `DeviceFailed` comes at any of these, where the device failed in the call and only then
-/// (`told`). `NoMemory` comes behind those of `Halves::open`, and behind the header of the image: of a device that holds no
+/// (`told`). `NoMemory` comes behind those of `Halves::open_in`, and behind the header of the image: of a device that holds no
 /// store, or a damaged header in its current half, it is never answered (`memory`).
+pub fn read_store_in<D: Device, A: Allocator + Copy>(
+    alloc: A,
+    version: Version,
+    device: &mut D,
+) -> Result<Found<A>, Error>
+    ensures found { IfOk result (λ found. IsFoundIn version (D.history device.old).disk.content found.restored.geometry found.log (given_in found.restored)) }
+    ensures halves { IfOk result (λ found. IsStoreIn version found.halves.geometry found.halves.current (D.history device.old).disk.content) }
+    ensures untouched { IfOk result (λ found. IsTrue found.untouched ↔ IsUntouchedIn version (D.history device.old).disk.content found.restored.geometry) }
+    ensures area { IfOk result (λ found. IsAreaInside found.log.area (D.history device.old).disk.content) }
+    ensures numbered { IfOk result (λ found. found.restored.last ≤ LAST_NUMBER) }
+    ensures accepted { (geometry : GeometryValue) (given : Given) → GivesIn version (D.history device.old).disk.content geometry given
+        → IfErr result (Refuses (D.failures device.old) (D.failures device.new)) }
+    ensures refused { IfErr result (λ e. Refuses (D.failures device.old) (D.failures device.new) e ⊎ IsUnreadableIn version (D.history device.old).disk.content e) }
+    ensures memory { IfErr result (λ e. e ≡ Error.NoMemory → HasHeaderIn version (D.history device.old).disk.content) }
+    ensures reads { OnlyReads (D.history device.old) (D.history device.new) }
+    ensures quiet { OnOk result (D.failures device.new ≡ D.failures device.old) }
+    ensures told { IfErr result (λ e. e ≢ Error.DeviceFailed → D.failures device.new ≡ D.failures device.old) }
+    ensures later { D.failures device.old ≤ D.failures device.new }
+{
+    let (halves, mut cells, bare) = open_store(alloc, version, device)?;
+    let geometry = halves.geometry();
+    let mut log = LogArea::new(halves.log_first_in(version), u64::from(geometry.slots));
+    let records = log.read_all(alloc, version, device)?;
+    match cells.redo_all(&records) {
+        Ok(()) => {
+            let restored = cells.restore()?;
+            if restored.entries.len() > geometry.entries as usize {
+                return Err(Error::Damaged {
+                    sector: halves.header_sector_in(version),
+                });
+            }
+            Ok(Found {
+                halves,
+                log,
+                restored,
+                untouched: is_untouched(bare, &records),
+            })
+        }
+        Err(stopped) => match stopped.why {
+            Refusal::Unfit => Err(misplaced(alloc, version, device, &log, stopped.index)),
+            Refusal::NoMemory => Err(Error::NoMemory),
+        },
+    }
+}
+
+/// Reads the store of version 2 on the device, as `read_store_in` does.
 pub fn read_store<D: Device, A: Allocator + Copy>(
     alloc: A,
     device: &mut D,
@@ -136,28 +185,5 @@ pub fn read_store<D: Device, A: Allocator + Copy>(
     ensures told { IfErr result (λ e. e ≢ Error.DeviceFailed → D.failures device.new ≡ D.failures device.old) }
     ensures later { D.failures device.old ≤ D.failures device.new }
 {
-    let (halves, mut cells, bare) = open_store(alloc, device)?;
-    let geometry = halves.geometry();
-    let mut log = LogArea::new(halves.log_first(), u64::from(geometry.slots));
-    let records = log.read_all(alloc, device)?;
-    match cells.redo_all(&records) {
-        Ok(()) => {
-            let restored = cells.restore()?;
-            if restored.entries.len() > geometry.entries as usize {
-                return Err(Error::Damaged {
-                    sector: halves.header_sector(),
-                });
-            }
-            Ok(Found {
-                halves,
-                log,
-                restored,
-                untouched: is_untouched(bare, &records),
-            })
-        }
-        Err(stopped) => match stopped.why {
-            Refusal::Unfit => Err(misplaced(alloc, device, &log, stopped.index)),
-            Refusal::NoMemory => Err(Error::NoMemory),
-        },
-    }
+    read_store_in(alloc, Version::Two, device)
 }

@@ -21,7 +21,7 @@ fn check(rt: &impl Abort, disk: &mut Disk, (n, pieces): Sector<'_>) -> Result<()
 const SCRIPT: &str = "begin\ninsert 1 =ant =x\ncommit 1\nflush\n\
     create\nbuild 2\nbegin\ninsert 2 =a =\nstep 2\nimage\nimage\nimage\nimage\n";
 
-// The first restart makes half B current: half A is in sectors 2 to 559, half B begins at 560, and its first gate is in 1086.
+// The first restart makes half B current: half A is in sectors 2 to 1083, half B begins at 1084, and its first gate is in 2134.
 #[test]
 fn a_store_byte_by_byte(rt: HostRuntime) -> Result<(), Fail> {
     let memory = ample(rt.alloc());
@@ -34,37 +34,37 @@ fn a_store_byte_by_byte(rt: HostRuntime) -> Result<(), Fail> {
     let sectors: [Sector<'_>; 13] = [
         (
             0,
-            &[(0, b"NSFINDEX\0\0\0\x01\0\0\0\x01\0\0\0\x40\0\0\0\x04")],
+            &[(0, b"NSFINDEX\0\0\0\x02\0\0\0\x01\0\0\0\x40\0\0\0\x04")],
         ),
         // half A is current again
         (1, &[]),
         // its header: the index is being built, the image is of record 6, and there are two entries
-        (2, &[(0, b"\x01"), (40, b"\x06\0\0\0\x02")]),
+        (2, &[(0, b"\x01"), (72, b"\x06\0\0\0\x02")]),
         // one list, of transaction 2, and its one change
         (3, &[(7, b"\x02\0\x01")]),
-        (4, &[(0, b"\x01\0\0\0\0\0\x01"), (71, b"\x01\x01a")]),
+        (4, &[(0, b"\x01\0\0\0\0\0\x01"), (135, b"\x01\x01a")]),
         // the rows
         (
-            516,
-            &[(64, b"\x01\x03ant"), (90, b"\x01x"), (128, b"\x01\x01a")],
+            1028,
+            &[(64, b"\x01\x03ant"), (122, b"\x01x"), (192, b"\x01\x01a")],
         ),
-        (517, &[]),
+        (1029, &[]),
         // the entries
         (
-            524,
+            1044,
             &[
                 (0, b"\x01a"),
-                (30, b"\x01\x01"),
-                (32, b"\x03ant"),
-                (63, b"\x01"),
+                (62, b"\x01\x01"),
+                (64, b"\x03ant"),
+                (127, b"\x01"),
             ],
         ),
-        (528, &[]),
+        (1052, &[]),
         // the group in the log of half B
-        (1086, &[(0, b"\xa5")]),
-        (1087, &[(0, group)]),
-        (1088, &[]),
-        (1094, &[]),
+        (2134, &[(0, b"\xa5")]),
+        (2135, &[(0, group)]),
+        (2136, &[]),
+        (2142, &[]),
     ];
     for sector in sectors {
         check(&rt, &mut disk, sector)?;

@@ -1,23 +1,9 @@
 // Stores that were harmed.
-use crate::opened::{ample, write_at};
+use crate::opened::{Edit, GROUP, ample, set};
 use records::Error;
 use std::alloc::Global;
 use std::test::Fail;
 use store_for_tests::{Disk, Store};
-
-// A sector, a place in it, and what is written there.
-type Edit<'a> = (u64, usize, &'a [u8]);
-
-// The group of the format document's example, in which transaction 1 inserts a row and commits.
-const GROUP: &[u8] = b"\0\x02\0\x31\
-    \0\0\0\0\0\0\0\x01\0\0\0\0\0\0\0\x01\x01\0\0\0\0\0\0\0\0\x01\x03\x61\x6e\x74\x01\x78\
-    \0\0\0\0\0\0\0\x02\0\0\0\0\0\0\0\x01\x07";
-
-fn set(disk: &mut Disk, (n, at, bytes): Edit<'_>) -> Result<(), Error> {
-    let mut sector = disk.sector(n)?;
-    write_at(&mut sector, at, bytes);
-    disk.write(n, &sector)
-}
 
 // Why the least store, just formatted and then changed so, isn't opened.
 fn refusal(alloc: Global, edits: &[Edit<'_>]) -> Result<Option<Error>, Error> {
@@ -37,8 +23,14 @@ const fn damaged(sector: u64) -> Option<Error> {
 
 #[test]
 fn stores_that_were_harmed(rt: HostRuntime) -> Result<(), Fail> {
-    let cases: [(&str, &[Edit<'_>], Option<Error>); 19] = [
-        ("version 2", &[(0, 11, b"\x02")], damaged(0)),
+    let cases: [(&str, &[Edit<'_>], Option<Error>); 22] = [
+        ("version 3", &[(0, 11, b"\x03")], damaged(0)),
+        ("version 1", &[(0, 11, b"\x01")], Some(Error::OldVersion)),
+        (
+            "version 1, and more pages than any store",
+            &[(0, 11, b"\x01\xff\xff")],
+            Some(Error::OldVersion),
+        ),
         (
             "a byte behind the superblock",
             &[(0, 24, b"\x01")],
@@ -47,7 +39,7 @@ fn stores_that_were_harmed(rt: HostRuntime) -> Result<(), Fail> {
         ("no pages", &[(0, 15, b"\0")], damaged(0)),
         ("a header of no life", &[(2, 0, b"\x03")], damaged(2)),
         ("a highest pair of no index", &[(2, 1, b"\x01")], damaged(2)),
-        ("a byte behind the header", &[(2, 45, b"\x01")], damaged(2)),
+        ("a byte behind the header", &[(2, 77, b"\x01")], damaged(2)),
         ("a head behind none", &[(3, 39, b"\x01")], damaged(3)),
         (
             "a head with a change of none",
@@ -59,28 +51,33 @@ fn stores_that_were_harmed(rt: HostRuntime) -> Result<(), Fail> {
             &[(3, 7, b"\x01\0\x01")],
             damaged(4),
         ),
-        ("a used page", &[(516, 0, b"\x01")], damaged(516)),
-        ("a row that is none", &[(516, 64, b"\x02")], damaged(516)),
+        ("a used page", &[(1028, 0, b"\x01")], damaged(1028)),
+        ("a row that is none", &[(1028, 64, b"\x02")], damaged(1028)),
         (
             "the last sector of a page",
-            &[(523, 0, b"\x02")],
-            damaged(516),
+            &[(1043, 0, b"\x02")],
+            damaged(1028),
         ),
-        ("an entry that is none", &[(2, 44, b"\x01")], damaged(524)),
+        (
+            "a byte behind the rows of a page",
+            &[(1043, 511, b"\x01")],
+            damaged(1028),
+        ),
+        ("an entry that is none", &[(2, 76, b"\x01")], damaged(1044)),
         (
             "an open gate before no group",
-            &[(528, 0, b"\xa5")],
-            damaged(528),
+            &[(1052, 0, b"\xa5")],
+            damaged(1052),
         ),
         (
             "an open gate after a closed one",
-            &[(536, 0, b"\xa5")],
-            damaged(536),
+            &[(1060, 0, b"\xa5")],
+            damaged(1060),
         ),
         (
             "a group whose first record the image has",
-            &[(2, 40, b"\x01"), (528, 0, b"\xa5"), (529, 0, GROUP)],
-            damaged(528),
+            &[(2, 72, b"\x01"), (1052, 0, b"\xa5"), (1053, 0, GROUP)],
+            damaged(1052),
         ),
         ("another title", &[(0, 0, b"\0")], Some(Error::NotFormatted)),
         (
@@ -90,7 +87,7 @@ fn stores_that_were_harmed(rt: HostRuntime) -> Result<(), Fail> {
         ),
         (
             "an open gate before a group",
-            &[(528, 0, b"\xa5"), (529, 0, GROUP)],
+            &[(1052, 0, b"\xa5"), (1053, 0, GROUP)],
             None,
         ),
     ];

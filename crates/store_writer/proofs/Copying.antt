@@ -39,7 +39,7 @@ use Rattle.store_reader.specs.Contents.{log_area}
 use Rattle.store_writer.specs.declared.image.NewImage.{NewImage}
 use Rattle.store_writer.specs.declared.image.Stage.{Stage}
 use Rattle.store_writer.specs.declared.image.Stage.TheVariants.{Whole, Partly}
-use Rattle.store_writer.specs.Image.{IsWhole, IsPart, IsContent, IsUnderway, reach}
+use Rattle.store_writer.specs.Image.{IsImageWhole, IsPart, IsContent, IsUnderway, reach}
 use Rattle.store_writer.specs.declared.writer.Writer.{Writer}
 use Rattle.store_writer.specs.declared.writer.StepReply.{StepReply}
 use Rattle.store_writer.specs.declared.writer.StepReply.TheVariants.{Taken, StartAgain}
@@ -123,8 +123,8 @@ module _ (run : Run) (half : Half) (image c : Image) (base to number : ℕ) (low
 
     has_page : HasPage first c page more → HasPage first c page (joined more rows)
     has_page has = record {
-      front = has.front;
-      slots = λ slot below. subst (λ (o : Option Row). IsRow (row_bytes c first page (slot + 1)) o) (sym (get_first rid_exact more rows (record { page = page; slot = slot }) (rest (record { page = page; slot = slot }) (omega arith)))) (has.slots slot below);
+      edges = has.edges;
+      slots = λ slot below. subst (λ (o : Option Row). IsRow (row_bytes c first page slot) o) (sym (get_first rid_exact more rows (record { page = page; slot = slot }) (rest (record { page = page; slot = slot }) (omega arith)))) (has.slots slot below);
     }
 
   pub page_part : (page count : ℕ) (highest : Option Pair) (life : Life) (more : Table) → IsPart run half image base to page count highest life → page < g.pages → ArePageRows (cells_at run number) page more
@@ -142,7 +142,7 @@ module _ (run : Run) (half : Half) (image c : Image) (base to number : ℕ) (low
   }
 
   -- entries, as many as a chunk takes
-  pub entries_part : (pages count : ℕ) (above highest : Option Pair) (life : Life) (more : Index) (entries : List (Pair × Mark)) (is : IsPart run half image base to pages count above life) → map.entries more ≡ entries → AreNextEntries (cells_at run number) above highest more → length entries % 16 ≡ 0
+  pub entries_part : (pages count : ℕ) (above highest : Option Pair) (life : Life) (more : Index) (entries : List (Pair × Mark)) (is : IsPart run half image base to pages count above life) → map.entries more ≡ entries → AreNextEntries (cells_at run number) above highest more → length entries % 8 ≡ 0
       → IsImagePart g first c pages (record cells { rows = is.rows; entries = joined more is.entries }) → IsPart run half c base number pages (count + length entries) highest life
   entries_part pages count above highest life more entries is listed next full part = record {
     rows = is.rows;
@@ -159,7 +159,7 @@ module _ (run : Run) (half : Half) (image c : Image) (base to number : ℕ) (low
 
   -- the last entries
   pub entries_whole : (count : ℕ) (above : Option Pair) (life : Life) (more : Index) (is : IsPart run half image base to g.pages count above life) → AreLastEntries (cells_at run number) above more
-      → HoldsImage g half c base (record cells { rows = is.rows; entries = joined more is.entries }) → IsWhole run half c base number
+      → HoldsImage g half c base (record cells { rows = is.rows; entries = joined more is.entries }) → IsImageWhole run half c base number
   entries_whole count above life more is last holds = record {
     copied = record cells { rows = is.rows; entries = joined more is.entries };
     imaged = holds;

@@ -22,7 +22,7 @@ use Rattle.store_writer.specs.declared.writer.Writer.{Writer}
 use Rattle.store_writer.specs.declared.image.NewImage.{NewImage}
 use Rattle.store_writer.specs.Contents.{HalfHas, LeftBy}
 use Rattle.store_writer.specs.declared.image.Stage.TheVariants.{Whole}
-use Rattle.store_writer.specs.Image.{IsWhole, IsContent, IsUnderway, reach}
+use Rattle.store_writer.specs.Image.{IsImageWhole, IsContent, IsUnderway, reach}
 use Rattle.store_writer.specs.Writer.{StandsFor, IsWriter}
 use Rattle.store_writer.proofs.Numbers.{back_between, last_between}
 use Rattle.store_writer.proofs.Halves.{in_from_outside, half_apart}
@@ -32,7 +32,7 @@ use Rattle.store_writer.proofs.Left.{left_by}
 -- An image whose log reaches its last step gives the cells after the last record of that log.
 pub underway_has : (run : Run) (half : Half) (image : Image) (synced : ℕ) (new : NewImage) → IsRun run → IsUnderway run half image synced new → new.stage ≡ Whole → new.number ≤ reach new synced → reach new synced ≤ end_of run
     → HalfHas run.geometry half image (reach new synced) (cells_at run (reach new synced))
-underway_has run half image synced new is there whole up made = let content : IsWhole run half image new.base new.number = subst (IsContent run half image new.base new.number) whole there.content in record {
+underway_has run half image synced new is there whole up made = let content : IsImageWhole run half image new.base new.number = subst (IsContent run half image new.base new.number) whole there.content in record {
   base = new.base;
   copied = content.copied;
   imaged = content.imaged;

@@ -15,6 +15,7 @@ use Rattle.gate_log.specs.Area.{Area, Log, HoldsGroups, Stands}
 use Rattle.flip_image.specs.declared.half.Half.{Half}
 use Rattle.flip_image.specs.Layout.{HalvesValue}
 use Rattle.flip_image.specs.Store.{IsStore, HoldsImage}
+use Rattle.records.specs.declared.version.Version.TheVariants.{Two}
 use Rattle.flip_image.proofs.Stores.{one_half}
 use Rattle.image_model.specs.Run.{Run, IsRun, end_of, cells_at, records_to}
 use Rattle.store_reader.specs.Contents.{IsFound, log_area}
@@ -39,7 +40,7 @@ module _ (now : History) (halves : HalvesValue) (log : Log) (given : Given) (sto
   cells = cells_after found.gives.cells found.gives.records
 
   same_half : found.gives.half ≡ halves.current
-  same_half = one_half g g found.gives.half halves.current image found.gives.holds.store store
+  same_half = one_half Two g g found.gives.half halves.current image found.gives.holds.store store
 
   last_is : given.last ≡ found.gives.base + length found.gives.records
   last_is = ap (λ (x : Given). x.last) found.gives.recovered

@@ -3,6 +3,7 @@ use Rattle.std.proofs.Common.{◌≡◌, ℕ, ◌+◌, ◌*◌, ◌≤◌, List,
 use Rattle.sector_device.specs.Disk.{Image, sector, SameOutside}
 use Rattle.records.specs.RecordValue.{RecordValue}
 use Rattle.records.specs.GeometryValue.{GeometryValue, sectors_of}
+use Rattle.records.specs.declared.version.Version.TheVariants.{Two}
 use Rattle.model.specs.Cells.{Cells, cells_after}
 use Rattle.model.specs.Following.{AreFollowing}
 use Rattle.model.proofs.CellsLaws.{cells_after-append}
@@ -33,7 +34,7 @@ log_room g B = omega arith
 
 module _ (g : GeometryValue) (half : Half) (image c : Image) where
   pub image_apart : SameIn (InHalfImage g half) image c → (base : ℕ) (cells : Cells) → HoldsImage g half image base cells → HoldsImage g half c base cells
-  image_apart same base cells held = stays g _ image c same.same base cells held
+  image_apart same base cells held = stays Two g _ image c same.same base cells held
 
   module _ (last : ℕ) (cells : Cells) (has : HalfHas g half image last cells) (same : SameIn (InHalfImage g half) image c) where
     -- the image is the same, and the log has the same groups

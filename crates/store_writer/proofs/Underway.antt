@@ -25,7 +25,7 @@ use Rattle.store_reader.specs.Contents.{log_area}
 use Rattle.store_writer.specs.declared.image.NewImage.{NewImage}
 use Rattle.store_writer.specs.declared.image.Stage.{Stage}
 use Rattle.store_writer.specs.declared.image.Stage.TheVariants.{Whole, Partly}
-use Rattle.store_writer.specs.Image.{IsWhole, IsPart, IsContent, IsUnderway, InNewLog, reach}
+use Rattle.store_writer.specs.Image.{IsImageWhole, IsPart, IsContent, IsUnderway, InNewLog, reach}
 use Rattle.store_writer.proofs.Numbers.{between_split, back_between}
 use Rattle.store_writer.proofs.Halves.{SameIn, in_from_outside, image_apart}
 
@@ -57,7 +57,7 @@ last_fit group k fits less = record {
 -- ---- an image under way
 
 -- where the sectors of the half's image stay
-whole_apart : (run : Run) (half : Half) (image c : Image) → SameIn (InHalfImage run.geometry half) image c → (base to : ℕ) → IsWhole run half image base to → IsWhole run half c base to
+whole_apart : (run : Run) (half : Half) (image c : Image) → SameIn (InHalfImage run.geometry half) image c → (base to : ℕ) → IsImageWhole run half image base to → IsImageWhole run half c base to
 whole_apart run half image c same base to is = record { copied = is.copied; imaged = image_apart run.geometry half image c same base is.copied is.imaged; copies = is.copies }
 
 part_apart : (run : Run) (half : Half) (image c : Image) → SameIn (InHalfImage run.geometry half) image c → (base to pages count : ℕ) (highest : Option Pair) (life : Life) → IsPart run half image base to pages count highest life → IsPart run half c base to pages count highest life

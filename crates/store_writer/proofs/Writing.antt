@@ -9,6 +9,7 @@ use Rattle.sector_device.specs.History.{History, LeavesOnly}
 use Rattle.sector_device.proofs.Moments.{weaker, at_end}
 use Rattle.sector_device.proofs.Sectors.{same_outside_wider}
 use Rattle.gate_log.specs.Area.{Area, InArea, InSlot, IsAreaInside, HoldsGroups, Stands, IsAppended}
+use Rattle.records.specs.declared.version.Version.TheVariants.{Two}
 use Rattle.gate_log.proofs.Readings.{stands_for}
 use Rattle.flip_image.specs.declared.half.Half.{Half}
 use Rattle.flip_image.specs.Layout.{HalvesValue, other, InHalf, InHalfImage, InLog}
@@ -52,7 +53,7 @@ module _ {D M : Type 0} (history : D → History) (run : Run) (handed : ℕ) (ol
 
   -- the log stands for the groups of its half
   pub stands : Stands old.log disk.content stood.has.groups
-  stands = stands_for old.log disk.content stood.groups stood.has.groups stood.stands (subst (λ (a : Area). HoldsGroups a disk.content stood.has.groups) (sym stood.area-is) stood.has.held)
+  stands = stands_for Two old.log disk.content stood.groups stood.has.groups stood.stands (subst (λ (a : Area). HoldsGroups a disk.content stood.has.groups) (sym stood.area-is) stood.has.held)
 
   module _ (count : ℕ) (group : List RecordValue) (group_is : group ≡ take count old.waiting.items) (within : count ≤ length old.waiting.items) (room : old.log.open_slots ≢ old.log.area.slots) where
     pub total : old.synced + count ≤ handed

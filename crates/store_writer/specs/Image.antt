@@ -29,7 +29,7 @@ abbrev pub reach : NewImage → ℕ → ℕ
 reach image synced = max image.base synced
 
 -- The half holds an image, whose cells were copied from the record `base` on up to the record `to`.
-pub record IsWhole (run : Run) (half : Half) (image : Image) (base to : ℕ) : Type 0 where
+pub record IsImageWhole (run : Run) (half : Half) (image : Image) (base to : ℕ) : Type 0 where
   pub copied : Cells
   pub imaged : HoldsImage run.geometry half image base copied
   pub copies : IsCopiedFrom run base to copied
@@ -49,7 +49,7 @@ pub record IsPart (run : Run) (half : Half) (image : Image) (base to pages count
 
 -- what the half holds of an image at a stage
 abbrev pub IsContent : Run → Half → Image → (base to : ℕ) → Stage → Type 0
-IsContent run half image base to Whole = IsWhole run half image base to
+IsContent run half image base to Whole = IsImageWhole run half image base to
 IsContent run half image base to (Partly pages count highest life) = IsPart run half image base to pages count highest life
 
 -- The image is in this half, and the half's log has the records above its base that are synced.

@@ -9,7 +9,7 @@ use Rattle.crossbeam_queue.specs.Fifo as fifo
 use Rattle.crossbeam_queue.proofs.Lists.{at_set, at_snoc}
 use Rattle.records.specs.RecordValue.{RecordValue}
 use Rattle.tail.specs.declared.knowledge.Knowledge.{Knowledge}
-use Rattle.tail.specs.Rule.{both_ends, Fits, IsKept, IsWhole, no_end, pop_end, Pops, push_end, Pushes, Waits, waiting_of}
+use Rattle.tail.specs.Rule.{both_ends, Fits, IsQueueKept, KnowsWholeQueue, no_end, pop_end, Pops, push_end, Pushes, Waits, waiting_of}
 
 off : {A : Type 0} → false ≡ true → A
 off e = absurd (true≢false (sym e))
@@ -28,7 +28,7 @@ each_set : (F : ℕ → Knowledge → Type 0) (ends : List Knowledge) (place : �
 each_set F ends place w mine others j u e =
     ⊎_elim (λ (x : (j ≡ place) × (w ≡ u)). subst (λ (y : ℕ × Knowledge). F y.0 y.1) (λ i. (sym x.0 i, x.1 i)) mine) (λ (x : (j ≢ place) × (get_elem? ends j ≡ some u)). others j u x.0 x.1) (at_set ends place j w u e)
 
-pub begins : IsKept [] (both_ends [] [] ∷ [])
+pub begins : IsQueueKept [] (both_ends [] [] ∷ [])
 begins = record {
   pusher = 0;
   popper = 0;
@@ -38,7 +38,7 @@ begins = record {
   fits = each_set (Fits 0 0 [] []) (both_ends [] [] ∷ []) 0 (both_ends [] []) (record { of_pusher = λ _. (refl, refl); of_popper = λ _. (refl, refl) }) (λ j u other e. absurd (other (at_end [] _ u j (λ x. some-ne-none u (sym x)) e)));
 }
 
-pub pushes : (n place : ℕ) (v : Knowledge) (x : RecordValue) → v.pushes ≡ true → fifo.Pushes IsKept n place v x (Pushes v x)
+pub pushes : (n place : ℕ) (v : Knowledge) (x : RecordValue) → v.pushes ≡ true → fifo.Pushes IsQueueKept n place v x (Pushes v x)
 pushes n place v x may items ends _ h at =
     let w : Knowledge = record v { pushed = v.pushed ++ x ∷ [] } in
     let mine = h.fits place v at in
@@ -57,7 +57,7 @@ pushes n place v x may items ends _ h at =
       refl,
     )
 
-pub pops : (place : ℕ) (v : Knowledge) → v.pops ≡ true → fifo.Pops IsKept place v (Pops v)
+pub pops : (place : ℕ) (v : Knowledge) → v.pops ≡ true → fifo.Pops IsQueueKept place v (Pops v)
 pops place v may x items ends h at =
     let w : Knowledge = record v { popped = v.popped ++ x ∷ [] } in
     let mine = h.fits place v at in
@@ -80,7 +80,7 @@ pops place v may x items ends h at =
       },
     )
 
-pub forks : (place : ℕ) (v : Knowledge) → v.pushes ≡ true → v.pops ≡ true → Forks IsKept place v (push_end v.pushed) (pop_end v.popped)
+pub forks : (place : ℕ) (v : Knowledge) → v.pushes ≡ true → v.pops ≡ true → Forks IsQueueKept place v (push_end v.pushed) (pop_end v.popped)
 forks place v a b items ends h at =
     let l : Knowledge = push_end v.pushed in
     let r : Knowledge = pop_end v.popped in
@@ -101,7 +101,7 @@ forks place v a b items ends h at =
     }
 
 -- the end that pops is lent
-pub lends : (place : ℕ) (v : Knowledge) → v.pops ≡ true → Forks IsKept place v no_end (pop_end v.popped)
+pub lends : (place : ℕ) (v : Knowledge) → v.pops ≡ true → Forks IsQueueKept place v no_end (pop_end v.popped)
 lends place v b items ends h at =
     let r : Knowledge = pop_end v.popped in
     let mine = h.fits place v at in
@@ -121,7 +121,7 @@ lends place v b items ends h at =
     }
 
 -- and comes back
-pub comes_back : (place : ℕ) (v : Knowledge) (other : ℕ) (u : Knowledge) → u.pops ≡ true → Merges IsKept place v other u (pop_end u.popped) no_end
+pub comes_back : (place : ℕ) (v : Knowledge) (other : ℕ) (u : Knowledge) → u.pops ≡ true → Merges IsQueueKept place v other u (pop_end u.popped) no_end
 comes_back place v other u b items ends h at two at' =
     let end : Knowledge = pop_end u.popped in
     let all : List Knowledge = set ends place end in
@@ -139,7 +139,7 @@ comes_back place v other u b items ends h at two at' =
       fits = each_set (Fits h.pusher place h.pushed h.popped) all other no_end (record { of_pusher = λ p. off p; of_popper = λ p. off p }) (λ j y apart e. now j y e apart);
     }
 
-pub merges : (place : ℕ) (v : Knowledge) (other : ℕ) (u : Knowledge) → v.pushes ≡ true → u.pops ≡ true → Merges IsKept place v other u (both_ends v.pushed u.popped) no_end
+pub merges : (place : ℕ) (v : Knowledge) (other : ℕ) (u : Knowledge) → v.pushes ≡ true → u.pops ≡ true → Merges IsQueueKept place v other u (both_ends v.pushed u.popped) no_end
 merges place v other u a b items ends h at two at' =
     let both : Knowledge = both_ends v.pushed u.popped in
     let mine = h.fits place v at in
@@ -158,7 +158,7 @@ merges place v other u a b items ends h at two at' =
       fits = each_set (Fits h.pusher place h.pushed h.popped) all other no_end (record { of_pusher = λ p. off p; of_popper = λ p. off p }) (λ j y apart e. now j y e apart);
     }
 
-pub learns : (place : ℕ) (v : Knowledge) → Learns IsKept place v (Waits v)
+pub learns : (place : ℕ) (v : Knowledge) → Learns IsQueueKept place v (Waits v)
 learns place v items ends h at a b = let mine = h.fits place v at in (mine.of_pusher a).1 ∙ h.in_order ∙ ap (λ l. l ++ items) (sym (mine.of_popper b).1)
 
 -- ---- a queue in one hand
@@ -169,23 +169,23 @@ waiting_is pushed popped items e = ap (drop (length popped)) e ∙ drop-append_s
 
 -- what a pop leaves
 pub record Popped (v : Knowledge) (result : Option RecordValue) (w : Knowledge) : Type 0 where
-  pub whole : IsWhole w
+  pub whole : KnowsWholeQueue w
   pub oldest : result ≡ slice_get (waiting_of v) 0
   pub popped : w.popped ≡ v.popped ++ take 1 (waiting_of v)
   pub waiting : waiting_of w ≡ drop 1 (waiting_of v)
 
 -- none waited
-pops_none : (v w : Knowledge) → IsWhole v → w ≡ v → v.pushed ≡ v.popped ++ [] → Popped v None w
+pops_none : (v w : Knowledge) → KnowsWholeQueue v → w ≡ v → v.pushed ≡ v.popped ++ [] → Popped v None w
 pops_none v w whole same none =
     let empty : waiting_of v ≡ [] = waiting_is v.pushed v.popped [] none in record {
-      whole = subst IsWhole (sym same) whole;
+      whole = subst KnowsWholeQueue (sym same) whole;
       oldest = ap (λ l. slice_get l 0) (sym empty);
       popped = ap (λ (y : Knowledge). y.popped) same ∙ sym (append-nil v.popped) ∙ ap (λ l. v.popped ++ take 1 l) (sym empty);
       waiting = ap waiting_of same ∙ empty ∙ ap (drop 1) (sym empty);
     }
 
 -- the oldest was popped
-pops_one : (v w : Knowledge) (x : RecordValue) (rest : List RecordValue) → IsWhole v → w ≡ record v { popped = v.popped ++ x ∷ [] } → v.pushed ≡ v.popped ++ x ∷ rest → Popped v (Some x) w
+pops_one : (v w : Knowledge) (x : RecordValue) (rest : List RecordValue) → KnowsWholeQueue v → w ≡ record v { popped = v.popped ++ x ∷ [] } → v.pushed ≡ v.popped ++ x ∷ rest → Popped v (Some x) w
 pops_one v w x rest whole is before =
     let were : waiting_of v ≡ x ∷ rest = waiting_is v.pushed v.popped (x ∷ rest) before in
     let popped : w.popped ≡ v.popped ++ x ∷ [] = ap (λ (y : Knowledge). y.popped) is in
@@ -198,18 +198,18 @@ pops_one v w x rest whole is before =
       waiting = are ∙ ap (drop 1) (sym were);
     }
 
-pub pops_oldest : (R : Type 0) (v w : Knowledge) (result : Option RecordValue) → IsWhole v → MatchOption result ((w ≡ v) × Waits v []) (λ x. Pops v x w × R) → Popped v result w
+pub pops_oldest : (R : Type 0) (v w : Knowledge) (result : Option RecordValue) → KnowsWholeQueue v → MatchOption result ((w ≡ v) × Waits v []) (λ x. Pops v x w × R) → Popped v result w
 pops_oldest R v w None whole m = pops_none v w whole m.0 (m.1 (ap (λ (y : Knowledge). y.pushes) whole.ends) (ap (λ (y : Knowledge). y.pops) whole.ends))
 pops_oldest R v w (Some x) whole m = pops_one v w x m.0.rest whole m.0.known (m.0.oldest (ap (λ (y : Knowledge). y.pushes) whole.ends) (ap (λ (y : Knowledge). y.pops) whole.ends))
 
-joined : (v : Knowledge) (n : ℕ) → v ≡ both_ends v.pushed v.popped → Held n (Waits v) → IsWhole v
+joined : (v : Knowledge) (n : ℕ) → v ≡ both_ends v.pushed v.popped → Held n (Waits v) → KnowsWholeQueue v
 joined v n is held =
     let e = held.2 (ap (λ (y : Knowledge). y.pushes) is) (ap (λ (y : Knowledge). y.pops) is) in
     record { ends = is; in_order = e ∙ ap (λ l. v.popped ++ l) (sym (waiting_is v.pushed v.popped held.0 e)) }
 
 -- joined ends know what waits
-pub joins : (v w : Knowledge) (pushed popped : List RecordValue) (n : ℕ) → v ≡ both_ends pushed popped → Held n (Waits v) → w ≡ v → IsWhole w
-joins v w pushed popped n is held same = subst IsWhole (sym same) (joined v n (is ∙ λ i. both_ends (ap (λ (y : Knowledge). y.pushed) (sym is) i) (ap (λ (y : Knowledge). y.popped) (sym is) i)) held)
+pub joins : (v w : Knowledge) (pushed popped : List RecordValue) (n : ℕ) → v ≡ both_ends pushed popped → Held n (Waits v) → w ≡ v → KnowsWholeQueue w
+joins v w pushed popped n is held same = subst KnowsWholeQueue (sym same) (joined v n (is ∙ λ i. both_ends (ap (λ (y : Knowledge). y.pushed) (sym is) i) (ap (λ (y : Knowledge). y.popped) (sym is) i)) held)
 
 -- ---- two ends that are compared
 

@@ -11,7 +11,7 @@ pub record Fits (pusher popper : ℕ) (pushed popped : List RecordValue) (place 
   pub of_popper : v.pops ≡ true → (place ≡ popper) × (v.popped ≡ popped)
 
 -- what was pushed is what was popped and then what the queue holds, in order
-pub record IsKept (items : List RecordValue) (ends : List Knowledge) : Type 0 where
+pub record IsQueueKept (items : List RecordValue) (ends : List Knowledge) : Type 0 where
   pub pusher : ℕ
   pub popper : ℕ
   pub pushed : List RecordValue
@@ -42,7 +42,7 @@ abbrev pub waiting_of : Knowledge → List RecordValue
 waiting_of v = drop (length v.popped) v.pushed
 
 -- both ends in one hand, which have joined what they know
-pub record IsWhole (v : Knowledge) : Type 0 where
+pub record KnowsWholeQueue (v : Knowledge) : Type 0 where
   pub ends : v ≡ both_ends v.pushed v.popped
   pub in_order : v.pushed ≡ v.popped ++ waiting_of v
 

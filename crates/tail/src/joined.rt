@@ -17,13 +17,13 @@ pub struct JoinedQueue {
 impl Model for JoinedQueue {
     ghost use Rattle.crossbeam_queue.specs.SegTies.{IsSegPassOf};
     ghost use Rattle.tail.specs.Ends.{Drained};
-    ghost use Rattle.tail.specs.Rule.{IsWhole, waiting_of};
+    ghost use Rattle.tail.specs.Rule.{KnowsWholeQueue, waiting_of};
 
     ghost Value = { Drained };
 
     ghost view = { λ s. record { popped = s.pass.me.view.client.popped; waiting = waiting_of s.pass.me.view.client } };
 
-    ghost invariant = { λ s. IsSegPassOf s.queue s.pass × IsWhole s.pass.me.view.client };
+    ghost invariant = { λ s. IsSegPassOf s.queue s.pass × KnowsWholeQueue s.pass.me.view.client };
 }
 
 impl Drop for JoinedQueue {

@@ -9,9 +9,9 @@ pub struct QueueRule;
 
 impl Protocol<Record, Knowledge> for QueueRule {
     ghost use Rattle.std.specs.Prelude.{[]};
-    ghost use Rattle.tail.specs.Rule.{IsKept, both_ends};
+    ghost use Rattle.tail.specs.Rule.{IsQueueKept, both_ends};
 
-    ghost holds = { IsKept };
+    ghost holds = { IsQueueKept };
 
     ghost first = { both_ends [] [] };
 }

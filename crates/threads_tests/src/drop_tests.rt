@@ -1,22 +1,26 @@
-//! The loop that builds an index ends where the index is dropped.
+//! The loop that builds an index ends where the index is dropped. What a thread without a seat reads of the board, and that it may ask
+//! all to stop.
 ghost use Rattle.std.specs.Prelude.{◌≡◌};
 
 use crate::example::formatted;
 use demonstration::set_up;
 use loops::{Gate, Point, build_loop};
 use nsf_core::Ticket;
+use opening::{OpenError, OpenStore, Parts, open_store};
 use records::{Error, Geometry};
 use sector_device::{Device, MemDisk};
-use shared::{BuildPart, Group, Seat, Shared};
+use shared::{BuildPart, Group, GroupView, Seat, Shared};
 use std::alloc::Global;
 use std::cell::Cell;
 use std::marker::Brand;
 use std::sync::Wait;
 use std::test::Fail;
-use threads::{OpenError, OpenStore, Parts, open_store};
 
-// How the builder ended, and whether the index was dropped.
-type Ended = (Result<Ticket, Error>, bool);
+// How the builder ended, whether the index was dropped, and what was seen of the board behind that.
+type Ended = (Result<Ticket, Error>, bool, Seen);
+
+// The horizon, whether the device failed, and whether all are asked to stop.
+type Seen = (u64, bool, bool);
 
 // Holds the builder where it has scanned its first page, while a seat drops the index.
 #[derive(Drop)]
@@ -39,6 +43,21 @@ impl<B: Group, R: Wait> Gate for DropsIndex<'_, B, R> {
     }
 }
 
+// Asks all to stop by a view of a view, and reads the board by the view itself.
+fn stop_and_look<B: Group>(
+    shared: &Shared<B>,
+    build: &mut BuildPart<B>,
+    view: &mut GroupView<B>,
+) -> Seen {
+    view.another_view(shared).stop(shared);
+    build.settle(shared, view);
+    (
+        view.horizon(shared),
+        view.failed(shared),
+        view.stopped(shared),
+    )
+}
+
 // Creates an index over a hundred rows, and builds it.
 fn build<B: Group, R: Wait>(
     rt: &R,
@@ -55,7 +74,8 @@ fn build<B: Group, R: Wait>(
         dropped: Cell::new(false),
     };
     let built = build_loop(rt, shared, &mut build, &mut view, &gate);
-    Ok((built, gate.dropped.get()))
+    let seen = stop_and_look(shared, &mut build, &mut view);
+    Ok((built, gate.dropped.get(), seen))
 }
 
 fn build_with<B: Group, D: Device + Drop, R: Wait>(
@@ -96,8 +116,9 @@ fn build_on<R: Wait>(rt: &R, alloc: Global, disk: MemDisk<Global>) -> Result<End
 #[test]
 fn a_build_ends_where_its_index_is_dropped(rt: HostRuntime) -> Result<(), Fail> {
     let disk = formatted(rt.alloc(), Geometry::new(2, 256, 16)?, 4_096)?;
-    let (built, dropped) = build_on(&rt, rt.alloc(), disk)?;
+    let (built, dropped, seen) = build_on(&rt, rt.alloc(), disk)?;
     assert!(&rt; dropped);
     assert_eq!(&rt; built.err(), Some(Error::NoIndex));
+    assert_eq!(&rt; seen, (0, false, true));
     Ok(())
 }

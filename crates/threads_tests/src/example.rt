@@ -5,6 +5,7 @@ ghost use Rattle.std.specs.Prelude.{◌≡◌};
 use demonstration::{Found, look};
 use flusher::FlushPart;
 use loops::{Ended, NoGate, run_beside};
+use opening::{OpenError, OpenStore, Parts, format_store, open_engine, open_store};
 use records::{Body, Error, Geometry, Key};
 use restart::{Engine, Event, Reply, restart};
 use sector_device::{Device, Fate, MemDisk};
@@ -14,7 +15,6 @@ use std::marker::Brand;
 use std::sync::Wait;
 use std::test::Fail;
 use std::thread::Threads;
-use threads::{OpenError, OpenStore, Parts, format_store, open_engine, open_store};
 
 // What the threads have while they are at rest.
 #[derive(Drop)]

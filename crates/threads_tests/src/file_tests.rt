@@ -2,6 +2,7 @@
 use demonstration::{Beginning, Found, Listener, Team, Turn, work_on_file};
 use loops::NoGate;
 use nsf_core::Ticket;
+use opening::format_store;
 use records::{Error, Geometry};
 use shell::Refused;
 use std::alloc::Global;
@@ -12,7 +13,6 @@ use std::sync::Wait;
 use std::sync::atomic::{AtomicU64, Ordering};
 use std::test::Fail;
 use std::thread::Threads;
-use threads::format_store;
 
 // How many commits were heard of.
 #[derive(Drop)]

@@ -12,7 +12,7 @@ use std::alloc::Global;
 pub type Disk = FaultDisk<MemDisk<Global>>;
 
 // So many writes and syncs are made where a new store of eight pages and 16 slots is opened.
-const OPENING: u64 = 87;
+const OPENING: u64 = 151;
 
 /// A disk with a new store of eight pages, whose write or sync of this number behind the opening fails, if there is a number. The number
 /// of the last one within the opening is 0.

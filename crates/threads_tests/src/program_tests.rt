@@ -2,6 +2,7 @@
 use crate::found::failing;
 use demonstration::{Beginning, Nobody, Progress, Refusals, Team, run, work_on};
 use loops::NoGate;
+use opening::OpenError;
 use records::Error;
 use std::alloc::Global;
 use std::fs::File;
@@ -9,7 +10,6 @@ use std::rt::{Clock, Files};
 use std::sync::Wait;
 use std::test::Fail;
 use std::thread::Threads;
-use threads::OpenError;
 
 // What a run printed, and its status.
 #[derive(Drop)]

@@ -6,6 +6,7 @@ use crate::seats::{Built, Cast, Told, Writer, cast_of, end, gather, write_all};
 use crate::stage::{HeldDisk, Stage};
 use flusher::FlushPart;
 use loops::{Ended, run_beside};
+use opening::{OpenError, OpenStore, Parts, open_store};
 use records::Error;
 use sector_device::Device;
 use shared::{BuildPart, Group, Seat, Shared};
@@ -14,7 +15,6 @@ use std::marker::Brand;
 use std::rt::Clock;
 use std::sync::Wait;
 use std::thread::Threads;
-use threads::{OpenError, OpenStore, Parts, open_store};
 
 // Of four writers, and of two more.
 const SEATS: usize = 6;

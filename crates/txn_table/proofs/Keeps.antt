@@ -9,7 +9,7 @@ use Rattle.records.specs.declared.change.TheConstants.{CHANGES_MAX}
 use Rattle.records.specs.declared.txn.TheConstants.{TXNS_MAX}
 use Rattle.txn_table.specs.Table.{TxnState, TableValue, fresh_txn, is_among, with_rid, holder_of, with_next, without, change_noted, without_last, put_at}
 use Rattle.txn_table.specs.declared.progress.Progress.{Progress}
-use Rattle.txn_table.specs.Sound.{Rises, AllHeld, IsSoundTxn, EachSoundTxn, OneHolder, IsSound, IsKept}
+use Rattle.txn_table.specs.Sound.{Rises, AllHeld, IsSoundTxn, EachSoundTxn, OneHolder, IsSound, IsTableKept}
 use Rattle.txn_table.proofs.Lookups.{holder_above, not_among, among_kept, among_new, among_more}
 use Rattle.txn_table.proofs.HeldRows.{AreHeldRows-noted, AreHeldRows-without}
 
@@ -277,36 +277,36 @@ IsSound-rows t txn w w' here is same sound =
 abbrev pub table : List (ℕ × TxnState) → ℕ → TableValue
 table active begun = record { active = active; begun = begun }
 
-pub IsKept-next : (t : TableValue) (held : List Place) → length t.active < TXNS_MAX → IsKept t held → IsKept (with_next t) held
-IsKept-next t held room kept = record {
+pub IsTableKept-next : (t : TableValue) (held : List Place) → length t.active < TXNS_MAX → IsTableKept t held → IsTableKept (with_next t) held
+IsTableKept-next t held room kept = record {
   sound = IsSound-next t room kept.sound;
   held_rows = λ q. kept.held_rows q ∙ sym (ap is_some (holder_of-next (t.begun + 1) q t.active));
 }
 
-pub IsKept-without : (t : TableValue) (held : List Place) (txn : ℕ) (s : TxnState) → lookup (nat_eq txn) t.active ≡ Some s → IsKept t held
-    → IsKept (table (without txn t.active) t.begun) (filter (λ r. not (is_among r s.rows)) held)
-IsKept-without t held txn s here kept = record {
+pub IsTableKept-without : (t : TableValue) (held : List Place) (txn : ℕ) (s : TxnState) → lookup (nat_eq txn) t.active ≡ Some s → IsTableKept t held
+    → IsTableKept (table (without txn t.active) t.begun) (filter (λ r. not (is_among r s.rows)) held)
+IsTableKept-without t held txn s here kept = record {
   sound = IsSound-without t txn kept.sound;
   held_rows = AreHeldRows-without txn held t.active s kept.sound.one_holder here kept.held_rows;
 }
 
-pub IsKept-noted : (t : TableValue) (held : List Place) (txn : ℕ) (c : ChangeValue) (s : TxnState) → lookup (nat_eq txn) t.active ≡ Some s → length s.changes < CHANGES_MAX → ((k : ℕ) → holder_of c.rid t.active ≡ Some k → k ≡ txn)
-    → IsKept t held → IsKept (table (set_value (nat_eq txn) t.active (change_noted c s)) t.begun) (with_rid c.rid held)
-IsKept-noted t held txn c s here room own kept = record {
+pub IsTableKept-noted : (t : TableValue) (held : List Place) (txn : ℕ) (c : ChangeValue) (s : TxnState) → lookup (nat_eq txn) t.active ≡ Some s → length s.changes < CHANGES_MAX → ((k : ℕ) → holder_of c.rid t.active ≡ Some k → k ≡ txn)
+    → IsTableKept t held → IsTableKept (table (set_value (nat_eq txn) t.active (change_noted c s)) t.begun) (with_rid c.rid held)
+IsTableKept-noted t held txn c s here room own kept = record {
   sound = IsSound-set t txn c.rid s (change_noted c s) here (IsSoundTxn-noted c s room (state_is txn t.active s here kept.sound.txns)) (λ q among. among_more q c.rid s.rows among) own kept.sound;
   held_rows = AreHeldRows-noted txn c held t.active s here kept.held_rows;
 }
 
-pub IsKept-without_last : (t : TableValue) (held : List Place) (txn : ℕ) (s : TxnState) → lookup (nat_eq txn) t.active ≡ Some s → IsKept t held
-    → IsKept (table (set_value (nat_eq txn) t.active (without_last s)) t.begun) held
-IsKept-without_last t held txn s here kept = record {
+pub IsTableKept-without_last : (t : TableValue) (held : List Place) (txn : ℕ) (s : TxnState) → lookup (nat_eq txn) t.active ≡ Some s → IsTableKept t held
+    → IsTableKept (table (set_value (nat_eq txn) t.active (without_last s)) t.begun) held
+IsTableKept-without_last t held txn s here kept = record {
   sound = IsSound-rows t txn s (without_last s) here (IsSoundTxn-without_last s (state_is txn t.active s here kept.sound.txns)) refl kept.sound;
   held_rows = λ q. kept.held_rows q ∙ sym (ap is_some (holder_of-rows txn q t.active s (without_last s) here refl));
 }
 
-pub IsKept-put_at : (p : Progress) (n : ℕ) (t : TableValue) (held : List Place) (txn : ℕ) (s : TxnState) → lookup (nat_eq txn) t.active ≡ Some s → IsKept t held
-    → IsKept (table (set_value (nat_eq txn) t.active (put_at p n s)) t.begun) held
-IsKept-put_at p n t held txn s here kept =
+pub IsTableKept-put_at : (p : Progress) (n : ℕ) (t : TableValue) (held : List Place) (txn : ℕ) (s : TxnState) → lookup (nat_eq txn) t.active ≡ Some s → IsTableKept t held
+    → IsTableKept (table (set_value (nat_eq txn) t.active (put_at p n s)) t.begun) held
+IsTableKept-put_at p n t held txn s here kept =
     let is = state_is txn t.active s here kept.sound.txns in
     record {
       sound = IsSound-rows t txn s (put_at p n s) here (record { few = is.few; held = is.held }) refl kept.sound;

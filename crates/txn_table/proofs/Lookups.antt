@@ -72,6 +72,19 @@ holder_is txn w r (e ∷ es) one here among = by (λ h. holder_is txn w r es one
         ap (λ b. cond b (Some e.0) (holder_of r es)) (ap (λ (x : TxnState). is_among r x.rows) its ∙ among) ∙ ap Some (sym (same refl))
     by rest false same h = later (rest h) (is_among r e.1.rows) refl
 
+-- a holder has the row
+pub among_own : (low high txn : ℕ) (w : TxnState) (r : Place) (es : List (ℕ × TxnState)) → Rises low es high → lookup (nat_eq txn) es ≡ Some w → holder_of r es ≡ Some txn → is_among r w.rows ≡ true
+among_own low high txn w r [] rises here held = absurd cc
+among_own low high txn w r (e ∷ es) rises here held =
+    by (among_own e.0 high txn w r es rises.1) (holder_above e.0 high r es txn rises.1) (eqb txn e.0) (eqb-true txn e.0) (eq-eqb txn e.0) here (is_among r e.1.rows) refl held
+  where
+    by : (lookup (nat_eq txn) es ≡ Some w → holder_of r es ≡ Some txn → is_among r w.rows ≡ true) → (holder_of r es ≡ Some txn → e.0 < txn) → (b : Bool) → (b ≡ true → txn ≡ e.0) → (txn ≡ e.0 → b ≡ true)
+        → cond b (Some e.1) (lookup (nat_eq txn) es) ≡ Some w → (a : Bool) → is_among r e.1.rows ≡ a → cond a (Some e.0) (holder_of r es) ≡ Some txn → is_among r w.rows ≡ true
+    by rest later true same is h true among held = let its : e.1 ≡ w = cc in ap (λ (x : TxnState). is_among r x.rows) (sym its) ∙ among
+    by rest later true same is h false among held = let above = later held in let own = same refl in absurd (omega arith)
+    by rest later false same is h true among held = let own : e.0 ≡ txn = cc in let no = is (sym own) in absurd cc
+    by rest later false same is h false among held = rest h held
+
 -- a transaction does not have a row that nobody holds
 pub not_among : (txn : ℕ) (w : TxnState) (r : Place) (es : List (ℕ × TxnState)) → lookup (nat_eq txn) es ≡ Some w → holder_of r es ≡ None → is_among r w.rows ≡ false
 not_among txn w r [] here none = absurd cc

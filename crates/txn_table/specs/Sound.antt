@@ -43,6 +43,6 @@ abbrev pub AreHeldRows : List Place → List (ℕ × TxnState) → Type 0
 AreHeldRows held active = (r : Place) → is_among r held ≡ is_some (holder_of r active)
 
 -- what the fields of a table keep
-pub record IsKept (t : TableValue) (held : List Place) : Type 0 where
+pub record IsTableKept (t : TableValue) (held : List Place) : Type 0 where
   pub sound : IsSound t
   pub held_rows : AreHeldRows held t.active

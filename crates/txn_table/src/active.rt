@@ -74,14 +74,15 @@ impl<A: Allocator + Copy> ActiveTxn<A> {
         !self.rows.is_empty()
     }
 
-    /// Puts the change at the end of the list, and holds its row.
-    pub(crate) fn note(&mut self, change: Change) -> Result<(), Error>
+    /// Puts the change at the end of the list, and holds its row, which may be held already.
+    pub(crate) fn note(&mut self, change: Change, is_held: bool) -> Result<(), Error>
+        requires { is_held ≡ is_among change.rid self.old.rows }
         ensures ok { OnOk result (self.new ≡ change_noted change self.old) }
         ensures err { OnErr result (self.new ≡ self.old) }
         ensures no_memory { IfErr result (λ e. e ≡ Error.NoMemory) }
     {
         self.changes.push(change)?;
-        if !self.rows.contains(&change.rid) && self.rows.push(change.rid).is_err() {
+        if !is_held && self.rows.push(change.rid).is_err() {
             self.changes.pop();
             return Err(Error::NoMemory);
         }

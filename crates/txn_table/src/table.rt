@@ -29,22 +29,23 @@ pub struct TxnTable<A: Allocator> {
 
 impl<A: Allocator> Model for TxnTable<A> {
     ghost use Rattle.txn_table.specs.Table.{TableValue};
-    ghost use Rattle.txn_table.specs.Sound.{IsKept};
+    ghost use Rattle.txn_table.specs.Sound.{IsTableKept};
 
     ghost Value = { TableValue };
 
     ghost view = { λ t. record { active = t.active.entries; begun = t.begun } };
 
-    ghost invariant = { λ t. IsKept (record { active = t.active.entries; begun = t.begun }) t.held.items };
+    ghost invariant = { λ t. IsTableKept (record { active = t.active.entries; begun = t.begun }) t.held.items };
 }
 
 /// Adds the row to the held ones, unless it is there. `NoMemory` leaves them as before.
-fn hold<A: Allocator>(held: &mut Vec<Rid, A>, rid: Rid) -> Result<(), Error>
+fn hold<A: Allocator>(held: &mut Vec<Rid, A>, rid: Rid, is_held: bool) -> Result<(), Error>
+    requires { is_held ≡ is_among rid held.old.items }
     ensures ok { OnOk result (held.new.items ≡ with_rid rid held.old.items) }
     ensures err { OnErr result (held.new.items ≡ held.old.items) }
     ensures no_memory { IfErr result (λ e. e ≡ Error.NoMemory) }
 {
-    if !held.contains(&rid) {
+    if !is_held {
         held.push(rid)?;
     }
     Ok(())
@@ -259,10 +260,19 @@ impl<A: Allocator + Copy> TxnTable<A> {
     pub fn check_touch(&self, txn: Txn, rid: Rid) -> Result<(), Error>
         ensures { result_err result ≡ touch_refusal txn rid self.now.active }
     {
+        self.touch(txn, rid)?;
+        Ok(())
+    }
+
+    // Whether somebody holds the row, which is the transaction itself, where it may change it.
+    fn touch(&self, txn: Txn, rid: Rid) -> Result<bool, Error>
+        ensures refusal { result_err result ≡ touch_refusal txn rid self.now.active }
+        ensures held { IfOk result (λ held. held ≡ is_some (holder_of rid self.now.active)) }
+    {
         self.check_change(txn)?;
         match self.holder(rid) {
             Some(holder) if holder != txn => Err(Error::RowBusy),
-            _ => Ok(()),
+            holder => Ok(holder.is_some()),
         }
     }
 
@@ -285,13 +295,13 @@ impl<A: Allocator + Copy> TxnTable<A> {
         ensures others { OnOk result ((r : Place) → r ≢ change.rid →
             holder_of r self.new.active ≡ holder_of r self.old.active) }
     {
-        self.check_touch(txn, change.rid)?;
+        let is_held = self.touch(txn, change.rid)?;
         let rows = self.held.len();
-        hold(&mut self.held, change.rid)?;
+        hold(&mut self.held, change.rid, is_held)?;
         let Some(active) = self.active.get_mut(&txn) else {
             unreachable!()
         };
-        if let Err(error) = active.note(change) {
+        if let Err(error) = active.note(change, is_held) {
             self.held.truncate(rows);
             return Err(error);
         }

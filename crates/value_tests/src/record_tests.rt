@@ -1,7 +1,7 @@
 //! Tests of the crate `records`.
 use records::{
     Action, Body, Change, Error, Geometry, IndexAction, Key, Pair, Part, Record, RecordNumber, Rid,
-    Row, Rows, Txn, TxnAction,
+    Row, Rows, Txn, TxnAction, Version,
 };
 use refused_memory::Refusing;
 use std::alloc::Global;
@@ -96,7 +96,7 @@ fn records_byte_by_byte(rt: HostRuntime) -> Result<(), Fail> {
 // The longest row's record, where each growth of the bytes is refused in turn: it is wanted for memory just then.
 #[test]
 fn an_encoding_without_memory(rt: HostRuntime) -> Result<(), Fail> {
-    let record = insertion(&[1; 24], &[2; 37])?;
+    let record = insertion(&[1; 56], &[2; 69])?;
     for before in 0..40 {
         let memory = Refusing::new(rt.alloc(), before);
         let encoded = encode(&record, &mut Vec::new(&memory));
@@ -107,6 +107,26 @@ fn an_encoding_without_memory(rt: HostRuntime) -> Result<(), Fail> {
         assert!(rt; encoded == Err(Error::NoMemory));
     }
     Err("fewer allocations")?
+}
+
+// The longest row of version 1, one with a longer key, and a drop, which version 1 doesn't have.
+#[test]
+fn records_of_version_1(rt: HostRuntime) -> Result<(), Fail> {
+    let records = [
+        (insertion(&[1; 24], &[2; 37])?, true),
+        (insertion(&[1; 25], b"")?, false),
+        (insertion(b"", &[2; 38])?, false),
+        (of_index(1, IndexAction::Drop)?, false),
+    ];
+    let memory = Refusing::new(rt.alloc(), u64::MAX);
+    for (record, fits) in records {
+        let mut bytes = Vec::new(&memory);
+        encode(&record, &mut bytes)?;
+        let whole = Some((record, bytes.len()));
+        assert!(rt; Record::decode_in(Version::Two, &bytes) == whole);
+        assert!(rt; Record::decode_in(Version::One, &bytes) == if fits { whole } else { None });
+    }
+    Ok(())
 }
 
 #[test]
@@ -134,11 +154,13 @@ fn refusals_printed(rt: HostRuntime) -> Result<(), Fail> {
         Error::Stopped,
         Error::Exhausted,
         Error::BadScript { line: 2 },
+        Error::OldVersion,
     ];
     let wanted = "1 NoMemory\n2 DeviceFailed\n3 NotFormatted\n4 Damaged 516\n5 DeviceTooSmall\n\
         6 BadGeometry\n7 TooManyTxns\n8 TooManyChanges\n9 NoSuchTxn\n10 NoSuchRow\n11 RowBusy\n\
         12 HeapFull\n13 IndexFull\n14 KeyTooLong\n15 BodyTooLong\n16 TxnsActive\n17 IndexExists\n\
-        18 NoIndex\n19 NotBuilt\n20 Stopped\n21 Exhausted\n22 BadScript 2\n";
+        18 NoIndex\n19 NotBuilt\n20 Stopped\n21 Exhausted\n22 BadScript 2\n\
+        23 OldVersion\n";
     let mut text = String::new(rt.alloc());
     for error in errors {
         text.push_str(&format!(in rt.alloc(); "{error}\n")?)?;
@@ -149,7 +171,9 @@ fn refusals_printed(rt: HostRuntime) -> Result<(), Fail> {
 
 #[test]
 fn sizes_of_a_store(rt: HostRuntime) -> Result<(), Fail> {
-    assert!(rt; Geometry::new(1, 64, 4)?.sectors() == 1118);
-    assert!(rt; Geometry::new(256, 65_536, 256)?.sectors() == 17_414);
+    let least = Geometry::new(1, 64, 4)?;
+    assert!(rt; least.sectors() == 2166 && least.sectors_in(Version::One) == 1118);
+    let most = Geometry::new(256, 65_536, 256)?;
+    assert!(rt; most.sectors() == 30_726 && most.sectors_in(Version::One) == 17_414);
     Ok(())
 }

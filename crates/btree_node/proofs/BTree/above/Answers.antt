@@ -4,7 +4,7 @@ use Rattle.node_parts.specs.Tree.{entries}
 use Rattle.node_parts.specs.Order.{IsAscending}
 use Rattle.btree_node.specs.Above.{IsLeastAbove, first_of, first_above}
 use Rattle.btree_node.specs.Contents.{contents}
-use Rattle.btree_node.specs.Top.{tree_at, IsWhole}
+use Rattle.btree_node.specs.Top.{tree_at, IsWholeTree}
 use Rattle.btree_node.proofs.Top.{root_some}
 use Rattle.btree_node.proofs.Contents.{least-empty, least-none, least-after, least-first}
 use Rattle.btree_node.proofs.BTree.above.Goals as goal
@@ -15,12 +15,12 @@ returns-in_default g c = least-empty c.args.self.now (option_copied c.args.pair)
 
 pub first_in-entry-requires : goal.first_in-entry-requires
 first_in-entry-requires g c =
-    let whole = subst IsWhole c.in-Some.is c.self.invariant.whole in
+    let whole = subst IsWholeTree c.in-Some.is c.self.invariant.whole in
     record { some = rw c.deref.ensures (root_some _ _ whole) }
 
 pub above_in-requires-clause-some : goal.above_in-requires-clause-some
 above_in-requires-clause-some g c =
-    let whole = subst IsWhole c.in-Some.is c.self.invariant.whole in
+    let whole = subst IsWholeTree c.in-Some.is c.self.invariant.whole in
     rw c.deref-in-Some-pair.ensures (root_some _ _ whole)
 
 pub returns-in_err-entry-in-Some-pair : goal.returns-in_err-entry-in-Some-pair

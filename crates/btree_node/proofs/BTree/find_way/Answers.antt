@@ -4,7 +4,7 @@ use Rattle.node_parts.specs.Order.{mark_in}
 use Rattle.node_parts.proofs.Balance.{at_most_four}
 use Rattle.btree_node.specs.Path.{top_path, path_of}
 use Rattle.btree_node.specs.Splits.{splits}
-use Rattle.btree_node.specs.Top.{tree_at, IsWhole, nodes_for}
+use Rattle.btree_node.specs.Top.{tree_at, IsWholeTree, nodes_for}
 use Rattle.btree_node.proofs.Counting.{bool_byte_small, bool_byte_is}
 use Rattle.btree_node.proofs.Top.{root_some, nodes_counted, top_path-some}
 use Rattle.btree_node.proofs.Contents.{get-contents}
@@ -13,24 +13,24 @@ use Rattle.btree_node.proofs.BTree.find_way.Goals.{in-None, in-Some}
 
 pub way_to-splits-requires-clause-some : goal.way_to-splits-requires-clause-some
 way_to-splits-requires-clause-some g c =
-    let whole = subst IsWhole c.in-Some.is c.self.invariant.whole in
+    let whole = subst IsWholeTree c.in-Some.is c.self.invariant.whole in
     rw c.deref.ensures (root_some _ _ whole)
 
 pub way_to-splits-requires-clause-low : goal.way_to-splits-requires-clause-low
 way_to-splits-requires-clause-low g c =
-    let whole = subst IsWhole c.in-Some.is c.self.invariant.whole in
+    let whole = subst IsWholeTree c.in-Some.is c.self.invariant.whole in
     let few = at_most_four _ _ whole (omega (arith, c.self.invariant.counted, c.self.invariant.few, ap (λ r. length (entries (tree_at r))) c.in-Some.is)) in
     rw c.deref.ensures few
 
 pub way_to-splits-requires-clause-room : goal.way_to-splits-requires-clause-room
 way_to-splits-requires-clause-room g c =
-    let whole = subst IsWhole c.in-Some.is c.self.invariant.whole in
+    let whole = subst IsWholeTree c.in-Some.is c.self.invariant.whole in
     let few = at_most_four _ _ whole (omega (arith, c.self.invariant.counted, c.self.invariant.few, ap (λ r. length (entries (tree_at r))) c.in-Some.is)) in
     rw c.deref.ensures (omega (arith, few, ap length c.new-path.ensures.items, c.new-path.ensures.capacity))
 
 pub overflow_add-nodes : goal.overflow_add-nodes
 overflow_add-nodes g c =
-    let whole = subst IsWhole c.in-Some.is c.self.invariant.whole in
+    let whole = subst IsWholeTree c.in-Some.is c.self.invariant.whole in
     let few = at_most_four _ _ whole (omega (arith, c.self.invariant.counted, c.self.invariant.few, ap (λ r. length (entries (tree_at r))) c.in-Some.is)) in
     let same : depth c.deref.result.now ≡ depth c.in-Some.root.value = ap depth c.deref.ensures in
     let small : c.way_to-splits.result.0 + c.from.result < 2 ^ 64 = omega (arith, few, same, c.way_to-splits.ensures.few, c.from.ensures, bool_byte_small c.way_to-splits.result.1) in
@@ -43,7 +43,7 @@ returns-clause-way g c =
       | in-None w ↦
           ap (λ p. p.items) w.path-is ∙ c.new-path.ensures.items ∙ ap (λ t. top_path t c.args.pair.now) (sym (ap tree_at w.in-None.is) ∙ c.self.view_is)
       | in-Some w ↦
-          let whole = subst IsWhole w.in-Some.is c.self.invariant.whole in
+          let whole = subst IsWholeTree w.in-Some.is c.self.invariant.whole in
           let some : 0 < length (entries w.deref.result.now) = rw w.deref.ensures (root_some _ _ whole) in
           let top = w.deref.ensures ∙ sym (ap tree_at w.in-Some.is) ∙ c.self.view_is in
           ap (λ p. p.items) w.path-is ∙ w.way_to-splits.ensures.path ∙ ap (λ xs. xs ++ path_of w.deref.result.now c.args.pair.now) c.new-path.ensures.items ∙ sym (top_path-some _ c.args.pair.now some) ∙ ap (λ t. top_path t c.args.pair.now) top
@@ -52,7 +52,7 @@ returns-clause-way g c =
     elim c.match-self.branch [
       | in-None w ↦ ap (λ n. n.0) w.nodes-is ∙ ap (λ t. nodes_for t c.args.pair.now) (sym (ap tree_at w.in-None.is) ∙ c.self.view_is)
       | in-Some w ↦
-          let whole = subst IsWhole w.in-Some.is c.self.invariant.whole in
+          let whole = subst IsWholeTree w.in-Some.is c.self.invariant.whole in
           let some : 0 < length (entries w.deref.result.now) = rw w.deref.ensures (root_some _ _ whole) in
           let top = w.deref.ensures ∙ sym (ap tree_at w.in-Some.is) ∙ c.self.view_is in
           ap (λ n. n.0) w.nodes-is ∙ ap (λ (n : ℕ). n + w.from.result) w.way_to-splits.ensures.splits ∙ ap (λ (n : ℕ). splits w.deref.result.now c.args.pair.now + n) (w.from.ensures ∙ bool_byte_is w.way_to-splits.result.1)

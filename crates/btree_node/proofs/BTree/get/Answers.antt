@@ -2,19 +2,19 @@ use Rattle.std.proofs.Common.{arith, ◌∙◌, sym, ap, subst, length}
 use Rattle.node_parts.specs.Tree.{entries, depth}
 use Rattle.node_parts.specs.Order.{mark_in}
 use Rattle.node_parts.proofs.Balance.{at_most_four}
-use Rattle.btree_node.specs.Top.{tree_at, IsWhole}
+use Rattle.btree_node.specs.Top.{tree_at, IsWholeTree}
 use Rattle.btree_node.proofs.Top.{root_some}
 use Rattle.btree_node.proofs.Contents.{get-contents}
 use Rattle.btree_node.proofs.BTree.get.Goals as goal
 
 pub get_in-requires-clause-some : goal.get_in-requires-clause-some
 get_in-requires-clause-some g c =
-    let whole = subst IsWhole c.in-Some.is c.self.invariant.whole in
+    let whole = subst IsWholeTree c.in-Some.is c.self.invariant.whole in
     rw c.deref.ensures (root_some _ _ whole)
 
 pub get_in-requires-clause-low : goal.get_in-requires-clause-low
 get_in-requires-clause-low g c =
-    let whole = subst IsWhole c.in-Some.is c.self.invariant.whole in
+    let whole = subst IsWholeTree c.in-Some.is c.self.invariant.whole in
     let few = at_most_four _ _ whole (omega (arith, c.self.invariant.counted, c.self.invariant.few, ap (λ r. length (entries (tree_at r))) c.in-Some.is)) in
     rw c.deref.ensures few
 
@@ -28,6 +28,6 @@ returns-in-Some-clause-found g c =
 
 pub returns-in-Some-clause-few_visited : goal.returns-in-Some-clause-few_visited
 returns-in-Some-clause-few_visited g c =
-    let whole = subst IsWhole c.in-Some.is c.self.invariant.whole in
+    let whole = subst IsWholeTree c.in-Some.is c.self.invariant.whole in
     let few = at_most_four _ _ whole (omega (arith, c.self.invariant.counted, c.self.invariant.few, ap (λ r. length (entries (tree_at r))) c.in-Some.is)) in
     omega (arith, few, c.get_in.ensures.visited, ap depth c.deref.ensures)

@@ -2,19 +2,19 @@ use Rattle.std.proofs.Common.{rules, arith, ◌∙◌, sym, ap, subst, refl, ◌
 use Rattle.node_parts.specs.Tree.{entries, depth}
 use Rattle.node_parts.specs.Order.{IsAscending}
 use Rattle.node_parts.proofs.Balance.{at_most_four}
-use Rattle.btree_node.specs.Top.{tree_at, IsWhole}
+use Rattle.btree_node.specs.Top.{tree_at, IsWholeTree}
 use Rattle.btree_node.proofs.Top.{root_some, root_deep}
 use Rattle.btree_node.proofs.Contents.{empty_of-contents, length_of-empty}
 use Rattle.btree_node.proofs.BTree.height.Goals as goal
 
 pub levels-requires-clause-some : goal.levels-requires-clause-some
 levels-requires-clause-some g c =
-    let whole = subst IsWhole c.in-Some.is c.self.invariant.whole in
+    let whole = subst IsWholeTree c.in-Some.is c.self.invariant.whole in
     rw c.deref.ensures (root_some _ _ whole)
 
 pub levels-requires-clause-low : goal.levels-requires-clause-low
 levels-requires-clause-low g c =
-    let whole = subst IsWhole c.in-Some.is c.self.invariant.whole in
+    let whole = subst IsWholeTree c.in-Some.is c.self.invariant.whole in
     let few = at_most_four _ _ whole (omega (arith, c.self.invariant.counted, c.self.invariant.few, ap (λ r. length (entries (tree_at r))) c.in-Some.is)) in
     rw c.deref.ensures (omega (arith, few))
 
@@ -25,14 +25,14 @@ returns-in-None-clause-empty g c =
 
 pub returns-in-Some-clause-low : goal.returns-in-Some-clause-low
 returns-in-Some-clause-low g c =
-    let whole = subst IsWhole c.in-Some.is c.self.invariant.whole in
+    let whole = subst IsWholeTree c.in-Some.is c.self.invariant.whole in
     let few = at_most_four _ _ whole (omega (arith, c.self.invariant.counted, c.self.invariant.few, ap (λ r. length (entries (tree_at r))) c.in-Some.is)) in
     omega (arith, few, c.levels.ensures, ap depth c.deref.ensures)
 
 pub returns-in-Some-clause-empty : goal.returns-in-Some-clause-empty
 returns-in-Some-clause-empty g c =
     let up : IsAscending (entries c.args.self.now) = subst (λ t. IsAscending (entries t)) c.self.view_is c.self.invariant.ascending in
-    let whole = subst IsWhole c.in-Some.is c.self.invariant.whole in
+    let whole = subst IsWholeTree c.in-Some.is c.self.invariant.whole in
     let deep : 0 < depth c.in-Some.root.value = root_deep c.in-Some.root.value in
     let some : 0 < length (entries c.in-Some.root.value) = root_some _ _ whole in
     let same : length (entries c.args.self.now) ≡ length (entries c.in-Some.root.value) = ap (λ t. length (entries t)) (sym c.self.view_is ∙ ap tree_at c.in-Some.is) in

@@ -4,7 +4,7 @@ use Rattle.node_parts.specs.Tree.{entries, depth}
 use Rattle.node_parts.specs.Balance.{IsRoot}
 use Rattle.node_parts.specs.Order.{mark_in, IsAscending}
 use Rattle.btree_node.specs.Without.{without}
-use Rattle.btree_node.specs.Top.{tree_at, IsWhole}
+use Rattle.btree_node.specs.Top.{tree_at, IsWholeTree}
 use Rattle.btree_node.proofs.Top.{root_some, tree_again}
 use Rattle.btree_node.proofs.Remove.{stands, stands_parts, ascending_without}
 use Rattle.btree_node.proofs.Contents.{contents-without, present-contents, not_empty}
@@ -22,13 +22,13 @@ remove_below-requires-clause-present g c =
 pub shrink-requires-clause-tree : goal.shrink-requires-clause-tree
 shrink-requires-clause-tree g c =
     let at : c.self.inside.root ≡ Some c.in-Some.root = sym c.take.ensures.value ∙ c.in-Some.is in
-    let whole : IsRoot (depth c.deref_mut.result.now) c.deref_mut.result.now = rw c.deref_mut.ensures.value (subst IsWhole at c.self.invariant.whole) in
+    let whole : IsRoot (depth c.deref_mut.result.now) c.deref_mut.result.now = rw c.deref_mut.ensures.value (subst IsWholeTree at c.self.invariant.whole) in
     tree_again _ _ whole c.remove_below.ensures.tree c.remove_below.ensures.count
 
 pub overflow_sub-self : goal.overflow_sub-self
 overflow_sub-self g c =
     let at : c.self.inside.root ≡ Some c.in-Some.root = sym c.take.ensures.value ∙ c.in-Some.is in
-    let some = root_some _ _ (subst IsWhole at c.self.invariant.whole) in
+    let some = root_some _ _ (subst IsWholeTree at c.self.invariant.whole) in
     omega (arith, some, c.self.invariant.counted, ap (λ r. length (entries (tree_at r))) at)
 
 pub invariant_of-self-2 : goal.invariant_of-self-2

@@ -5,7 +5,7 @@ use Rattle.node_parts.specs.Order.{IsAscending}
 use Rattle.btree_node.specs.Above.{IsLeastAbove}
 use Rattle.btree_node.specs.Contents.{contents}
 use Rattle.btree_node.specs.Runs.{IsFront, IsRunAbove, all_above}
-use Rattle.btree_node.specs.Top.{tree_at, IsWhole}
+use Rattle.btree_node.specs.Top.{tree_at, IsWholeTree}
 use Rattle.btree_node.proofs.Top.{root_some}
 use Rattle.btree_node.proofs.Contents.{least-empty}
 use Rattle.btree_node.proofs.Fronts.{none-after, run-after, run-first}
@@ -16,12 +16,12 @@ returns-in_default-clause-none g c = λ none. least-empty c.args.self.now (optio
 
 pub first_run-requires : goal.first_run-requires
 first_run-requires g c =
-    let whole = subst IsWhole c.in-Some.is c.self.invariant.whole in
+    let whole = subst IsWholeTree c.in-Some.is c.self.invariant.whole in
     record { some = rw c.deref.ensures (root_some _ _ whole) }
 
 pub run_in-requires-clause-some : goal.run_in-requires-clause-some
 run_in-requires-clause-some g c =
-    let whole = subst IsWhole c.in-Some.is c.self.invariant.whole in
+    let whole = subst IsWholeTree c.in-Some.is c.self.invariant.whole in
     rw c.deref-in-Some-pair.ensures (root_some _ _ whole)
 
 pub returns-in-None-clause-run : goal.returns-in-None-clause-run

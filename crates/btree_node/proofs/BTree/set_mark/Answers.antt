@@ -3,7 +3,7 @@ use Rattle.std.specs.Prelude.{IsSome}
 use Rattle.node_parts.specs.Tree.{entries, depth}
 use Rattle.node_parts.specs.Balance.{IsRoot}
 use Rattle.node_parts.specs.Order.{mark_in, with_mark, IsAscending}
-use Rattle.btree_node.specs.Top.{tree_at, IsWhole}
+use Rattle.btree_node.specs.Top.{tree_at, IsWholeTree}
 use Rattle.btree_node.proofs.Ascending.{ascending_mark, length_mark}
 use Rattle.btree_node.proofs.Top.{root_some, root_again}
 use Rattle.btree_node.proofs.Contents.{contents-with_mark, present-contents, not_empty}
@@ -12,7 +12,7 @@ use Rattle.btree_node.proofs.BTree.set_mark.Goals.{in-Some, in_default}
 
 pub set_mark_in-requires-clause-some : goal.set_mark_in-requires-clause-some
 set_mark_in-requires-clause-some g c =
-    let whole = subst IsWhole c.in-Some.is c.self.invariant.whole in
+    let whole = subst IsWholeTree c.in-Some.is c.self.invariant.whole in
     rw c.deref_mut.ensures.value (root_some _ _ whole)
 
 pub set_mark_in-requires-clause-present : goal.set_mark_in-requires-clause-present
@@ -24,7 +24,7 @@ pub invariant_of-self : goal.invariant_of-self
 invariant_of-self g c =
     elim c.match-self.branch [
       | in-Some w ↦
-          let whole = subst IsWhole w.in-Some.is c.self.invariant.whole in
+          let whole = subst IsWholeTree w.in-Some.is c.self.invariant.whole in
           let seen : entries (tree_at c.self.inside.root) ≡ entries w.deref_mut.result.now = ap (λ r. entries (tree_at r)) w.in-Some.is ∙ ap entries (sym w.deref_mut.ensures.value) in
           let e = w.set_mark_in.ensures in
           let up : IsAscending (entries w.deref_mut.result.now) = subst IsAscending seen c.self.invariant.ascending in

@@ -1,16 +1,16 @@
 use Rattle.std.proofs.Common.{subst}
-use Rattle.btree_node.specs.Top.{IsWhole}
+use Rattle.btree_node.specs.Top.{IsWholeTree}
 use Rattle.btree_node.proofs.Top.{root_some, same_depth, depth_kept, root_again, root_own}
 use Rattle.btree_node.proofs.insertion.insert_top.Goals as goal
 
 pub insert_below-requires-clause-some : goal.insert_below-requires-clause-some
 insert_below-requires-clause-some g c =
-    let whole = subst IsWhole c.in-Some.is c.requires.whole in
+    let whole = subst IsWholeTree c.in-Some.is c.requires.whole in
     rw c.deref_mut.ensures.value (root_some _ _ whole)
 
 pub join-requires-clause-tree : goal.join-requires-clause-tree
 join-requires-clause-tree g c =
-    let whole = subst IsWhole c.in-Some.is c.requires.whole in
+    let whole = subst IsWholeTree c.in-Some.is c.requires.whole in
     let e = c.in-Some-insert_below.ensures in
     same_depth _ _ e.tree e.count
 
@@ -21,7 +21,7 @@ join-requires-clause-upper g c =
 
 pub returns-in-None-insert_below-clause-root : goal.returns-in-None-insert_below-clause-root
 returns-in-None-insert_below-clause-root g c =
-    let whole = subst IsWhole c.in-Some.is c.requires.whole in
+    let whole = subst IsWholeTree c.in-Some.is c.requires.whole in
     let e = c.in-None-insert_below.ensures in
     root_again _ _ (rw (← c.deref_mut.ensures.value) at whole) e.tree e.count
 

@@ -7,7 +7,7 @@ abbrev pub invariant-loop-page : goal.invariant-loop-page
 invariant-loop-page g l =
     let h = g.D.Device.history in
     record {
-      zeros : (i : ℕ) → i < l.page → AreZeros (h l.initial.device).disk.content (l.first + 8 * i) 8;
+      zeros : (i : ℕ) → i < l.page → AreZeros (h l.initial.device).disk.content (l.first + 16 * i) 16;
       reads : OnlyReads (h l.initial.device) (h l.device);
       quiet : g.D.Device.failures l.device ≡ g.D.Device.failures l.initial.device;
     }

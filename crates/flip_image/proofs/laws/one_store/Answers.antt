@@ -9,3 +9,9 @@ returns-clause-accepted c = stores.accepted
 
 pub returns-clause-refusal : goal.returns-clause-refusal
 returns-clause-refusal c = stores.one_refusal
+
+pub returns-clause-current : goal.returns-clause-current
+returns-clause-current c = stores.one_half
+
+pub returns-clause-older : goal.returns-clause-older
+returns-clause-older c = stores.refused_older

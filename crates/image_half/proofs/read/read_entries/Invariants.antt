@@ -1,7 +1,8 @@
-use Rattle.std.proofs.Common.{◌≡◌, ◌+◌, ◌/◌, ◌%◌, ◌<◌}
+use Rattle.std.proofs.Common.{◌≡◌, ◌%◌, ◌<◌}
 use Rattle.sector_device.specs.Disk.{sector}
 use Rattle.sector_device.specs.History.{OnlyReads}
-use Rattle.image_half.specs.Layout.{entries_at}
+use Rattle.records.specs.Version.{entries_per_sector}
+use Rattle.image_half.specs.Layout.{entries_at_in, sector_of_piece}
 use Rattle.image_half.specs.Steps.{HoldsEntries, IsLastPair, index_of}
 use Rattle.image_half.proofs.read.read_entries.Given as goal
 
@@ -11,9 +12,9 @@ invariant-loop-n g l =
     let content = (h l.initial.device).disk.content in
     let index = index_of l.entries.items in
     record {
-      held : HoldsEntries l.geometry l.first content l.n index;
+      held : HoldsEntries l.version l.geometry l.first content l.n index;
       last : IsLastPair index l.n l.last;
-      buffered : 0 < l.n % 16 → l.buffer ≡ sector content (entries_at l.geometry l.first + l.n / 16);
+      buffered : 0 < l.n % entries_per_sector l.version → l.buffer ≡ sector content (sector_of_piece (entries_at_in l.version l.geometry l.first) (entries_per_sector l.version) l.n);
       reads : OnlyReads (h l.initial.device) (h l.device);
       quiet : g.D.Device.failures l.device ≡ g.D.Device.failures l.initial.device;
     }

@@ -10,7 +10,7 @@ invariant-loop-h g l =
     let now : Cells = g.S.CellSink.cells l.sink in
     let start : Cells = g.S.CellSink.cells l.initial.sink in
     record {
-      held : HoldsLists l.geometry l.first (h l.initial.device).disk.content (take l.h l.heads) now.pending;
+      held : HoldsLists l.version l.geometry l.first (h l.initial.device).disk.content (take l.h l.heads) now.pending;
       rest : now ≡ record start { pending = now.pending };
       reads : OnlyReads (h l.initial.device) (h l.device);
       quiet : g.D.Device.failures l.device ≡ g.D.Device.failures l.initial.device;

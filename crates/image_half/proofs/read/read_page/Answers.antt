@@ -1,73 +1,88 @@
-use Rattle.std.proofs.Common.{◌≡◌, inr, ℕ, ◌+◌, ◌/◌, ◌%◌, List, Option, None, sym, ap, ◌∙◌, subst, arith}
-use Rattle.std.specs.Prelude.{is_some}
-use Rattle.std.proofs.lemmas.Bool.{both_ways}
-use Rattle.std.proofs.lemmas.Option.{none-some, same_Some}
-use Rattle.records.specs.declared.row.Row.{Row}
+use Rattle.std.proofs.Common.{◌≡◌, inr, ℕ, ◌+◌, ◌*◌, ◌<◌, ◌≤◌, List, length, sym, ap, ◌∙◌, subst, arith}
+use Rattle.std.proofs.lemmas.Bool.{iff_false}
+use Rattle.std.proofs.lemmas.Option.{none-some}
+use Rattle.records.specs.Version.{page_sectors}
+use Rattle.records.specs.GeometryValue.{GeometryValue}
 use Rattle.records.specs.declared.error.Error.TheVariants.{Damaged}
 use Rattle.model.specs.Table.{Table}
-use Rattle.sector_device.specs.Disk.{sector}
-use Rattle.sector_device.proofs.Within.{reads_then}
-use Rattle.image_half.specs.Layout.{cut, page_at}
-use Rattle.image_half.specs.Image.{IsRow, row_bytes}
+use Rattle.sector_device.specs.Disk.{Disk, Image}
+use Rattle.image_half.specs.Layout.{page_at_in, bytes_of, page_bytes_in, row_of}
+use Rattle.image_half.specs.Image.{HasEdges, IsRowIn}
 use Rattle.image_half.specs.Steps.{HoldsSlots, table_of}
-use Rattle.image_half.proofs.Growing.{slots_more}
-use Rattle.image_half.proofs.Bytes.{cut_at, still_held}
+use Rattle.image_half.proofs.Growing.{no_slots, slots_more, page_more}
+use Rattle.image_half.proofs.Places.{page_inside, page_sectors_most}
 use Rattle.image_half.proofs.read.read_page.Goals as goal
+
+pub page_at-at-requires : goal.page_at-at-requires
+page_at-at-requires g c = let e = ap (page_at_in c.args.version c.args.first) c.from.ensures in omega (arith, e, page_inside c.args.geometry c.args.first c.args.version c.args.page c.requires.page, c.requires.number)
+
+pub read_bytes-requires-clause-few : goal.read_bytes-requires-clause-few
+read_bytes-requires-clause-few g c = omega (arith, c.page_sectors.ensures.most)
+
+pub read_bytes-requires-clause-inside : goal.read_bytes-requires-clause-inside
+read_bytes-requires-clause-inside g c =
+    let at_is : c.page_at-at.result ≡ page_at_in c.args.version c.args.first c.args.page = c.page_at-at.ensures ∙ ap (page_at_in c.args.version c.args.first) c.from.ensures in
+    omega (arith, at_is, c.page_sectors.ensures.value, page_inside c.args.geometry c.args.first c.args.version c.args.page c.requires.page, c.requires.inside)
+
+pub read_bytes-requires-clause-number : goal.read_bytes-requires-clause-number
+read_bytes-requires-clause-number g c =
+    let at_is : c.page_at-at.result ≡ page_at_in c.args.version c.args.first c.args.page = c.page_at-at.ensures ∙ ap (page_at_in c.args.version c.args.first) c.from.ensures in
+    omega (arith, at_is, c.page_sectors.ensures.value, page_inside c.args.geometry c.args.first c.args.version c.args.page c.requires.page, c.requires.number)
+
+pub has_edges-requires : goal.has_edges-requires
+has_edges-requires g c = ap length c.as_slice-bytes.ensures.value ∙ c.in_ok-spelled.ensures.size ∙ ap (λ n. 512 * n) c.page_sectors.ensures.value
+
+pub returns-then-not-has_edges-clause-refused : goal.returns-then-not-has_edges-clause-refused
+returns-then-not-has_edges-clause-refused g c =
+    let v = c.args.version in
+    let image : Image = (g.D.Device.history c.args.device.now).disk.content in
+    let at_is : c.page_at-at.result ≡ page_at_in v c.args.first c.args.page = c.page_at-at.ensures ∙ ap (page_at_in v c.args.first) c.from.ensures in
+    let bytes : c.as_slice-bytes.result.now ≡ page_bytes_in v image c.args.first c.args.page = c.as_slice-bytes.ensures.value ∙ c.in_ok-spelled.ensures.value ∙ ap (λ n. bytes_of image n c.page_sectors.result) at_is ∙ ap (bytes_of image (page_at_in v c.args.first c.args.page)) c.page_sectors.ensures.value in
+    inr (ap (λ n. Damaged n) at_is, λ sound. iff_false c.has_edges.ensures c.if-not-has_edges.true (subst (HasEdges v) (sym bytes) sound.0))
+
+pub row_in-requires-clause-size : goal.row_in-requires-clause-size
+row_in-requires-clause-size g c = ap length c.as_slice-bytes.ensures.value ∙ c.in_ok-spelled.ensures.size ∙ ap (λ n. 512 * n) c.page_sectors.ensures.value
+
+pub loop-slot-init : goal.loop-slot-init
+loop-slot-init g c = no_slots c.args.version c.args.geometry c.args.first (g.D.Device.history c.args.device.now).disk.content c.args.page (table_of c.args.rows.now.items) c.requires.held
 
 pub returns-in_default-clause-refused : goal.returns-in_default-clause-refused
 returns-in_default-clause-refused g c =
-    let content = (g.D.Device.history c.args.device.now).disk.content in
-    let at_is : c.page_at-at.result ≡ page_at c.args.first c.args.page = c.page_at-at.ensures ∙ ap (page_at c.args.first) c.from.ensures in
-    let front = c.piece_of-front.ensures ∙ ap (λ (b : List ℕ). cut b 64 0) c.in_ok-load.ensures.loaded ∙ ap (λ n. cut (sector content (n + 0)) 64 0) at_is in
-    inr (ap (λ n. Damaged n) at_is, λ sound. none-some None (c.in_default.ensures.again None sound.0.fits (front ∙ sound.0.spelled)))
-
-pub returns-then-is_some-clause-refused : goal.returns-then-is_some-clause-refused
-returns-then-is_some-clause-refused g c =
-    let content = (g.D.Device.history c.args.device.now).disk.content in
-    let at_is : c.page_at-at.result ≡ page_at c.args.first c.args.page = c.page_at-at.ensures ∙ ap (page_at c.args.first) c.from.ensures in
-    let front = c.piece_of-front.ensures ∙ ap (λ (b : List ℕ). cut b 64 0) c.in_ok-load.ensures.loaded ∙ ap (λ n. cut (sector content (n + 0)) 64 0) at_is in
-    inr (
-      ap (λ n. Damaged n) at_is,
-      λ sound.
-          let none : c.in-Some.front_row ≡ None = same_Some c.in-Some.front_row None (c.in-Some.ensures.again None sound.0.fits (front ∙ sound.0.spelled)) in
-          both_ways (is_some c.in-Some.front_row) (ap (λ (o : Option Row). is_some o) none) (sym c.is_some.ensures ∙ c.if-is_some.true),
-    )
-
-pub returns-in_default-read_row-clause-refused : goal.returns-in_default-read_row-clause-refused
-returns-in_default-read_row-clause-refused g c =
-    let h = g.D.Device.history in
-    let old = (h c.args.device.now).disk in
+    let v = c.args.version in
+    let first = c.args.first in
+    let page = c.args.page in
+    let image : Image = (g.D.Device.history c.args.device.now).disk.content in
+    let at_is : c.page_at-at.result ≡ page_at_in v first page = c.page_at-at.ensures ∙ ap (page_at_in v first) c.from.ensures in
+    let bytes : c.as_slice-bytes.result.now ≡ page_bytes_in v image first page = c.as_slice-bytes.ensures.value ∙ c.in_ok-spelled.ensures.value ∙ ap (λ n. bytes_of image n c.page_sectors.result) at_is ∙ ap (bytes_of image (page_at_in v first page)) c.page_sectors.ensures.value in
     let s = c.loop-slot.slot in
-    let i = c.from-i.result + 1 in
-    let which : i ≡ s + 1 = (λ k. c.from-i.ensures k + 1) in
-    let at = c.page_at-at.result in
-    let at_is : at ≡ page_at c.args.first c.args.page = c.page_at-at.ensures ∙ ap (page_at c.args.first) c.from.ensures in
-    let bytes = cut_at old (h c.loop-slot.device).disk c.piece_of-bytes.result c.load-in-loop-slot.new.buffer 64 at 8 i (s + 1) c.loop-slot.invariant.reads.disk c.piece_of-bytes.ensures c.in_ok-load-2.ensures.loaded which
-    ∙ ap (λ n. cut (sector old.content (n + (s + 1) / 8)) 64 ((s + 1) % 8)) at_is in
     inr (
       ap (λ n. Damaged n) at_is,
       λ sound.
           let row = sound.1 s c.loop-slot-test.true in
-          none-some row.0 (c.in_default-read_row.ensures.again row.0 row.1.fits (bytes ∙ row.1.spelled)),
+          none-some row.0 (c.in_default.ensures.again row.0 (subst (λ (b : List ℕ). IsRowIn v (row_of v b s) row.0) (sym bytes) row.1)),
     )
 
 pub loop-slot-preserved : goal.loop-slot-preserved
 loop-slot-preserved g c =
-    let h = g.D.Device.history in
-    let old = (h c.args.device.now).disk in
+    let v = c.args.version in
+    let first = c.args.first in
+    let page = c.args.page in
+    let image : Image = (g.D.Device.history c.args.device.now).disk.content in
+    let at_is : c.page_at-at.result ≡ page_at_in v first page = c.page_at-at.ensures ∙ ap (page_at_in v first) c.from.ensures in
+    let bytes : c.as_slice-bytes.result.now ≡ page_bytes_in v image first page = c.as_slice-bytes.ensures.value ∙ c.in_ok-spelled.ensures.value ∙ ap (λ n. bytes_of image n c.page_sectors.result) at_is ∙ ap (bytes_of image (page_at_in v first page)) c.page_sectors.ensures.value in
     let s = c.loop-slot.slot in
-    let i = c.from-i.result + 1 in
-    let which : i ≡ s + 1 = (λ k. c.from-i.ensures k + 1) in
-    let at = c.page_at-at.result in
-    let at_is : at ≡ page_at c.args.first c.args.page = c.page_at-at.ensures ∙ ap (page_at c.args.first) c.from.ensures in
-    let bytes = cut_at old (h c.loop-slot.device).disk c.piece_of-bytes.result c.load-in-loop-slot.new.buffer 64 at 8 i (s + 1) c.loop-slot.invariant.reads.disk c.piece_of-bytes.ensures c.in_ok-load-2.ensures.loaded which
-    ∙ ap (λ n. cut (sector old.content (n + (s + 1) / 8)) 64 ((s + 1) % 8)) at_is in
-    let is : IsRow (row_bytes old.content c.args.first c.args.page (s + 1)) c.in-Some-read_row.found = record { spelled = sym bytes ∙ c.in-Some-read_row.ensures.found; fits = c.in-Some-read_row.ensures.fits } in
-    record {
-      slots = subst (λ (t : Table). HoldsSlots c.args.first old.content c.args.page (s + 1) (table_of c.args.rows.now.items) t) (sym c.in_ok-add_row.ensures)
-          (slots_more c.args.geometry c.args.first old.content c.args.page s (table_of c.args.rows.now.items) (table_of c.loop-slot.rows.items) c.in-Some-read_row.found c.loop-slot.invariant.slots is);
-      buffered = λ within. still_held old (h c.loop-slot.device).disk c.load-in-loop-slot.new.buffer at (i / 8) ((s + 1 + 1) / 8) c.loop-slot.invariant.reads.disk c.in_ok-load-2.ensures.loaded (omega (arith, which, within))
-          ∙ ap (λ n. sector old.content (n + (s + 1 + 1) / 8)) at_is;
-      reads = reads_then _ _ _ c.loop-slot.invariant.reads c.load-in-loop-slot.ensures.reads;
-      quiet = c.in_ok-load-2.ensures.quiet ∙ c.loop-slot.invariant.quiet;
-    }
+    let is = subst (λ (b : List ℕ). IsRowIn v (row_of v b s) c.in-Some.found) bytes c.in-Some.ensures.found in
+    subst (λ (t : Table). HoldsSlots v first image page (s + 1) (table_of c.args.rows.now.items) t) (sym c.in_ok-add_row.ensures)
+    (slots_more v c.args.geometry first image page s (table_of c.args.rows.now.items) (table_of c.loop-slot.rows.items) c.in-Some.found c.loop-slot.invariant is)
+
+pub returns-clause-held : goal.returns-clause-held
+returns-clause-held g c =
+    let v = c.args.version in
+    let first = c.args.first in
+    let page = c.args.page in
+    let image : Image = (g.D.Device.history c.args.device.now).disk.content in
+    let at_is : c.page_at-at.result ≡ page_at_in v first page = c.page_at-at.ensures ∙ ap (page_at_in v first) c.from.ensures in
+    let bytes : c.as_slice-bytes.result.now ≡ page_bytes_in v image first page = c.as_slice-bytes.ensures.value ∙ c.in_ok-spelled.ensures.value ∙ ap (λ n. bytes_of image n c.page_sectors.result) at_is ∙ ap (bytes_of image (page_at_in v first page)) c.page_sectors.ensures.value in
+    let all : c.loop-slot.slot ≡ 63 = omega (arith, c.loop-slot-test.false, c.loop-slot.auto.slot-end) in
+    page_more v c.args.geometry first image page (table_of c.args.rows.now.items) (table_of c.loop-slot.rows.items) c.requires.held (subst (HasEdges v) bytes (c.has_edges.ensures.0 c.if-not-has_edges.false))
+    (subst (λ n. HoldsSlots v first image page n (table_of c.args.rows.now.items) (table_of c.loop-slot.rows.items)) all c.loop-slot.invariant)

@@ -7,7 +7,7 @@ abbrev pub invariant-loop-page : goal.invariant-loop-page
 invariant-loop-page g l =
     let h = g.D.Device.history in
     record {
-      held : HoldsPages l.geometry l.first (h l.initial.device).disk.content l.page (table_of l.rows.items);
+      held : HoldsPages l.version l.geometry l.first (h l.initial.device).disk.content l.page (table_of l.rows.items);
       reads : OnlyReads (h l.initial.device) (h l.device);
       quiet : g.D.Device.failures l.device ≡ g.D.Device.failures l.initial.device;
     }

@@ -13,9 +13,9 @@ returns-clause-spelled g c = λ n passed j below. c.pieces_of.ensures j _ (c.ent
 pub returns-clause-passed : goal.returns-clause-passed
 returns-clause-passed g c = λ n passed room.
     let all : List (Pair × Mark) = entries (g.S.CellSource.cells c.args.source.now).entries in
-    elim (option_cases (slice_get all (n + 15))) [
-      | inl none ↦ absurd (not_past all (n + 15) (omega (arith, room)) none)
-      | inr some ↦ subst (λ (p : Option Pair). IsPassed all (n + 16) p)
-          (sym (c.last_pair.ensures some.0 (c.entries_behind-entries.ensures n 15 passed (omega arith) ∙ ap Some some.1)))
-          (n + 15, some.0.1, omega arith, some.1)
+    elim (option_cases (slice_get all (n + 7))) [
+      | inl none ↦ absurd (not_past all (n + 7) (omega (arith, room)) none)
+      | inr some ↦ subst (λ (p : Option Pair). IsPassed all (n + 8) p)
+          (sym (c.last_pair.ensures some.0 (c.entries_behind-entries.ensures n 7 passed (omega arith) ∙ ap Some some.1)))
+          (n + 7, some.0.1, omega arith, some.1)
     ]

@@ -18,7 +18,7 @@ loop-j-preserved c = λ i o less at_i.
     let same : i ≡ j = omega (arith, less, higher) in
     let at_j : slice_get c.args.entries.now j ≡ Some entry = slice_get-get_or c.args.entries.now j entry (omega (arith, c.loop-j-test.true, c.type_inv.entries)) ∙ ap Some (sym c.index-entries-j.is) in
     let is : entry ≡ o = same_Some _ _ (sym at_j ∙ subst (λ n. slice_get c.args.entries.now n ≡ Some o) same at_i) in
-    subst (λ n. IsEntryPlace (cut c.put_piece.new.buffer 32 n) o) (sym same)
+    subst (λ n. IsEntryPlace (cut c.put_piece.new.buffer 64 n) o) (sym same)
     (subst (λ (b : List ℕ). IsEntryPlace b o) (sym c.put_piece.ensures.put)
     (subst (IsEntryPlace c.piece_of_entry-piece.result) (sym c.index-entries-j.is ∙ is) c.piece_of_entry-piece.ensures)))
     (cases_lt i j)

@@ -7,4 +7,4 @@ use Rattle.image_half.specs.Steps.{IsEntryPlace}
 use Rattle.image_half.proofs.whole.pieces_of.Given as goal
 
 abbrev pub invariant-loop-j : goal.invariant-loop-j
-invariant-loop-j l = (i : ℕ) (o : Option (Pair × Mark)) → i < l.j → slice_get l.entries i ≡ Some o → IsEntryPlace (cut l.bytes 32 i) o
+invariant-loop-j l = (i : ℕ) (o : Option (Pair × Mark)) → i < l.j → slice_get l.entries i ≡ Some o → IsEntryPlace (cut l.bytes 64 i) o

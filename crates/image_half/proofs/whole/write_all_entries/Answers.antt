@@ -21,7 +21,7 @@ returns-in_err-write-clause-part g c =
     let hist = g.D.Device.history in
     let k = c.loop-k.k in
     let at_is : c.page_at-at.result ≡ entries_at c.args.geometry c.args.first = c.page_at-at.ensures ∙ ap (page_at c.args.first) (c.from.ensures ∙ ap (λ (x : GeometryValue). x.pages) c.geometry.view_is) in
-    let some : k < (c.args.count + 15) / 16 = omega (arith, c.div_ceil-k-end.ensures, c.from-2.ensures, c.loop-k-test.true) in
+    let some : k < (c.args.count + 7) / 8 = omega (arith, c.div_ceil-k-end.ensures, c.from-2.ensures, c.loop-k-test.true) in
     let at = c.page_at-at.result + k in
     let inside : InEntries c.args.geometry c.args.first 0 c.args.count at = (omega (arith, at_is), omega (arith, at_is, some)) in
     writes_one (InEntries c.args.geometry c.args.first 0 c.args.count) (hist c.args.device.now) (hist c.loop-k.device) (hist c.write.new.self) at _ c.write.result inside c.write.ensures.time c.write.ensures.ok c.write.ensures.err c.loop-k.invariant.part
@@ -36,30 +36,30 @@ loop-k-preserved g c =
     let k = c.loop-k.k in
     let first_entry = entries_at c.args.geometry c.args.first in
     let at_is : c.page_at-at.result ≡ first_entry = c.page_at-at.ensures ∙ ap (page_at c.args.first) (c.from.ensures ∙ ap (λ (x : GeometryValue). x.pages) c.geometry.view_is) in
-    let some : k < (c.args.count + 15) / 16 = omega (arith, c.div_ceil-k-end.ensures, c.from-2.ensures, c.loop-k-test.true) in
+    let some : k < (c.args.count + 7) / 8 = omega (arith, c.div_ceil-k-end.ensures, c.from-2.ensures, c.loop-k-test.true) in
     let at = c.page_at-at.result + k in
     let bytes : List ℕ = c.entries_sector-bytes.result in
     let inside : InEntries c.args.geometry c.args.first 0 c.args.count at = (omega (arith, at_is), omega (arith, at_is, some)) in
     let so_far = c.loop-k.invariant in
-    let passed : IsPassed all (16 * k) c.loop-k.last = so_far.passed (omega (arith, some)) in
+    let passed : IsPassed all (8 * k) c.loop-k.last = so_far.passed (omega (arith, some)) in
     let ok : new ≡ after_write mid at bytes = c.in_ok-write.ensures.ok in
     let room : at < length mid.content = omega (arith, inside.1, c.requires.inside, c.requires.count, c.requires.fits.room, so_far.part.outside.sectors) in
     record {
-      passed = λ more. subst (λ n. IsPassed all n c.entries_sector-bytes.new.last) (let e : 16 * k + 16 ≡ 16 * (k + 1) = omega arith in e) (c.entries_sector-bytes.ensures.passed (16 * k) passed (omega (arith, more, c.requires.count)));
+      passed = λ more. subst (λ n. IsPassed all n c.entries_sector-bytes.new.last) (let e : 8 * k + 8 ≡ 8 * (k + 1) = omega arith in e) (c.entries_sector-bytes.ensures.passed (8 * k) passed (omega (arith, more, c.requires.count)));
       placed = λ i less. ⊎_elim
-          (λ (lower : i < 16 * k).
-          let n = first_entry + i / 16 in
+          (λ (lower : i < 8 * k).
+          let n = first_entry + i / 8 in
           let same : sector new.content n ≡ sector mid.content n = ap (λ (d : Disk). sector d.content n) ok ∙ sector_other mid at n bytes (omega (arith, at_is, lower)) in
-          subst (λ (b : List ℕ). IsEntryPlace (cut b 32 (i % 16)) (slice_get all i)) (sym same) (so_far.placed i lower))
+          subst (λ (b : List ℕ). IsEntryPlace (cut b 64 (i % 8)) (slice_get all i)) (sym same) (so_far.placed i lower))
           (λ higher.
-          let n = first_entry + i / 16 in
+          let n = first_entry + i / 8 in
           let which : n ≡ at = omega (arith, at_is, less, higher) in
           let there : sector new.content n ≡ bytes = ap (λ m. sector new.content m) which ∙ ap (λ (d : Disk). sector d.content at) ok ∙ sector_written mid at bytes room in
-          let nth : i ≡ 16 * k + i % 16 = omega (arith, less, higher) in
-          let piece = c.entries_sector-bytes.ensures.spelled (16 * k) passed (i % 16) (omega arith) in
-          subst (λ (b : List ℕ). IsEntryPlace (cut b 32 (i % 16)) (slice_get all i)) (sym there)
-          (subst (λ m. IsEntryPlace (cut bytes 32 (i % 16)) (slice_get all m)) (sym nth) piece))
-          (cases_lt i (16 * k));
+          let nth : i ≡ 8 * k + i % 8 = omega (arith, less, higher) in
+          let piece = c.entries_sector-bytes.ensures.spelled (8 * k) passed (i % 8) (omega arith) in
+          subst (λ (b : List ℕ). IsEntryPlace (cut b 64 (i % 8)) (slice_get all i)) (sym there)
+          (subst (λ m. IsEntryPlace (cut bytes 64 (i % 8)) (slice_get all m)) (sym nth) piece))
+          (cases_lt i (8 * k));
       part = writes_one (InEntries c.args.geometry c.args.first 0 c.args.count) (hist c.args.device.now) (hist c.loop-k.device) (hist c.write.new.self) at _ c.write.result inside c.write.ensures.time c.write.ensures.ok c.write.ensures.err so_far.part;
       failures = c.in_ok-write.ensures.counts.none ∙ so_far.failures;
     }

@@ -12,8 +12,8 @@ invariant-loop-k g l =
     let hist = g.D.Device.history in
     let all = entries (g.S.CellSource.cells l.source).entries in
     record {
-      passed : 16 * l.k < l.fn.count → IsPassed all (16 * l.k) l.last;
-      placed : (i : ℕ) → i < 16 * l.k → IsEntryPlace (entry_bytes l.fn.geometry (hist l.device).disk.content l.fn.first i) (slice_get all i);
+      passed : 8 * l.k < l.fn.count → IsPassed all (8 * l.k) l.last;
+      placed : (i : ℕ) → i < 8 * l.k → IsEntryPlace (entry_bytes l.fn.geometry (hist l.device).disk.content l.fn.first i) (slice_get all i);
       part : WritesIn (InEntries l.fn.geometry l.fn.first 0 l.fn.count) (hist l.initial.device) (hist l.device);
       failures : g.D.Device.failures l.device ≡ g.D.Device.failures l.initial.device;
     }

@@ -97,6 +97,5 @@ returns-clause-rest g c =
     (λ is_header. rest_is c.args.geometry c.args.first c.args.base cells c.requires.fits
     (hist c.write_lists.new.device) (hist c.write_all_heads.new.device) (hist c.write_pages.new.device) (hist c.write_all_entries.new.device) (hist c.write_header.new.device) _
     c.write_all_heads.ensures.part c.write_pages.ensures.part c.write_all_entries.ensures.part (record { outside = c.write_header.ensures.outside; within = c.write_header.ensures.within })
-    c.in_ok-write_lists.ensures.written
     (subst (λ n. ZerosBehindEntries c.args.geometry c.args.first image n) (let all : c.entry_count-entries.result ≡ length (entries cells.entries) = omega (arith, c.entry_count-entries.ensures) in all) c.in_ok-write_all_entries.ensures.rest))
     c.write_header.ensures.written

@@ -6,8 +6,7 @@ use Rattle.std.proofs.lemmas.Bool.{cases_eq}
 use Rattle.std.proofs.lemmas.Option.{same_Some, slice_get_within}
 use Rattle.records.specs.ChangeValue.{ChangeValue}
 use Rattle.image_half.specs.Layout.{InList}
-use Rattle.image_half.specs.Image.{InLists}
-use Rattle.image_half.specs.Steps.{ShowsList}
+use Rattle.image_half.specs.Image.{HoldsList, InLists}
 use Rattle.image_half.proofs.Joined.{writes_then}
 use Rattle.image_half.proofs.Kept.{list_kept}
 use Rattle.image_half.proofs.Walk.{reached_next, before_end}
@@ -59,8 +58,8 @@ loop-h-preserved g c =
       written = λ k l less at_k. ⊎_elim
           (λ (same : k ≡ h).
           let this : list ≡ l = same_Some list l (sym there ∙ subst (λ n. slice_get lists n ≡ Some l) same at_k) in
-          subst (λ n. ShowsList c.args.geometry first (hist c.write_list.new.device).disk.content n l.1) (sym same)
-          (subst (λ (x : ℕ × List ChangeValue). ShowsList c.args.geometry first (hist c.write_list.new.device).disk.content h x.1) this (record { held = c.in_ok-write_list.ensures.written; rest = c.in_ok-write_list.ensures.rest })))
+          subst (λ n. HoldsList c.args.geometry first (hist c.write_list.new.device).disk.content n l.1) (sym same)
+          (subst (λ (x : ℕ × List ChangeValue). HoldsList c.args.geometry first (hist c.write_list.new.device).disk.content h x.1) this c.in_ok-write_list.ensures.written))
           (λ other. list_kept (InList first h (length list.1)) _ _ c.write_list.ensures.outside c.args.geometry first k l.1 (λ p low is. omega (arith, is.0, less, other, low))
           (list_short c.args.geometry cells c.requires.fits k l at_k) (c.loop-h.invariant.written k l (omega (arith, less, other)) at_k))
           (cases_eq k h);

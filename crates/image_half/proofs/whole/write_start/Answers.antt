@@ -1,5 +1,5 @@
 use Rattle.std.proofs.lemmas.Result.{on_ok_weaker}
-use Rattle.image_half.proofs.PartByPart.{start_lists, start_heads, started, start_rest}
+use Rattle.image_half.proofs.PartByPart.{start_lists, start_heads, started}
 use Rattle.image_half.proofs.whole.write_start.Goals as goal
 
 pub returns-in_err-write_lists-clause-outside : goal.returns-in_err-write_lists-clause-outside
@@ -27,11 +27,4 @@ returns-clause-written g c =
     let hist = g.D.Device.history in
     on_ok_weaker c.write_all_heads.result
     (started c.args.geometry c.args.first (g.S.CellSource.cells c.args.source.now) c.requires.fits (hist c.write_lists.new.device) (hist c.write_all_heads.new.device) c.write_all_heads.ensures.part c.in_ok-write_lists.ensures.written)
-    c.write_all_heads.ensures.written
-
-pub returns-clause-rest : goal.returns-clause-rest
-returns-clause-rest g c =
-    let hist = g.D.Device.history in
-    on_ok_weaker c.write_all_heads.result
-    (λ heads. start_rest c.args.geometry c.args.first (g.S.CellSource.cells c.args.source.now) c.requires.fits (hist c.write_lists.new.device) (hist c.write_all_heads.new.device) c.write_all_heads.ensures.part c.in_ok-write_lists.ensures.written)
     c.write_all_heads.ensures.written

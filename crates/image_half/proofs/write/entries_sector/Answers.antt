@@ -9,11 +9,11 @@ pub loop-j-preserved : goal.loop-j-preserved
 loop-j-preserved c = λ i less.
     let j = c.loop-j.j in
     ⊎_elim
-    (λ (lower : i < j). subst (λ (b : List ℕ). IsEntryPlace b (slice_get c.args.entries.now (16 * c.args.k + i))) (sym (c.put_piece.ensures.before i lower)) (c.loop-j.invariant i lower))
+    (λ (lower : i < j). subst (λ (b : List ℕ). IsEntryPlace b (slice_get c.args.entries.now (8 * c.args.k + i))) (sym (c.put_piece.ensures.before i lower)) (c.loop-j.invariant i lower))
     (λ higher.
     let same : i ≡ j = omega (arith, less, higher) in
-    subst (λ n. IsEntryPlace (cut c.put_piece.new.buffer 32 n) (slice_get c.args.entries.now (16 * c.args.k + n))) (sym same)
-    (subst (λ (b : List ℕ). IsEntryPlace b (slice_get c.args.entries.now (16 * c.args.k + j))) (sym c.put_piece.ensures.put) c.entry_piece-piece.ensures))
+    subst (λ n. IsEntryPlace (cut c.put_piece.new.buffer 64 n) (slice_get c.args.entries.now (8 * c.args.k + n))) (sym same)
+    (subst (λ (b : List ℕ). IsEntryPlace b (slice_get c.args.entries.now (8 * c.args.k + j))) (sym c.put_piece.ensures.put) c.entry_piece-piece.ensures))
     (cases_lt i j)
 
 pub returns : goal.returns

@@ -1,7 +1,7 @@
 use Rattle.std.proofs.Common.{◌∙◌, ap, map, sym}
 use Rattle.std.proofs.Math.Logic.{∥∥₁_map}
 use Rattle.nsf_core.specs.Value.{value_of}
-use Rattle.registry.specs.Halves.{shown}
+use Rattle.session_halves.specs.Halves.{shown}
 use Rattle.loops.proofs.build.build_step.Goals as goal
 
 pub returns : goal.returns

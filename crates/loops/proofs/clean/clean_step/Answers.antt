@@ -3,7 +3,7 @@ use Rattle.core_contracts.specs.Events.{Event}
 use Rattle.nsf_core.specs.Cleaning.{cleaner}
 use Rattle.nsf_core.specs.Replies.{reply_by}
 use Rattle.nsf_core.specs.Value.{value_of}
-use Rattle.registry.specs.Halves.{shown}
+use Rattle.session_halves.specs.Halves.{shown}
 use Rattle.loops.proofs.Moments.{was_served}
 use Rattle.loops.proofs.clean.clean_step.Goals as goal
 

@@ -2,7 +2,7 @@ use Rattle.std.proofs.Common.{◌∙◌, ap, subst}
 use Rattle.sector_device.specs.Disk.{Image}
 use Rattle.file_disk.specs.FileDisk.{history_of}
 use Rattle.serving.specs.Store as serving
-use Rattle.nsf_c.specs.Calls.{CopiesOut, IsKept, content_of}
+use Rattle.nsf_c.specs.Calls.{CopiesOut, IsStoreKept, content_of}
 use Rattle.nsf_c.specs.Handles.{Disk}
 use Rattle.nsf_c.specs.declared.held.Held.{Held}
 use Rattle.nsf_c.proofs.Saved.{is_kept}
@@ -25,5 +25,5 @@ returns-clause-kept c =
       c.take-held.result.value,
       c.take-held.ensures.taken,
       c.put.ensures,
-      subst (λ (h : Held). IsKept h.store (content_of h.store)) c.deref.ensures (is_kept held.store leaves),
+      subst (λ (h : Held). IsStoreKept h.store (content_of h.store)) c.deref.ensures (is_kept held.store leaves),
     )

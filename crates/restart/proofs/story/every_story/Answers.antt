@@ -1,6 +1,7 @@
 use Rattle.restart.proofs.Living.{acknowledged_least}
-use Rattle.restart.proofs.Storied.{begins_over, begins_untold, kept_behind, kept_between, kept_synced, refused_well, story_goes_on}
-use Rattle.restart.specs.Story.{untold}
+use Rattle.restart.proofs.Storied.{begins_over, begins_so, begins_untold, kept_behind, kept_between, kept_synced, refused_well, story_goes_on}
+use Rattle.restart.specs.Parts.{device_of}
+use Rattle.restart.specs.Story.{begun_with, untold}
 use Rattle.restart.proofs.story.every_story.Goals as goal
 
 pub returns-clause-formatted : goal.returns-clause-formatted
@@ -8,6 +9,11 @@ returns-clause-formatted g c size d formatted closed all =
     let now = g.D.Device.history d in
     kept_synced g.D.Device.history (untold size) d all
     (begins_untold size (c.nothing_opens.ensures size) now.disk.content (c.format_gives_nothing.ensures.gives size now.disk.content now.whole formatted closed))
+
+pub returns-clause-moved : goal.returns-clause-moved
+returns-clause-moved g c old engine is can =
+    kept_synced g.D.Device.history (begun_with is.opened.geometry is.opened.given) (device_of engine) is.opened.synced
+    (begins_so is.opened.geometry is.opened.given can (g.D.Device.history (device_of engine)).disk.content is.opened.gives)
 
 pub returns-clause-crashed : goal.returns-clause-crashed
 returns-clause-crashed g c story before after kept crash all = kept_synced g.D.Device.history story after all (kept (g.D.Device.history after).disk.content crash)

@@ -2,4 +2,4 @@ use Rattle.store_reader.proofs.Room.{fits}
 use Rattle.store_reader.proofs.laws.room_for_given.Goals as goal
 
 pub returns : goal.returns
-returns c image g given gives = fits image g given gives (c.fitting_cells.ensures.none g)
+returns c v image g given gives = fits v image g given gives (c.fitting_cells.ensures.none g)

@@ -1,6 +1,6 @@
 use Rattle.std.proofs.Common.{[], length, ap, map, ◌≡◌, ◌∙◌}
 use Rattle.nsf_core.specs.Value.{value_of}
-use Rattle.registry.specs.Halves.{shown}
+use Rattle.session_halves.specs.Halves.{shown}
 use Rattle.tail.specs.Ends.{Handed}
 use Rattle.flusher.specs.Part.{MayOpenAgain}
 use Rattle.flusher.proofs.Keeping.{can_hand_in, kept_by_taking, last_then}

@@ -5,7 +5,7 @@ use Rattle.image_half.proofs.source.CellMapsCellSource.entries_behind.Given as g
 
 abbrev pub invariant-loop-place : goal.invariant-loop-place
 invariant-loop-place g l = record {
-  count : length l.found ≡ 16;
+  count : length l.found ≡ 8;
   found : (i : ℕ) → i < l.place → get_or l.found i None ≡ slice_get (entries_above l.self.entries l.fn.pair) i;
   rest : l.rest ≡ drop l.place (entries_above l.self.entries l.fn.pair);
 }

@@ -5,7 +5,7 @@ use Rattle.records.specs.declared.record.Action.TheVariants.{OfTxn}
 use Rattle.records.specs.declared.record.TxnAction.{TxnAction}
 use Rattle.core_contracts.specs.Events.{Event}
 use Rattle.nsf_core.specs.Value.{value_of}
-use Rattle.registry.specs.Halves.{HalfValue, shown}
+use Rattle.session_halves.specs.Halves.{HalfValue, shown}
 use Rattle.sessions.specs.Values.{is_active, is_ready}
 use Rattle.locked_core.specs.Names.{IsShared}
 use Rattle.locked_core.specs.Seats.{SeatValue}

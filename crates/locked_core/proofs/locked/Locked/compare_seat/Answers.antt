@@ -2,7 +2,7 @@ use Rattle.std.proofs.Common.{List, Some, map, sym, ap, ◌∙◌, subst}
 use Rattle.std.proofs.Math.Logic.{∥∥₁_map}
 use Rattle.std.specs.Prelude.{slice_get}
 use Rattle.nsf_core.specs.Value.{value_of}
-use Rattle.registry.specs.Halves.{HalfValue, shown}
+use Rattle.session_halves.specs.Halves.{HalfValue, shown}
 use Rattle.sessions.specs.Values.{SessionValue}
 use Rattle.locked_core.specs.Locked.{LockedValue}
 use Rattle.locked_core.specs.Names.{IsShared}

@@ -5,7 +5,7 @@ use Rattle.records.specs.declared.record.Action.TheVariants.{OfIndex}
 use Rattle.records.specs.declared.record.IndexAction.{IndexAction}
 use Rattle.core_contracts.specs.Events.{Event}
 use Rattle.nsf_core.specs.Value.{value_of}
-use Rattle.registry.specs.Halves.{HalfValue, shown}
+use Rattle.session_halves.specs.Halves.{HalfValue, shown}
 use Rattle.locked_core.specs.Names.{IsShared}
 use Rattle.locked_core.specs.Seats.{SeatValue}
 use Rattle.locked_core.proofs.Book.{book_set, count_set, shown_at, shown_set}

@@ -2,7 +2,7 @@ use Rattle.std.proofs.Common.{Some, map, sym, ap, ◌∙◌, subst}
 use Rattle.std.proofs.Math.Logic.{∥∥₁_map}
 use Rattle.std.specs.Prelude.{slice_get, slice_set}
 use Rattle.nsf_core.specs.Value.{value_of}
-use Rattle.registry.specs.Halves.{HalfValue, shown}
+use Rattle.session_halves.specs.Halves.{HalfValue, shown}
 use Rattle.sessions.specs.Values.{is_active, is_ready}
 use Rattle.locked_core.specs.Names.{IsShared}
 use Rattle.locked_core.specs.Seats.{SeatValue}

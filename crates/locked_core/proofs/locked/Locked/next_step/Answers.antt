@@ -4,7 +4,7 @@ use Rattle.std.specs.Prelude.{slice_get, slice_set}
 use Rattle.model.specs.declared.write.Write.{Write}
 use Rattle.register.specs.Reading.{ShowsRow, unfinished_of}
 use Rattle.nsf_core.specs.Value.{value_of}
-use Rattle.registry.specs.Halves.{HalfValue, shown}
+use Rattle.session_halves.specs.Halves.{HalfValue, shown}
 use Rattle.sessions.specs.Values.{is_active, is_unfinished}
 use Rattle.locked_core.specs.Names.{IsShared}
 use Rattle.locked_core.specs.Seats.{SeatValue}

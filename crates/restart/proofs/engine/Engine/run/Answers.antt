@@ -5,11 +5,11 @@ use Rattle.restart.specs.declared.event.Reply.{Reply}
 use Rattle.restart.specs.Lawful.{IsLawful, AreLawful}
 use Rattle.restart.specs.Store.{Past, IsAt, ServesOn, GoesOn, AreServed, HaveNoCopy, and_then}
 use Rattle.store_writer.proofs.Around.{then_around}
-use Rattle.restart.specs.Parts.{writer_of}
+use Rattle.restart.specs.Parts.{horizon_of, writer_of}
 use Rattle.restart.proofs.Around.{around_none, no_copy_last}
 use Rattle.restart.proofs.Runs.{goes_nowhere, goes_further, lawful_last, served_last}
 use Rattle.restart.proofs.Crashes.{survives_any_crash}
-use Rattle.restart.proofs.Stories.{crash_now}
+use Rattle.restart.proofs.Stories.{crash_since}
 use Rattle.restart.proofs.engine.Engine.run.Goals as goal
 
 pub loop-event-init : goal.loop-event-init
@@ -19,6 +19,7 @@ loop-event-init g c = record {
   lawful = subst (λ (rs : List (Reply _)). AreLawful g.D.Device.failures [] rs c.args.self.now c.args.self.now) (sym c.in_ok-replies.ensures.items) refl;
   served = λ past is. subst (λ (rs : List (Reply _)). AreServed g.D.Device.history g.D.Device.failures past [] rs c.args.self.now c.args.self.now) (sym c.in_ok-replies.ensures.items) refl;
   around = λ _. around_none g.D.Device.history c.args.self.now c.args.self.now;
+  sectors = refl;
   ran = λ past is. subst (λ (rs : List (Reply _)). GoesOn g.D.Device.history past [] rs c.args.self.now c.args.self.now) (sym c.in_ok-replies.ensures.items) (goes_nowhere g.D.Device.history past c.args.self.now is);
 }
 
@@ -44,6 +45,7 @@ loop-event-preserved g c =
       around = λ none.
           let both = no_copy_last (take i events) (get_or events i c.event-item.result) (subst HaveNoCopy (take_more events i c.event-item.result c.loop-event-test.true) none) in
           then_around history (writer_of c.args.self.now) (writer_of c.loop-event.self) (writer_of c.serve-reply.new.self) (inv.around both.0) (c.serve-reply.ensures.around (λ copy. both.1 (sym item ∙ copy)));
+      sectors = c.serve-reply.ensures.sectors ∙ inv.sectors;
       ran = λ past is.
           subst (λ (es : List Event). GoesOn history past es c.push.new.self.items c.args.self.now c.serve-reply.new.self) (sym (take_more events i c.event-item.result c.loop-event-test.true))
           (subst (λ (rs : List (Reply _)). GoesOn history past (take i events ++ get_or events i c.event-item.result ∷ []) rs c.args.self.now c.serve-reply.new.self) (sym c.in-Ok.ensures.items)
@@ -56,11 +58,12 @@ returns g c =
     λ past is. subst (λ (es : List Event). GoesOn g.D.Device.history past es c.loop-event.replies.items c.args.self.now c.loop-event.self) (take_all c.loop-event.event-index c.args.events.now c.loop-event-test.false) (c.loop-event.invariant.ran past is) in
     record {
       any_crash = survives_any_crash g.D.Device.history c.args.events.now c.loop-event.replies.items c.args.self.now c.loop-event.self ran;
-      at_end = λ past is image crash. crash_now g.D.Device.history (and_then past c.args.events.now c.loop-event.replies.items) c.loop-event.self (ran past is).at image crash;
+      at_end = λ past is image crash. crash_since g.D.Device.history (and_then past c.args.events.now c.loop-event.replies.items) c.loop-event.self (ran past is).at (horizon_of c.loop-event.self) (omega arith) image crash;
       served = λ past is. subst (λ (es : List Event). AreServed g.D.Device.history g.D.Device.failures past es c.loop-event.replies.items c.args.self.now c.loop-event.self) (take_all c.loop-event.event-index c.args.events.now c.loop-event-test.false) (c.loop-event.invariant.served past is);
       ran = ran;
       lawful = subst (λ (es : List Event). AreLawful g.D.Device.failures es c.loop-event.replies.items c.args.self.now c.loop-event.self) (take_all c.loop-event.event-index c.args.events.now c.loop-event-test.false) c.loop-event.invariant.lawful;
       around = λ none. c.loop-event.invariant.around (subst HaveNoCopy (sym (take_all c.loop-event.event-index c.args.events.now c.loop-event-test.false)) none);
+      sectors = c.loop-event.invariant.sectors;
       refused = tt;
       no_memory = tt;
       some = tt;

@@ -1,6 +1,6 @@
 use Rattle.std.proofs.Common.{◌≡◌, ◌≤◌, length, take, vec_capacity}
 use Rattle.restart.specs.Lawful.{AreLawful}
-use Rattle.restart.specs.Store.{Past, IsAt, GoesOn, AreServed, KeepsAround, HaveNoCopy}
+use Rattle.restart.specs.Store.{Past, IsAt, GoesOn, AreServed, KeepsAround, KeepsSectors, HaveNoCopy}
 use Rattle.restart.proofs.engine.Engine.run.Given as goal
 
 abbrev pub invariant-loop-event : goal.invariant-loop-event
@@ -12,5 +12,6 @@ invariant-loop-event g l =
       lawful : AreLawful g.D.Device.failures (take l.event-index l.events) l.replies.items l.fn.self l.self;
       served : (past : Past _) → IsAt history past l.fn.self → AreServed history g.D.Device.failures past (take l.event-index l.events) l.replies.items l.fn.self l.self;
       around : HaveNoCopy (take l.event-index l.events) → KeepsAround history l.fn.self l.self;
+      sectors : KeepsSectors history l.fn.self l.self;
       ran : (past : Past _) → IsAt history past l.fn.self → GoesOn history past (take l.event-index l.events) l.replies.items l.fn.self l.self;
     }

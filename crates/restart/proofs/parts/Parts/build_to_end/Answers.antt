@@ -1,16 +1,19 @@
-use Rattle.std.proofs.Common.{Err, refl, subst, sym, ◌∙◌}
+use Rattle.std.proofs.Common.{Err, refl, subst, sym, ◌∙◌, ◌≡◌, ◌≤◌}
 use Rattle.std.proofs.lemmas.Result.{err_from_is_err_and}
+use Rattle.records.specs.declared.error.Error.TheVariants.{Exhausted, IndexFull, NoIndex}
+use Rattle.records.specs.declared.number.TheConstants.{LAST_NUMBER}
+use Rattle.model.specs.declared.life.Life.TheVariants.{Absent}
 use Rattle.core_contracts.specs.Events.{Build}
 use Rattle.nsf_core.specs.Builds.{built}
 use Rattle.nsf_core.specs.View.{Serves}
-use Rattle.restart.specs.Building.{IsBuiltToEnd}
+use Rattle.restart.specs.Building.{IsBuiltToEnd, IsIndexFull}
 use Rattle.restart.specs.declared.parts.Parts.{Parts}
 use Rattle.restart.specs.declared.event.Reply.TheVariants.{Built, Refused}
 use Rattle.nsf_core.specs.declared.reply.BuildReply.TheVariants.{Done}
 use Rattle.restart.specs.Parts.{core_of}
 use Rattle.restart.proofs.BuiltOn.{can_run_built}
-use Rattle.restart.proofs.Ended.{all_built, comes_to, complete_ends, complete_whole, done_ends, done_whole, is_done, last_within, none_built, refused_ends, stepped}
-use Rattle.restart.proofs.WhyRefused.{IsWhy, refused_why}
+use Rattle.restart.proofs.Ended.{all_built, comes_to, complete_ends, complete_whole, done_ends, done_whole, is_done, last_within, none_built, refused_ends, rows_stay, stepped}
+use Rattle.restart.proofs.WhyRefused.{IsWhy, refused_full, refused_none, refused_out, refused_why}
 use Rattle.restart.proofs.parts.Parts.build_to_end.Goals as goal
 
 pub last_ticket-requires : goal.last_ticket-requires
@@ -108,3 +111,38 @@ returns-in_err-reply-clause-why g c =
     let mid = c.steps.self in
     let p = err_from_is_err_and c.from_residual.result c.from_residual.ensures.1 in
     rw p.1 (subst IsWhy (sym p.2) (refused_why (core_of mid) _ _ mid.core.safe c.in_err-reply.ensures))
+
+pub returns-in_err-reply-clause-no_index : goal.returns-in_err-reply-clause-no_index
+returns-in_err-reply-clause-no_index g c =
+    let mid = c.steps.self in
+    let new : Parts g.row.D.Denot g.row.A.Denot = record c.steps.self { core = c.build_step.new.self } in
+    let p = err_from_is_err_and c.from_residual.result c.from_residual.ensures.1 in
+    rw p.1 (subst (λ e. e ≡ NoIndex → (core_of c.args.self.now).life ≡ Absent) (sym p.2) (λ is. c.steps.invariant.none (refused_none (core_of mid) (core_of new) _ mid.core.safe c.in_err-reply.ensures is)))
+
+pub returns-in_err-reply-clause-full : goal.returns-in_err-reply-clause-full
+returns-in_err-reply-clause-full g c =
+    let mid = c.steps.self in
+    let new : Parts g.row.D.Denot g.row.A.Denot = record c.steps.self { core = c.build_step.new.self } in
+    let p = err_from_is_err_and c.from_residual.result c.from_residual.ensures.1 in
+    rw p.1 (subst (λ e. e ≡ IndexFull → IsIndexFull (core_of new)) (sym p.2) (refused_full (core_of mid) (core_of new) _ mid.core.safe c.in_err-reply.ensures))
+
+pub returns-in_err-reply-clause-exhausted : goal.returns-in_err-reply-clause-exhausted
+returns-in_err-reply-clause-exhausted g c =
+    let mid = c.steps.self in
+    let new : Parts g.row.D.Denot g.row.A.Denot = record c.steps.self { core = c.build_step.new.self } in
+    let p = err_from_is_err_and c.from_residual.result c.from_residual.ensures.1 in
+    rw p.1 (subst (λ e. e ≡ Exhausted → LAST_NUMBER ≤ (core_of new).last) (sym p.2) (refused_out (core_of mid) (core_of new) _ mid.core.safe c.in_err-reply.ensures))
+
+pub returns-in_err-reply-clause-rows : goal.returns-in_err-reply-clause-rows
+returns-in_err-reply-clause-rows g c =
+    let old = c.args.self.now in
+    let mid = c.steps.self in
+    let new : Parts g.row.D.Denot g.row.A.Denot = record c.steps.self { core = c.build_step.new.self } in
+    rows_stay old mid new c.steps.scanned c.steps.invariant refl (Refused _) _ refl c.in_err-reply.ensures
+
+pub returns-in-Some-clause-rows : goal.returns-in-Some-clause-rows
+returns-in-Some-clause-rows g c =
+    let old = c.args.self.now in
+    let mid = c.steps.self in
+    let new : Parts g.row.D.Denot g.row.A.Denot = record c.steps.self { core = c.build_step.new.self } in
+    rows_stay old mid new c.steps.scanned c.steps.invariant refl (Built (Done c.in-Some.ticket)) _ refl (subst (λ b. Serves (core_of mid) Build (built b) (core_of new)) (is_done c.in_ok-reply.reply c.in-Some.ticket (sym c.end_of.ensures ∙ c.in-Some.is)) c.in_ok-reply.ensures)

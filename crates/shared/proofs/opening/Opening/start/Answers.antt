@@ -1,5 +1,5 @@
 use Rattle.std.proofs.Common.{ap, subst}
-use Rattle.registry.specs.Halves.{IsNew}
+use Rattle.session_halves.specs.Halves.{IsNew}
 use Rattle.locked_core.specs.Names.{Names}
 use Rattle.shared.proofs.opening.Opening.start.Goals as goal
 

@@ -3,7 +3,7 @@ use Rattle.core_contracts.specs.Events.{Event, Reply}
 use Rattle.model.specs.declared.write.Write.{Write}
 use Rattle.nsf_core.specs.Replies.{reply_by}
 use Rattle.nsf_core.specs.Value.{value_of}
-use Rattle.registry.specs.Halves.{shown}
+use Rattle.session_halves.specs.Halves.{shown}
 use Rattle.sessions.specs.Values.{is_active, is_ready}
 use Rattle.shared.specs.Changed.{IsUnderWay}
 use Rattle.shared.specs.Seats.{SeatValue}

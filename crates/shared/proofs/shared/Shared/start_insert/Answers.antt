@@ -2,7 +2,7 @@ use Rattle.std.proofs.Common.{Some, IfOk, map, subst, sym, true, ◌≡◌, ◌�
 use Rattle.core_contracts.specs.Events.{Event, Reply}
 use Rattle.nsf_core.specs.Replies.{reply_by}
 use Rattle.nsf_core.specs.Value.{value_of}
-use Rattle.registry.specs.Halves.{shown}
+use Rattle.session_halves.specs.Halves.{shown}
 use Rattle.sessions.specs.Values.{is_active, is_ready}
 use Rattle.shared.specs.Changed.{IsUnderWay}
 use Rattle.shared.specs.Seats.{SeatValue}

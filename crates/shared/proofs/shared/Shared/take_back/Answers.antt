@@ -3,7 +3,7 @@ use Rattle.std.proofs.lemmas.Bool.{false≢true}
 use Rattle.core_contracts.specs.Events.{Event, Refused}
 use Rattle.nsf_core.specs.Moves.{HasNoChange, txn_shown}
 use Rattle.nsf_core.specs.Value.{value_of}
-use Rattle.registry.specs.Halves.{shown}
+use Rattle.session_halves.specs.Halves.{shown}
 use Rattle.sessions.specs.Values.{is_active}
 use Rattle.shared.specs.Changed.{IsGoingBack}
 use Rattle.shared.specs.Seats.{SeatValue}

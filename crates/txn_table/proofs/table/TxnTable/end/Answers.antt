@@ -1,8 +1,8 @@
 use Rattle.std.proofs.Common.{ℕ, List, subst, sym, ap, ◌∙◌}
 use Rattle.records.specs.Values.{Place}
 use Rattle.txn_table.specs.Table.{TxnState, state_of, without}
-use Rattle.txn_table.specs.Sound.{IsKept}
-use Rattle.txn_table.proofs.Keeps.{table, IsKept-without}
+use Rattle.txn_table.specs.Sound.{IsTableKept}
+use Rattle.txn_table.proofs.Keeps.{table, IsTableKept-without}
 use Rattle.txn_table.specs.Table.{TableValue, holder_of}
 use Rattle.txn_table.specs.Sound.{IsSound}
 use Rattle.txn_table.proofs.TableLaws.{holder_of-without, holder_of-without_other}
@@ -10,9 +10,9 @@ use Rattle.txn_table.proofs.table.TxnTable.end.Goals as goal
 
 pub invariant_of-self-2 : goal.invariant_of-self-2
 invariant_of-self-2 g c =
-    subst (λ (v : List (ℕ × TxnState) × List Place). IsKept (table v.0 c.self.inside.begun) v.1)
+    subst (λ (v : List (ℕ × TxnState) × List Place). IsTableKept (table v.0 c.self.inside.begun) v.1)
     (sym (λ i. (c.in-Some.ensures.entries i, c.release.ensures i)))
-    (IsKept-without (table c.self.inside.active.entries c.self.inside.begun) c.self.inside.held.items c.args.txn c.in-Some.ended (sym c.in-Some.ensures.value) c.self.invariant)
+    (IsTableKept-without (table c.self.inside.active.entries c.self.inside.begun) c.self.inside.held.items c.args.txn c.in-Some.ended (sym c.in-Some.ensures.value) c.self.invariant)
 
 pub returns-clause-unknown : goal.returns-clause-unknown
 returns-clause-unknown g c =

@@ -1,7 +1,7 @@
-use Rattle.std.proofs.Common.{◌≡◌, None, take, sym, ap, ◌∙◌}
+use Rattle.std.proofs.Common.{◌≡◌, None, is_some, take, sym, ap, ◌∙◌}
 use Rattle.records.specs.ChangeValue.{ChangeValue}
 use Rattle.txn_table.specs.Table.{TableValue, with_rid, change_noted, touch_refusal}
-use Rattle.txn_table.proofs.Noted.{kept_after_note, kept_as_before, after_write, after_same, take_with_rid}
+use Rattle.txn_table.proofs.Noted.{held_is_own, kept_after_note, kept_as_before, after_write, after_same, take_with_rid}
 use Rattle.std.proofs.Common.{subst}
 use Rattle.txn_table.specs.Table.{state_of, holder_of}
 use Rattle.txn_table.specs.Sound.{OneHolder}
@@ -19,13 +19,26 @@ pub returns-in-Err-clause-err : goal.returns-in-Err-clause-err
 returns-in-Err-clause-err g c =
     after_same c.self.inside.active.entries _ c.self.inside.begun c.args.txn c.in-Some.active.now c.note.new.self c.args.self.now c.self.view_is (sym c.in-Some.ensures.value) (c.get_mut.follows.holds c.note.new.self).0 c.in-Err.ensures.err
 
+pub note-requires : goal.note-requires
+note-requires g c =
+    let es = c.self.inside.active.entries in
+    let row = ap (λ (x : ChangeValue). x.rid) c.change.view_is in
+    let accepted : touch_refusal c.args.txn c.args.change.rid es ≡ None =
+    ap (λ (v : TableValue). touch_refusal c.args.txn c.args.change.rid v.active) c.self.view_is
+    ∙ ap (λ r. touch_refusal c.args.txn r c.args.self.now.active) (sym row)
+    ∙ sym c.in_ok-is_held.ensures.refusal in
+    let held = c.in_ok-is_held.ensures.held
+    ∙ ap (λ r. is_some (holder_of r c.args.self.now.active)) row
+    ∙ ap (λ (v : TableValue). is_some (holder_of c.args.change.rid v.active)) (sym c.self.view_is) in
+    held_is_own 0 c.self.inside.begun c.args.txn c.args.change.rid es c.in-Some.active.now c.in_ok-is_held.is_held c.self.invariant.sound.rising (sym c.in-Some.ensures.value) accepted held
+
 pub invariant_of-self-in_default-note : goal.invariant_of-self-in_default-note
 invariant_of-self-in_default-note g c =
     let es = c.self.inside.active.entries in
     let accepted : touch_refusal c.args.txn c.args.change.rid es ≡ None =
     ap (λ (v : TableValue). touch_refusal c.args.txn c.args.change.rid v.active) c.self.view_is
     ∙ ap (λ r. touch_refusal c.args.txn r c.args.self.now.active) (sym (ap (λ (x : ChangeValue). x.rid) c.change.view_is))
-    ∙ sym c.in_ok-check_touch.ensures in
+    ∙ sym c.in_ok-is_held.ensures.refusal in
     let rows = c.in_ok-hold.ensures.ok ∙ ap (λ (x : ChangeValue). with_rid x.rid c.self.inside.held.items) c.change.view_is in
     kept_after_note es _ c.self.inside.held.items c.hold.new.held.items c.self.inside.begun c.args.txn c.args.change c.in-Some.active.now c.note.new.self (sym c.in-Some.ensures.value) (c.get_mut.follows.holds c.note.new.self).0 c.in_default-note.ensures.ok rows accepted c.self.invariant
 

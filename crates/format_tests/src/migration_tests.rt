@@ -1,0 +1,334 @@
+// A store of version 1 is moved to another disk.
+use crate::opened::{Edit, GROUP, Memory, ample, set};
+use model::Life;
+use records::{Body, Error, Key, Mark, Pair, Rid, Row};
+use refused_memory::Refusing;
+use restart::MigrateError;
+use sector_device::{Fate, SECTOR_SIZE, Which};
+use std::alloc::Global;
+use std::test::Fail;
+use store_for_tests::{Answer, Contents, Disk, Store, requests};
+
+// The sectors of the least store, in version 1 and in version 2.
+const OLD_SECTORS: u64 = 1_118;
+
+const SECTORS: u64 = 2_166;
+
+const SUPERBLOCK: Edit<'_> = (0, 0, b"NSFINDEX\0\0\0\x01\0\0\0\x01\0\0\0\x40\0\0\0\x04");
+
+// A group in the log.
+const LOGGED: &[Edit<'_>] = &[SUPERBLOCK, (528, 0, b"\xa5"), (529, 0, GROUP)];
+
+// The same, without its commit.
+const UNFINISHED: &[Edit<'_>] = &[
+    SUPERBLOCK,
+    (528, 0, b"\xa5"),
+    (529, 0, GROUP),
+    (529, 0, b"\0\x01\0\x20"),
+    (529, 36, &[0; 17]),
+];
+
+// The image of an index that is built up to the row, with a marked entry, as record 6 left it.
+const IMAGED: &[Edit<'_>] = &[
+    SUPERBLOCK,
+    (2, 0, b"\x01\x01\x03ant"),
+    (2, 40, b"\x06\0\0\0\x02"),
+    (516, 64, b"\x01\x03ant"),
+    (516, 90, b"\x01x"),
+    (524, 0, b"\x01a"),
+    (524, 30, b"\x01\x02"),
+    (524, 32, b"\x03ant"),
+    (524, 63, b"\x01"),
+];
+
+// The same, where transaction 2 has put in the row of the entry that isn't marked yet.
+const IMAGED_UNFINISHED: &[Edit<'_>] = &[
+    SUPERBLOCK,
+    (2, 0, b"\x01\x01\x03ant"),
+    (2, 40, b"\x06\0\0\0\x02"),
+    (3, 7, b"\x02\0\x01"),
+    (4, 0, b"\x01\0\0\0\0\0\x01"),
+    (4, 71, b"\x01\x01a"),
+    (516, 64, b"\x01\x03ant"),
+    (516, 90, b"\x01x"),
+    (516, 128, b"\x01\x01a"),
+    (524, 0, b"\x01a"),
+    (524, 30, b"\x01\x01"),
+    (524, 32, b"\x03ant"),
+    (524, 63, b"\x01"),
+];
+
+// An index is made and dropped, which version 1 can't say.
+const DROP: &[u8] = b"\0\x02\0\x22\
+    \0\0\0\0\0\0\0\x01\0\0\0\0\0\0\0\0\x09\
+    \0\0\0\0\0\0\0\x02\0\0\0\0\0\0\0\0\x0e";
+
+// A disk with a store of version 1, synced.
+fn old_disk(alloc: Global, edits: &[Edit<'_>]) -> Result<Disk, Error> {
+    let mut disk = Disk::bare(alloc, OLD_SECTORS)?;
+    for edit in edits {
+        set(&mut disk, *edit)?;
+    }
+    Ok(disk.crash(Fate::New))
+}
+
+fn sectors_of(alloc: Global, disk: &mut Disk) -> Result<Vec<[u8; SECTOR_SIZE]>, Error> {
+    let mut sectors = Vec::new(alloc);
+    for n in 0..OLD_SECTORS {
+        sectors.push(disk.sector(n)?)?;
+    }
+    Ok(sectors)
+}
+
+// The moved store, or why it isn't moved.
+fn moved_or_why<'a>(
+    memory: &'a Memory,
+    old: &mut Disk,
+    new: Disk,
+) -> Result<Store<&'a Memory>, MigrateError> {
+    match Store::moved(memory, old, new) {
+        Ok(store) => Ok(store),
+        Err((error, _)) => Err(error),
+    }
+}
+
+// The same, of an old disk with these sectors. It is as before, and has no sector that a crash may change.
+fn moved<'a>(
+    alloc: Global,
+    memory: &'a Memory,
+    edits: &[Edit<'_>],
+    sectors: u64,
+) -> Result<Result<Store<&'a Memory>, MigrateError>, Fail> {
+    let mut old = old_disk(alloc, edits)?;
+    let before = sectors_of(alloc, &mut old)?;
+    let new = Disk::bare(alloc, sectors)?;
+    let moved = moved_or_why(memory, &mut old, new);
+    if sectors_of(alloc, &mut old.crash(Fate::Junk))? != before {
+        Err("an old disk that was written")?;
+    }
+    Ok(moved)
+}
+
+fn pair(key: &[u8], rid: Rid) -> Result<Pair, Error> {
+    Ok(Pair {
+        key: Key::new(key)?,
+        rid,
+    })
+}
+
+fn ant() -> Result<Row, Error> {
+    Ok(Row {
+        key: Key::new(b"ant")?,
+        body: Body::new(b"x")?,
+    })
+}
+
+#[test]
+fn stores_of_version_1_are_moved(rt: HostRuntime) -> Result<(), Fail> {
+    let memory = ample(rt.alloc());
+    let rows = (Some(ant()?), None);
+    let marked = pair(b"a", Rid { page: 0, slot: 1 })?;
+    let live = pair(b"ant", Rid { page: 0, slot: 0 })?;
+    let none = Contents {
+        last: 1,
+        rows: (None, None),
+        life: Life::Absent,
+        entries: (None, None, None),
+    };
+    let logged = Contents {
+        last: 2,
+        rows,
+        life: Life::Absent,
+        entries: (None, None, None),
+    };
+    let imaged = Contents {
+        last: 6,
+        rows,
+        life: Life::Building {
+            highest: Some(live),
+        },
+        entries: (Some((marked, Mark::Marked)), Some((live, Mark::Live)), None),
+    };
+    let cases: [(&[Edit<'_>], Contents); 4] = [
+        (UNFINISHED, none),
+        (LOGGED, logged),
+        (IMAGED, imaged),
+        (IMAGED_UNFINISHED, imaged),
+    ];
+    for (edits, wanted) in cases {
+        let Ok(store) = moved(rt.alloc(), &memory, edits, SECTORS)? else {
+            return Err("a store that is moved")?;
+        };
+        assert_eq!(rt; store.contents(), wanted);
+        let Ok(again) = Store::open(&memory, store.close().crash(Fate::Junk)) else {
+            return Err("a store that is opened")?;
+        };
+        assert_eq!(rt; again.contents(), wanted);
+    }
+    Ok(())
+}
+
+#[test]
+fn a_moved_store_goes_on(rt: HostRuntime) -> Result<(), Fail> {
+    let memory = ample(rt.alloc());
+    let Ok(mut store) = moved(rt.alloc(), &memory, LOGGED, SECTORS)? else {
+        return Err("a store that is moved")?;
+    };
+    let script = requests(rt.alloc(), "begin\ninsert 1 =b =\ncommit 1\n")?;
+    let answers = store.run(rt.alloc(), &script)?;
+    let [Answer::Txn(_), Answer::Rid(rid), Answer::Ticket(ticket)] = *answers else {
+        return Err("a row of a transaction that commits")?;
+    };
+    assert_eq!(rt; (rid, ticket.record.get()), (Rid { page: 0, slot: 1 }, 4));
+    Ok(())
+}
+
+#[test]
+fn stores_that_are_not_moved(rt: HostRuntime) -> Result<(), Fail> {
+    let memory = ample(rt.alloc());
+    let damaged = MigrateError::Old(Error::Damaged { sector: 0 });
+    let cases: [(&str, &[Edit<'_>], u64, MigrateError); 5] = [
+        (
+            "a new disk too small",
+            LOGGED,
+            SECTORS - 1,
+            MigrateError::New(Error::DeviceTooSmall),
+        ),
+        (
+            "version 2",
+            &[SUPERBLOCK, (0, 11, b"\x02")],
+            SECTORS,
+            damaged,
+        ),
+        (
+            "version 2, and a new disk too small",
+            &[SUPERBLOCK, (0, 11, b"\x02")],
+            0,
+            damaged,
+        ),
+        (
+            "more pages",
+            &[SUPERBLOCK, (0, 15, b"\x02")],
+            SECTORS,
+            MigrateError::Old(Error::DeviceTooSmall),
+        ),
+        (
+            "no store",
+            &[],
+            SECTORS,
+            MigrateError::Old(Error::NotFormatted),
+        ),
+    ];
+    for (name, edits, sectors, wanted) in cases {
+        let refused = moved(rt.alloc(), &memory, edits, sectors)?.err();
+        assert_eq!(rt; refused, Some(wanted), "{name}");
+    }
+    let opened = Store::open(&memory, old_disk(rt.alloc(), LOGGED)?);
+    assert!(rt; matches!(opened, Err((Error::OldVersion, _))));
+    Ok(())
+}
+
+#[test]
+fn harmed_stores_of_version_1(rt: HostRuntime) -> Result<(), Fail> {
+    let memory = ample(rt.alloc());
+    let cases: [(&[Edit<'_>], u64); 18] = [
+        (&[SUPERBLOCK, (0, 24, b"\x01")], 0),
+        (&[SUPERBLOCK, (0, 15, b"\0")], 0),
+        (&[SUPERBLOCK, (2, 0, b"\x03")], 2),
+        (&[SUPERBLOCK, (2, 1, b"\x01")], 2),
+        (&[SUPERBLOCK, (2, 45, b"\x01")], 2),
+        (&[SUPERBLOCK, (3, 39, b"\x01")], 3),
+        (&[SUPERBLOCK, (3, 9, b"\x01")], 3),
+        (&[SUPERBLOCK, (3, 7, b"\x01\0\x01")], 4),
+        (&[SUPERBLOCK, (516, 0, b"\x01")], 516),
+        (&[SUPERBLOCK, (516, 64, b"\x02")], 516),
+        (&[SUPERBLOCK, (516, 64, b"\x01\x19")], 516),
+        (&[SUPERBLOCK, (516, 64, b"\x01"), (516, 90, b"\x26")], 516),
+        (&[SUPERBLOCK, (523, 0, b"\x02")], 516),
+        (&[SUPERBLOCK, (2, 44, b"\x01")], 524),
+        (&[SUPERBLOCK, (528, 0, b"\xa5")], 528),
+        (&[SUPERBLOCK, (528, 0, b"\xa5"), (529, 0, DROP)], 528),
+        (
+            &[
+                SUPERBLOCK,
+                (2, 40, b"\x01"),
+                (528, 0, b"\xa5"),
+                (529, 0, GROUP),
+            ],
+            528,
+        ),
+        (&[SUPERBLOCK, (536, 0, b"\xa5")], 536),
+    ];
+    for (edits, sector) in cases {
+        let mut old = old_disk(rt.alloc(), edits)?;
+        let new = Disk::bare(rt.alloc(), 0)?;
+        let Err(error) = moved_or_why(&memory, &mut old, new) else {
+            return Err("a store that was harmed")?;
+        };
+        assert_eq!(rt;
+            error,
+            MigrateError::Old(Error::Damaged { sector }),
+            "{edits:?}"
+        );
+    }
+    Ok(())
+}
+
+// More than the calls of a disk in a migration, and than its allocations.
+const CALLS: u64 = 1_000;
+
+// Why a store isn't moved where these calls of the old disk and of the new one fail, of which 0 is none, and the allocations behind
+// so many are refused; and whether the new disk was written.
+fn hindered(
+    alloc: Global,
+    calls: (u64, u64),
+    before: u64,
+) -> Result<Option<(MigrateError, bool)>, Fail> {
+    let memory = Refusing::new(alloc, before);
+    let mut old = old_disk(alloc, LOGGED)?.failing(Which::All, calls.0);
+    let new = Disk::bare(alloc, SECTORS)?.failing(Which::All, calls.1);
+    match Store::moved(&memory, &mut old, new) {
+        Ok(_) => Ok(None),
+        Err((error, disk)) => {
+            let mut disk = disk.crash(Fate::New);
+            Ok(Some((error, disk.sector(0)? != [0; SECTOR_SIZE])))
+        }
+    }
+}
+
+// Each call of the old disk fails in turn, and each of the new one, and each allocation is refused in turn.
+#[test]
+fn migrations_that_are_hindered(rt: HostRuntime) -> Result<(), Fail> {
+    let mut moved: u32 = 0;
+    for call in 1..CALLS {
+        match hindered(rt.alloc(), (call, 0), u64::MAX)? {
+            Some(found) => {
+                assert_eq!(rt; found, (MigrateError::Old(Error::DeviceFailed), false));
+            }
+            None => {
+                moved = moved.saturating_add(1);
+                break;
+            }
+        }
+    }
+    for call in 1..CALLS {
+        match hindered(rt.alloc(), (0, call), u64::MAX)? {
+            Some((error, _)) => assert_eq!(rt; error, MigrateError::New(Error::DeviceFailed)),
+            None => {
+                moved = moved.saturating_add(1);
+                break;
+            }
+        }
+    }
+    for before in 0..CALLS {
+        match hindered(rt.alloc(), (0, 0), before)? {
+            Some(found) => assert_eq!(rt; found, (MigrateError::NoMemory, false)),
+            None => {
+                moved = moved.saturating_add(1);
+                break;
+            }
+        }
+    }
+    assert_eq!(rt; moved, 3);
+    Ok(())
+}

@@ -1,0 +1,73 @@
+// Rows of each length in each slot of a page, of which each fourth lies across the end of a sector.
+use crate::opened::{Memory, ample, open};
+use records::{Body, Key, Rid, Row, Txn};
+use restart::Event;
+use sector_device::Fate;
+use std::process::Abort;
+use std::test::Fail;
+use store_for_tests::{Answer, Disk, Store};
+
+// How many lengths a body may have, from 0 on.
+const LENGTHS: u32 = 70;
+
+const PAGES: u32 = 10;
+
+// A row whose body has so many bytes, and its key as many as fit.
+fn row_of(length: u32) -> Result<Row, Fail> {
+    let bytes = [0xff; 69];
+    let length = (length % LENGTHS) as usize;
+    Ok(Row {
+        key: Key::new(&bytes[..length.min(56)])?,
+        body: Body::new(&bytes[..length])?,
+    })
+}
+
+// Fills each page with rows of a length of its own, the first page with rows of this one.
+fn fill(store: &mut Store<&Memory>, first: u32) -> Result<(), Fail> {
+    for page in 0..PAGES {
+        let txn = Txn::new(u64::from(page) + 1).ok_or("a transaction")?;
+        let Row { key, body } = row_of(first.saturating_add(page))?;
+        store.ask(&Event::Begin);
+        for _ in 0..63 {
+            store.ask(&Event::Insert { txn, key, body });
+        }
+        store.ask(&Event::Commit { txn });
+    }
+    Ok(())
+}
+
+// Makes an image current.
+fn copy(store: &mut Store<&Memory>) -> Result<(), Fail> {
+    for _ in 0..2 * PAGES {
+        if matches!(store.ask(&Event::Copy), Answer::Flipped(_)) {
+            return Ok(());
+        }
+    }
+    Err("an image")?
+}
+
+fn check(rt: &impl Abort, store: &mut Store<&Memory>, first: u32) -> Result<(), Fail> {
+    for page in 0..PAGES {
+        let wanted = Answer::Row(Some(row_of(first.saturating_add(page))?));
+        for slot in 0..63 {
+            let got = store.ask(&Event::Get {
+                rid: Rid { page, slot },
+            });
+            assert_eq!(rt; got, wanted, "{page}.{slot}");
+        }
+    }
+    Ok(())
+}
+
+#[test]
+fn rows_of_each_length_in_each_slot(rt: HostRuntime) -> Result<(), Fail> {
+    let memory = ample(rt.alloc());
+    for round in 0..LENGTHS / PAGES {
+        let mut store = open(&memory, Disk::formatted(rt.alloc(), PAGES, 128)?)?;
+        fill(&mut store, PAGES * round)?;
+        copy(&mut store)?;
+        let mut store = open(&memory, store.close().crash(Fate::Junk))?;
+        check(&rt, &mut store, PAGES * round)?;
+    }
+    Ok(())
+}

@@ -1,0 +1,45 @@
+-- What a store holds, behind the days since it was moved from an older device.
+use Rattle.std.specs.Prelude.{◌≡◌, ◌≢◌, ◌⊎◌, ◌<◌, Bool, true, ℕ, List, length, None, Option, IfSome}
+use Rattle.records.specs.GeometryValue.{GeometryValue, sectors_of}
+use Rattle.records.specs.declared.error.Error.{Error}
+use Rattle.records.specs.declared.error.Error.TheVariants.{DeviceFailed, DeviceTooSmall}
+use Rattle.records.specs.declared.error.Error.TheVariants as errors
+use Rattle.records.specs.declared.version.Version.TheVariants.{One}
+use Rattle.model.specs.Given.{Given}
+use Rattle.core_model.specs.Histories.{CanOpen}
+use Rattle.nsf_core.specs.View.{CoreValue}
+use Rattle.sector_device.specs.Disk.{Image}
+use Rattle.store_reader.specs.Contents.{GivesIn}
+use Rattle.restart.specs.declared.migration.MigrateError.{MigrateError}
+use Rattle.restart.specs.declared.migration.MigrateError.TheVariants.{New, NoMemory, Old}
+use Rattle.restart.specs.Migrating.{IsOldRefused}
+use Rattle.restart.specs.Store.{over}
+use Rattle.headline.specs.declared.day.Day.{Day}
+use Rattle.headline.specs.Days.{Answer}
+use Rattle.headline.specs.Held.{Holds, IsUnbuilt}
+
+-- The old device gives something by version 1. Where a core may begin with that, the store began with it, and holds what its days
+-- have made of it; or the build of its index, which was to be carried on, was refused.
+pub record HoldsMoved {M : Type 0} (old : Image) (days : List (Day M)) (answers : List (Answer M)) (built : Bool) (unbuilt : Option Error) (core : CoreValue) : Type 0 where
+  pub geometry : GeometryValue
+  pub given : Given
+  pub gave : GivesIn One old geometry given
+  pub holds : CanOpen (over geometry given) → unbuilt ≡ None → Holds given days answers built core
+  pub refused : CanOpen (over geometry given) → IfSome unbuilt (λ e. (built ≡ true) × IsUnbuilt given days answers e core)
+
+-- The old device gives something by version 1. The new one has too few sectors for it; or, where a core may begin with that, it failed.
+pub record IsNewUnopened (old new : Image) (e : Error) : Type 0 where
+  pub geometry : GeometryValue
+  pub given : Given
+  pub gave : GivesIn One old geometry given
+  pub why : ((e ≡ DeviceTooSmall) × (length new < sectors_of geometry)) ⊎ (CanOpen (over geometry given) → e ≡ DeviceFailed)
+
+-- why a store wasn't moved, or not opened behind its days
+abbrev pub IsNotLived : (old new : Image) → (old_before old_after : ℕ) → MigrateError → Type 0
+IsNotLived old new old_before old_after (Old e) = IsOldRefused old old_before old_after e
+IsNotLived old new old_before old_after (New e) = IsNewUnopened old new e
+IsNotLived old new old_before old_after NoMemory = Unit {0}
+
+-- what a refusal behind the move is told as (no public clause cites this)
+abbrev pub IsLater : Error → MigrateError → Type 0
+IsLater e refusal = ((e ≡ errors.NoMemory) × (refusal ≡ NoMemory)) ⊎ ((e ≢ errors.NoMemory) × (refusal ≡ New e))

@@ -1,0 +1,56 @@
+//! A store of version 1 is moved to a device, and lives through days of requests.
+ghost use Rattle.std.specs.Prelude.{◌≡◌, ◌≢◌, IfErr, IfOk, OnOk};
+ghost use Rattle.sector_device.specs.History.{OnlyReads};
+ghost use Rattle.restart.specs.Parts.{core_of};
+ghost use Rattle.headline.specs.Moved.{HoldsMoved, IsLater, IsNotLived};
+
+use crate::lives::{Lived, live_behind};
+use crate::{Day, Mortal};
+use records::Error;
+use restart::{MigrateError, migrate};
+use sector_device::Device;
+use std::alloc::Allocator;
+
+// What a refusal behind the move is told as.
+fn later(error: Error) -> MigrateError
+    ensures { IsLater error result }
+{
+    match error {
+        Error::NoMemory => MigrateError::NoMemory,
+        _ => MigrateError::New(error),
+    }
+}
+
+/// Moves the store of version 1 on the old device to the new one, and lives through the days there, as [`live_through`] does behind
+/// the formatting: what the store then holds is what the old device gave, with the days' kept commits behind it, where a core may
+/// begin with that (`holds`). The old device is only read (`kept`).
+///
+/// `Old` where the old device failed in the move, or gives nothing by version 1. `New` with `DeviceTooSmall` where the new device has
+/// too few sectors; and else, where a core may begin with what the old one gave, with `DeviceFailed` alone. `NoMemory` at any time
+/// (`refused`). With any answer but `Old` with `DeviceFailed` the old device has not failed (`told`, `quiet`).
+///
+/// [`live_through`]: crate::live_through
+pub fn live_on<O: Device, D: Mortal, A: Allocator + Copy>(
+    alloc: A,
+    old: &mut O,
+    device: D,
+    days: &[Day<A>],
+    build: bool,
+) -> Result<Lived<D, A>, MigrateError>
+    ensures holds { IfOk result (λ lived. HoldsMoved (O.history old.old).disk.content days.now lived.answers.items build lived.unbuilt (core_of lived.engine)) }
+    ensures kept { OnlyReads (O.history old.old) (O.history old.new) }
+    ensures refused { IfErr result (IsNotLived (O.history old.old).disk.content (D.history device).disk.content (O.failures old.old) (O.failures old.new)) }
+    ensures quiet { OnOk result (O.failures old.new ≡ O.failures old.old) }
+    ensures told { IfErr result (λ e. e ≢ MigrateError.Old Error.DeviceFailed → O.failures old.new ≡ O.failures old.old) }
+{
+    let engine = match migrate(alloc, old, device) {
+        Ok(engine) => engine,
+        Err((error, _)) => return Err(error),
+    };
+    let mut device = engine.into_device();
+    device.stop_now();
+    match live_behind(alloc, device, days, build) {
+        Ok(lived) => Ok(lived),
+        Err(error) => Err(later(error)),
+    }
+}

@@ -1,0 +1,43 @@
+use Rattle.std.proofs.Common.{◌≡◌, ⊎_elim, ℕ, ◌+◌, ◌<◌, List, Option, Some, length, refl, sym, ◌∙◌, subst, arith}
+use Rattle.std.specs.Prelude.{slice_get}
+use Rattle.std.proofs.lemmas.Bool.{cases_eq}
+use Rattle.std.proofs.lemmas.List.{take-replicate, drop-replicate}
+use Rattle.std.proofs.lemmas.Option.{slice_get_within, slice_get_read, same_Some}
+use Rattle.records.specs.declared.row.Row.{Row}
+use Rattle.records.specs.declared.version.Version.TheVariants.{Two}
+use Rattle.image_parts.specs.Spelling.{zeros}
+use Rattle.image_half.specs.Layout.{row_of}
+use Rattle.image_half.specs.Image.{IsRow}
+use Rattle.image_half.proofs.page.page_of.Goals as goal
+
+pub loop-slot-init : goal.loop-slot-init
+unfolding zeros
+loop-slot-init c = record {
+  edges = record { front = take-replicate 64 8192 0 (omega arith); behind = drop-replicate 8128 8192 0 };
+  rows = λ k o below. absurd (omega (arith, below));
+}
+
+pub loop-slot-preserved : goal.loop-slot-preserved
+loop-slot-preserved c =
+    let rows : List (Option Row) = c.args.rows.now in
+    let slot = c.loop-slot.slot in
+    let row : Option Row = c.index-rows-slot.result in
+    let here : slice_get rows slot ≡ Some row = slice_get_read rows (length rows) slot row refl c.loop-slot-test.true c.index-rows-slot.is in
+    record {
+      edges = c.put_row.ensures.edges c.loop-slot.invariant.edges;
+      rows = λ k o less at_k. ⊎_elim
+          (λ (same : k ≡ slot).
+          let this : row ≡ o = same_Some row o (sym here ∙ subst (λ n. slice_get rows n ≡ Some o) same at_k) in
+          subst (λ n. IsRow (row_of Two c.put_row.new.page n) o) (sym same)
+          (subst (λ (x : Option Row). IsRow (row_of Two c.put_row.new.page slot) x) this (record { spelled = c.put_row.ensures.put ∙ c.spell_row.ensures.spelled; fits = c.spell_row.ensures.fits })))
+          (λ other.
+          let below : k < slot = omega (arith, less, other) in
+          subst (λ (b : List ℕ). IsRow b o) (sym (c.put_row.ensures.before k below)) (c.loop-slot.invariant.rows k o below at_k))
+          (cases_eq k slot);
+    }
+
+pub returns-clause-edges : goal.returns-clause-edges
+returns-clause-edges c = c.loop-slot.invariant.edges
+
+pub returns-clause-rows : goal.returns-clause-rows
+returns-clause-rows c = λ slot o there. c.loop-slot.invariant.rows slot o (omega (arith, slice_get_within c.args.rows.now slot o there, c.loop-slot-test.false)) there

@@ -1,0 +1,34 @@
+//! A store before its threads have it.
+use sector_device::Device;
+use shared::Opening;
+use std::alloc::Global;
+use std::marker::Model;
+use store_writer::StoreWriter;
+
+/// A store that is open for so many threads with a seat each, before they have it. To a contract it is a `StoreValue`.
+///
+/// Its type keeps that the core was just opened, with what the writer stands for, all of which is synced.
+#[derive(Drop)]
+pub struct OpenStore<D: Device> {
+    pub(crate) alloc: Global,
+    pub(crate) opening: Opening,
+    pub(crate) writer: StoreWriter<D, Global>,
+}
+
+impl<D: Device> Model for OpenStore<D> {
+    ghost use Rattle.std.specs.Prelude.{length};
+    ghost use Rattle.std.specs.Coded.{codes};
+    ghost use Rattle.std.specs.FinMap as map;
+    ghost use Rattle.nsf_core.specs.Value.{value_of};
+    ghost use Rattle.shared.specs.Openings.{IsJustOpened, IsOpening, names_of, opened_of};
+    ghost use Rattle.store_writer.specs.Parts.{device_of};
+    ghost use Rattle.opening.specs.Openings.{IsNewWriter, StoreValue};
+
+    ghost Value = { StoreValue D };
+
+    ghost coded = { Prim.hlevel (codes, map.code) };
+
+    ghost view = { λ s. record { site = names_of s.opening; device = device_of s.writer } };
+
+    ghost invariant = { λ s. IsOpening (length s.opening.book.items) s.opening × IsJustOpened (value_of s.opening.core) × IsNewWriter D.history (opened_of (value_of s.opening.core)) s.writer };
+}

@@ -1,0 +1,60 @@
+use Rattle.std.proofs.Common.{◌≡◌, ◌<◌, ℕ, inr, refl, sym, ap, subst, ◌∙◌}
+use Rattle.sector_device.specs.History.{Rises}
+use Rattle.sector_device.proofs.Moments.{content_at_end}
+use Rattle.sector_device.proofs.Sectors.{same_outside_then, same_outside_wider}
+use Rattle.records.specs.GeometryValue.{GeometryValue, sectors_of}
+use Rattle.model.specs.Given.{Given, opening_cells}
+use Rattle.image_half.specs.Source.{FitsImage}
+use Rattle.flip_image.specs.Layout.{HalvesValue}
+use Rattle.redo.specs.Restored.{given_in}
+use Rattle.store_reader.specs.Contents.{Gives}
+use Rattle.store_writer.specs.Writer.{IsOpenedAt}
+use Rattle.core_contracts.specs.Events.{standing_at}
+use Rattle.core_loader.specs.Loaded.{holding}
+use Rattle.core_model.specs.Histories.{opened}
+use Rattle.nsf_core.specs.Value.{value_of}
+use Rattle.nsf_core.specs.View.{IsState}
+use Rattle.restart.specs.Store.{over}
+use Rattle.store_opener.specs.Reopening.{IsSpare}
+use Rattle.restart.proofs.Migrated.{spare_inside}
+use Rattle.restart.proofs.migration.fill.Goals as goal
+
+pub write_over-requires-clause-fits : goal.write_over-requires-clause-fits
+write_over-requires-clause-fits g c = subst (λ (x : GeometryValue). FitsImage x (opening_cells (given_in c.args.restored))) (sym c.in-Ok-format.ensures.geometry) c.requires
+
+pub returns-in-Ok-write_over-clause-filled : goal.returns-in-Ok-write_over-clause-filled
+returns-in-Ok-write_over-clause-filled g c =
+    let now = g.D.Device.history c.write_over.new.device in
+    let made = c.in-Ok-write_over.made in
+    let written = c.in-Ok-write_over.ensures in
+    let given : Given = given_in c.args.restored in
+    let size : made.halves.geometry ≡ c.in-Ok-format.halves.geometry = ap (λ (x : HalvesValue). x.geometry) written.halves in
+    let same : c.args.restored.geometry ≡ made.halves.geometry = sym (size ∙ c.in-Ok-format.ensures.geometry) in
+    record {
+      filled = record {
+        given = given;
+        gives = subst (λ (x : GeometryValue). Gives now.disk.content x given) (sym size) written.gives;
+        holds = c.in-Ok.ensures.made ∙ ap (λ (x : GeometryValue). holding x given) same;
+        shown = subst (λ (x : GeometryValue). IsState (value_of c.in-Ok.core) (opened (over x given)) (standing_at given.last)) same c.in-Ok.ensures.opened;
+        opened-at = subst (λ (x : Given). IsOpenedAt now made.halves made.log x.last (opening_cells x)) written.given written.opened;
+      };
+      geometry-is = sym same;
+      given-is = refl;
+    }
+
+pub returns-in-Err-write_over-clause-refused : goal.returns-in-Err-write_over-clause-refused
+returns-in-Err-write_over-clause-refused g c =
+    inr (refl, subst (λ n. Rises n (g.D.Device.failures c.write_over.new.device)) c.in-Ok-format.ensures.quiet c.in-Err-write_over.ensures.counts.failed)
+
+pub returns-in-Ok-write_over-clause-around : goal.returns-in-Ok-write_over-clause-around
+returns-in-Ok-write_over-clause-around g c =
+    let h = g.D.Device.history in
+    let halves = c.in-Ok-format.halves in
+    let size = c.args.restored.geometry in
+    let before = (h c.args.device.now).disk.content in
+    let mid = h c.format.new.device in
+    let now = h c.write_over.new.device in
+    let written = content_at_end mid now _ c.write_over.ensures.images in
+    same_outside_then (λ n. n < sectors_of size) before mid.disk.content now.disk.content c.in-Ok-format.ensures.around
+    (same_outside_wider (IsSpare halves.geometry halves.current) (λ n. n < sectors_of size) mid.disk.content now.disk.content
+    (λ n spare. subst (λ (x : GeometryValue). n < sectors_of x) c.in-Ok-format.ensures.geometry (spare_inside halves.geometry halves.current n spare)) written.outside)

@@ -1,0 +1,170 @@
+//! A store of version 1 is moved to another device.
+ghost use Rattle.std.specs.Prelude.{◌≡◌, ◌≢◌, ◌⊎◌, ◌<◌, OnOk, IfOk, IfErr};
+ghost use Rattle.sector_device.specs.History.{OnlyReads};
+ghost use Rattle.sector_device.specs.Disk.{IsSynced, SameOutside};
+ghost use Rattle.records.specs.GeometryValue.{GeometryValue, sectors_of};
+ghost use Rattle.records.specs.declared.version.Version.TheVariants.{One};
+ghost use Rattle.model.specs.Given.{Given, opening_cells};
+ghost use Rattle.image_half.specs.Source.{FitsImage};
+ghost use Rattle.flip_image.specs.Store.{IsStore};
+ghost use Rattle.redo.specs.Restored.{given_in};
+ghost use Rattle.store_reader.specs.Contents.{GivesIn, HasHeaderIn};
+ghost use Rattle.nsf_core.specs.Value.{value_of};
+ghost use Rattle.restart.specs.Parts.{device_of};
+ghost use Rattle.restart.specs.Migrating.{BeginsEmpty, IsFilled, IsMigrated, IsMoved, IsNotFilled, IsNotMigrated, IsRefusalOfOld, WritesTheStoreAlone};
+
+use crate::Engine;
+use crate::copying::Copying;
+use crate::parts::Parts;
+use core_copies::each_list;
+use core_loader::load;
+use core_model::each_half;
+use flip_image::Halves;
+use gate_log::LogArea;
+use nsf_core::Core;
+use records::{Error, Geometry, Version};
+use redo::Restored;
+use sector_device::Device;
+use std::alloc::Allocator;
+use store_opener::write_over;
+use store_reader::{one_old_answer, read_store_in, room_for_given};
+use store_writer::StoreWriter;
+
+/// Why a store wasn't moved.
+#[derive(Clone, Copy, Debug, PartialEq, Eq, thiserror::Error)]
+pub enum MigrateError {
+    /// The old device failed, or holds no store of version 1, or one that was harmed.
+    #[error("the old device: {0}")]
+    Old(Error),
+    /// The new device is too small, or failed.
+    #[error("the new device: {0}")]
+    New(Error),
+    /// An allocation was refused.
+    #[error("no memory")]
+    NoMemory,
+}
+
+/// Moves the store of version 1 on the old device to the new one, in version 2 and with the same geometry, and opens it there.
+/// What transactions did that neither committed nor ended is taken back. The old device is only read (`kept`), as it is: the
+/// caller has synced it.
+///
+/// `Old` where the old device failed in the call, or gives nothing by version 1: `DeviceTooSmall`, `NotFormatted` or `Damaged`
+/// as `read_store_in` answers them, and `Damaged` with sector 0 of a store of another version. Then nothing was written. `New`
+/// where the new device has too few sectors, and then nothing was written either, or failed. `NoMemory` comes before anything is
+/// written too, and only where the old device holds a store of version 1 whose current half begins with a header (`memory`). Of
+/// faults that are met together the first of these is answered; but `NoMemory` may come while the old device is read, before a fault
+/// that a later sector has. Where the old device failed in the call, that is what is told (`told`). After `New` with `DeviceFailed`,
+/// and after a crash within the call, the new device may hold anything: the call is made again.
+///
+/// The new store's log is empty, and no image of it is under way (`emptied`). The sectors behind the store are as they were
+/// (`around`).
+pub fn migrate<O: Device, N: Device, A: Allocator + Copy>(
+    alloc: A,
+    old: &mut O,
+    mut new: N,
+) -> Result<Engine<N, A>, (MigrateError, N)>
+    ensures migrated { IfOk result (λ engine. IsMigrated (O.history old.old).disk.content N.history engine) }
+    ensures emptied { IfOk result (λ engine. BeginsEmpty engine) }
+    ensures around { IfOk result (λ engine. WritesTheStoreAlone (O.history old.old).disk.content N.history new (device_of engine)) }
+    ensures kept { OnlyReads (O.history old.old) (O.history old.new) }
+    ensures refused { IfErr result (λ r. IsNotMigrated (O.history old.old).disk.content (O.failures old.old) (O.failures old.new) N.history N.failures new r.1 r.0) }
+    ensures memory { IfErr result (λ r. r.0 ≡ MigrateError.NoMemory → HasHeaderIn One (O.history old.old).disk.content) }
+    ensures told { IfErr result (λ r. r.0 ≢ MigrateError.Old Error.DeviceFailed → O.failures old.new ≡ O.failures old.old) }
+    ensures quiet { IfOk result (λ engine. (O.failures old.new ≡ O.failures old.old) × (N.failures (device_of engine) ≡ N.failures new)) }
+{
+    each_half();
+    each_list();
+    match move_store(alloc, old, &mut new) {
+        Ok((core, halves, log)) => {
+            let synced = core.last();
+            let outgoing = Vec::new(alloc);
+            let writer = StoreWriter::new(alloc, new, halves, log, synced);
+            Ok(Engine {
+                parts: Parts {
+                    core,
+                    writer,
+                    outgoing,
+                    alloc,
+                    geometry: halves.geometry(),
+                    copying: Copying::Idle,
+                },
+            })
+        }
+        Err(error) => Err((error, new)),
+    }
+}
+
+// Loads what the old device gives into a core, and writes it on the new one.
+fn move_store<O: Device, N: Device, A: Allocator + Copy>(
+    alloc: A,
+    old: &mut O,
+    new: &mut N,
+) -> Result<(Core<A>, Halves, LogArea), MigrateError>
+    ensures moved { IfOk result (λ r. IsMoved (O.history old.old).disk.content (N.history new.new) r.1 r.2 (value_of r.0)) }
+    ensures empty { IfOk result (λ r. r.2.open_slots ≡ 0) }
+    ensures around { OnOk result (WritesTheStoreAlone (O.history old.old).disk.content N.history new.old new.new) }
+    ensures kept { OnlyReads (O.history old.old) (O.history old.new) }
+    ensures refused { IfErr result (IsNotMigrated (O.history old.old).disk.content (O.failures old.old) (O.failures old.new) N.history N.failures new.old new.new) }
+    ensures memory { IfErr result (λ e. e ≡ MigrateError.NoMemory → HasHeaderIn One (O.history old.old).disk.content) }
+    ensures told { IfErr result (λ e. e ≢ MigrateError.Old Error.DeviceFailed → O.failures old.new ≡ O.failures old.old) }
+    ensures quiet { OnOk result ((O.failures old.new ≡ O.failures old.old) × (N.failures new.new ≡ N.failures new.old)) }
+{
+    room_for_given();
+    one_old_answer();
+    match read_store_in(alloc, Version::One, old) {
+        Ok(found) => fill(alloc, new, found.restored),
+        Err(error) => Err(refusal_of_old(error)),
+    }
+}
+
+// Why nothing is moved where the old store isn't read.
+fn refusal_of_old(error: Error) -> MigrateError
+    ensures { IsRefusalOfOld error result }
+{
+    match error {
+        Error::NoMemory => MigrateError::NoMemory,
+        _ => MigrateError::Old(error),
+    }
+}
+
+// Makes the device a store of this geometry, and opens it.
+fn format<D: Device>(device: &mut D, geometry: Geometry) -> Result<Halves, Error>
+    ensures geometry { IfOk result (λ halves. halves.geometry ≡ geometry) }
+    ensures store { IfOk result (λ halves. IsStore halves.geometry halves.current (D.history device.new).disk.content) }
+    ensures synced { OnOk result (IsSynced (D.history device.new).disk) }
+    ensures around { OnOk result (SameOutside (λ n. n < sectors_of geometry) (D.history device.old).disk.content (D.history device.new).disk.content) }
+    ensures refused { IfErr result (λ e. IsNotFilled geometry D.history D.failures device.old device.new (MigrateError.New e)) }
+    ensures quiet { OnOk result (D.failures device.new ≡ D.failures device.old) }
+{
+    Halves::format(device, geometry)?;
+    Halves::open(device)
+}
+
+// Loads what was restored into a core, and then makes the device a store of it.
+fn fill<D: Device, A: Allocator + Copy>(
+    alloc: A,
+    device: &mut D,
+    restored: Restored<A>,
+) -> Result<(Core<A>, Halves, LogArea), MigrateError>
+    requires { FitsImage restored.geometry (opening_cells (given_in restored)) }
+    ensures filled { IfOk result (λ r. IsFilled restored.geometry (given_in restored) (D.history device.new) r.1 r.2 (value_of r.0)) }
+    ensures empty { IfOk result (λ r. r.2.open_slots ≡ 0) }
+    ensures around { OnOk result (SameOutside (λ n. n < sectors_of restored.geometry) (D.history device.old).disk.content (D.history device.new).disk.content) }
+    ensures refused { IfErr result (IsNotFilled restored.geometry D.history D.failures device.old device.new) }
+    ensures quiet { OnOk result (D.failures device.new ≡ D.failures device.old) }
+{
+    if device.sectors() < restored.geometry.sectors() {
+        return Err(MigrateError::New(Error::DeviceTooSmall));
+    }
+    let Ok(core) = load(alloc, &restored) else {
+        return Err(MigrateError::NoMemory);
+    };
+    let halves = match format(device, restored.geometry) {
+        Ok(halves) => halves,
+        Err(error) => return Err(MigrateError::New(error)),
+    };
+    match write_over(alloc, device, halves, restored) {
+        Ok(made) => Ok((core, made.halves, made.log)),
+        Err(_) => Err(MigrateError::New(Error::DeviceFailed)),
+    }
+}

@@ -1,0 +1,12 @@
+use Rattle.std.proofs.Common.{◌≡◌, length}
+use Rattle.session_halves.specs.Halves.{IsNew}
+use Rattle.session_halves.proofs.table.Registry.open.Given as goal
+
+abbrev pub invariant-loop-number : goal.invariant-loop-number
+invariant-loop-number l = record {
+  next : l.maker ≡ record { table = l.registry-inside.table.shared.table_id; next = l.number };
+  books : length l.book.items ≡ l.number;
+  book : IsNew l.registry-inside.table.shared.table_id l.book.items;
+  seated : length l.seats.items ≡ l.number;
+  seats : IsNew l.registry-inside.table.shared.table_id l.seats.items;
+}

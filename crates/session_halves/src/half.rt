@@ -1,0 +1,39 @@
+//! The tokens. They have no bytes.
+use crate::knowledge::Knowledge;
+use atomic_table::Seat;
+use sessions::Session;
+use std::marker::Model;
+
+/// One of the two halves of a session. To a contract it is a `HalfValue`.
+#[derive(Drop)]
+pub struct Half {
+    pub(crate) seat: Seat<Session, Knowledge>,
+}
+
+impl Model for Half {
+    ghost use Rattle.std.specs.Prelude.{◌≡◌, []};
+    ghost use Rattle.session_halves.specs.Halves.{HalfValue};
+
+    ghost Value = { HalfValue };
+
+    ghost view = { λ h. record { table = h.seat.table_id; number = h.seat.me.0.number; session = h.seat.me.0.session } };
+
+    ghost invariant = { λ h. (h.seat.me.1 ≡ []) × (h.seat.me.0.parts ≡ 1) };
+}
+
+/// Makes the halves of sessions. To a contract it is a `MakerValue`.
+#[derive(Drop)]
+pub(crate) struct HalfMaker {
+    pub(crate) seat: Seat<Session, Knowledge>,
+}
+
+impl Model for HalfMaker {
+    ghost use Rattle.std.specs.Prelude.{◌≡◌, [], true};
+    ghost use Rattle.session_halves.specs.Halves.{MakerValue};
+
+    ghost Value = { MakerValue };
+
+    ghost view = { λ m. record { table = m.seat.table_id; next = m.seat.me.0.number } };
+
+    ghost invariant = { λ m. (m.seat.me.1 ≡ []) × (m.seat.me.0.makes ≡ true) };
+}

@@ -1,0 +1,88 @@
+//! The sessions in halves. None of the calls but `open` takes memory, and none waits.
+ghost use Rattle.std.specs.Prelude.{◌≡◌, ◌+◌, length, IfOk};
+ghost use Rattle.sessions.specs.Values.{empty_session};
+ghost use Rattle.session_halves.specs.Halves.{IsNew};
+
+use crate::half::{Half, HalfMaker};
+use crate::knowledge::Knowledge;
+use crate::rule::{Change, Halve, HandOver, Make, RegistryRule, TakeIn};
+use atomic_table::Table;
+use sessions::Session;
+use std::alloc::{AllocError, Global};
+use std::marker::Model;
+
+/// What the halves of all sessions stand on, shared by a `&`. To a contract it is its identity, which each half names.
+#[derive(Drop)]
+pub struct Registry {
+    table: Table<Session, Knowledge, (), RegistryRule, Global>,
+}
+
+impl Model for Registry {
+    ghost use Rattle.std.specs.Prelude.{◌≡◌};
+    ghost use Rattle.atomic_table.specs.Seated.{TableId, table_id_coded};
+
+    ghost Value = { TableId };
+
+    ghost coded = { table_id_coded };
+
+    ghost view = { λ r. r.table.shared.table_id };
+
+    ghost invariant = { λ r. r.table.shared.table_id.words ≡ 1 };
+}
+
+impl Registry {
+    fn new(alloc: Global) -> Result<(Registry, HalfMaker), AllocError>
+        ensures { IfOk result (λ r. r.1 ≡ record { table = r.0; next = 0 }) }
+    {
+        let (table, seat) = Table::of_words(alloc, &[0], &())?;
+        Ok((Registry { table }, HalfMaker { seat }))
+    }
+
+    // Both halves of a new session.
+    fn make(&self, maker: &mut HalfMaker) -> (Half, Half)
+        requires { maker.old.table ≡ self.now }
+        ensures next { maker.new ≡ record maker.old { next = maker.old.next + 1 } }
+        ensures one { result.0 ≡ record { table = self.now; number = maker.old.next; session = empty_session } }
+        ensures other { result.1 ≡ result.0 }
+    {
+        let shared = &self.table.shared;
+        let mut seat = shared.split_seat::<Make>(&mut maker.seat);
+        let other = shared.split_seat::<Halve>(&mut seat);
+        (Half { seat }, Half { seat: other })
+    }
+
+    /// A registry with this many sessions, with numbers from 0 on and nothing in them, and both halves of each.
+    ///
+    /// The error is that memory was refused.
+    pub fn open(alloc: Global, count: usize) -> Result<(Registry, Vec<Half>, Vec<Half>), AllocError>
+        ensures book { IfOk result (λ r. (length r.1.items ≡ count) × IsNew r.0 r.1.items) }
+        ensures seats { IfOk result (λ r. (length r.2.items ≡ count) × IsNew r.0 r.2.items) }
+    {
+        let (registry, mut maker) = Registry::new(alloc)?;
+        let mut book = Vec::new(alloc);
+        let mut seats = Vec::new(alloc);
+        for number in 0..count {
+            let _ = number;
+            let (one, other) = registry.make(&mut maker);
+            book.push(one)?;
+            seats.push(other)?;
+        }
+        Ok((registry, book, seats))
+    }
+
+    /// The two halves of a session come together: they showed one session, and from now on they show this one.
+    pub fn change(&self, mine: &mut Half, theirs: &mut Half, session: &Session)
+        requires mine { mine.old.table ≡ self.now }
+        requires theirs { theirs.old.table ≡ self.now }
+        requires number { theirs.old.number ≡ mine.old.number }
+        ensures agree { theirs.old.session ≡ mine.old.session }
+        ensures mine { mine.new ≡ record mine.old { session = session.now } }
+        ensures theirs { theirs.new ≡ record theirs.old { session = session.now } }
+    {
+        let shared = &self.table.shared;
+        let whole = shared.split_seat::<HandOver>(&mut mine.seat);
+        shared.join_seat::<TakeIn>(&mut theirs.seat, whole);
+        shared.compare_exchange_with::<Change>(&mut theirs.seat, 0, 0, 0, session);
+        mine.seat = shared.split_seat::<Halve>(&mut theirs.seat);
+    }
+}
