@@ -30,10 +30,11 @@ pub enum Verb {
 
 /// What is asked for.
 #[derive(Drop)]
-pub struct Asked {
-    /// The file's path.
-    pub path: String,
-    pub verb: Verb,
+pub enum Asked {
+    /// Something is done with the file of this path.
+    Of { path: String, verb: Verb },
+    /// The store of version 1 in a file is moved to a new file.
+    Migrate { old: String, new: String },
 }
 
 const ABOUT: &str =
@@ -54,6 +55,9 @@ const STAT_ABOUT: &str = "Prints what the store is and how far it has come";
 
 const BUILD_ABOUT: &str = "Builds the index to its end";
 
+const MIGRATE_ABOUT: &str =
+    "Moves a store of format 1 to a new file, and prints what `stat` does of it. The old file is only read";
+
 const PAGES_HELP: &str = "Pages of the table, 1 to 256 [default: 16]";
 
 const ENTRIES_HELP: &str = "Places for entries of the index, 64 to 65536 [default: 4096]";
@@ -73,10 +77,8 @@ fn with_verb<'a>(command: Command<'a>, verb: Command<'a>) -> Result<Command<'a>,
     command.subcommand(verb)
 }
 
-fn file_arg<'a>(alloc: Global) -> Arg<'a> {
-    Arg::new(alloc, "FILE")
-        .required(true)
-        .help("The store's file")
+fn path_arg<'a>(alloc: Global, name: &'a str, help: &'a str) -> Arg<'a> {
+    Arg::new(alloc, name).required(true).help(help)
 }
 
 fn progress_arg<'a>(alloc: Global) -> Arg<'a> {
@@ -112,7 +114,8 @@ fn verb_with_file<'a>(
     name: &'a str,
     about: &'a str,
 ) -> Result<Command<'a>, AllocError> {
-    with_arg(bare_verb(alloc, name, about), file_arg(alloc))
+    let file = path_arg(alloc, "FILE", "The store's file");
+    with_arg(bare_verb(alloc, name, about), file)
 }
 
 fn new_verb<'a>(alloc: Global) -> Result<Command<'a>, AllocError> {
@@ -132,13 +135,21 @@ fn build_verb<'a>(alloc: Global) -> Result<Command<'a>, AllocError> {
     )
 }
 
+fn migrate_verb<'a>(alloc: Global) -> Result<Command<'a>, AllocError> {
+    let verb = bare_verb(alloc, "migrate", MIGRATE_ABOUT);
+    let old = path_arg(alloc, "OLD", "The file of the store of format 1");
+    let verb = with_arg(verb, old)?;
+    with_arg(verb, path_arg(alloc, "NEW", "The file that is made"))
+}
+
 fn command<'a>(alloc: Global) -> Result<Command<'a>, AllocError> {
     let all = with_verb(program(alloc)?, new_verb(alloc)?)?;
     let all = with_verb(all, verb_with_file(alloc, "run", RUN_ABOUT)?)?;
     let all = with_verb(all, verb_with_file(alloc, "check", CHECK_ABOUT)?)?;
     let all = with_verb(all, verb_with_file(alloc, "dump", DUMP_ABOUT)?)?;
     let all = with_verb(all, verb_with_file(alloc, "stat", STAT_ABOUT)?)?;
-    with_verb(all, build_verb(alloc)?)
+    let all = with_verb(all, build_verb(alloc)?)?;
+    with_verb(all, migrate_verb(alloc)?)
 }
 
 fn number_in(matches: &ArgMatches<'_>, name: &str, default: u32) -> u32 {
@@ -171,16 +182,31 @@ fn verb_of(name: &str, matches: &ArgMatches<'_>) -> Verb {
     }
 }
 
+// The path that was given under this name.
+fn path_in(alloc: Global, matches: &ArgMatches<'_>, name: &str) -> Result<String, AllocError> {
+    String::from_str(alloc, matches.get_str(name).unwrap_or(""))
+}
+
+// What is asked for by the verb of this name.
+fn asked_by(alloc: Global, name: &str, matches: &ArgMatches<'_>) -> Result<Asked, AllocError> {
+    if name == "migrate" {
+        return Ok(Asked::Migrate {
+            old: path_in(alloc, matches, "OLD")?,
+            new: path_in(alloc, matches, "NEW")?,
+        });
+    }
+    Ok(Asked::Of {
+        path: path_in(alloc, matches, "FILE")?,
+        verb: verb_of(name, matches),
+    })
+}
+
 // What was found in the words.
 fn asked_of(alloc: Global, matches: &ArgMatches<'_>) -> Result<Asked, AllocError> {
-    let Some((name, given)) = matches.subcommand() else {
-        return Err(AllocError);
-    };
-    let path = given.get_str("FILE").unwrap_or("");
-    Ok(Asked {
-        path: String::from_str(alloc, path)?,
-        verb: verb_of(name, given),
-    })
+    match matches.subcommand() {
+        Some((name, given)) => asked_by(alloc, name, given),
+        None => Err(AllocError),
+    }
 }
 
 /// What the words ask for, the first of which is the program's own name; or what is said in place of it.

@@ -5,10 +5,12 @@
 //!
 //! `Refused` says why a file or a store was refused, also to `nsf-threads`.
 //!
-//! Proved: that it is safe, and meets what the calls below ask.
+//! Proved: that it is safe, and meets what the calls below ask. What a move of a store of version 1 leaves on both disks, `moving`
+//! promises.
 #![tactic(auto)]
 
 mod asked;
+mod migration;
 mod program;
 mod refused;
 mod serve;

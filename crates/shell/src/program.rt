@@ -1,5 +1,6 @@
 //! The verbs of the program.
-use crate::asked::{Verb, is_wanted, read};
+use crate::asked::{Asked, Verb, is_wanted, read};
+use crate::migration::{NotMoved, migrate_file};
 use crate::refused::Refused;
 use crate::serve::serve_lines;
 use crate::show::{Stored, write_stat};
@@ -313,6 +314,50 @@ fn act<R: Files<File = File> + AllocGlobal, I: BufRead, W: Write, E: Write>(
     Ok(true)
 }
 
+// Moves the store in the old file to the new one, and prints what that is.
+fn move_and_stat<R: Files<File = File> + AllocGlobal, W: Write>(
+    rt: &R,
+    old: &str,
+    new: &str,
+    output: &mut W,
+) -> Result<(), NotMoved> {
+    migrate_file(rt, old, new)?;
+    match stat_file(rt, rt.alloc(), new, output) {
+        Ok(()) => Ok(()),
+        Err(refused) => Err(NotMoved::New(refused)),
+    }
+}
+
+// Tells why the file was refused, and answers the exit status for that.
+fn tell<E: Write>(path: &str, refused: &Refused, errors: &mut E) -> u8 {
+    let _ = writeln!(errors, "nsf-store: {path}: {refused}");
+    1
+}
+
+// Does what is asked for, and answers the exit status.
+fn answer<R: Files<File = File> + AllocGlobal, I: BufRead, W: Write, E: Write>(
+    rt: &R,
+    asked: &Asked,
+    input: &mut I,
+    output: &mut W,
+    errors: &mut E,
+) -> u8 {
+    match asked {
+        Asked::Of { path, verb } => match act(rt, path.as_str(), *verb, input, output, errors) {
+            Ok(true) => 0,
+            Ok(false) => 1,
+            Err(refused) => tell(path.as_str(), &refused, errors),
+        },
+        Asked::Migrate { old, new } => {
+            match move_and_stat(rt, old.as_str(), new.as_str(), output) {
+                Ok(()) => 0,
+                Err(NotMoved::Old(refused)) => tell(old.as_str(), &refused, errors),
+                Err(NotMoved::New(refused)) => tell(new.as_str(), &refused, errors),
+            }
+        }
+    }
+}
+
 /// Runs the program on these words, the first of which is its own name, and answers its exit status: 0 where what they ask for was
 /// done, refused commands included; 1 where the file or the store was refused, of which the error stream says why, or a line of the
 /// input was no command; 2 for bad words.
@@ -336,12 +381,5 @@ pub fn run<R: Files<File = File> + AllocGlobal, S: AsStr, I: BufRead, W: Write, 
             return 2;
         }
     };
-    match act(rt, asked.path.as_str(), asked.verb, input, output, errors) {
-        Ok(true) => 0,
-        Ok(false) => 1,
-        Err(refused) => {
-            let _ = writeln!(errors, "nsf-store: {}: {refused}", asked.path);
-            1
-        }
-    }
+    answer(rt, &asked, input, output, errors)
 }

@@ -1,0 +1,17 @@
+use Rattle.std.proofs.Common.{sym, subst}
+use Rattle.sector_device.specs.Disk.{IsSynced}
+use Rattle.store_reader.specs.Contents.{Gives}
+use Rattle.moving.proofs.old.move_disk.Goals as goal
+
+pub returns-clause-moved : goal.returns-clause-moved
+returns-clause-moved g c =
+    let history = g.N.Device.history in
+    let is = c.in_ok-engine.ensures.migrated in
+    let now = sym c.into_device.ensures.device in
+    record {
+      geometry = is.opened.geometry;
+      given = is.opened.given;
+      gave = is.gave;
+      gives = subst (λ d. Gives (history d).disk.content is.opened.geometry is.opened.given) now is.opened.gives;
+      synced = subst (λ d. IsSynced (history d).disk) now is.opened.synced;
+    }

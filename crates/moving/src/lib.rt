@@ -1,0 +1,11 @@
+//! A store of version 1 on a disk is moved to another disk, as a program does it whose disks are files: it looks how large the old
+//! store is, makes a disk of that size, and moves the store there.
+//!
+//! Proved: the new disk holds, all of it safe, what the old one holds in version 1 (`moved`), which is only read (`kept`); each
+//! refusal comes for its reason (`refused`).
+//! Neither: that it succeeds where there is memory.
+#![tactic(auto)]
+
+mod old;
+
+pub use old::{NotOld, move_disk, old_geometry};

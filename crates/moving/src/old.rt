@@ -1,0 +1,57 @@
+//! Of a disk with a store of version 1: how large that is, and how it is moved.
+ghost use Rattle.std.specs.Prelude.{◌≡◌, OnOk, IfOk, IfErr};
+ghost use Rattle.sector_device.specs.History.{OnlyReads};
+ghost use Rattle.records.specs.declared.version.Version.TheVariants.{One};
+ghost use Rattle.restart.specs.Migrating.{IsNotMigrated};
+ghost use Rattle.moving.specs.Moved.{HoldsStoreOf, IsNotOld, IsStoreOf};
+
+use flip_image::Halves;
+use records::{Error, Geometry, Version};
+use restart::{MigrateError, migrate};
+use sector_device::Device;
+use std::alloc::Allocator;
+
+/// Why a disk holds no store of version 1.
+#[derive(Clone, Copy, Debug, PartialEq, Eq)]
+pub enum NotOld {
+    /// It holds one of version 2.
+    Newer,
+    /// A reader of version 1 refuses it so.
+    Refused(Error),
+}
+
+/// How large the store of version 1 on the disk is. Nothing is written.
+///
+/// `Newer` where a store of version 2 is on the disk. Else the refusal is that of `Halves::open_in`.
+pub fn old_geometry<D: Device>(disk: &mut D) -> Result<Geometry, NotOld>
+    ensures found { IfOk result (λ geometry. IsStoreOf One geometry (D.history disk.old).disk.content) }
+    ensures refused { IfErr result (IsNotOld (D.history disk.old).disk.content (D.failures disk.old) (D.failures disk.new)) }
+    ensures kept { OnlyReads (D.history disk.old) (D.history disk.new) }
+    ensures quiet { OnOk result (D.failures disk.new ≡ D.failures disk.old) }
+{
+    let error = match Halves::open_in(Version::One, disk) {
+        Ok(halves) => return Ok(halves.geometry()),
+        Err(error) => error,
+    };
+    match Halves::open(disk) {
+        Ok(_) => Err(NotOld::Newer),
+        Err(_) => Err(NotOld::Refused(error)),
+    }
+}
+
+/// Moves the store of version 1 on the old disk to the new one, which is given back. The old one is only read.
+///
+/// The refusals are those of `migrate`.
+pub fn move_disk<O: Device, N: Device, A: Allocator + Copy>(
+    alloc: A,
+    old: &mut O,
+    new: N,
+) -> Result<N, (MigrateError, N)>
+    ensures moved { IfOk result (λ disk. HoldsStoreOf (O.history old.old).disk.content (N.history disk).disk) }
+    ensures refused { IfErr result (λ r. IsNotMigrated (O.history old.old).disk.content (O.failures old.old) (O.failures old.new) N.history N.failures new r.1 r.0) }
+    ensures kept { OnlyReads (O.history old.old) (O.history old.new) }
+    ensures quiet { IfOk result (λ disk. (O.failures old.new ≡ O.failures old.old) × (N.failures disk ≡ N.failures new)) }
+{
+    let engine = migrate(alloc, old, new)?;
+    Ok(engine.into_device())
+}
