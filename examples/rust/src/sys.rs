@@ -30,8 +30,8 @@ pub struct Reply {
     pub slot: u16,
     pub key_length: u8,
     pub body_length: u8,
-    pub key: [u8; 24],
-    pub body: [u8; 37],
+    pub key: [u8; 56],
+    pub body: [u8; 69],
 }
 
 impl Reply {
@@ -42,8 +42,8 @@ impl Reply {
         slot: 0,
         key_length: 0,
         body_length: 0,
-        key: [0; 24],
-        body: [0; 37],
+        key: [0; 56],
+        body: [0; 69],
     };
 }
 
