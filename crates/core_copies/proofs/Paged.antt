@@ -1,5 +1,5 @@
 -- The rows of pages that are copied.
-use Rattle.std.proofs.Common.{◌≡◌, ◌≢◌, ⊎_elim, ℕ, zero, suc, ◌+◌, ◌<◌, ◌≤◌, List, [], ◌∷◌, length, slice_get, slice_set, Option, Some, None, refl, sym, ap, subst, ◌∙◌, arith}
+use Rattle.std.proofs.Common.{◌≡◌, ◌≢◌, ⊎_elim, ℕ, zero, suc, ◌+◌, ◌<◌, ◌≤◌, List, [], ◌∷◌, length, replicate, slice_get, Option, Some, None, refl, sym, ap, subst, ◌∙◌, arith}
 use Rattle.std.specs.Prelude.{IsSome}
 use Rattle.std.proofs.lemmas.Bool.{cases_eq, cases_lt}
 use Rattle.std.proofs.lemmas.Option.{same_Some}
@@ -70,29 +70,18 @@ page_put heap inside page old new h = record {
 
 -- ---- the slots of one page
 
-get-set : {X : Type 0} (xs : List X) (i j : ℕ) (y : X) → j ≡ i → i < length xs → slice_get (slice_set xs i y) j ≡ Some y
-get-set [] i j y same low = absurd (omega (arith, low))
-get-set (x ∷ xs) zero zero y same low = refl
-get-set (x ∷ xs) zero (suc j) y same low = absurd (omega (arith, same))
-get-set (x ∷ xs) (suc i) zero y same low = absurd (omega (arith, same))
-get-set (x ∷ xs) (suc i) (suc j) y same low = get-set xs i j y (omega (arith, same)) (omega (arith, low))
-
-get-set_other : {X : Type 0} (xs : List X) (i j : ℕ) (y : X) → j ≢ i → slice_get (slice_set xs i y) j ≡ slice_get xs j
-get-set_other [] i j y apart = refl
-get-set_other (x ∷ xs) zero zero y apart = absurd (apart refl)
-get-set_other (x ∷ xs) zero (suc j) y apart = refl
-get-set_other (x ∷ xs) (suc i) zero y apart = refl
-get-set_other (x ∷ xs) (suc i) (suc j) y apart = get-set_other xs i j y (λ e. apart (ap suc e))
-
 -- the first slots have the rows of the page
 abbrev pub AreSlotsTo : Table → ℕ → ℕ → List (Option Row) → Type 0
 AreSlotsTo all page n slots = (k : ℕ) → k < n → slice_get slots k ≡ Some (get all (record { page = page; slot = k }))
 
-pub one_slot : (all : Table) (page n : ℕ) (slots : List (Option Row)) (row : Option Row) → row ≡ get all (record { page = page; slot = n }) → n < length slots → AreSlotsTo all page n slots → AreSlotsTo all page (n + 1) (slice_set slots n row)
-one_slot all page n slots row found inside h = λ k below. ⊎_elim
-    (λ same. get-set slots n k row same inside ∙ ap Some found ∙ ap (λ j. Some (get all (record { page = page; slot = j }))) (sym same))
-    (λ apart. get-set_other slots n k row apart ∙ h k (omega (arith, below, apart)))
-    (cases_eq k n)
+get-replicate : {X : Type 0} (n i : ℕ) (x : X) → i < n → slice_get (replicate n x) i ≡ Some x
+get-replicate zero i x low = absurd (omega (arith, low))
+get-replicate (suc n) zero x low = refl
+get-replicate (suc n) (suc i) x low = get-replicate n i x (omega (arith, low))
+
+-- slots without rows have those of a page where there are none
+pub none_there : (all : Table) (page : ℕ) → ((slot : ℕ) → slot < SLOTS_PER_PAGE → get all (record { page = page; slot = slot }) ≡ None) → AreSlotsTo all page SLOTS_PER_PAGE (replicate SLOTS_PER_PAGE None)
+none_there all page none = λ k low. get-replicate SLOTS_PER_PAGE k None low ∙ ap Some (sym (none k low))
 
 -- a table of these slots alone has the rows of the page
 pub page_filled : (v : CoreValue) → AreRowsInside v.heap → (page : ℕ) (slots : List (Option Row)) (rows : Table) → AreSlotsTo v.heap.rows page SLOTS_PER_PAGE slots → AreSlotsTo rows page SLOTS_PER_PAGE slots
@@ -111,6 +100,16 @@ page_filled v inside page slots rows all there elsewhere low = record {
 
     past : (q : Place) → SLOTS_PER_PAGE ≤ q.slot → get rows q ≡ get v.heap.rows q
     past q beyond = none q beyond (get rows q) refl ∙ sym (no_row v.heap inside q (λ place. let slot = place.1 in omega (arith, slot, beyond)))
+
+-- a table without rows has those of a page where there are none
+pub none_filled : (v : CoreValue) → AreRowsInside v.heap → (page : ℕ) (rows : Table) → rows ≡ empty → ((slot : ℕ) → slot < SLOTS_PER_PAGE → get v.heap.rows (record { page = page; slot = slot }) ≡ None) → IsPageOf (unlisted v) page rows
+none_filled v inside page rows is none = page_filled v inside page (replicate SLOTS_PER_PAGE None) rows (none_there v.heap.rows page none) (none_there rows page (λ slot low. gone (record { page = page; slot = slot }))) (λ q apart. gone q) low
+  where
+    gone : (q : Place) → get rows q ≡ None
+    gone q = ap (λ (t : Table). get t q) is ∙ get-empty rid_cmp q
+
+    low : (q : Place) (r : Row) → get rows q ≡ Some r → q.slot < SLOTS_PER_PAGE
+    low q r there = let bad : Some r ≡ None = sym there ∙ gone q in absurd cc
 
 -- ---- all pages
 

@@ -105,9 +105,10 @@ pub(crate) fn page_rows<A: Allocator + Copy>(
     ensures no_memory { IfErr result (λ e. e ≡ Error.NoMemory) }
 {
     let _pages = core.pages();
-    let slots = core.page_slots(page);
-    let rows = PageRows::new(alloc, page, slots)?;
-    Ok(rows)
+    match core.page_slots(page) {
+        Some(slots) => Ok(PageRows::new(alloc, page, slots)?),
+        None => Ok(PageRows::empty(alloc)),
+    }
 }
 
 /// All rows.
@@ -172,7 +173,7 @@ pub(crate) fn next_entries<A: Allocator + Copy>(
     ensures no_memory { IfErr result (λ e. e ≡ Error.NoMemory) }
 {
     let _pages = core.pages();
-    let mut entries = Vec::new(alloc);
+    let mut entries = Vec::with_capacity(alloc, CHUNK_ENTRIES)?;
     let mut last = above;
     let mut run: &[Entry] = &[];
     while entries.len() < CHUNK_ENTRIES {

@@ -108,6 +108,17 @@ from_full slots page taken is long counted each =
     let all = there_all slots (λ s within. subst IsSome (ap (λ (p : Slots). map_of.get p s) (sym is) ∙ get-page_of slots s) (each s (omega arith))) in
     omega arith
 
+-- ---- a page without a row in any slot
+
+none_taken : (slots : List (Option Row)) (s : ℕ) → count_by is_some slots ≡ 0 → cell slots s ≡ None
+none_taken [] s none = refl
+none_taken (None ∷ slots) zero none = refl
+none_taken (None ∷ slots) (suc s) none = let count = with_none slots in none_taken slots s (omega arith)
+none_taken (Some row ∷ slots) s none = let count = with_row row slots in absurd (omega arith)
+
+pub is_empty : (slots : List (Option Row)) (page : Slots) (taken : ℕ) → page_of slots ≡ page → taken ≡ count_by is_some slots → taken ≡ 0 → (s : ℕ) → map_of.get page s ≡ None
+is_empty slots page taken is counted none s = ap (λ (p : Slots). map_of.get p s) (sym is) ∙ get-page_of slots s ∙ none_taken slots s (omega arith)
+
 -- ---- the slots of a page
 
 get-slots_from : (page : Slots) (i n j : ℕ) → j < n → slice_get (slots_from page i n) j ≡ Some (map_of.get page (i + j))

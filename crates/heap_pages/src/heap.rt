@@ -1,5 +1,5 @@
 //! The pages of the heap.
-ghost use Rattle.std.specs.Prelude.{◌≡◌, ◌≢◌, ◌<◌, ◌≤◌, ◌^◌, ◌↔◌, ℕ, map, length, slice_get, Some, All, Contains, IfOk, IfErr, IsErr, IsSome};
+ghost use Rattle.std.specs.Prelude.{◌≡◌, ◌≢◌, ◌<◌, ◌≤◌, ◌^◌, ◌↔◌, ℕ, map, length, slice_get, Some, None, All, Contains, IfSome, IfOk, IfErr, IsErr, IsSome};
 ghost use Rattle.std.specs.List.Sorted.{IsStrictlyIncreasing};
 ghost use Rattle.std.specs.declared.cmp.Ordering.{Ordering};
 ghost use Rattle.std.specs.FinMap.{get, empty};
@@ -96,13 +96,14 @@ impl<A: Allocator + Copy> Heap<A> {
         }
     }
 
-    /// The rows of the page, by their slots: none where a slot is empty, and in each slot of a page that the heap does not have.
-    pub fn page_slots(&self, page: u32) -> [Option<Row>; SLOTS]
-        ensures { (slot : ℕ) → slot < SLOTS_PER_PAGE → slice_get result slot ≡ Some (get self.now.rows (record { page = page; slot = slot })) }
+    /// The rows of the page, by their slots: none where a slot is empty. `None` only where no slot of the page has a row.
+    pub fn page_slots(&self, page: u32) -> Option<&[Option<Row>; SLOTS]>
+        ensures slots { IfSome result (λ rows. (slot : ℕ) → slot < SLOTS_PER_PAGE → slice_get rows.now slot ≡ Some (get self.now.rows (record { page = page; slot = slot }))) }
+        ensures none { result ≡ None → (slot : ℕ) → slot < SLOTS_PER_PAGE → get self.now.rows (record { page = page; slot = slot }) ≡ None }
     {
         match self.pages.get(page as usize) {
-            Some(found) => found.rows(),
-            None => HeapPage::new().rows(),
+            Some(found) => found.slots(),
+            None => None,
         }
     }
 

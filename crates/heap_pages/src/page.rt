@@ -1,5 +1,5 @@
 //! A page of the heap.
-ghost use Rattle.std.specs.Prelude.{◌≡◌, ◌<◌, ◌↔◌, ℕ, Some, IsTrue, IsSome, MatchOption, slice_get, ◌+◌, if◌then◌else◌};
+ghost use Rattle.std.specs.Prelude.{◌≡◌, ◌<◌, ◌↔◌, ℕ, Some, None, IsTrue, IsSome, IfSome, MatchOption, slice_get, ◌+◌, if◌then◌else◌};
 ghost use Rattle.std.specs.FinMap.{get, empty};
 ghost use Rattle.records.specs.Maps.{set_at};
 ghost use Rattle.heap_pages.specs.Slots.{is_among, IsFirstFree, NoneFree};
@@ -80,13 +80,15 @@ impl HeapPage {
         }
     }
 
-    /// The row in each slot.
-    pub(crate) fn rows(&self) -> [Option<Row>; SLOTS]
-        ensures { (s : ℕ) → s < SLOTS_PER_PAGE → slice_get result s ≡ Some (get self.now s) }
+    /// The row in each slot. `None` only where no slot has one.
+    pub(crate) fn slots(&self) -> Option<&[Option<Row>; SLOTS]>
+        ensures slots { IfSome result (λ rows. (s : ℕ) → s < SLOTS_PER_PAGE → slice_get rows.now s ≡ Some (get self.now s)) }
+        ensures none { result ≡ None → (s : ℕ) → get self.now s ≡ None }
     {
-        let mut rows = [None; SLOTS];
-        rows.copy_from_slice(&self.slots);
-        rows
+        if self.taken == 0 {
+            return None;
+        }
+        Some(&self.slots)
     }
 
     /// Puts the row into the slot, or empties it. Every other slot stays as it was.

@@ -7,6 +7,7 @@ use Rattle.records.specs.Values.{Place}
 use Rattle.records.specs.ChangeValue.{ChangeValue}
 use Rattle.records.specs.GeometryValue.{GeometryValue}
 use Rattle.records.specs.declared.version.Version.{Version}
+use Rattle.records.specs.declared.version.Version.TheVariants.{Two}
 use Rattle.records.specs.declared.rid.TheConstants.{SLOTS_PER_PAGE}
 use Rattle.records.specs.declared.row.Row.{Row}
 use Rattle.records.specs.declared.pair.Pair.{Pair}
@@ -21,8 +22,8 @@ use Rattle.image_parts.specs.declared.head.TheConstants.{HEAD_SIZE}
 use Rattle.image_parts.specs.declared.entry.TheConstants.{ENTRY_SIZE}
 use Rattle.records.specs.Spelling.{PairFits}
 use Rattle.image_parts.specs.Spelling.{zeros, entry, head, HeadFits}
-use Rattle.image_half.specs.Layout.{undo_at, page_at, cut, page_bytes_in}
-use Rattle.image_half.specs.Image.{HoldsListIn, HasEdges, IsRowIn, IsEntryIn, row_bytes_in, entry_bytes_in, head_of}
+use Rattle.image_half.specs.Layout.{undo_at, page_at, cut, page_bytes_in, row_of}
+use Rattle.image_half.specs.Image.{HoldsListIn, HasEdges, IsRow, IsRowIn, IsEntryIn, row_bytes_in, entry_bytes_in, head_of}
 use Rattle.image_half.specs.Damage.{AnItem, APage, AnEntry, sector_of, IsSoundIn, IsHindered}
 use Rattle.image_half.specs.Source.{IsNextBehind}
 
@@ -50,6 +51,10 @@ table_of rows = extended finite.empty rows
 -- the index of these entries
 abbrev pub index_of : List (Pair × Mark) → Index
 index_of entries = extended finite.empty entries
+
+-- no row is in a slot of the page
+abbrev pub AreRowsNone : List ℕ → Type 0
+AreRowsNone page = (slot : ℕ) → slot < SLOTS_PER_PAGE → IsRow (row_of Two page slot) None
 
 -- these rows are those of the first n pages
 pub record HoldsPages (v : Version) (g : GeometryValue) (first : ℕ) (image : Image) (n : ℕ) (rows : Table) : Type 0 where

@@ -6,6 +6,7 @@ ghost use Rattle.records.specs.declared.row.Row.{Row};
 ghost use Rattle.image_half.specs.Layout.{page_at_in, bytes_of, row_of};
 ghost use Rattle.image_half.specs.Image.{HasEdges, IsRow};
 ghost use Rattle.image_half.specs.Damage.{IsHindered};
+ghost use Rattle.image_half.specs.Steps.{AreRowsNone};
 
 use crate::parts::EDGE_SIZE;
 use image_parts::{ROW_SIZE, spell_row};
@@ -60,11 +61,12 @@ pub(crate) fn read_bytes<D: Device, A: Allocator>(
     Ok(bytes)
 }
 
-// Puts the row of a slot in its place. The rows before it stay, and the zeros around the rows.
+// Puts the row of a slot in its place. The other rows stay, and the zeros around the rows.
 fn put_row(page: &mut [u8; PAGE_SIZE], slot: usize, row: &[u8; ROW_SIZE])
     requires { slot < SLOTS_PER_PAGE }
     ensures put { row_of Two page.new slot ≡ row.now }
     ensures before { (k : ℕ) → k < slot → row_of Two page.new k ≡ row_of Two page.old k }
+    ensures behind { (k : ℕ) → slot < k → row_of Two page.new k ≡ row_of Two page.old k }
     ensures edges { HasEdges Two page.old → HasEdges Two page.new }
 {
     let start = EDGE_SIZE + ROW_SIZE * slot;
@@ -73,15 +75,25 @@ fn put_row(page: &mut [u8; PAGE_SIZE], slot: usize, row: &[u8; ROW_SIZE])
     all[start..end].copy_from_slice(row);
 }
 
-/// The bytes of a page with these rows in its slots.
-pub(crate) fn page_of(rows: &[Option<Row>]) -> [u8; PAGE_SIZE]
-    requires { length rows.now ≡ SLOTS_PER_PAGE }
+/// The bytes of a page without rows.
+pub(crate) fn zero_page() -> [u8; PAGE_SIZE]
     ensures edges { HasEdges Two result }
-    ensures rows { (slot : ℕ) (o : Option Row) → slice_get rows.now slot ≡ Some o → IsRow (row_of Two result slot) o }
+    ensures rows { AreRowsNone result }
 {
-    let mut bytes = [0; PAGE_SIZE];
+    [0; PAGE_SIZE]
+}
+
+/// Puts these rows into the slots of a page without rows. The zeros around them stay.
+pub(crate) fn put_rows(page: &mut [u8; PAGE_SIZE], rows: &[Option<Row>])
+    requires count { length rows.now ≡ SLOTS_PER_PAGE }
+    requires none { AreRowsNone page.old }
+    ensures edges { HasEdges Two page.old → HasEdges Two page.new }
+    ensures rows { (slot : ℕ) (o : Option Row) → slice_get rows.now slot ≡ Some o → IsRow (row_of Two page.new slot) o }
+{
     for (slot, row) in rows.iter().enumerate() {
-        put_row(&mut bytes, slot, &spell_row(row));
+        if row.is_none() {
+            continue;
+        }
+        put_row(page, slot, &spell_row(row));
     }
-    bytes
 }

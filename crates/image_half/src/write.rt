@@ -14,7 +14,7 @@ ghost use Rattle.image_half.specs.Layout.{cut, heads_at, page_at, entries_at, im
 ghost use Rattle.image_half.specs.Image.{IsHeader, AreHeads, HoldsList, HasEdges, IsRow, IsEntry, row_bytes, entry_bytes, ZerosBehindEntries};
 ghost use Rattle.image_half.specs.Steps.{IsEntryPlace};
 
-use crate::page::{page_at, page_of};
+use crate::page::{page_at, put_rows, zero_page};
 use crate::pieces::put_piece;
 use image_parts::{
     ENTRY_SIZE, HEAD_SIZE, Head, Header, UndoItem, spell_entry, spell_head, spell_header,
@@ -70,7 +70,8 @@ pub fn write_page<D: Device>(
     ensures within { RunsWithin (λ n. InPage first page n ⊎ ((D.history device.old).disk.unsynced n ≡ true)) (D.history device.old).disk.content (D.history device.old) (D.history device.new) }
     ensures counts { CountsFailure (D.failures device.old) (D.failures device.new) result }
 {
-    let bytes = page_of(rows);
+    let mut bytes = zero_page();
+    put_rows(&mut bytes, rows);
     let at = page_at(Version::Two, first, u64::from(page));
     let (sectors, _) = bytes.as_chunks::<SECTOR_SIZE>();
     for (k, sector) in sectors.iter().enumerate() {

@@ -1,5 +1,5 @@
 -- The rows in the slots of a page, seen as a table.
-use Rattle.std.proofs.Common.{◌≡◌, ◌≢◌, ⊎_elim, ℕ, zero, suc, ◌+◌, ◌<◌, ◌≤◌, List, [], ◌∷◌, length, get_or, replicate, Option, Some, None, slice_get, refl, sym, ap, ◌∙◌, arith}
+use Rattle.std.proofs.Common.{◌≡◌, ◌≢◌, ⊎_elim, ℕ, zero, suc, ◌+◌, ◌<◌, ◌≤◌, List, [], ◌∷◌, length, get_or, Option, Some, None, slice_get, sym, ap, ◌∙◌, arith}
 use Rattle.std.proofs.lemmas.Bool.{cases_lt}
 use Rattle.std.proofs.lemmas.Option.{slice_get-get_or}
 use Rattle.std.specs.FinMap as map
@@ -31,7 +31,7 @@ none_elsewhere page i (o ∷ slots) q apart =
     get-set_at_other rid_exact (rows_from page (i + 1) slots) (at page i) o q (λ f. apart (ap (λ (x : Place). x.page) f)) ∙ none_elsewhere page (i + 1) slots q apart
 
 -- none beyond the last slot
-none_past : (page i : ℕ) (slots : List (Option Row)) (q : Place) → i + length slots ≤ q.slot → map.get (rows_from page i slots) q ≡ None
+pub none_past : (page i : ℕ) (slots : List (Option Row)) (q : Place) → i + length slots ≤ q.slot → map.get (rows_from page i slots) q ≡ None
 none_past page i [] q past = map.get-empty rid_cmp q
 none_past page i (o ∷ slots) q past =
     get-set_at_other rid_exact (rows_from page (i + 1) slots) (at page i) o q (λ f. let same : q.slot ≡ i = ap (λ (x : Place). x.slot) f in omega (arith, same, past)) ∙ none_past page (i + 1) slots q (omega (arith, past))
@@ -51,12 +51,3 @@ pub slots_shown : (page : ℕ) (slots : List (Option Row)) → length slots ≡ 
 slots_shown page slots long slot low =
     let here = slice_get-get_or slots slot None (omega (arith, long, low)) in
     here ∙ ap Some (sym (row_there page 0 slots slot (get_or slots slot None) slot (omega arith) here))
-
-get-replicate : {X : Type 0} → (n i : ℕ) (x : X) → i < n → slice_get (replicate n x) i ≡ Some x
-get-replicate zero i x low = absurd (omega (arith, low))
-get-replicate (suc n) zero x low = refl
-get-replicate (suc n) (suc i) x low = get-replicate n i x (omega (arith, low))
-
--- slots without rows have what the table has of another page
-pub none_shown : (page other : ℕ) (slots : List (Option Row)) → other ≢ page → (slot : ℕ) → slot < SLOTS_PER_PAGE → slice_get (replicate SLOTS_PER_PAGE None) slot ≡ Some (map.get (rows_from page 0 slots) (at other slot))
-none_shown page other slots apart slot low = get-replicate SLOTS_PER_PAGE slot None low ∙ ap Some (sym (none_elsewhere page 0 slots (at other slot) apart))

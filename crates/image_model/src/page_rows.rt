@@ -1,5 +1,5 @@
 //! The rows of one page.
-ghost use Rattle.std.specs.Prelude.{◌≡◌, ◌≢◌, ◌<◌, ℕ, slice_get, Some, None, IfOk};
+ghost use Rattle.std.specs.Prelude.{◌≡◌, ◌≢◌, ◌<◌, ℕ, length, slice_get, Some, None, IfOk, IfSome};
 ghost use Rattle.std.specs.FinMap as map;
 ghost use Rattle.records.specs.Values.{Place};
 ghost use Rattle.records.specs.declared.rid.TheConstants.{SLOTS_PER_PAGE};
@@ -20,7 +20,7 @@ pub struct PageRows<A: Allocator> {
 }
 
 impl<A: Allocator> Model for PageRows<A> {
-    ghost use Rattle.std.specs.Prelude.{◌≡◌, length};
+    ghost use Rattle.std.specs.Prelude.{◌≡◌, ◌⊎◌, length};
     ghost use Rattle.std.specs.FinMap as map;
     ghost use Rattle.records.specs.Orders.{rid_cmp};
     ghost use Rattle.records.specs.Codes.{coded_rid, coded_row};
@@ -34,29 +34,47 @@ impl<A: Allocator> Model for PageRows<A> {
 
     ghost view = { λ p. rows_from p.page 0 p.slots.items };
 
-    ghost invariant = { λ p. length p.slots.items ≡ SLOTS_PER_PAGE };
+    ghost invariant = { λ p. (length p.slots.items ≡ 0) ⊎ (length p.slots.items ≡ SLOTS_PER_PAGE) };
 }
 
 impl<A: Allocator> PageRows<A> {
     /// The table of the rows in the slots of this page.
-    pub fn new(alloc: A, page: u32, slots: [Option<Row>; ROWS_PER_PAGE]) -> Result<Self, AllocError>
-        ensures there { IfOk result (λ rows. (slot : ℕ) → slot < SLOTS_PER_PAGE → slice_get slots slot ≡ Some (map.get rows (record { page = page; slot = slot }))) }
+    pub fn new(
+        alloc: A,
+        page: u32,
+        slots: &[Option<Row>; ROWS_PER_PAGE],
+    ) -> Result<Self, AllocError>
+        ensures there { IfOk result (λ rows. (slot : ℕ) → slot < SLOTS_PER_PAGE → slice_get slots.now slot ≡ Some (map.get rows (record { page = page; slot = slot }))) }
         ensures elsewhere { IfOk result (λ rows. (q : Place) → q.page ≢ page → map.get rows q ≡ None) }
         ensures slots { IfOk result (λ rows. (q : Place) (r : RowValue) → map.get rows q ≡ Some r → q.slot < SLOTS_PER_PAGE) }
     {
-        let slots = Vec::from_array(alloc, slots)?;
-        Ok(PageRows { page, slots })
+        let mut kept = Vec::with_capacity(alloc, ROWS_PER_PAGE)?;
+        kept.extend_from_slice(slots)?;
+        Ok(PageRows { page, slots: kept })
     }
 
-    /// The rows of a page, by their slots: none where it is another one.
-    pub fn page(&self, page: u32) -> [Option<Row>; ROWS_PER_PAGE]
-        ensures { (slot : ℕ) → slot < SLOTS_PER_PAGE → slice_get result slot ≡ Some (map.get self.now (record { page = page; slot = slot })) }
+    /// The table without rows. It takes no memory.
+    pub fn empty(alloc: A) -> Self
+        ensures { result ≡ map.empty }
     {
-        let mut rows = [None; ROWS_PER_PAGE];
-        if page != self.page {
-            return rows;
+        PageRows {
+            page: 0,
+            slots: Vec::new(alloc),
         }
-        rows.copy_from_slice(&self.slots);
-        rows
+    }
+
+    /// The rows of a page, by their slots. `None` only where the table has none of it.
+    pub fn page(&self, page: u32) -> Option<&[Option<Row>]>
+        ensures slots { IfSome result (λ rows. (slot : ℕ) → slot < SLOTS_PER_PAGE → slice_get rows.now slot ≡ Some (map.get self.now (record { page = page; slot = slot }))) }
+        ensures count { IfSome result (λ rows. length rows.now ≡ SLOTS_PER_PAGE) }
+        ensures none { result ≡ None → (slot : ℕ) → map.get self.now (record { page = page; slot = slot }) ≡ None }
+    {
+        if page != self.page {
+            return None;
+        }
+        if self.slots.is_empty() {
+            return None;
+        }
+        Some(self.slots.as_slice())
     }
 }

@@ -1,5 +1,5 @@
 //! The core.
-ghost use Rattle.std.specs.Prelude.{◌≡◌, ◌<◌, ◌≤◌, ◌+◌, ◌-◌, ◌⊎◌, ◌↔◌, [], Err, None, Some, is_some, length, option_and_then, option_map, slice_get, ℕ, IsSome, IsTrue, IfOk, IfErr, OnOk, OnErr};
+ghost use Rattle.std.specs.Prelude.{◌≡◌, ◌<◌, ◌≤◌, ◌+◌, ◌-◌, ◌⊎◌, ◌↔◌, [], Err, None, Some, is_some, length, option_and_then, option_map, slice_get, ℕ, IsSome, IsTrue, IfSome, IfOk, IfErr, OnOk, OnErr};
 ghost use Rattle.std.specs.FinMap as map;
 ghost use Rattle.std.specs.Option.{option_copied};
 ghost use Rattle.records.specs.Maps.{set_at};
@@ -104,9 +104,10 @@ impl<A: Allocator + Copy> Core<A> {
         self.parts.heap.get(rid)
     }
 
-    /// The rows of a page, by their slots: none where a slot is empty, and in each slot of a page that the store does not have.
-    pub fn page_slots(&self, page: u32) -> [Option<Row>; ROWS_PER_PAGE]
-        ensures { (slot : ℕ) → slot < SLOTS_PER_PAGE → slice_get result slot ≡ Some (map.get (value_of self.now).heap.rows (record { page = page; slot = slot })) }
+    /// The rows of a page, by their slots: none where a slot is empty. `None` only where no slot of the page has a row.
+    pub fn page_slots(&self, page: u32) -> Option<&[Option<Row>; ROWS_PER_PAGE]>
+        ensures slots { IfSome result (λ rows. (slot : ℕ) → slot < SLOTS_PER_PAGE → slice_get rows.now slot ≡ Some (map.get (value_of self.now).heap.rows (record { page = page; slot = slot }))) }
+        ensures none { result ≡ None → (slot : ℕ) → slot < SLOTS_PER_PAGE → map.get (value_of self.now).heap.rows (record { page = page; slot = slot }) ≡ None }
     {
         self.parts.heap.page_slots(page)
     }

@@ -1,4 +1,4 @@
-mod NoCells
+mod OnePage
 mod Numbers
 mod Left
 mod Halves

@@ -34,9 +34,9 @@ pub record IsImageWhole (run : Run) (half : Half) (image : Image) (base to : ℕ
   pub imaged : HoldsImage run.geometry half image base copied
   pub copies : IsCopiedFrom run base to copied
 
--- The half holds a part of an image that was begun at the record `base`: its lists, the rows of the first pages as they were at
--- some records from there up to `to`, and so the first entries, which are as many as counted, fill their sectors, and are all
--- those up to the highest pair. The life is the one at the base.
+-- The half holds a part of an image that was begun at the record `base`: its lists, and the life at the base. The rows of the first
+-- pages are as they were at some records from `base` to `to`, and so are the first entries: as many as counted, which fill their
+-- sectors, and all up to the highest pair.
 pub record IsPart (run : Run) (half : Half) (image : Image) (base to pages count : ℕ) (highest : Option Pair) (life : Life) : Type 0 where
   pub rows : Table
   pub entries : Index

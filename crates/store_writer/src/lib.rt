@@ -9,7 +9,7 @@
 
 mod image;
 mod laws;
-mod page_cells;
+mod page;
 mod store;
 mod writer;
 

@@ -21,7 +21,7 @@ use crate::image::{
     NewImage, Plan, Stage, carry, lists_alone, plan_for, stage_behind, with_page, write_first,
     write_next, write_whole,
 };
-use crate::page_cells::PageCells;
+use crate::page::write_rows;
 use flip_image::Halves;
 use gate_log::{Appended, LogArea, group_len, spell};
 use image_model::{Chunk, PageRows, Piece};
@@ -335,12 +335,7 @@ impl<D: Device, A: Allocator + Copy> Writer<D, A> {
         if is_full(self.log, self.halves.geometry()) {
             return Ok(StepReply::StartAgain);
         }
-        let cells = PageCells { rows };
-        if self
-            .halves
-            .write_rows(&mut self.device, page, &cells)
-            .is_err()
-        {
+        if write_rows(&mut self.device, self.halves, page, &rows).is_err() {
             self.failed = true;
             return Err(Error::DeviceFailed);
         }

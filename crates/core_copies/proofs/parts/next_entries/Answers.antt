@@ -9,8 +9,8 @@ use Rattle.core_copies.proofs.parts.next_entries.Goals as goal
 pub loop-run-init : goal.loop-run-init
 loop-run-init g c =
     let all = (value_of c.args.core.now).index.entries in
-    let none : length c.new-entries.result.items ≡ 0 = ap length c.new-entries.ensures.items in
-    record { copied = none_yet all c.args.above c.new-entries.result.items c.new-entries.ensures.items; most = omega (arith, none); run = tt }
+    let none : length c.in_ok-entries.entries.items ≡ 0 = ap length c.in_ok-entries.ensures.items in
+    record { copied = none_yet all c.args.above c.in_ok-entries.entries.items c.in_ok-entries.ensures.items; most = omega (arith, none); run = tt }
 
 pub loop-run-preserved : goal.loop-run-preserved
 loop-run-preserved g c =

@@ -56,15 +56,15 @@ returns-clause-edges g c =
     let image : Image = (g.D.Device.history c.loop-k.device).disk.content in
     let rows : Image = c.as_chunks.result.0.now in
     let size : length rows ≡ 16 = omega (arith, c.as_chunks.ensures.front_len) in
-    let bytes = bytes_written image rows c.page_of-bytes.result (length c.page_of-bytes.result / 512) (page_at c.args.first c.args.page) 16 (omega (arith, c.requires.inside, c.requires.page, c.loop-k.invariant.outside.sectors)) (omega arith) (omega arith) c.as_chunks.ensures.front size
+    let bytes = bytes_written image rows c.put_rows.new.page (length c.put_rows.new.page / 512) (page_at c.args.first c.args.page) 16 (omega (arith, c.requires.inside, c.requires.page, c.loop-k.invariant.outside.sectors)) (omega arith) (omega arith) c.as_chunks.ensures.front size
     (λ j less. c.loop-k.invariant.written j (omega (arith, size, less, c.loop-k-test.false))) in
-    subst (HasEdges Two) (sym bytes) c.page_of-bytes.ensures.edges
+    subst (HasEdges Two) (sym bytes) (c.put_rows.ensures.edges c.zero_page-bytes.ensures.edges)
 
 pub returns-clause-written : goal.returns-clause-written
 returns-clause-written g c = λ slot o there.
     let image : Image = (g.D.Device.history c.loop-k.device).disk.content in
     let rows : Image = c.as_chunks.result.0.now in
     let size : length rows ≡ 16 = omega (arith, c.as_chunks.ensures.front_len) in
-    let bytes = bytes_written image rows c.page_of-bytes.result (length c.page_of-bytes.result / 512) (page_at c.args.first c.args.page) 16 (omega (arith, c.requires.inside, c.requires.page, c.loop-k.invariant.outside.sectors)) (omega arith) (omega arith) c.as_chunks.ensures.front size
+    let bytes = bytes_written image rows c.put_rows.new.page (length c.put_rows.new.page / 512) (page_at c.args.first c.args.page) 16 (omega (arith, c.requires.inside, c.requires.page, c.loop-k.invariant.outside.sectors)) (omega arith) (omega arith) c.as_chunks.ensures.front size
     (λ j less. c.loop-k.invariant.written j (omega (arith, size, less, c.loop-k-test.false))) in
-    subst (λ (b : List ℕ). IsRow (row_of Two b slot) o) (sym bytes) (c.page_of-bytes.ensures.rows slot o there)
+    subst (λ (b : List ℕ). IsRow (row_of Two b slot) o) (sym bytes) (c.put_rows.ensures.rows slot o there)
