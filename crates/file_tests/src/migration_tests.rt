@@ -85,7 +85,7 @@ fn a_store_of_version_1_is_moved_to_a_new_file(rt: HostRuntime) -> Result<(), Fa
                 &["nsf-store", "stat", "old"],
                 1,
                 "",
-                "nsf-store: old: it holds a store of format 1, which `nsf-store migrate` moves to a new file\n",
+                "nsf-store: old: it holds a store of version 1, which `nsf-store migrate` moves to a new file\n",
             ),
             (&["nsf-store", "migrate", "old", "new"], 0, stat, ""),
             (&["nsf-store", "check", "new"], 0, "sound\n", ""),
@@ -99,7 +99,7 @@ fn a_store_of_version_1_is_moved_to_a_new_file(rt: HostRuntime) -> Result<(), Fa
                 &["nsf-store", "migrate", "new", "other"],
                 1,
                 "",
-                "nsf-store: new: it holds a store of format 2, which needs no move\n",
+                "nsf-store: new: it holds a store of version 2, which needs no move\n",
             ),
         ];
         for (words, status, printed, said) in calls {

@@ -41,8 +41,8 @@ pub record Holds {M : Type 0} (began : Given) (days : List (Day M)) (answers : L
   pub life : core.life ≡ (if built then Complete else life_after began.life kept)
   pub index : IsIndexOf core.heap.rows core.life core.index.entries
 
--- A build was refused, and the rows stay. There was no index; or each of its places is taken or pledged, or no number is left for a
--- record; or there was no memory.
+-- A build was refused, and the rows stay. There was no index; or each of its places is taken or reserved; or no number is left for
+-- a record; or there was no memory.
 pub record IsNotBuilt (error : Error) (old new : CoreValue) : Type 0 where
   pub rows : new.heap.rows ≡ old.heap.rows
   pub unfinished : old.life ≢ Complete

@@ -28,7 +28,7 @@ pub record HoldsMoved {M : Type 0} (old : Image) (days : List (Day M)) (answers 
   pub refused : CanOpen (over geometry given) → IfSome unbuilt (λ e. (built ≡ true) × IsUnbuilt given days answers e core)
 
 -- The old device gives something by version 1. The new one has too few sectors for it; or, where a core may begin with that, it failed.
-pub record IsNewUnopened (old new : Image) (e : Error) : Type 0 where
+pub record IsNewNotLived (old new : Image) (e : Error) : Type 0 where
   pub geometry : GeometryValue
   pub given : Given
   pub gave : GivesIn One old geometry given
@@ -37,9 +37,9 @@ pub record IsNewUnopened (old new : Image) (e : Error) : Type 0 where
 -- why a store wasn't moved, or not opened behind its days
 abbrev pub IsNotLived : (old new : Image) → (old_before old_after : ℕ) → MigrateError → Type 0
 IsNotLived old new old_before old_after (Old e) = IsOldRefused old old_before old_after e
-IsNotLived old new old_before old_after (New e) = IsNewUnopened old new e
+IsNotLived old new old_before old_after (New e) = IsNewNotLived old new e
 IsNotLived old new old_before old_after NoMemory = Unit {0}
 
 -- what a refusal behind the move is told as (no public clause cites this)
-abbrev pub IsLater : Error → MigrateError → Type 0
-IsLater e refusal = ((e ≡ errors.NoMemory) × (refusal ≡ NoMemory)) ⊎ ((e ≢ errors.NoMemory) × (refusal ≡ New e))
+abbrev pub IsToldLater : Error → MigrateError → Type 0
+IsToldLater e refusal = ((e ≡ errors.NoMemory) × (refusal ≡ NoMemory)) ⊎ ((e ≢ errors.NoMemory) × (refusal ≡ New e))

@@ -42,7 +42,7 @@ turn_of event.Create = Created ∷ []
 turn_of event.Drop = Dropped ∷ []
 turn_of request = []
 
--- a ticket with the number of a commit tells of the commit of what its transaction wrote, and one without of these deeds
+-- what a ticket tells: with the number of a commit, that its transaction's writes were committed; without one, these deeds
 abbrev pub deeds_told : Writes → Event → List Deed → (commit : Option ℕ) → List Deed
 deeds_told writes request deeds None = deeds
 deeds_told writes (event.Commit txn) deeds (Some commit) = Committed (writes txn) ∷ []

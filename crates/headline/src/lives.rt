@@ -146,7 +146,7 @@ pub(crate) fn live_behind<D: Mortal, A: Allocator + Copy>(
 /// row is visible; and once its build was carried to its end, every row's.
 ///
 /// Where the build is refused, `unbuilt` tells why: `NoIndex` where there is none, `IndexFull` where each of its places is taken or
-/// pledged, `Exhausted` where no number is left for a record, or `NoMemory`. The rows stay (`unbuilt`).
+/// reserved, `Exhausted` where no number is left for a record, or `NoMemory`. The rows stay (`unbuilt`).
 ///
 /// `DeviceTooSmall` where the device has fewer sectors than a store of this geometry takes, and only there (`too_small`).
 /// `DeviceFailed` and `NoMemory` come of the formatting, the last opening, and the memory for the answers (`refused`). Which of the two

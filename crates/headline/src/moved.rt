@@ -2,7 +2,7 @@
 ghost use Rattle.std.specs.Prelude.{◌≡◌, ◌≢◌, IfErr, IfOk, OnOk};
 ghost use Rattle.sector_device.specs.History.{OnlyReads};
 ghost use Rattle.restart.specs.Parts.{core_of};
-ghost use Rattle.headline.specs.Moved.{HoldsMoved, IsLater, IsNotLived};
+ghost use Rattle.headline.specs.Moved.{HoldsMoved, IsToldLater, IsNotLived};
 
 use crate::lives::{Lived, live_behind};
 use crate::{Day, Mortal};
@@ -13,7 +13,7 @@ use std::alloc::Allocator;
 
 // What a refusal behind the move is told as.
 fn later(error: Error) -> MigrateError
-    ensures { IsLater error result }
+    ensures { IsToldLater error result }
 {
     match error {
         Error::NoMemory => MigrateError::NoMemory,

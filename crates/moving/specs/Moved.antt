@@ -5,13 +5,14 @@ use Rattle.sector_device.specs.History.{Rises}
 use Rattle.records.specs.GeometryValue.{GeometryValue}
 use Rattle.records.specs.declared.version.Version.{Version}
 use Rattle.records.specs.declared.version.Version.TheVariants.{One, Two}
+use Rattle.records.specs.declared.error.Error.{Error}
 use Rattle.records.specs.declared.error.Error.TheVariants.{DeviceFailed}
 use Rattle.model.specs.Given.{Given}
 use Rattle.flip_image.specs.declared.half.Half.{Half}
 use Rattle.flip_image.specs.Store.{IsStoreIn, IsRefusedIn}
 use Rattle.store_reader.specs.Contents.{Gives, GivesIn}
-use Rattle.moving.specs.declared.old.NotOld.{NotOld}
-use Rattle.moving.specs.declared.old.NotOld.TheVariants.{Newer, Refused}
+use Rattle.moving.specs.declared.old.NotVersionOne.{NotVersionOne}
+use Rattle.moving.specs.declared.old.NotVersionOne.TheVariants.{Newer, Refused}
 
 -- The disk holds, all of it safe, what the old content holds in version 1: it gives in version 2 the same rows, the same entries
 -- with their states, the same life with its highest pair, and the same number of the last record, with the same geometry.
@@ -26,8 +27,8 @@ pub record HoldsStoreOf (old : Image) (disk : Disk) : Type 0 where
 abbrev pub IsStoreOf : Version → GeometryValue → Image → Type 0
 IsStoreOf v geometry image = (half : Half) × IsStoreIn v geometry half image
 
--- why the content is no store of version 1: it is one of version 2, or the disk failed in the call, or that version's reader
--- refuses it so
-abbrev pub IsNotOld : Image → (before after : ℕ) → NotOld → Type 0
-IsNotOld image before after Newer = (geometry : GeometryValue) × IsStoreOf Two geometry image
-IsNotOld image before after (Refused e) = ((e ≡ DeviceFailed) × Rises before after) ⊎ IsRefusedIn One image e
+-- why the content is no store of version 1: it is one of version 2; or the disk failed in the call; or the reader of version 1
+-- refuses it so, and that of version 2 refuses it too
+abbrev pub IsNotVersionOne : Image → (before after : ℕ) → NotVersionOne → Type 0
+IsNotVersionOne image before after Newer = (geometry : GeometryValue) × IsStoreOf Two geometry image
+IsNotVersionOne image before after (Refused e) = ((e ≡ DeviceFailed) × Rises before after) ⊎ (IsRefusedIn One image e × ((other : Error) × IsRefusedIn Two image other))

@@ -1,9 +1,10 @@
 //! Of a disk with a store of version 1: how large that is, and how it is moved.
-ghost use Rattle.std.specs.Prelude.{◌≡◌, OnOk, IfOk, IfErr};
+ghost use Rattle.std.specs.Prelude.{◌≡◌, ◌≢◌, ◌↔◌, IsTrue, OnOk, IfOk, IfErr};
 ghost use Rattle.sector_device.specs.History.{OnlyReads};
 ghost use Rattle.records.specs.declared.version.Version.TheVariants.{One};
-ghost use Rattle.restart.specs.Migrating.{IsNotMigrated};
-ghost use Rattle.moving.specs.Moved.{HoldsStoreOf, IsNotOld, IsStoreOf};
+ghost use Rattle.store_reader.specs.Contents.{HasHeaderIn};
+ghost use Rattle.restart.specs.Migrating.{IsNotMigrated, WritesTheStoreAlone};
+ghost use Rattle.moving.specs.Moved.{HoldsStoreOf, IsNotVersionOne, IsStoreOf};
 
 use flip_image::Halves;
 use records::{Error, Geometry, Version};
@@ -13,30 +14,46 @@ use std::alloc::Allocator;
 
 /// Why a disk holds no store of version 1.
 #[derive(Clone, Copy, Debug, PartialEq, Eq)]
-pub enum NotOld {
+pub enum NotVersionOne {
     /// It holds one of version 2.
     Newer,
     /// A reader of version 1 refuses it so.
     Refused(Error),
 }
 
+// Whether the disk failed.
+fn is_failure(error: Error) -> bool
+    ensures { IsTrue result ↔ (error ≡ Error.DeviceFailed) }
+{
+    matches!(error, Error::DeviceFailed)
+}
+
 /// How large the store of version 1 on the disk is. Nothing is written.
 ///
-/// `Newer` where a store of version 2 is on the disk. Else the refusal is that of `Halves::open_in`.
-pub fn old_geometry<D: Device>(disk: &mut D) -> Result<Geometry, NotOld>
+/// `Newer` where a store of version 2 is on the disk. Else the refusal is that of `Halves::open_in`: `DeviceFailed` where the disk
+/// failed in the call, and only then.
+pub fn old_geometry<D: Device>(disk: &mut D) -> Result<Geometry, NotVersionOne>
     ensures found { IfOk result (λ geometry. IsStoreOf One geometry (D.history disk.old).disk.content) }
-    ensures refused { IfErr result (IsNotOld (D.history disk.old).disk.content (D.failures disk.old) (D.failures disk.new)) }
+    ensures refused { IfErr result (IsNotVersionOne (D.history disk.old).disk.content (D.failures disk.old) (D.failures disk.new)) }
     ensures kept { OnlyReads (D.history disk.old) (D.history disk.new) }
+    ensures told { IfErr result (λ e. e ≢ NotVersionOne.Refused Error.DeviceFailed → D.failures disk.new ≡ D.failures disk.old) }
     ensures quiet { OnOk result (D.failures disk.new ≡ D.failures disk.old) }
 {
-    let error = match Halves::open_in(Version::One, disk) {
+    let refusal = match Halves::open_in(Version::One, disk) {
         Ok(halves) => return Ok(halves.geometry()),
-        Err(error) => error,
+        Err(refusal) => refusal,
     };
-    match Halves::open(disk) {
-        Ok(_) => Err(NotOld::Newer),
-        Err(_) => Err(NotOld::Refused(error)),
+    if is_failure(refusal) {
+        return Err(NotVersionOne::Refused(refusal));
     }
+    let other = match Halves::open(disk) {
+        Ok(_) => return Err(NotVersionOne::Newer),
+        Err(other) => other,
+    };
+    if is_failure(other) {
+        return Err(NotVersionOne::Refused(other));
+    }
+    Err(NotVersionOne::Refused(refusal))
 }
 
 /// Moves the store of version 1 on the old disk to the new one, which is given back. The old one is only read.
@@ -50,6 +67,9 @@ pub fn move_disk<O: Device, N: Device, A: Allocator + Copy>(
     ensures moved { IfOk result (λ disk. HoldsStoreOf (O.history old.old).disk.content (N.history disk).disk) }
     ensures refused { IfErr result (λ r. IsNotMigrated (O.history old.old).disk.content (O.failures old.old) (O.failures old.new) N.history N.failures new r.1 r.0) }
     ensures kept { OnlyReads (O.history old.old) (O.history old.new) }
+    ensures around { IfOk result (λ disk. WritesTheStoreAlone (O.history old.old).disk.content N.history new disk) }
+    ensures memory { IfErr result (λ r. r.0 ≡ MigrateError.NoMemory → HasHeaderIn One (O.history old.old).disk.content) }
+    ensures told { IfErr result (λ r. r.0 ≢ MigrateError.Old Error.DeviceFailed → O.failures old.new ≡ O.failures old.old) }
     ensures quiet { IfOk result (λ disk. (O.failures old.new ≡ O.failures old.old) × (N.failures disk ≡ N.failures new)) }
 {
     let engine = migrate(alloc, old, new)?;

@@ -18,10 +18,10 @@ use Rattle.store_reader.specs.Contents.{GivesIn, HasHeaderIn, IsUnreadableIn}
 use Rattle.nsf_core.specs.View.{CoreValue}
 use Rattle.restart.specs.declared.migration.MigrateError.{MigrateError}
 use Rattle.restart.specs.declared.migration.MigrateError.TheVariants as refusals
-use Rattle.restart.specs.Migrating.{IsOldRefused, IsNotMigrated, IsNotFilled, IsMoved, IsFilled, IsRefusalOfOld}
+use Rattle.restart.specs.Migrating.{IsOldRefused, IsNotMigrated, IsNotFilled, IsMigratedCore, IsFilled, IsToldOfOld}
 
 -- what the old device gives fills the new one
-pub moved : (old : Image) (geometry : GeometryValue) (given : Given) (after : History) (halves : HalvesValue) (log : Log) (core : CoreValue) → GivesIn One old geometry given → IsFilled geometry given after halves log core → IsMoved old after halves log core
+pub moved : (old : Image) (geometry : GeometryValue) (given : Given) (after : History) (halves : HalvesValue) (log : Log) (core : CoreValue) → GivesIn One old geometry given → IsFilled geometry given after halves log core → IsMigratedCore old after halves log core
 moved old geometry given after halves log core gave filled = record {
   moved = filled.filled;
   gave = subst (λ (g : GeometryValue). GivesIn One old g filled.filled.given) (sym filled.geometry-is) (subst (GivesIn One old geometry) (sym filled.given-is) gave);
@@ -39,7 +39,7 @@ pub old_refused : (old : Image) (before after : ℕ) (e : Error) → ¬ (e ≡ N
 old_refused old before after e other refused = ⊎_elim (λ why. ⊎_elim (λ none. absurd (other none)) (λ failed. inl failed) why) (λ unreadable. inr unreadable) refused
 
 -- so it is not moved
-pub old_not_moved : {E : Type 0} (old : Image) (old_before old_after : ℕ) (history : E → History) (failures : E → ℕ) (new : E) (e : Error) (refusal : MigrateError) → IsRefusalOfOld e refusal → Refuses old_before old_after e ⊎ IsUnreadableIn One old e
+pub old_not_moved : {E : Type 0} (old : Image) (old_before old_after : ℕ) (history : E → History) (failures : E → ℕ) (new : E) (e : Error) (refusal : MigrateError) → IsToldOfOld e refusal → Refuses old_before old_after e ⊎ IsUnreadableIn One old e
     → IsNotMigrated old old_before old_after history failures new new refusal
 old_not_moved old old_before old_after history failures new e refusal told refused = ⊎_elim
     (λ none. subst (IsNotMigrated old old_before old_after history failures new new) (sym none.1) refl)
@@ -51,11 +51,11 @@ pub has_header : (old : Image) (geometry : GeometryValue) (given : Given) → Gi
 has_header old geometry given gave = (geometry, gave.half, gave.holds.store, (header_of gave.base gave.cells, gave.holds.imaged.header-is))
 
 -- want of memory is told of want of memory alone
-pub wanted : (e : Error) (refusal : MigrateError) → IsRefusalOfOld e refusal → refusal ≡ refusals.NoMemory → e ≡ NoMemory
+pub wanted : (e : Error) (refusal : MigrateError) → IsToldOfOld e refusal → refusal ≡ refusals.NoMemory → e ≡ NoMemory
 wanted e refusal told none = ⊎_elim (λ is. is.0) (λ other. absurd (let bad = sym none ∙ other.1 in cc)) told
 
 -- and a failure as one
-pub not_failed : (e : Error) (refusal : MigrateError) → IsRefusalOfOld e refusal → ¬ (refusal ≡ refusals.Old DeviceFailed) → ¬ (e ≡ DeviceFailed)
+pub not_failed : (e : Error) (refusal : MigrateError) → IsToldOfOld e refusal → ¬ (refusal ≡ refusals.Old DeviceFailed) → ¬ (e ≡ DeviceFailed)
 not_failed e refusal told other failed = ⊎_elim (λ none. absurd (let bad = sym none.0 ∙ failed in cc)) (λ is. other (is.1 ∙ ap refusals.Old failed)) told
 
 -- ---- sectors of a store

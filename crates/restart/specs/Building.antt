@@ -106,9 +106,9 @@ abbrev pub IsEnd : {M : Type 0} → Result Ticket Error → List (Reply M) → C
 IsEnd (Ok ticket) replies old = WasComplete ticket replies old ⊎ ((old.life ≢ Complete) × EndsWith (reply.Built (build.Done ticket)) replies)
 IsEnd (Err e) replies old = (old.life ≢ Complete) × EndsWith (reply.Refused e) replies
 
--- The engine went on by steps of the builder alone, to the end that is answered; and where some run had left it, it is
--- where that run with these requests leaves it, and a crash at any moment of them leaves a prefix of the history with them,
--- which holds every record up to the horizon before, and so what was acknowledged.
+-- The engine went on by steps of the builder alone, to the end that is answered. Where some run had left it, that run goes on with
+-- these requests. A crash at any moment leaves a prefix of the history with them, with every record up to the horizon before, and so
+-- what was acknowledged.
 pub record IsBuiltToEnd {D M : Type 0} (history : D → History) (result : Result Ticket Error) (old new : Parts D M) : Type 0 where
   pub replies : List (Reply M)
   pub each : AreBuilt replies old new
@@ -116,7 +116,7 @@ pub record IsBuiltToEnd {D M : Type 0} (history : D → History) (result : Resul
   pub at : (past : Past M) → IsAt history past old → IsAt history (and_then past (builds replies) replies) new
   pub survives : (past : Past M) → IsAt history past old → LeavesOnly (history (device_of old)) (history (device_of new)) (Survives (and_then past (builds replies) replies) (horizon_of old))
 
--- each place of the index is taken by an entry, or pledged to a transaction
+-- each place of the index is taken by an entry, or reserved by a transaction
 abbrev pub IsIndexFull : CoreValue → Type 0
 IsIndexFull v = v.index.capacity ≤ len v.index.entries + v.index.pledged
 

@@ -55,7 +55,7 @@ IsNotMigrated old old_before old_after history failures before after (New e) = I
 IsNotMigrated old old_before old_after history failures before after NoMemory = after ≡ before
 
 -- The core of what the old device gives, which the new one now gives. (No public clause cites this.)
-pub record IsMoved (old : Image) (after : History) (halves : HalvesValue) (log : Log) (core : CoreValue) : Type 0 where
+pub record IsMigratedCore (old : Image) (after : History) (halves : HalvesValue) (log : Log) (core : CoreValue) : Type 0 where
   pub moved : IsCoreOf after.disk.content after halves log core
   pub gave : GivesIn One old halves.geometry moved.given
 
@@ -72,5 +72,5 @@ IsNotFilled geometry history failures before after (New e) = ((e ≡ DeviceTooSm
 IsNotFilled geometry history failures before after NoMemory = after ≡ before
 
 -- what a refusal of the old device is told as (no public clause cites this)
-abbrev pub IsRefusalOfOld : Error → MigrateError → Type 0
-IsRefusalOfOld e refusal = ((e ≡ errors.NoMemory) × (refusal ≡ NoMemory)) ⊎ ((e ≢ errors.NoMemory) × (refusal ≡ Old e))
+abbrev pub IsToldOfOld : Error → MigrateError → Type 0
+IsToldOfOld e refusal = ((e ≡ errors.NoMemory) × (refusal ≡ NoMemory)) ⊎ ((e ≢ errors.NoMemory) × (refusal ≡ Old e))

@@ -33,8 +33,8 @@ behind None numbers = numbers
 behind (Some before) numbers = before ∷ numbers
 
 module _ {D M : Type 0} (history : D → History) (failures : D → ℕ) where
-  -- The request had this lawful reply. At whatever run the engine was, it now is at that run with the request and the reply behind it,
-  -- and a crash of the device at any moment of it leaves what a prefix of the run left, with every record up to the horizon before, and
+  -- The request had this lawful reply. At whatever run the engine was, it now is at that run with the request and the reply behind it.
+  -- A crash of the device at any moment of it leaves what a prefix of the run left, with every record up to the horizon before, and
   -- so with all that an earlier reply has told to be safe. The device has as many sectors as before.
   pub record Serves (event : Event) (reply : Reply M) (old new : Parts D M) : Type 0 where
     pub lawful : IsLawful failures event reply old new

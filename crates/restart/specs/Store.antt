@@ -149,7 +149,7 @@ abbrev pub SurvivesAt : {M : Type 0} → Past M → List Event → List (Reply M
 SurvivesAt past events replies horizon j = Survives (and_then past (take (j + 1) events) (take (j + 1) replies)) (max horizon (acknowledged_by (and_then past (take j events) (take j replies))))
 
 -- The run went on by these requests: the engine is where they leave it; and there are moments that rise from the
--- call's start to its end, one at the end of each request, between which each crash leaves such a prefix. The horizon doesn't fall.
+-- call's start to its end, one for each request, between which each crash leaves such a prefix. The horizon doesn't fall.
 pub record GoesOn {D M : Type 0} (history : D → History) (past : Past M) (events : List Event) (replies : List (Reply M)) (old new : Parts D M) : Type 0 where
   pub at : IsAt history (and_then past events replies) new
   pub kept : (t : ℕ) → t ≤ (history (device_of old)).moment → (history (device_of new)).disk_at t ≡ (history (device_of old)).disk_at t

@@ -101,7 +101,7 @@ impl<D: Device, A: Allocator + Copy> Engine<D, A> {
     /// already, the answer is the number of the last record made, or 1 where there is none, and nothing changes.
     ///
     /// A refusal is that of the step that met it, and ends the steps; what was built before it stays (`built`). `NoIndex` comes only
-    /// where there is none (`no_index`); `IndexFull` where a pair that has no entry meets no free place: each is taken or pledged
+    /// where there is none (`no_index`); `IndexFull` where a pair that has no entry meets no free place: each is taken or reserved
     /// (`full`); `Exhausted` where a record is to be made and no number is left (`exhausted`); and else it is `NoMemory` (`why`).
     ///
     /// With no transaction active and the answer `Ok`, the rows are as they were, and the visible entries are just their
@@ -130,8 +130,8 @@ impl<D: Device, A: Allocator + Copy> Engine<D, A> {
         &self.parts.core
     }
 
-    /// How far the records are synced: a crash leaves each one up to this number, between calls (`survives` of [`Engine::device`]) and
-    /// at any moment of the next one (`serves`, `ran`, `built`, `written`).
+    /// How far the records are synced. Of an engine that a run left, a crash leaves each one up to this number, between calls (`survives`
+    /// of [`Engine::device`]) and at any moment of the next one (`serves`, `ran`, `built`, `written`).
     pub fn horizon(&self) -> u64
         ensures { result ≡ horizon_of self.now }
     {

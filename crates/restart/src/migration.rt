@@ -11,7 +11,7 @@ ghost use Rattle.redo.specs.Restored.{given_in};
 ghost use Rattle.store_reader.specs.Contents.{GivesIn, HasHeaderIn};
 ghost use Rattle.nsf_core.specs.Value.{value_of};
 ghost use Rattle.restart.specs.Parts.{device_of};
-ghost use Rattle.restart.specs.Migrating.{BeginsEmpty, IsFilled, IsMigrated, IsMoved, IsNotFilled, IsNotMigrated, IsRefusalOfOld, WritesTheStoreAlone};
+ghost use Rattle.restart.specs.Migrating.{BeginsEmpty, IsFilled, IsMigrated, IsMigratedCore, IsNotFilled, IsNotMigrated, IsToldOfOld, WritesTheStoreAlone};
 
 use crate::Engine;
 use crate::copying::Copying;
@@ -52,7 +52,7 @@ pub enum MigrateError {
 /// as `read_store_in` answers them, and `Damaged` with sector 0 of a store of another version. Then nothing was written. `New`
 /// where the new device has too few sectors, and then nothing was written either, or failed. `NoMemory` comes before anything is
 /// written too, and only where the old device holds a store of version 1 whose current half begins with a header (`memory`). Of
-/// faults that are met together the first of these is answered; but `NoMemory` may come while the old device is read, before a fault
+/// faults that are met together the first of these is answered (no clause says so); but `NoMemory` may come while the old device is read, before a fault
 /// that a later sector has. Where the old device failed in the call, that is what is told (`told`). After `New` with `DeviceFailed`,
 /// and after a crash within the call, the new device may hold anything: the call is made again.
 ///
@@ -100,7 +100,7 @@ fn move_store<O: Device, N: Device, A: Allocator + Copy>(
     old: &mut O,
     new: &mut N,
 ) -> Result<(Core<A>, Halves, LogArea), MigrateError>
-    ensures moved { IfOk result (λ r. IsMoved (O.history old.old).disk.content (N.history new.new) r.1 r.2 (value_of r.0)) }
+    ensures moved { IfOk result (λ r. IsMigratedCore (O.history old.old).disk.content (N.history new.new) r.1 r.2 (value_of r.0)) }
     ensures empty { IfOk result (λ r. r.2.open_slots ≡ 0) }
     ensures around { OnOk result (WritesTheStoreAlone (O.history old.old).disk.content N.history new.old new.new) }
     ensures kept { OnlyReads (O.history old.old) (O.history old.new) }
@@ -119,7 +119,7 @@ fn move_store<O: Device, N: Device, A: Allocator + Copy>(
 
 // Why nothing is moved where the old store isn't read.
 fn refusal_of_old(error: Error) -> MigrateError
-    ensures { IsRefusalOfOld error result }
+    ensures { IsToldOfOld error result }
 {
     match error {
         Error::NoMemory => MigrateError::NoMemory,

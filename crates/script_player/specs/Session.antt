@@ -32,7 +32,8 @@ pub record OpensOn (disk : FaultDisk (MemDisk Global)) (fails_at : ℕ) (session
 abbrev pub IsRefusedOn : (disk after : FaultDisk (MemDisk Global)) → Error → Type 0
 IsRefusedOn disk after e = store.IsRefusedOn disk_history disk_failures disk after e
 
--- Whatever run left the store where it is: a crash of its disk leaves that run, with all that a reply has told to be safe.
+-- Whatever run left the store where it is: a crash of its disk leaves that run, with every record up to the horizon, and so with all
+-- that a reply has told to be safe.
 abbrev pub LeavesItsRun : Session → Type 0
 LeavesItsRun session = store.LeavesItsRun disk_history session.store (disk_of session)
 

@@ -56,7 +56,7 @@ const STAT_ABOUT: &str = "Prints what the store is and how far it has come";
 const BUILD_ABOUT: &str = "Builds the index to its end";
 
 const MIGRATE_ABOUT: &str =
-    "Moves a store of format 1 to a new file, and prints what `stat` does of it. The old file is only read";
+    "Moves a store of version 1 to a new file, and prints what `stat` does of it. The old file is only read";
 
 const PAGES_HELP: &str = "Pages of the table, 1 to 256 [default: 16]";
 
@@ -137,7 +137,7 @@ fn build_verb<'a>(alloc: Global) -> Result<Command<'a>, AllocError> {
 
 fn migrate_verb<'a>(alloc: Global) -> Result<Command<'a>, AllocError> {
     let verb = bare_verb(alloc, "migrate", MIGRATE_ABOUT);
-    let old = path_arg(alloc, "OLD", "The file of the store of format 1");
+    let old = path_arg(alloc, "OLD", "The file of the store of version 1");
     let verb = with_arg(verb, old)?;
     with_arg(verb, path_arg(alloc, "NEW", "The file that is made"))
 }

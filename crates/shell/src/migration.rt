@@ -1,6 +1,6 @@
 //! A store of version 1 in a file is moved to a new file.
 use crate::refused::Refused;
-use moving::{NotOld, move_disk, old_geometry};
+use moving::{NotVersionOne, move_disk, old_geometry};
 use records::Error;
 use restart::MigrateError;
 use sector_device::Device;
@@ -14,11 +14,11 @@ pub enum NotMoved {
     New(Refused),
 }
 
-impl From<NotOld> for NotMoved {
-    fn from(refused: NotOld) -> NotMoved {
+impl From<NotVersionOne> for NotMoved {
+    fn from(refused: NotVersionOne) -> NotMoved {
         match refused {
-            NotOld::Newer => NotMoved::Old(Refused::NotOld),
-            NotOld::Refused(error) => NotMoved::Old(Refused::Store(error)),
+            NotVersionOne::Newer => NotMoved::Old(Refused::Newer),
+            NotVersionOne::Refused(error) => NotMoved::Old(Refused::Store(error)),
         }
     }
 }
@@ -51,7 +51,8 @@ fn finish<R: Files<File = File> + AllocGlobal, O: Device, N: Device + Drop>(
     }
 }
 
-// Moves the store of version 1 on the old disk to a new file. Where that is refused, no file is left.
+// Moves the store of version 1 on the old disk to a new file. Where that is refused before the new file has its name, no file is
+// left, if the draft can be removed.
 fn move_to<R: Files<File = File> + AllocGlobal, O: Device>(
     rt: &R,
     old: &mut O,
@@ -69,8 +70,9 @@ fn move_to<R: Files<File = File> + AllocGlobal, O: Device>(
     moved
 }
 
-/// Moves the store of version 1 in the old file, which is only read, to a new file. Where that is refused, no file is left. What
-/// is wrong with the old file is told before what is wrong with the new one.
+/// Moves the store of version 1 in the old file, which is only read, to a new file. Where that is refused before the new file has
+/// its name, no file is left, if the draft can be removed. What is wrong with the old file is told before what is wrong with the new
+/// one.
 pub fn migrate_file<R: Files<File = File> + AllocGlobal>(
     rt: &R,
     old: &str,

@@ -63,7 +63,8 @@ fn finish<R: Files<File = File> + AllocGlobal, D: Device + Drop>(
     Ok(())
 }
 
-// Makes a store of this geometry in a new file. Where that is refused, no file is left.
+// Makes a store of this geometry in a new file. Where that is refused before the file has its name, no file is left, if the draft
+// can be removed.
 fn make<R: Files<File = File> + AllocGlobal>(
     rt: &R,
     path: &str,

@@ -16,7 +16,7 @@ pub enum Refused {
     /// The store opens, but its index doesn't fit its rows.
     Unsound,
     /// The store that is to be moved is of version 2 already.
-    NotOld,
+    Newer,
     /// The input can't be read, or the output can't be written.
     Stream(io::Error),
 }
@@ -51,7 +51,7 @@ fn write_error<W: fmt::Write>(error: Error, f: &mut fmt::Formatter<W>) -> fmt::R
         Error::NotFormatted => f.write_str("it holds no store of this format"),
         Error::DeviceTooSmall => f.write_str("it is shorter than the store that it begins with"),
         Error::OldVersion => f.write_str(
-            "it holds a store of format 1, which `nsf-store migrate` moves to a new file",
+            "it holds a store of version 1, which `nsf-store migrate` moves to a new file",
         ),
         Error::Damaged { sector } => write!(f, "it is damaged at sector {sector}"),
         Error::DeviceFailed => f.write_str("it can't be written"),
@@ -66,7 +66,7 @@ impl fmt::Display for Refused {
             Refused::File(error) => write!(f, "{error}"),
             Refused::Store(error) => write_error(*error, f),
             Refused::Unsound => f.write_str("it opens, but its index isn't that of its rows"),
-            Refused::NotOld => f.write_str("it holds a store of format 2, which needs no move"),
+            Refused::Newer => f.write_str("it holds a store of version 2, which needs no move"),
             Refused::NoIndex => f.write_str("it has no index; `create` in `run` begins one"),
             Refused::Stream(error) => write!(f, "input or output failed: {error}"),
         }

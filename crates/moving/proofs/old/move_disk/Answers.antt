@@ -1,6 +1,7 @@
 use Rattle.std.proofs.Common.{sym, subst}
 use Rattle.sector_device.specs.Disk.{IsSynced}
 use Rattle.store_reader.specs.Contents.{Gives}
+use Rattle.restart.specs.Migrating.{WritesTheStoreAlone}
 use Rattle.moving.proofs.old.move_disk.Goals as goal
 
 pub returns-clause-moved : goal.returns-clause-moved
@@ -15,3 +16,7 @@ returns-clause-moved g c =
       gives = subst (λ d. Gives (history d).disk.content is.opened.geometry is.opened.given) now is.opened.gives;
       synced = subst (λ d. IsSynced (history d).disk) now is.opened.synced;
     }
+
+pub returns-clause-around : goal.returns-clause-around
+returns-clause-around g c =
+    subst (WritesTheStoreAlone (g.O.Device.history c.args.old.now).disk.content g.N.Device.history c.args.new) (sym c.into_device.ensures.device) c.in_ok-engine.ensures.around
