@@ -168,7 +168,7 @@ module _ {D : Type 0} (history : D → History) (o : Opened) (seats : List SeatV
     horizon_closed last g handed horizon all synced =
         omega (arith, synced, ap length all, last g, ap (λ (v : CoreValue). v.last) is, length-append l.pushed l.core.outbox, ap length none)
 
-module _ {D : Type 0} (history : D → History) (failures : D → ℕ) (o : Opened) (seats : List SeatValue) (l : LockedValue) (book : l.book ≡ sessions_of seats) (under : ∥ IsShared o l.core l.pushed l.book ∥₁) (popped : List RecordValue) (first_popped : popped ≡ take (length popped) l.pushed) (old f : FlushValue D) (writes : WritesOn history failures o old f) (device : D) (is : device ≡ device_of f.writer) where
+module _ {D A : Type 0} (history : D → History) (failures : D → ℕ) (o : Opened) (seats : List SeatValue) (l : LockedValue) (book : l.book ≡ sessions_of seats) (under : ∥ IsShared o l.core l.pushed l.book ∥₁) (popped : List RecordValue) (first_popped : popped ≡ take (length popped) l.pushed) (old f : FlushValue D A) (writes : WritesOn history failures o old f) (device : D) (is : device ≡ device_of f.writer) where
   pub left_at_end : f.handed ≡ take (length f.handed) l.pushed → LeavesOnly (history (device_of old.writer)) (history device) (λ image. ∥ GivesSome o (halves_of old.writer).geometry seats popped (synced_of old.writer) image ∥₁)
   left_at_end begins =
       subst (λ (d : D). LeavesOnly (history (device_of old.writer)) (history d) (λ image. ∥ GivesSome o (halves_of old.writer).geometry seats popped (synced_of old.writer) image ∥₁)) (sym is)

@@ -1,5 +1,5 @@
 -- The next commit is at the front of its seat's list.
-use Rattle.std.proofs.Common.{◌≡◌, ◌+◌, ◌<◌, ◌≤◌, ℕ, zero, suc, Bool, true, false, cond, eqb, eq-eqb, ne_eqb, List, [], ◌∷◌, ◌++◌, length, map, Option, None, Some, Result, Ok, Err, IfOk, Vec, Global, take, drop, inl, inr, refl, sym, ap, ◌∙◌, subst, arith, append-nil}
+use Rattle.std.proofs.Common.{◌≡◌, ◌+◌, ◌<◌, ◌≤◌, ℕ, zero, suc, Bool, true, false, cond, eqb, eq-eqb, ne_eqb, List, [], ◌∷◌, ◌++◌, length, map, Option, None, Some, Result, Ok, Err, IfOk, Vec, take, drop, inl, inr, refl, sym, ap, ◌∙◌, subst, arith, append-nil}
 use Rattle.std.proofs.lemmas.Bool.{cases_eq, eqb-true}
 use Rattle.std.specs.Prelude.{slice_get, slice_index_or, slice_set}
 use Rattle.records.specs.declared.error.Error.{Error}
@@ -121,12 +121,12 @@ moved seats more number next lists gathered later commits a b c g =
 
 -- ---- the lists
 
-pub list_at : (lists : List (Vec CommitValue Global)) (k : ℕ) (v : Vec CommitValue Global) (l : List CommitValue) → v ≡ slice_index_or lists k v → slice_get (lists_of lists) k ≡ Some l → l ≡ v.items
+pub list_at : {A : Type 0} (lists : List (Vec CommitValue A)) (k : ℕ) (v : Vec CommitValue A) (l : List CommitValue) → v ≡ slice_index_or lists k v → slice_get (lists_of lists) k ≡ Some l → l ≡ v.items
 list_at [] k v l e at = absurd cc
-list_at (x ∷ xs) zero v l e at = sym (some_is x.items l at) ∙ ap (λ (y : Vec CommitValue Global). y.items) (sym e)
+list_at (x ∷ xs) zero v l e at = sym (some_is x.items l at) ∙ ap (λ (y : Vec CommitValue _). y.items) (sym e)
 list_at (x ∷ xs) (suc k) v l e at = list_at xs k v l e at
 
-pub list_within : (lists : List (Vec CommitValue Global)) (k : ℕ) (l : List CommitValue) → slice_get (lists_of lists) k ≡ Some l → k < length lists
+pub list_within : {A : Type 0} (lists : List (Vec CommitValue A)) (k : ℕ) (l : List CommitValue) → slice_get (lists_of lists) k ≡ Some l → k < length lists
 list_within [] k l at = absurd cc
 list_within (x ∷ xs) zero l at = omega arith
 list_within (x ∷ xs) (suc k) l at = let r = list_within xs k l at in omega (arith, r)
@@ -135,7 +135,7 @@ split_front : (number : ℕ) (items rest : List CommitValue) (c : CommitValue) �
 split_front number [] rest c heads is left = absurd cc
 split_front number (x ∷ xs) rest c heads is left = ((λ i. sym is i ∷ sym left i), ap (λ (y : CommitValue). y.ticket.commit) is ∙ is_number number x.ticket.commit heads)
 
-pub takes : (number k : ℕ) (lists : List (Vec CommitValue Global)) (old new : Vec CommitValue Global) (c : CommitValue) (list : List CommitValue) → slice_get (lists_of lists) k ≡ Some list → heads_with number list ≡ true
+pub takes : {A : Type 0} (number k : ℕ) (lists : List (Vec CommitValue A)) (old new : Vec CommitValue A) (c : CommitValue) (list : List CommitValue) → slice_get (lists_of lists) k ≡ Some list → heads_with number list ≡ true
     → old ≡ slice_index_or lists k old → c ≡ slice_index_or old.items 0 c → new.items ≡ take 0 old.items ++ drop (0 + 1) old.items → TakesFrom number c (lists_of lists) (lists_of (slice_set lists k new))
 takes number k lists old new c list there heads at is left =
     let same : list ≡ old.items = list_at lists k old list at there in
@@ -143,7 +143,7 @@ takes number k lists old new c list there heads at is left =
       k = k;
       rest = new.items;
       there = there ∙ ap Some (same ∙ split.0);
-      left = map_set (λ (v : Vec CommitValue Global). v.items) lists k new;
+      left = map_set (λ (v : Vec CommitValue _). v.items) lists k new;
       numbered = split.1;
     }
 
@@ -162,7 +162,7 @@ seats_kept items k old new at same = ap (slice_set items k) same ∙ set_itself 
 
 -- ---- the answer
 
-pub gathered_of : (lists : List (List CommitValue)) (book : List SessionValue) (result : Result (Vec CommitValue Global) Error)
+pub gathered_of : {A : Type 0} (lists : List (List CommitValue)) (book : List SessionValue) (result : Result (Vec CommitValue A) Error)
     → IfOk result (λ v. (now : List SessionValue) (count : ℕ) → lists ≡ commits_of now → (all : AreAllCommits now count) → v.items ≡ commits_in all.commits) → lists ≡ commits_of book → IfOk result (λ v. (count : ℕ) (all : AreAllCommits book count) → v.items ≡ commits_in all.commits)
 gathered_of lists book (Ok v) gathered is = λ count all. gathered book count is all
 gathered_of lists book (Err e) gathered is = tt

@@ -1,7 +1,6 @@
 -- How the flusher's part goes on from call to call.
 use Rattle.std.proofs.Common.{◌≡◌, ℕ, ◌≤◌, true, false, List, [], ◌++◌, Result, Ok, Err, IfErr, OnOk, OnErr, inl, inr, refl, sym, ap, ◌∙◌, subst, arith, append-nil, append_assoc}
 use Rattle.std.proofs.lemmas.Bool.{false≢true}
-use Rattle.std.specs.declared.alloc.Global.{Global}
 use Rattle.records.specs.RecordValue.{RecordValue}
 use Rattle.records.specs.declared.error.Error.{Error}
 use Rattle.core_model.specs.Histories.{Opened}
@@ -19,12 +18,12 @@ use Rattle.closing.specs.Written.{HasTaken, WritesOn}
 
 -- ---- the part goes on
 
-module _ {D : Type 0} (history : D → History) (failures : D → ℕ) (o : Opened) where
-  left_now : (f : FlushValue D) → IsFlusher history o f → LeavesOnly (history (device_of f.writer)) (history (device_of f.writer)) (FlushLeaves o f)
+module _ {D A : Type 0} (history : D → History) (failures : D → ℕ) (o : Opened) where
+  left_now : (f : FlushValue D A) → IsFlusher history o f → LeavesOnly (history (device_of f.writer)) (history (device_of f.writer)) (FlushLeaves o f)
   left_now f is = started (history (device_of f.writer)) (FlushLeaves o f) (λ image crash. is_left history o f is image (is.writer.images image crash))
 
   -- by no call
-  pub writes_nothing : (f : FlushValue D) → IsFlusher history o f → WritesOn history failures o f f
+  pub writes_nothing : (f : FlushValue D A) → IsFlusher history o f → WritesOn history failures o f f
   writes_nothing f is = record {
     more = [];
     handed = sym (append-nil f.handed);
@@ -38,7 +37,7 @@ module _ {D : Type 0} (history : D → History) (failures : D → ℕ) (o : Open
   }
 
   -- by records that are popped and handed in
-  pub writes_by_taking : (old new : FlushValue D) → IsFlusher history o new → HasTaken old new → WritesOn history failures o old new
+  pub writes_by_taking : (old new : FlushValue D A) → IsFlusher history o new → HasTaken old new → WritesOn history failures o old new
   writes_by_taking old new is takes = record {
     more = takes.more;
     handed = takes.handed;
@@ -54,7 +53,7 @@ module _ {D : Type 0} (history : D → History) (failures : D → ℕ) (o : Open
   }
 
   -- by a call of the writer
-  pub writes_by_call : (old new : FlushValue D) → Publishes old new → (halves_of new.writer).geometry ≡ (halves_of old.writer).geometry → synced_of old.writer ≤ synced_of new.writer
+  pub writes_by_call : (old new : FlushValue D A) → Publishes old new → (halves_of new.writer).geometry ≡ (halves_of old.writer).geometry → synced_of old.writer ≤ synced_of new.writer
       → LeavesOnly (history (device_of old.writer)) (history (device_of new.writer)) (FlushLeaves o old) → failures (device_of old.writer) ≤ failures (device_of new.writer)
       → (has_failed new.writer ≡ true → has_failed old.writer ≡ false → Rises (failures (device_of old.writer)) (failures (device_of new.writer))) → (has_failed new.writer ≡ false → has_failed old.writer ≡ false)
       → (has_failed new.writer ≡ false → failures (device_of new.writer) ≡ failures (device_of old.writer)) → WritesOn history failures o old new
@@ -73,7 +72,7 @@ module _ {D : Type 0} (history : D → History) (failures : D → ℕ) (o : Open
   }
 
   -- by one and then another
-  pub writes_then : (old mid new : FlushValue D) → WritesOn history failures o old mid → WritesOn history failures o mid new → WritesOn history failures o old new
+  pub writes_then : (old mid new : FlushValue D A) → WritesOn history failures o old mid → WritesOn history failures o mid new → WritesOn history failures o old new
   writes_then old mid new first second = record {
     more = first.more ++ second.more;
     handed = second.handed ∙ (ap (λ l. l ++ second.more) first.handed ∙ append_assoc old.handed first.more second.more);
@@ -96,10 +95,10 @@ module _ {D : Type 0} (history : D → History) (failures : D → ℕ) (o : Open
 
 -- ---- calls that met no failure of the device
 
-module _ {D : Type 0} (failures : D → ℕ) (old new : Writer D Global) where
+module _ {D A : Type 0} (failures : D → ℕ) (old new : Writer D A) where
   pub quiet_flush : {T : Type 0} (result : Result T Error) → OnOk result (failures (device_of new) ≡ failures (device_of old)) → IfErr result (λ e. IsNotFlushed failures e old new) → has_failed new ≡ false → failures (device_of new) ≡ failures (device_of old)
   quiet_flush (Ok x) quiet err sound = quiet
-  quiet_flush (Err e) quiet (inl none) sound = ap (λ (w : Writer D Global). failures (device_of w)) none.4
+  quiet_flush (Err e) quiet (inl none) sound = ap (λ (w : Writer D A). failures (device_of w)) none.4
   quiet_flush (Err e) quiet (inr device) sound = absurd (false≢true (sym sound ∙ device.1))
 
   pub quiet_call : {T : Type 0} (result : Result T Error) → OnOk result (failures (device_of new) ≡ failures (device_of old)) → IfErr result (λ e. HasFailed failures e old new) → has_failed new ≡ false → failures (device_of new) ≡ failures (device_of old)
@@ -108,30 +107,30 @@ module _ {D : Type 0} (failures : D → ℕ) (old new : Writer D Global) where
 
 -- ---- records that are taken
 
-module _ {D : Type 0} where
-  got_none : (w : Writer D Global) → HasGot [] w w
+module _ {D A : Type 0} where
+  got_none : (w : Writer D A) → HasGot [] w w
   got_none w = record { device = refl; halves = refl; log = refl; waiting = sym (append-nil (waiting_of w)); synced = refl; failed = refl; image = refl }
 
-  pub took_none : (f : FlushValue D) → HasTaken f f
+  pub took_none : (f : FlushValue D A) → HasTaken f f
   took_none f = record { more = []; handed = sym (append-nil f.handed); got = got_none f.writer; published = refl }
 
   -- some are popped
-  pub took_more : (old new : FlushValue D) (held : List RecordValue) → new ≡ record old { held = held } → HasTaken old new
+  pub took_more : (old new : FlushValue D A) (held : List RecordValue) → new ≡ record old { held = held } → HasTaken old new
   took_more old new held is = record {
     more = [];
-    handed = ap (λ (f : FlushValue D). f.handed) is ∙ sym (append-nil old.handed);
-    got = subst (λ (w : Writer D Global). HasGot [] old.writer w) (sym (ap (λ (f : FlushValue D). f.writer) is)) (got_none old.writer);
-    published = ap (λ (f : FlushValue D). f.published) is;
+    handed = ap (λ (f : FlushValue D A). f.handed) is ∙ sym (append-nil old.handed);
+    got = subst (λ (w : Writer D A). HasGot [] old.writer w) (sym (ap (λ (f : FlushValue D A). f.writer) is)) (got_none old.writer);
+    published = ap (λ (f : FlushValue D A). f.published) is;
   }
 
   -- what is held is handed in, or nothing is
-  pub took_in : {T : Type 0} (old new : FlushValue D) (result : Result T Error) → new.published ≡ old.published → OnOk result ((new.handed ≡ old.handed ++ old.held) × (new.held ≡ [])) → OnOk result (HasGot old.held old.writer new.writer)
+  pub took_in : {T : Type 0} (old new : FlushValue D A) (result : Result T Error) → new.published ≡ old.published → OnOk result ((new.handed ≡ old.handed ++ old.held) × (new.held ≡ [])) → OnOk result (HasGot old.held old.writer new.writer)
       → OnErr result ((new.handed ≡ old.handed) × (new.held ≡ old.held)) → OnErr result (HasGot [] old.writer new.writer) → HasTaken old new
   took_in old new (Ok x) published ok got err still = record { more = old.held; handed = ok.0; got = got; published = published }
   took_in old new (Err e) published ok got err still = record { more = []; handed = err.0 ∙ sym (append-nil old.handed); got = still; published = published }
 
   -- and then more
-  pub took_then : (old mid new : FlushValue D) → HasTaken old mid → HasTaken mid new → HasTaken old new
+  pub took_then : (old mid new : FlushValue D A) → HasTaken old mid → HasTaken mid new → HasTaken old new
   took_then old mid new first second = record {
     more = first.more ++ second.more;
     handed = second.handed ∙ (ap (λ l. l ++ second.more) first.handed ∙ append_assoc old.handed first.more second.more);

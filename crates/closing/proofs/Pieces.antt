@@ -1,6 +1,5 @@
 -- A whole image of all that was made, and its flip.
 use Rattle.std.proofs.Common.{◌≡◌, ◌≤◌, ◌++◌, ℕ, [], List, Some, sym, ap, ◌∙◌, subst, arith, append-nil}
-use Rattle.std.specs.declared.alloc.Global.{Global}
 use Rattle.records.specs.GeometryValue.{GeometryValue}
 use Rattle.records.specs.RecordValue.{RecordValue}
 use Rattle.model.specs.Redo.{cells_of}
@@ -28,7 +27,7 @@ use Rattle.flusher.specs.Part.{FlushValue, IsFlusher, last_handed, run_of}
 
 -- ---- the image
 
-module _ {D : Type 0} (history : D → History) (o : Opened) (f : FlushValue D) (is : IsFlusher history o f) (l : LockedValue) (all : f.handed ≡ l.pushed) (none : l.core.outbox ≡ []) (last : (g : GeometryValue) → l.core.last ≡ end_of (lock.run_of g o l)) (number : ℕ) (told : number ≡ l.core.last) where
+module _ {D A : Type 0} (history : D → History) (o : Opened) (f : FlushValue D A) (is : IsFlusher history o f) (l : LockedValue) (all : f.handed ≡ l.pushed) (none : l.core.outbox ≡ []) (last : (g : GeometryValue) → l.core.last ≡ end_of (lock.run_of g o l)) (number : ℕ) (told : number ≡ l.core.last) where
   abbrev g : GeometryValue
   g = (halves_of f.writer).geometry
 
@@ -56,13 +55,13 @@ module _ {D : Type 0} (history : D → History) (o : Opened) (f : FlushValue D) 
   whole_chunk store (Entries entries) of = absurd of
 
 -- a whole image is taken
-pub record HasImage {D : Type 0} (number : ℕ) (old new : Writer D Global) : Type 0 where
+pub record HasImage {D A : Type 0} (number : ℕ) (old new : Writer D A) : Type 0 where
   pub image : NewImage
   pub there : image_of new ≡ Some image
   pub begun : HasBegun number stage.Whole image
   pub synced : synced_of new ≡ synced_of old
 
-pub image_taken : {D A : Type 0} (number : ℕ) (v : LockedValue) (run : Run) (piece : Piece A) (old new : Writer D Global) (reply : StepReply) → IsAllOf v.core (cells_at run number) piece → IsStepReply number piece reply old new → HasImage number old new
+pub image_taken : {D A : Type 0} (number : ℕ) (v : LockedValue) (run : Run) (piece : Piece A) (old new : Writer D A) (reply : StepReply) → IsAllOf v.core (cells_at run number) piece → IsStepReply number piece reply old new → HasImage number old new
 image_taken number v run (Whole copied) old new Taken of is = record { image = is.1.0; there = is.1.1.0; begun = is.1.2; synced = is.1.1.4 }
 image_taken number v run (Whole copied) old new StartAgain of is = absurd is.1
 image_taken number v run (Start life lists) old new reply of is = absurd of
@@ -70,7 +69,7 @@ image_taken number v run (Page page rows) old new reply of is = absurd of
 image_taken number v run (Entries entries) old new reply of is = absurd of
 
 -- and so it can be made current, and all records are synced then
-module _ {D : Type 0} (number handed : ℕ) (old mid new : Writer D Global) (has : HasImage number old mid) (is : number ≡ handed) (reached : synced_of old ≤ handed) where
+module _ {D A : Type 0} (number handed : ℕ) (old mid new : Writer D A) (has : HasImage number old mid) (is : number ≡ handed) (reached : synced_of old ≤ handed) where
   can_flip : CanFlip handed mid
   can_flip = (has.image, has.there, has.begun.2, omega (arith, has.begun.1, is), omega (arith, has.begun.0, has.begun.1))
 

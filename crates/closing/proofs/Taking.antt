@@ -17,7 +17,7 @@ front_begins handed held pushed begins =
     sym (take_at handed held (length handed) refl) ∙ (ap (take (length handed)) begins ∙ take-take (length handed) (length (handed ++ held)) pushed (omega (arith, length-append handed held)))
 
 -- as records are handed in, or refused
-pub begins_by : {D T : Type 0} (old new : FlushValue D) (pushed now : List RecordValue) (result : Result T Error) → OnOk result ((new.handed ≡ popped_by old) × (new.held ≡ [])) → OnErr result ((new.handed ≡ old.handed) × (new.held ≡ old.held)) → Begins (popped_by old) pushed → now ≡ pushed
+pub begins_by : {D A T : Type 0} (old new : FlushValue D A) (pushed now : List RecordValue) (result : Result T Error) → OnOk result ((new.handed ≡ popped_by old) × (new.held ≡ [])) → OnErr result ((new.handed ≡ old.handed) × (new.held ≡ old.held)) → Begins (popped_by old) pushed → now ≡ pushed
     → Begins new.handed now
 begins_by old new pushed now (Ok x) ok err begins same = subst (Begins new.handed) (sym same) (subst (λ (l : List RecordValue). Begins l pushed) (sym ok.0) begins)
 begins_by old new pushed now (Err e) ok err begins same = subst (Begins new.handed) (sym same) (subst (λ (l : List RecordValue). Begins l pushed) (sym err.0) (front_begins old.handed old.held pushed begins))

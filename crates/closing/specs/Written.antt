@@ -7,7 +7,7 @@ use Rattle.store_writer.specs.Parts.{device_of, halves_of, has_failed, synced_of
 use Rattle.flusher.specs.Part.{FlushValue, GivesBeginning, HasGot}
 
 -- The writer has got some records more. Nothing else of it changed, and nothing was published.
-pub record HasTaken {D : Type 0} (old new : FlushValue D) : Type 0 where
+pub record HasTaken {D A : Type 0} (old new : FlushValue D A) : Type 0 where
   pub more : List RecordValue
   pub handed : new.handed ≡ old.handed ++ more
   pub got : HasGot more old.writer new.writer
@@ -16,7 +16,7 @@ pub record HasTaken {D : Type 0} (old new : FlushValue D) : Type 0 where
 -- The writer may have got some records more, and written some. The store is the same; a crash at any moment since leaves what some of
 -- the records that it has got now make of what was opened, the first ones, with all that were synced at first; and if the device failed
 -- meanwhile, it counted that, and else no failure. One that had failed stays so.
-pub record WritesOn {D : Type 0} (history : D → History) (failures : D → ℕ) (o : Opened) (old new : FlushValue D) : Type 0 where
+pub record WritesOn {D A : Type 0} (history : D → History) (failures : D → ℕ) (o : Opened) (old new : FlushValue D A) : Type 0 where
   pub more : List RecordValue
   pub handed : new.handed ≡ old.handed ++ more
   pub geometry : (halves_of new.writer).geometry ≡ (halves_of old.writer).geometry

@@ -21,7 +21,7 @@ use nsf_core::Core;
 use records::Error;
 use sector_device::Device;
 use sessions::Commit;
-use shared::{Ack, Group, Seat, Shared};
+use shared::{Ack, Group, Memory, Seat, Shared};
 use std::alloc::Global;
 use std::sync::Wait;
 use tail::RecordQueue;
@@ -29,18 +29,18 @@ use tail::RecordQueue;
 /// What is left at the end: the device, to which every record was written; the core; the number of the last record; and the
 /// commits of all seats, in the order of their numbers.
 #[derive(Drop)]
-pub struct Closed<D> {
+pub struct Closed<D, A: Memory = Global> {
     pub device: D,
-    pub core: Core<Global>,
+    pub core: Core<A>,
     pub horizon: u64,
-    pub commits: Vec<Commit>,
+    pub commits: Vec<Commit<A>, A>,
 }
 
 // No acknowledgement names a record that isn't synced.
-fn settle_all<B: Group, D: Device>(
-    board: &Board<Global>,
-    flush: &mut FlushPart<B, D>,
-    acks: Vec<Ack<B>>,
+fn settle_all<B: Group, D: Device, A: Memory>(
+    board: &Board<A>,
+    flush: &mut FlushPart<B, D, A>,
+    acks: Vec<Ack<B>, A>,
 )
     requires board { board.now ≡ B.site.board }
     ensures same { flush.new ≡ flush.old }
@@ -52,15 +52,15 @@ fn settle_all<B: Group, D: Device>(
 }
 
 // Writes every record out, and gathers the commits of the seats by number.
-fn close<B: Group, D: Device, R: Wait>(
+fn close<B: Group, D: Device, R: Wait, A: Memory>(
     rt: &R,
-    alloc: Global,
-    queue: &RecordQueue,
-    board: &Board<Global>,
-    locked: &mut Locked<B>,
-    seats: Vec<Seat<B>>,
-    flush: &mut FlushPart<B, D>,
-) -> Result<Vec<Commit>, Error>
+    alloc: A,
+    queue: &RecordQueue<A>,
+    board: &Board<A>,
+    locked: &mut Locked<B, A>,
+    seats: Vec<Seat<B, A>, A>,
+    flush: &mut FlushPart<B, D, A>,
+) -> Result<Vec<Commit<A>, A>, Error>
     requires queue { queue.now ≡ B.site.queue }
     requires board { board.now ≡ B.site.board }
     ensures writes { WritesOn D.history D.failures B.site.opened flush.old flush.new }
@@ -79,7 +79,7 @@ fn close<B: Group, D: Device, R: Wait>(
 }
 
 // The refusal, or that the device failed where it did.
-fn told<B: Group, D: Device>(flush: &FlushPart<B, D>, error: Error) -> Error
+fn told<B: Group, D: Device, A: Memory>(flush: &FlushPart<B, D, A>, error: Error) -> Error
     ensures failed { has_failed flush.now.writer ≡ true → result ≡ DeviceFailed }
     ensures sound { has_failed flush.now.writer ≡ false → result ≡ error }
 {
@@ -98,14 +98,14 @@ fn told<B: Group, D: Device>(flush: &FlushPart<B, D>, error: Error) -> Error
 /// those.
 ///
 /// `DeviceFailed` where the device failed, now or earlier, and else `NoMemory`.
-pub fn finish<B: Group, D: Device, R: Wait>(
+pub fn finish<B: Group, D: Device, R: Wait, A: Memory>(
     rt: &R,
-    alloc: Global,
-    shared: Shared<B>,
-    mut seats: Vec<Seat<B>>,
-    mut flush: FlushPart<B, D>,
-    acks: Vec<Ack<B>>,
-) -> Result<Closed<D>, (Error, D)>
+    alloc: A,
+    shared: Shared<B, A>,
+    mut seats: Vec<Seat<B, A>, A>,
+    mut flush: FlushPart<B, D, A>,
+    acks: Vec<Ack<B>, A>,
+) -> Result<Closed<D, A>, (Error, D)>
     requires seats { AreAllSeats B.site.seats seats.items }
     ensures commits { IfOk result (λ c. ∥ AreCommitsOf seats.items c.commits.items ∥₁) }
     ensures core { IfOk result (λ c. ∥ IsCoreOf B.site.opened seats.items (popped_by flush) (value_of c.core) c.commits.items ∥₁) }

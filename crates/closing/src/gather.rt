@@ -10,12 +10,11 @@ use locked_core::Locked;
 use records::Error;
 use session_halves::Registry;
 use sessions::Commit;
-use shared::{Group, Seat};
-use std::alloc::Global;
+use shared::{Group, Memory, Seat};
 use std::sync::Wait;
 
 // Whether the commit has this number.
-fn is_numbered(commit: &Commit, number: u64) -> bool
+fn is_numbered<A: Memory>(commit: &Commit<A>, number: u64) -> bool
     ensures { result ≡ is_numbered number commit.now.ticket.commit }
 {
     match commit.ticket().commit {
@@ -25,7 +24,7 @@ fn is_numbered(commit: &Commit, number: u64) -> bool
 }
 
 // Whether the first commit has this number.
-fn heads(list: &[Commit], number: u64) -> bool
+fn heads<A: Memory>(list: &[Commit<A>], number: u64) -> bool
     ensures { result ≡ heads_with number list.now }
 {
     match list.first() {
@@ -35,7 +34,7 @@ fn heads(list: &[Commit], number: u64) -> bool
 }
 
 // The first list whose first commit has this number.
-fn find_next(lists: &[Vec<Commit>], number: u64) -> Option<usize>
+fn find_next<A: Memory>(lists: &[Vec<Commit<A>, A>], number: u64) -> Option<usize>
     ensures some { IfSome result (λ k. (list : List CommitValue) × (slice_get (lists_of lists.now) k ≡ Some list) × (heads_with number list ≡ true)) }
     ensures within { IfSome result (λ k. k < length lists.now) }
     ensures none { IfNone result ((k : ℕ) (list : List CommitValue) → slice_get (lists_of lists.now) k ≡ Some list → heads_with number list ≡ false) }
@@ -49,7 +48,7 @@ fn find_next(lists: &[Vec<Commit>], number: u64) -> Option<usize>
 }
 
 // Takes the commit of this number, if it is the first of a list.
-fn take_next(lists: &mut Vec<Vec<Commit>>, number: u64) -> Option<Commit>
+fn take_next<A: Memory>(lists: &mut Vec<Vec<Commit<A>, A>, A>, number: u64) -> Option<Commit<A>>
     ensures some { IfSome result (λ commit. TakesFrom number commit (lists_of lists.old.items) (lists_of lists.new.items)) }
     ensures none { IfNone result ((k : ℕ) (list : List CommitValue) → slice_get (lists_of lists.old.items) k ≡ Some list → heads_with number list ≡ false) }
 {
@@ -62,7 +61,11 @@ fn take_next(lists: &mut Vec<Vec<Commit>>, number: u64) -> Option<Commit>
 }
 
 // All commits, by number, of the lists of all sessions.
-fn gather<R: Wait>(rt: &R, alloc: Global, mut lists: Vec<Vec<Commit>>) -> Result<Vec<Commit>, Error>
+fn gather<R: Wait, A: Memory>(
+    rt: &R,
+    alloc: A,
+    mut lists: Vec<Vec<Commit<A>, A>, A>,
+) -> Result<Vec<Commit<A>, A>, Error>
     ensures ok { IfOk result (λ v. (book : List SessionValue) (count : ℕ) → lists_of lists.items ≡ commits_of book → (all : AreAllCommits book count) → v.items ≡ map (λ c. c.1) all.commits) }
     ensures no_memory { IfErr result (λ e. e ≡ NoMemory) }
 {
@@ -78,7 +81,10 @@ fn gather<R: Wait>(rt: &R, alloc: Global, mut lists: Vec<Vec<Commit>>) -> Result
 }
 
 // The commits of each seat.
-fn lists_of_seats<B: Group>(alloc: Global, seats: Vec<Seat<B>>) -> Result<Vec<Vec<Commit>>, Error>
+fn lists_of_seats<B: Group, A: Memory>(
+    alloc: A,
+    seats: Vec<Seat<B, A>, A>,
+) -> Result<Vec<Vec<Commit<A>, A>, A>, Error>
     ensures lists { IfOk result (λ lists. lists_of lists.items ≡ commits_of (sessions_of seats.items)) }
     ensures no_memory { IfErr result (λ e. e ≡ NoMemory) }
 {
@@ -90,11 +96,11 @@ fn lists_of_seats<B: Group>(alloc: Global, seats: Vec<Seat<B>>) -> Result<Vec<Ve
 }
 
 // The commits of all seats, by number.
-pub(crate) fn gather_commits<B: Group, R: Wait>(
+pub(crate) fn gather_commits<B: Group, R: Wait, A: Memory>(
     rt: &R,
-    alloc: Global,
-    seats: Vec<Seat<B>>,
-) -> Result<Vec<Commit>, Error>
+    alloc: A,
+    seats: Vec<Seat<B, A>, A>,
+) -> Result<Vec<Commit<A>, A>, Error>
     ensures ok { IfOk result (λ v. (count : ℕ) (all : AreAllCommits (sessions_of seats.items) count) → v.items ≡ map (λ c. c.1) all.commits) }
     ensures no_memory { IfErr result (λ e. e ≡ NoMemory) }
 {
@@ -103,10 +109,10 @@ pub(crate) fn gather_commits<B: Group, R: Wait>(
 }
 
 // The session that each seat shows is the one under the lock.
-pub(crate) fn compare_all<B: Group>(
-    registry: &Registry,
-    locked: &mut Locked<B>,
-    seats: &mut Vec<Seat<B>>,
+pub(crate) fn compare_all<B: Group, A: Memory>(
+    registry: &Registry<A>,
+    locked: &mut Locked<B, A>,
+    seats: &mut Vec<Seat<B, A>, A>,
 )
     requires { registry.now ≡ B.site.table }
     ensures seen { AreSeen (locked_of locked.old).book seats.old.items }

@@ -9,22 +9,21 @@ ghost use Rattle.closing.specs.Written.{HasTaken, WritesOn};
 use board::Board;
 use flusher::FlushPart;
 use image_model::CopyPlace;
-use locked_core::{Group, Locked};
+use locked_core::{Group, Locked, Memory};
 use records::Error;
 use sector_device::Device;
-use std::alloc::Global;
 use std::sync::Wait;
 use store_writer::FlushReply;
 use tail::RecordQueue;
 
 // Hands in what was popped, pushes the records that wait in the core, and pops and hands in those that wait in the queue, until the
 // writer has got every record that was made.
-fn hand_in_all<B: Group, D: Device, R: Wait>(
+fn hand_in_all<B: Group, D: Device, R: Wait, A: Memory>(
     rt: &R,
-    alloc: Global,
-    queue: &RecordQueue,
-    locked: &mut Locked<B>,
-    flush: &mut FlushPart<B, D>,
+    alloc: A,
+    queue: &RecordQueue<A>,
+    locked: &mut Locked<B, A>,
+    flush: &mut FlushPart<B, D, A>,
 ) -> Result<(), Error>
     requires { queue.now ≡ B.site.queue }
     ensures taken { HasTaken flush.old flush.new }
@@ -53,11 +52,11 @@ fn hand_in_all<B: Group, D: Device, R: Wait>(
 }
 
 // Takes an image of all cells, and makes it current.
-fn write_image<B: Group, D: Device>(
-    alloc: Global,
-    board: &Board<Global>,
-    locked: &Locked<B>,
-    flush: &mut FlushPart<B, D>,
+fn write_image<B: Group, D: Device, A: Memory>(
+    alloc: A,
+    board: &Board<A>,
+    locked: &Locked<B, A>,
+    flush: &mut FlushPart<B, D, A>,
 ) -> Result<(), Error>
     requires board { board.now ≡ B.site.board }
     requires all { flush.old.handed ≡ (locked_of locked.now).pushed }
@@ -77,11 +76,11 @@ fn write_image<B: Group, D: Device>(
 }
 
 // Writes groups until every record that the writer has got is synced; or, once the log is full, an image.
-fn write_groups<B: Group, D: Device>(
-    alloc: Global,
-    board: &Board<Global>,
-    locked: &Locked<B>,
-    flush: &mut FlushPart<B, D>,
+fn write_groups<B: Group, D: Device, A: Memory>(
+    alloc: A,
+    board: &Board<A>,
+    locked: &Locked<B, A>,
+    flush: &mut FlushPart<B, D, A>,
 ) -> Result<(), Error>
     requires board { board.now ≡ B.site.board }
     requires all { flush.old.handed ≡ (locked_of locked.now).pushed }
@@ -103,13 +102,13 @@ fn write_groups<B: Group, D: Device>(
 }
 
 // Writes every record out that was made.
-pub(crate) fn write_out<B: Group, D: Device, R: Wait>(
+pub(crate) fn write_out<B: Group, D: Device, R: Wait, A: Memory>(
     rt: &R,
-    alloc: Global,
-    queue: &RecordQueue,
-    board: &Board<Global>,
-    locked: &mut Locked<B>,
-    flush: &mut FlushPart<B, D>,
+    alloc: A,
+    queue: &RecordQueue<A>,
+    board: &Board<A>,
+    locked: &mut Locked<B, A>,
+    flush: &mut FlushPart<B, D, A>,
 ) -> Result<(), Error>
     requires queue { queue.now ≡ B.site.queue }
     requires board { board.now ≡ B.site.board }

@@ -2,7 +2,6 @@
 use Rattle.std.proofs.Common.{◌≡◌, ℕ, ◌+◌, ◌<◌, ◌≤◌, Bool, true, false, List, [], ◌++◌, length, take, Result, Ok, Err, IfErr, IfOk, OnErr, OnOk, inl, inr, refl, sym, ap, ◌∙◌, subst, arith, append-nil, append_assoc, length-append}
 use Rattle.std.proofs.lemmas.Bool.{false≢true}
 use Rattle.std.proofs.lemmas.List.{take-append-le}
-use Rattle.std.specs.declared.alloc.Global.{Global}
 use Rattle.records.specs.GeometryValue.{GeometryValue}
 use Rattle.records.specs.RecordValue.{RecordValue}
 use Rattle.records.specs.declared.error.Error.{Error}
@@ -31,12 +30,12 @@ use Rattle.flusher.proofs.Keeping.{is_left}
 
 -- ---- the store is the same
 
-module _ {D : Type 0} (old new : Writer D Global) where
+module _ {D A : Type 0} (old new : Writer D A) where
   same_geometry : new ≡ old → (halves_of new).geometry ≡ (halves_of old).geometry
-  same_geometry is = ap (λ (w : Writer D Global). (halves_of w).geometry) is
+  same_geometry is = ap (λ (w : Writer D A). (halves_of w).geometry) is
 
   left_geometry : IsAsBefore old new → (halves_of new).geometry ≡ (halves_of old).geometry
-  left_geometry is = ap (λ (w : Writer D Global). (halves_of w).geometry) is
+  left_geometry is = ap (λ (w : Writer D A). (halves_of w).geometry) is
 
   pub step_geometry : {A : Type 0} (number : ℕ) (piece : Piece A) (result : Result StepReply Error) → IfOk result (λ reply. IsStepReply number piece reply old new) → OnErr result (IsAsBefore old new) → (halves_of new).geometry ≡ (halves_of old).geometry
   step_geometry number piece (Ok Taken) is left = ap (λ (h : HalvesValue). h.geometry) is.1.1.1
@@ -65,11 +64,11 @@ counted_then old false new a b c low high first second = λ now before. rises_la
 pub counted_same : (old new : Bool) (a b : ℕ) → new ≡ old → Counts old new a b
 counted_same old new a b same now before = absurd (false≢true (sym before ∙ sym same ∙ now))
 
-module _ {D : Type 0} (failures : D → ℕ) (old new : Writer D Global) where
+module _ {D A : Type 0} (failures : D → ℕ) (old new : Writer D A) where
   pub counted_by_flush : {T : Type 0} (result : Result T Error) → OnOk result ((has_failed old ≡ false) × (has_failed new ≡ false)) → IfErr result (λ e. IsNotFlushed failures e old new)
       → has_failed new ≡ true → has_failed old ≡ false → Rises (failures (device_of old)) (failures (device_of new))
   counted_by_flush (Ok x) sound err now before = absurd (false≢true (sym sound.1 ∙ now))
-  counted_by_flush (Err e) sound (inl none) now before = absurd (false≢true (sym before ∙ (ap (λ (w : Writer D Global). has_failed w) (sym none.4) ∙ now)))
+  counted_by_flush (Err e) sound (inl none) now before = absurd (false≢true (sym before ∙ (ap (λ (w : Writer D A). has_failed w) (sym none.4) ∙ now)))
   counted_by_flush (Err e) sound (inr failed) now before = (failed.2 before).1
 
   pub counted_by_call : {T : Type 0} (result : Result T Error) → OnOk result ((has_failed old ≡ false) × (has_failed new ≡ false)) → IfErr result (λ e. HasFailed failures e old new)
@@ -96,9 +95,9 @@ module _ (o : Opened) where
   pub same_store : (g now : GeometryValue) (handed : List RecordValue) (floor : ℕ) (image : Image) → now ≡ g → GivesBeginning o g handed floor image → GivesBeginning o now handed floor image
   same_store g now handed floor image is left = subst (λ (x : GeometryValue). GivesBeginning o x handed floor image) (sym is) left
 
-module _ {D : Type 0} (history : D → History) (failures : D → ℕ) (o : Opened) where
+module _ {D A : Type 0} (history : D → History) (failures : D → ℕ) (o : Opened) where
   -- by no call
-  pub goes_nowhere : (f : FlushValue D) → IsFlusher history o f → GoesOn history failures o f f
+  pub goes_nowhere : (f : FlushValue D A) → IsFlusher history o f → GoesOn history failures o f f
   goes_nowhere f is = record {
     popped = [];
     popped-are = sym (append-nil (popped_by f));
@@ -113,7 +112,7 @@ module _ {D : Type 0} (history : D → History) (failures : D → ℕ) (o : Open
   }
 
   -- by records that are popped and handed in
-  pub goes_by_taking : (old new : FlushValue D) → IsFlusher history o new → TakesIn old new → GoesOn history failures o old new
+  pub goes_by_taking : (old new : FlushValue D A) → IsFlusher history o new → TakesIn old new → GoesOn history failures o old new
   goes_by_taking old new is takes = record {
     popped = takes.popped;
     popped-are = takes.popped-are;
@@ -131,7 +130,7 @@ module _ {D : Type 0} (history : D → History) (failures : D → ℕ) (o : Open
   }
 
   -- by a call of the writer
-  pub goes_by_call : (old new : FlushValue D) → old.published.horizon ≤ synced_of old.writer → Publishes old new → (halves_of new.writer).geometry ≡ (halves_of old.writer).geometry → synced_of old.writer ≤ synced_of new.writer
+  pub goes_by_call : (old new : FlushValue D A) → old.published.horizon ≤ synced_of old.writer → Publishes old new → (halves_of new.writer).geometry ≡ (halves_of old.writer).geometry → synced_of old.writer ≤ synced_of new.writer
       → LeavesOnly (history (device_of old.writer)) (history (device_of new.writer)) (FlushLeaves o old) → failures (device_of old.writer) ≤ failures (device_of new.writer)
       → (has_failed new.writer ≡ true → has_failed old.writer ≡ false → Rises (failures (device_of old.writer)) (failures (device_of new.writer))) → GoesOn history failures o old new
   goes_by_call old new low publishes geometry rises images later counted = record {
@@ -150,7 +149,7 @@ module _ {D : Type 0} (history : D → History) (failures : D → ℕ) (o : Open
   }
 
   -- by one and then another
-  pub goes_then : (old mid new : FlushValue D) → GoesOn history failures o old mid → GoesOn history failures o mid new → GoesOn history failures o old new
+  pub goes_then : (old mid new : FlushValue D A) → GoesOn history failures o old mid → GoesOn history failures o mid new → GoesOn history failures o old new
   goes_then old mid new first second = record {
     popped = first.popped ++ second.popped;
     popped-are = second.popped-are ∙ ap (λ l. l ++ second.popped) first.popped-are ∙ append_assoc (popped_by old) first.popped second.popped;

@@ -49,7 +49,7 @@ not_none image i is none = cc
 there : (pages : ℕ) (place : Option CopyPlace) (image : Option NewImage) → image ≢ None → IsAt pages place image → IsAtPlace pages place image
 there pages place image some either = ⊎_elim (λ none. absurd (some none)) (λ is. is) either
 
-module _ {D : Type 0} (history : D → History) (o : Opened) (f : FlushValue D) (is : IsFlusher history o f) (l : LockedValue) (all : l.pushed ++ l.core.outbox ≡ f.handed) (last : (g : GeometryValue) → l.core.last ≡ end_of (lock.run_of g o l))
+module _ {D A : Type 0} (history : D → History) (o : Opened) (f : FlushValue D A) (is : IsFlusher history o f) (l : LockedValue) (all : l.pushed ++ l.core.outbox ≡ f.handed) (last : (g : GeometryValue) → l.core.last ≡ end_of (lock.run_of g o l))
     (store : (g : GeometryValue) → g.pages ≡ o.pages → g.entries ≡ o.places → IsOfGeometry l.core g) (number : ℕ) (told : number ≡ l.core.last) where
   abbrev g : GeometryValue
   g = (halves_of f.writer).geometry
@@ -121,7 +121,7 @@ module _ {D : Type 0} (history : D → History) (o : Opened) (f : FlushValue D) 
         subst (λ n. IsChunk (run_of o f) f.writer n piece) (sym number_is) (piece_then place piece due now)
 
 -- a piece that may be taken comes where the image is
-pub at_piece : {A D : Type 0} (v : CoreValue) (cells : Cells) (f : FlushValue D) (pages : ℕ) (place : CopyPlace) (piece : Piece A) → IsPieceOf v cells place piece → IsPieceDue pages place (image_of f.writer) → ¬ MustStartAgain piece f.writer → IsAtPiece pages piece (image_of f.writer)
+pub at_piece : {A D : Type 0} (v : CoreValue) (cells : Cells) (f : FlushValue D A) (pages : ℕ) (place : CopyPlace) (piece : Piece A) → IsPieceOf v cells place piece → IsPieceDue pages place (image_of f.writer) → ¬ MustStartAgain piece f.writer → IsAtPiece pages piece (image_of f.writer)
 at_piece v now f pages at.Start (Start life lists) of due may = tt
 at_piece v now f pages (at.Page page) (Page copied rows) of due may =
     subst (λ p. IsAtPlace pages (Some (at.Page p)) (image_of f.writer)) (sym of.0) (there pages (Some (at.Page page)) (image_of f.writer) (λ none. may (inl none)) due)

@@ -1,6 +1,5 @@
 -- Records that are popped and handed in, under the lock.
 use Rattle.std.proofs.Common.{◌≡◌, List, [], ◌++◌, length, take, Result, Ok, Err, OnOk, OnErr, refl, sym, ap, ◌∙◌, subst, append-nil, append_assoc}
-use Rattle.std.specs.declared.alloc.Global.{Global}
 use Rattle.records.specs.RecordValue.{RecordValue}
 use Rattle.records.specs.declared.error.Error.{Error}
 use Rattle.store_writer.specs.declared.writer.Writer.{Writer}
@@ -8,15 +7,15 @@ use Rattle.store_writer.specs.Parts.{waiting_of}
 use Rattle.flusher.specs.Going.{TakesIn}
 use Rattle.flusher.specs.Part.{FlushValue, HasGot, popped_by}
 
-module _ {D : Type 0} where
-  pub got_none : (w : Writer D Global) → HasGot [] w w
+module _ {D A : Type 0} where
+  pub got_none : (w : Writer D A) → HasGot [] w w
   got_none w = record { device = refl; halves = refl; log = refl; waiting = sym (append-nil (waiting_of w)); synced = refl; failed = refl; image = refl }
 
   -- no record was popped
-  pub took_none : (f : FlushValue D) → TakesIn f f
+  pub took_none : (f : FlushValue D A) → TakesIn f f
   took_none f = record { popped = []; popped-are = sym (append-nil (popped_by f)); more = []; handed = sym (append-nil f.handed); got = got_none f.writer; published = refl }
 
-  module _ (old mid : FlushValue D) (popped : List RecordValue) (is : mid ≡ record old { held = old.held ++ popped }) where
+  module _ (old mid : FlushValue D A) (popped : List RecordValue) (is : mid ≡ record old { held = old.held ++ popped }) where
     all_are : popped_by mid ≡ popped_by old ++ popped
     all_are = ap popped_by is ∙ sym (append_assoc old.handed old.held popped)
 
@@ -26,14 +25,14 @@ module _ {D : Type 0} where
       popped = popped;
       popped-are = all_are;
       more = [];
-      handed = ap (λ (f : FlushValue D). f.handed) is ∙ sym (append-nil old.handed);
-      got = subst (λ (f : FlushValue D). HasGot [] old.writer f.writer) (sym is) (got_none old.writer);
-      published = ap (λ (f : FlushValue D). f.published) is;
+      handed = ap (λ (f : FlushValue D A). f.handed) is ∙ sym (append-nil old.handed);
+      got = subst (λ (f : FlushValue D A). HasGot [] old.writer f.writer) (sym is) (got_none old.writer);
+      published = ap (λ (f : FlushValue D A). f.published) is;
     }
 
-    module _ (new : FlushValue D) (told : new.published ≡ mid.published) where
+    module _ (new : FlushValue D A) (told : new.published ≡ mid.published) where
       published_is : new.published ≡ old.published
-      published_is = told ∙ ap (λ (f : FlushValue D). f.published) is
+      published_is = told ∙ ap (λ (f : FlushValue D A). f.published) is
 
       -- and then all that is held was handed in
       got_all : (new.handed ≡ popped_by mid) × (new.held ≡ []) → HasGot mid.held mid.writer new.writer → TakesIn old new
@@ -42,7 +41,7 @@ module _ {D : Type 0} where
         popped-are = ap (λ l. new.handed ++ l) ok.1 ∙ append-nil new.handed ∙ ok.0 ∙ all_are;
         more = old.held ++ popped;
         handed = ok.0 ∙ ap popped_by is;
-        got = subst (λ (f : FlushValue D). HasGot f.held f.writer new.writer) is got;
+        got = subst (λ (f : FlushValue D A). HasGot f.held f.writer new.writer) is got;
         published = published_is;
       }
 
@@ -52,8 +51,8 @@ module _ {D : Type 0} where
         popped = popped;
         popped-are = ap (λ l. l ++ new.held) err.0 ∙ ap (λ l. mid.handed ++ l) err.1 ∙ all_are;
         more = [];
-        handed = err.0 ∙ ap (λ (f : FlushValue D). f.handed) is ∙ sym (append-nil old.handed);
-        got = subst (λ (f : FlushValue D). HasGot [] f.writer new.writer) is got;
+        handed = err.0 ∙ ap (λ (f : FlushValue D A). f.handed) is ∙ sym (append-nil old.handed);
+        got = subst (λ (f : FlushValue D A). HasGot [] f.writer new.writer) is got;
         published = published_is;
       }
 
@@ -63,14 +62,14 @@ module _ {D : Type 0} where
       took_in (Err e) ok got err still = got_nothing err still
 
   -- what was handed in is a beginning of what was pushed
-  pub begins : (mid new : FlushValue D) (pushed now : List RecordValue) (result : Result (Unit {0}) Error) → OnOk result ((new.handed ≡ popped_by mid) × (new.held ≡ [])) → popped_by mid ≡ take (length (popped_by mid)) pushed → now ≡ pushed
+  pub begins : (mid new : FlushValue D A) (pushed now : List RecordValue) (result : Result (Unit {0}) Error) → OnOk result ((new.handed ≡ popped_by mid) × (new.held ≡ [])) → popped_by mid ≡ take (length (popped_by mid)) pushed → now ≡ pushed
       → OnOk result (new.handed ≡ take (length new.handed) now)
   begins mid new pushed now (Ok x) ok beginning same =
       subst (λ (l : List RecordValue). new.handed ≡ take (length new.handed) l) (sym same) (subst (λ (l : List RecordValue). l ≡ take (length l) pushed) (sym ok.0) beginning)
   begins mid new pushed now (Err e) ok beginning same = tt
 
   -- some were popped and handed in, and then more
-  pub took_then : (old mid new : FlushValue D) → TakesIn old mid → TakesIn mid new → TakesIn old new
+  pub took_then : (old mid new : FlushValue D A) → TakesIn old mid → TakesIn mid new → TakesIn old new
   took_then old mid new first second = record {
     popped = first.popped ++ second.popped;
     popped-are = second.popped-are ∙ ap (λ l. l ++ second.popped) first.popped-are ∙ append_assoc (popped_by old) first.popped second.popped;

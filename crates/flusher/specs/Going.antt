@@ -8,7 +8,7 @@ use Rattle.flusher.specs.Part.{FlushValue, GivesBeginning, HasGot, popped_by}
 
 -- Some records more were popped, and the writer has got some more of those that were popped. Nothing else of it changed, and nothing
 -- was published.
-pub record TakesIn {D : Type 0} (old new : FlushValue D) : Type 0 where
+pub record TakesIn {D A : Type 0} (old new : FlushValue D A) : Type 0 where
   pub popped : List RecordValue
   pub popped-are : popped_by new ≡ popped_by old ++ popped
   pub more : List RecordValue
@@ -19,7 +19,7 @@ pub record TakesIn {D : Type 0} (old new : FlushValue D) : Type 0 where
 -- It has gone on, by as many calls as there were: more records were popped and handed in, or as many, and none was lost; no horizon
 -- went back, and the store is the same. A crash at any moment since leaves what some of the records that the writer has got now make
 -- of what was opened, the first ones, with all that were synced at first. And if the device failed meanwhile, it counted that.
-pub record GoesOn {D : Type 0} (history : D → History) (failures : D → ℕ) (o : Opened) (old new : FlushValue D) : Type 0 where
+pub record GoesOn {D A : Type 0} (history : D → History) (failures : D → ℕ) (o : Opened) (old new : FlushValue D A) : Type 0 where
   pub popped : List RecordValue
   pub popped-are : popped_by new ≡ popped_by old ++ popped
   pub more : List RecordValue

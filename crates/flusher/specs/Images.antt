@@ -1,6 +1,5 @@
 -- When an image is wanted, and which piece of it is due.
 use Rattle.std.specs.Prelude.{◌≡◌, ◌⊎◌, ◌-◌, ◌/◌, ◌≤◌, ◌<◌, ℕ, List, Option, Some, None, false}
-use Rattle.std.specs.declared.alloc.Global.{Global}
 use Rattle.records.specs.declared.pair.Mark.{Mark}
 use Rattle.records.specs.declared.pair.Pair.{Pair}
 use Rattle.model.specs.Table.{Table}
@@ -15,7 +14,7 @@ use Rattle.store_writer.specs.declared.writer.Writer.{Writer}
 use Rattle.flusher.specs.Part.{FlushValue, last_handed, run_of}
 
 -- two thirds of the slots of the current half's log are open, and one at least
-abbrev pub IsNearlyFull : {D : Type 0} → Writer D Global → Type 0
+abbrev pub IsNearlyFull : {D A : Type 0} → Writer D A → Type 0
 IsNearlyFull w = (0 < (log_of w).open_slots) × ((halves_of w).geometry.slots - (halves_of w).geometry.slots / 3 ≤ (log_of w).open_slots)
 
 -- an image is copied in steps and is at this place, or whole where there is none, unless a flush gave it up
@@ -29,7 +28,7 @@ IsPieceDue pages (at.Page page) image = IsAt pages (Some (at.Page page)) image
 IsPieceDue pages (at.Entries above) image = IsAt pages (Some (at.Entries above)) image
 
 -- the piece of an image that is due may be taken, as the last record handed in left its cells (no public clause cites this)
-pub record TakesNext {D : Type 0} (o : Opened) (f : FlushValue D) : Type 0 where
+pub record TakesNext {D A : Type 0} (o : Opened) (f : FlushValue D A) : Type 0 where
   pub page : (page : ℕ) (rows : Table) → has_failed f.writer ≡ false → IsAtPlace (halves_of f.writer).geometry.pages (Some (at.Page page)) (image_of f.writer) → AreRowsNow (run_of o f) page rows
       → (i : NewImage) → image_of f.writer ≡ Some i → IsPageChunk (run_of o f) i (last_handed o f) page rows
   pub entries : (above : Option Pair) (entries : List (Pair × Mark)) → has_failed f.writer ≡ false → IsAtPlace (halves_of f.writer).geometry.pages (Some (at.Entries above)) (image_of f.writer) → AreEntriesNow (run_of o f) above entries

@@ -1,6 +1,5 @@
 -- What contracts see of the flusher's part, and what it keeps.
 use Rattle.std.specs.Prelude.{◌≡◌, ℕ, ◌+◌, ◌-◌, ◌≤◌, List, ◌++◌, length, take}
-use Rattle.std.specs.declared.alloc.Global.{Global}
 use Rattle.atomic_table.specs.Seated.{TableId}
 use Rattle.records.specs.GeometryValue.{GeometryValue}
 use Rattle.records.specs.RecordValue.{RecordValue}
@@ -25,26 +24,26 @@ pub record EndsValue : Type 0 where
   pub published : FlusherCount
 
 -- The records that the writer has got, in order, and those that were popped behind them; the writer; and what was published.
-pub record FlushValue (D : Type 0) : Type 0 where
+pub record FlushValue (D A : Type 0) : Type 0 where
   pub handed : List RecordValue
   pub held : List RecordValue
-  pub writer : Writer D Global
+  pub writer : Writer D A
   pub published : FlusherCount
 
 -- of the records that were popped, these are held, and the writer has got those before them
-abbrev pub flush_value : {D : Type 0} → (popped held : List RecordValue) → Writer D Global → FlusherCount → FlushValue D
+abbrev pub flush_value : {D A : Type 0} → (popped held : List RecordValue) → Writer D A → FlusherCount → FlushValue D A
 flush_value popped held writer published = record { handed = take (length popped - length held) popped; held = held; writer = writer; published = published }
 
 -- all records that were popped, in order, each once
-abbrev pub popped_by : {D : Type 0} → FlushValue D → List RecordValue
+abbrev pub popped_by : {D A : Type 0} → FlushValue D A → List RecordValue
 popped_by f = f.handed ++ f.held
 
 -- the store as it was opened, with the records that the writer has got since
-abbrev pub run_of : {D : Type 0} → Opened → FlushValue D → Run
+abbrev pub run_of : {D A : Type 0} → Opened → FlushValue D A → Run
 run_of o f = record { geometry = (halves_of f.writer).geometry; last = o.given.last; cells = opening_cells o.given; records = f.handed }
 
 -- the number of the last of them
-abbrev pub last_handed : {D : Type 0} → Opened → FlushValue D → ℕ
+abbrev pub last_handed : {D A : Type 0} → Opened → FlushValue D A → ℕ
 last_handed o f = o.given.last + length f.handed
 
 -- A core may begin with what is given after each prefix of the records, where it may with what was opened.
@@ -54,7 +53,7 @@ MayOpenAgain o records = CanOpen o → (n : ℕ) → n ≤ length records → Ca
 -- The writer stands for the records that it got over what was opened, and its store has the pages of that, and places for the
 -- entries after each of the records, with which a core may begin. What was published is not above what the writer has synced, and
 -- tells whether its device failed.
-pub record IsFlusher {D : Type 0} (history : D → History) (o : Opened) (f : FlushValue D) : Type 0 where
+pub record IsFlusher {D A : Type 0} (history : D → History) (o : Opened) (f : FlushValue D A) : Type 0 where
   pub pages : (halves_of f.writer).geometry.pages ≡ o.pages
   pub places : (halves_of f.writer).geometry.entries ≡ o.places
   pub fits : FitPlaces o f.handed
@@ -75,15 +74,15 @@ pub record GivesBeginning (o : Opened) (g : GeometryValue) (handed : List Record
   pub opens : CanOpen o → CanOpen (record o { given = given_after o.given (take count handed) })
 
 -- So does each crash state of the flusher's device: with all that its writer has synced.
-abbrev pub FlushLeaves : {D : Type 0} → Opened → FlushValue D → Image → Type 0
+abbrev pub FlushLeaves : {D A : Type 0} → Opened → FlushValue D A → Image → Type 0
 FlushLeaves o f = GivesBeginning o (halves_of f.writer).geometry f.handed (synced_of f.writer)
 
 -- what is published of a writer
-abbrev pub count_of : {D : Type 0} → TableId → Writer D Global → FlusherCount
+abbrev pub count_of : {D A : Type 0} → TableId → Writer D A → FlusherCount
 count_of board writer = record { board = board; horizon = synced_of writer; failed = has_failed writer }
 
 -- The writer has got these records more, which wait; and nothing else of it changed.
-pub record HasGot {D : Type 0} (more : List RecordValue) (old new : Writer D Global) : Type 0 where
+pub record HasGot {D A : Type 0} (more : List RecordValue) (old new : Writer D A) : Type 0 where
   pub device : device_of new ≡ device_of old
   pub halves : halves_of new ≡ halves_of old
   pub log : log_of new ≡ log_of old
@@ -93,7 +92,7 @@ pub record HasGot {D : Type 0} (more : List RecordValue) (old new : Writer D Glo
   pub image : image_of new ≡ image_of old
 
 -- no record was popped or handed in, and what was published is now what the writer has synced, and whether its device failed
-pub record Publishes {D : Type 0} (old new : FlushValue D) : Type 0 where
+pub record Publishes {D A : Type 0} (old new : FlushValue D A) : Type 0 where
   pub handed : new.handed ≡ old.handed
   pub held : new.held ≡ old.held
   pub published : new.published ≡ count_of old.published.board new.writer

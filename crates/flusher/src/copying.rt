@@ -11,14 +11,13 @@ ghost use Rattle.flusher.specs.Images.{IsPieceDue, IsNearlyFull, TakesNext};
 
 use crate::part::FlushPart;
 use image_model::{Chunk, CopyPlace};
-use locked_core::{Group, Locked};
+use locked_core::{Group, Locked, Memory};
 use records::{Error, Geometry};
 use sector_device::Device;
-use std::alloc::Global;
 use std::sync::Wait;
 use tail::RecordQueue;
 
-impl<B: Group, D: Device> FlushPart<B, D> {
+impl<B: Group, D: Device, A: Memory> FlushPart<B, D, A> {
     ghost use Rattle.locked_core.specs.Locked.{locked_of};
     ghost use Rattle.locked_core.specs.Made.{IsAllOf};
     ghost use Rattle.locked_core.specs.Made as made;
@@ -26,7 +25,7 @@ impl<B: Group, D: Device> FlushPart<B, D> {
     ghost use Rattle.flusher.specs.Part.{last_handed, run_of};
 
     // Where a chunk gets its memory.
-    fn allocator(&self) -> Global {
+    fn allocator(&self) -> A {
         self.alloc
     }
 
@@ -74,8 +73,8 @@ impl<B: Group, D: Device> FlushPart<B, D> {
     pub fn take_in<R: Wait>(
         &mut self,
         rt: &R,
-        queue: &RecordQueue,
-        locked: &mut Locked<B>,
+        queue: &RecordQueue<A>,
+        locked: &mut Locked<B, A>,
     ) -> Result<(), Error>
         requires { queue.now ≡ B.site.queue }
         ensures takes { TakesIn self.old self.new }
@@ -98,9 +97,9 @@ impl<B: Group, D: Device> FlushPart<B, D> {
     pub fn copy_whole<R: Wait>(
         &mut self,
         rt: &R,
-        queue: &RecordQueue,
-        locked: &mut Locked<B>,
-    ) -> Result<Chunk<Global>, Error>
+        queue: &RecordQueue<A>,
+        locked: &mut Locked<B, A>,
+    ) -> Result<Chunk<A>, Error>
         requires { queue.now ≡ B.site.queue }
         ensures takes { TakesIn self.old self.new }
         ensures number { IfOk result (λ chunk. chunk.number ≡ last_handed B.site.opened self.new) }
@@ -126,10 +125,10 @@ impl<B: Group, D: Device> FlushPart<B, D> {
     pub fn copy_step<R: Wait>(
         &mut self,
         rt: &R,
-        queue: &RecordQueue,
-        locked: &mut Locked<B>,
+        queue: &RecordQueue<A>,
+        locked: &mut Locked<B, A>,
         place: CopyPlace,
-    ) -> Result<Chunk<Global>, Error>
+    ) -> Result<Chunk<A>, Error>
         requires queue { queue.now ≡ B.site.queue }
         requires sound { has_failed self.old.writer ≡ false }
         requires due { IsPieceDue (halves_of self.old.writer).geometry.pages place (image_of self.old.writer) }

@@ -2,28 +2,34 @@
 ghost use Rattle.std.specs.Prelude.{◌≡◌};
 
 use board::FlushView;
+use locked_core::Memory;
+use std::alloc::Global;
 use std::marker::Model;
 use tail::Popper;
 
 /// The end of the queue that pops, and the flusher's view of the board, for a part that is to be made. Who has them alone can neither
 /// pop a record nor publish a horizon. To a contract they are an `EndsValue`.
 #[derive(Drop)]
-pub struct FlushEnds {
-    pub(crate) popper: Popper,
+pub struct FlushEnds<A: Memory = Global> {
+    pub(crate) popper: Popper<A>,
     pub(crate) view: FlushView,
 }
 
-impl Model for FlushEnds {
+impl<A: Memory> Model for FlushEnds<A> {
+    ghost use Rattle.std.specs.Coded.{codes};
+    ghost use Rattle.tail.specs.Ends.{coded_stored};
     ghost use Rattle.flusher.specs.Part.{EndsValue};
 
     ghost Value = { EndsValue };
 
+    ghost coded = { Prim.hlevel (codes, coded_stored) };
+
     ghost view = { λ e. record { popper = e.popper; published = e.view } };
 }
 
-impl FlushEnds {
+impl<A: Memory> FlushEnds<A> {
     /// Both, for whoever makes what the threads share.
-    pub fn new(popper: Popper, view: FlushView) -> FlushEnds
+    pub fn new(popper: Popper<A>, view: FlushView) -> FlushEnds<A>
         ensures { result ≡ record { popper = popper; published = view } }
     {
         FlushEnds { popper, view }

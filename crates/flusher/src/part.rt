@@ -18,7 +18,7 @@ ghost use Rattle.store_writer.specs.Writer.{CanFlip, HasFailed, InOpenedSlots, I
 use crate::ends::FlushEnds;
 use board::{Board, FlushView};
 use image_model::Chunk;
-use locked_core::{Group, Locked};
+use locked_core::{Group, Locked, Memory};
 use records::{Error, Record};
 use sector_device::Device;
 use std::alloc::Global;
@@ -35,25 +35,25 @@ use tail::{Popper, RecordQueue};
 /// each once; that the writer stands for the ones that it got, over what was opened; that no number is published above the
 /// last synced one; and that all is published on the group's board.
 #[derive(Drop)]
-pub struct FlushPart<B: Group, D: Device> {
-    pub(crate) alloc: Global,
-    popper: Popper,
+pub struct FlushPart<B: Group, D: Device, A: Memory = Global> {
+    pub(crate) alloc: A,
+    popper: Popper<A>,
     // The records that were popped, and that the writer doesn't have yet.
-    pub(crate) held: Vec<Record>,
-    pub(crate) writer: StoreWriter<D, Global>,
+    pub(crate) held: Vec<Record, A>,
+    pub(crate) writer: StoreWriter<D, A>,
     // The number of the last record that the writer has got.
     last: u64,
     pub(crate) view: FlushView,
     site: PhantomData<B>,
 }
 
-impl<B: Group, D: Device> Model for FlushPart<B, D> {
+impl<B: Group, D: Device, A: Memory> Model for FlushPart<B, D, A> {
     ghost use Rattle.std.specs.Prelude.{◌≡◌, ◌++◌};
     ghost use Rattle.std.specs.Coded.{codes};
     ghost use Rattle.std.specs.FinMap as map;
     ghost use Rattle.flusher.specs.Part.{FlushValue, IsFlusher, flush_value, last_handed, popped_by};
 
-    ghost Value = { FlushValue D };
+    ghost Value = { FlushValue D A };
 
     ghost coded = { Prim.hlevel (codes, map.code) };
 
@@ -63,7 +63,7 @@ impl<B: Group, D: Device> Model for FlushPart<B, D> {
 }
 
 // Publishes how far the writer has synced, and whether its device failed.
-fn publish<D: Device>(board: &Board<Global>, view: &mut FlushView, writer: &StoreWriter<D, Global>)
+fn publish<D: Device, A: Memory>(board: &Board<A>, view: &mut FlushView, writer: &StoreWriter<D, A>)
     requires board { view.old.board ≡ board.now }
     requires horizon { view.old.horizon ≤ synced_of writer.now }
     requires failed { has_failed writer.now ≡ false → view.old.failed ≡ false }
@@ -75,12 +75,12 @@ fn publish<D: Device>(board: &Board<Global>, view: &mut FlushView, writer: &Stor
     }
 }
 
-impl<B: Group, D: Device> FlushPart<B, D> {
+impl<B: Group, D: Device, A: Memory> FlushPart<B, D, A> {
     ghost use Rattle.locked_core.specs.Locked.{locked_of};
     ghost use Rattle.flusher.specs.Part.{HasGot, IsFlusher, FlushLeaves, Publishes, last_handed, popped_by, run_of};
 
     /// The part of a flusher that has popped nothing, with a writer over what was opened.
-    pub fn new(alloc: Global, ends: FlushEnds, writer: StoreWriter<D, Global>) -> FlushPart<B, D>
+    pub fn new(alloc: A, ends: FlushEnds<A>, writer: StoreWriter<D, A>) -> FlushPart<B, D, A>
         requires popper { ends.popper ≡ record { queue = B.site.queue; records = [] } }
         requires board { ends.published.board ≡ B.site.board }
         requires writer { IsWriter D.history (opened_run (halves_of writer) B.site.opened.given.last (opening_cells B.site.opened.given)) B.site.opened.given.last writer }
@@ -115,7 +115,7 @@ impl<B: Group, D: Device> FlushPart<B, D> {
     ///
     /// The one error is `NoMemory`, where there is no room for one more. What was popped before is held, and the others wait in
     /// the queue.
-    pub fn take<R: Wait>(&mut self, rt: &R, queue: &RecordQueue) -> Result<(), Error>
+    pub fn take<R: Wait>(&mut self, rt: &R, queue: &RecordQueue<A>) -> Result<(), Error>
         requires { queue.now ≡ B.site.queue }
         ensures takes { (more : List RecordValue) × (self.new ≡ record self.old { held = self.old.held ++ more }) }
         ensures no_memory { IfErr result (λ e. e ≡ Error.NoMemory) }
@@ -136,8 +136,8 @@ impl<B: Group, D: Device> FlushPart<B, D> {
     pub fn hand_in<R: Wait>(
         &mut self,
         rt: &R,
-        queue: &RecordQueue,
-        locked: &mut Locked<B>,
+        queue: &RecordQueue<A>,
+        locked: &mut Locked<B, A>,
     ) -> Result<(), Error>
         requires { queue.now ≡ B.site.queue }
         ensures handed { OnOk result ((self.new.handed ≡ popped_by self.old) × (self.new.held ≡ [])) }
@@ -170,7 +170,7 @@ impl<B: Group, D: Device> FlushPart<B, D> {
     /// moment of the call leaves what some of them make of what was opened, the first ones, with all that were synced before.
     ///
     /// The answers and refusals are those of the writer's `flush_group`; a failed device is told on the board.
-    pub fn flush(&mut self, board: &Board<Global>) -> Result<FlushReply, Error>
+    pub fn flush(&mut self, board: &Board<A>) -> Result<FlushReply, Error>
         requires { board.now ≡ B.site.board }
         ensures publishes { Publishes self.old self.new }
         ensures images { LeavesOnly (D.history (device_of self.old.writer)) (D.history (device_of self.new.writer)) (FlushLeaves B.site.opened self.old) }
@@ -197,11 +197,7 @@ impl<B: Group, D: Device> FlushPart<B, D> {
     /// the call leaves what one before could.
     ///
     /// The answers and refusals are those of the writer's `checkpoint_step`; a failed device is told on the board.
-    pub fn take_piece(
-        &mut self,
-        board: &Board<Global>,
-        chunk: Chunk<Global>,
-    ) -> Result<StepReply, Error>
+    pub fn take_piece(&mut self, board: &Board<A>, chunk: Chunk<A>) -> Result<StepReply, Error>
         requires board { board.now ≡ B.site.board }
         requires chunk { IsChunk (run_of B.site.opened self.old) self.old.writer chunk.number chunk.piece }
         ensures publishes { Publishes self.old self.new }
@@ -226,7 +222,7 @@ impl<B: Group, D: Device> FlushPart<B, D> {
     /// what some of the records that the writer has got make of what was opened, with all that were synced before.
     ///
     /// The answers and refusals are those of the writer's `checkpoint_flip`; a failed device is told on the board.
-    pub fn flip(&mut self, board: &Board<Global>) -> Result<FlipReply, Error>
+    pub fn flip(&mut self, board: &Board<A>) -> Result<FlipReply, Error>
         requires { board.now ≡ B.site.board }
         ensures publishes { Publishes self.old self.new }
         ensures images { LeavesOnly (D.history (device_of self.old.writer)) (D.history (device_of self.new.writer)) (FlushLeaves B.site.opened self.old) }
@@ -262,7 +258,7 @@ impl<B: Group, D: Device> FlushPart<B, D> {
 
     /// The device as it is now, and the end of the queue. The records that are held or wait in the writer are lost; a crash of
     /// the device leaves what some of those that the writer got make of what was opened, with all that are synced.
-    pub fn into_parts(self) -> (D, Popper)
+    pub fn into_parts(self) -> (D, Popper<A>)
         ensures device { result.0 ≡ device_of self.writer }
         ensures popper { result.1 ≡ record { queue = B.site.queue; records = popped_by self } }
         ensures images { (image : Image) → IsCrashImage (D.history result.0).disk image → FlushLeaves B.site.opened self image }

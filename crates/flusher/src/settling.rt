@@ -4,15 +4,14 @@ ghost use Rattle.store_writer.specs.Parts.{has_failed, synced_of};
 
 use crate::part::FlushPart;
 use board::{Board, View};
-use locked_core::Group;
+use locked_core::{Group, Memory};
 use sector_device::Device;
-use std::alloc::Global;
 
-impl<B: Group, D: Device> FlushPart<B, D> {
+impl<B: Group, D: Device, A: Memory> FlushPart<B, D, A> {
     /// Compares what another thread has seen of the board with what was published: no horizon that it has seen is above the last
     /// synced record, and a failed flag that it has seen is true. Nothing changes but the view, which has now seen the horizon and
     /// the failed flag that were published.
-    pub fn settle(&mut self, board: &Board<Global>, view: &mut View)
+    pub fn settle(&mut self, board: &Board<A>, view: &mut View)
         requires board { board.now ≡ B.site.board }
         requires view { view.old.board ≡ board.now }
         ensures same { self.new ≡ self.old }

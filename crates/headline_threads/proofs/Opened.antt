@@ -2,7 +2,6 @@
 use Rattle.std.proofs.Common.{◌≡◌, ◌⊎◌, ⊎_elim, inl, inr, ℕ, ◌≤◌, ◌+◌, All, List, ap, ◌∙◌, arith}
 use Rattle.std.proofs.Math.Logic.{∥∥₁_elim, ∥∥₁_map}
 use Rattle.std.proofs.lemmas.List.Elements.{All-weaker}
-use Rattle.std.specs.declared.alloc.Global.{Global}
 use Rattle.records.specs.GeometryValue.{GeometryValue}
 use Rattle.records.specs.RecordValue.{RecordValue}
 use Rattle.records.specs.declared.error.Error.{Error}
@@ -28,8 +27,8 @@ module _ {D : Type 0} (history : D → History) (o : Opened) (g : GeometryValue)
   now : ∥ GivesSome o g seats popped floor (history found).disk.content ∥₁
   now = some (history found).disk.content (found-as.left (history found).disk.content (content_is_image (history found).disk (history found).whole))
 
-  pub held : (one : (image : Image) (g h : GeometryValue) (x y : Given) → Gives image g x → Gives image h y → x ≡ y) (acks : List AckValue) → All (λ (a : AckValue). a.ticket.«record» ≤ floor) acks
-      → (engine : Parts D Global) → IsOpened history found engine → ∥ HoldsSeats o.given.table seats acks (core_of engine) ∥₁
+  pub held : {A : Type 0} (one : (image : Image) (g h : GeometryValue) (x y : Given) → Gives image g x → Gives image h y → x ≡ y) (acks : List AckValue) → All (λ (a : AckValue). a.ticket.«record» ≤ floor) acks
+      → (engine : Parts D A) → IsOpened history found engine → ∥ HoldsSeats o.given.table seats acks (core_of engine) ∥₁
   held one acks low engine is = ∥∥₁_map now by
     where
       by : GivesSome o g seats popped floor (history found).disk.content → HoldsSeats o.given.table seats acks (core_of engine)

@@ -15,19 +15,18 @@ use headline::Mortal;
 use records::Error;
 use restart::{Engine, restart};
 use sector_device::Device;
-use shared::{Ack, Group, Seat, Shared};
-use std::alloc::Global;
+use shared::{Ack, Group, Memory, Seat, Shared};
 use std::sync::Wait;
 use store_reader::one_answer;
 
 // The device, with all that the seats made written out, or as much as could be.
-fn finish_device<B: Group, D: Device, R: Wait>(
+fn finish_device<B: Group, D: Device, R: Wait, A: Memory>(
     rt: &R,
-    alloc: Global,
-    shared: Shared<B>,
-    seats: Vec<Seat<B>>,
-    flush: FlushPart<B, D>,
-    acks: Vec<Ack<B>>,
+    alloc: A,
+    shared: Shared<B, A>,
+    seats: Vec<Seat<B, A>, A>,
+    flush: FlushPart<B, D, A>,
+    acks: Vec<Ack<B>, A>,
 ) -> D
     requires seats { AreAllSeats B.site.seats seats.items }
     ensures some { (image : Image) → IsCrashImage (D.history result).disk image → ∥ GivesSome B.site.opened (halves_of flush.writer).geometry seats.items (popped_by flush) (synced_of flush.writer) image ∥₁ }
@@ -44,14 +43,14 @@ fn finish_device<B: Group, D: Device, R: Wait>(
 ///
 /// What it holds are the rows that the threads began with, with the first commits of all seats set over them, in the order of
 /// their numbers; and each whose acknowledgement is handed in is among them (`holds`). `NoMemory` and `DeviceFailed` are those of the opening.
-pub fn finish_and_open<B: Group, D: Mortal, R: Wait>(
+pub fn finish_and_open<B: Group, D: Mortal, R: Wait, A: Memory>(
     rt: &R,
-    alloc: Global,
-    shared: Shared<B>,
-    seats: Vec<Seat<B>>,
-    flush: FlushPart<B, D>,
-    acks: Vec<Ack<B>>,
-) -> Result<Engine<D, Global>, Error>
+    alloc: A,
+    shared: Shared<B, A>,
+    seats: Vec<Seat<B, A>, A>,
+    flush: FlushPart<B, D, A>,
+    acks: Vec<Ack<B>, A>,
+) -> Result<Engine<D, A>, Error>
     requires seats { AreAllSeats B.site.seats seats.items }
     ensures holds { IfOk result (λ engine. ∥ HoldsSeats B.site.opened.given.table seats.items acks.items (core_of engine) ∥₁) }
     ensures refused { IfErr result (λ e. (e ≡ NoMemory) ⊎ (e ≡ DeviceFailed)) }

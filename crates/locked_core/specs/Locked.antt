@@ -14,5 +14,5 @@ pub record LockedValue : Type 0 where
   pub book : List SessionValue
 
 -- what contracts see of it
-abbrev pub locked_of : {B : Type 0} {g : _} → Locked B g → LockedValue
+abbrev pub locked_of : {B A : Type 0} {g m : _} → Locked B A g m → LockedValue
 locked_of l = record { core = value_of l.core; pushed = l.pusher.records; book = map shown l.book.items }

@@ -1,20 +1,20 @@
 -- What many seats share, by name, and what it keeps.
 use Rattle.std.specs.FinMap as map
 use Rattle.std.specs.Prelude.{[], List, ℕ, ◌++◌}
-use Rattle.std.specs.declared.alloc.Global.{Global}
-use Rattle.crossbeam_queue.specs.SegTies.{SegId}
+use base.Stored.{gnil}
 use Rattle.atomic_table.specs.Seated.{TableId}
 use Rattle.records.specs.RecordValue.{RecordValue}
 use Rattle.model.specs.declared.life.Life.TheVariants.{Absent}
 use Rattle.core_model.specs.Histories.{CanOpen, Opened}
 use Rattle.nsf_core.specs.View.{CoreValue}
 use Rattle.sessions.specs.Values.{SessionValue}
+use Rattle.tail.specs.Ends.{QueueName}
 use Rattle.register.specs.Agreement.{IsRegister}
 use Rattle.register.specs.History.{ShowsCommits}
 
 -- the queue to the flusher, the registry of the sessions, the board, how many seats there are, and what the core began with
 pub record Names : Type 0 where
-  pub queue : SegId Global
+  pub queue : QueueName
   pub table : TableId
   pub board : TableId
   pub seats : ℕ
@@ -27,7 +27,7 @@ no_table = record { words = 0; slots = 0; views_name = 0; atom = 0; block = 0; o
 -- names of nothing, before there is a group
 abbrev pub no_names : Names
 no_names = record {
-  queue = record { web = (0, 0); heap = record { memory = record { seal = tt } } };
+  queue = record { web = (0, 0); heap = gnil };
   table = no_table;
   board = no_table;
   seats = 0;

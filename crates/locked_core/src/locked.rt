@@ -33,6 +33,7 @@ ghost use Rattle.sessions.specs.Values.{SessionValue, is_active, is_ready, is_un
 ghost use Rattle.locked_core.specs.Following.{FitPlaces, FollowOpening};
 ghost use Rattle.locked_core.specs.Names.{IsShared};
 ghost use Rattle.session_halves.specs.Halves.{IsBook, IsNew, shown};
+ghost use Rattle.tail.specs.Ends.{name_prop};
 
 use crate::group::Group;
 use crate::outbox::QueueSink;
@@ -46,28 +47,28 @@ use session_halves::{Half, Registry};
 use std::alloc::Global;
 use std::marker::PhantomData;
 use std::sync::Wait;
-use tail::{Popper, Pusher, RecordQueue};
+use tail::{Memory, Popper, Pusher, RecordQueue};
 
 /// What lies under the lock: the core, the end of the queue that its records go to, and a half of each seat's session. To
 /// a contract it is a `LockedValue`.
 #[derive(Drop)]
-pub struct Locked<B: Group> {
-    core: Core<Global>,
-    pusher: Pusher,
-    book: Vec<Half>,
+pub struct Locked<B: Group, A: Memory = Global> {
+    core: Core<A>,
+    pusher: Pusher<A>,
+    book: Vec<Half<A>, A>,
     site: PhantomData<B>,
-    ghost queue: { pusher.queue ≡ B.site.queue },
+    ghost queue: { pusher.queue ≡ B.site.queue } by { name_prop pusher.queue B.site.queue },
     ghost seats: { length book.items ≡ B.site.seats },
     ghost halves: { IsBook B.site.table book.items },
     ghost shared: { ∥ IsShared B.site.opened (value_of core) pusher.records (map shown book.items) ∥₁ },
 }
 
-impl<B: Group> Locked<B> {
+impl<B: Group, A: Memory> Locked<B, A> {
     ghost use Rattle.locked_core.specs.Locked.{locked_of};
     ghost use Rattle.locked_core.specs.Made.{IsAllOf, run_of};
 
     /// A core that was just opened, under the lock, with new sessions of all seats.
-    pub fn new(core: Core<Global>, pusher: Pusher, book: Vec<Half>) -> Locked<B>
+    pub fn new(core: Core<A>, pusher: Pusher<A>, book: Vec<Half<A>, A>) -> Locked<B, A>
         requires opens { CanOpen B.site.opened }
         requires core { BeginsWith B.site.opened (value_of core) }
         requires pusher { pusher ≡ record { queue = B.site.queue; records = [] } }
@@ -87,7 +88,7 @@ impl<B: Group> Locked<B> {
     }
 
     /// The core, the end of the queue that its records went to, and the halves of the sessions.
-    pub fn into_parts(self) -> (Core<Global>, Pusher, Vec<Half>)
+    pub fn into_parts(self) -> (Core<A>, Pusher<A>, Vec<Half<A>, A>)
         ensures core { value_of result.0 ≡ (locked_of self).core }
         ensures pusher { result.1 ≡ record { queue = B.site.queue; records = (locked_of self).pushed } }
         ensures seats { length result.2.items ≡ B.site.seats }
@@ -109,7 +110,7 @@ impl<B: Group> Locked<B> {
     ///
     /// No clause says that a record is pushed where the queue would take it, since the queue promises room for none: it may
     /// refuse any push for want of memory. A caller learns from the answer how it is.
-    pub fn push_outbox<R: Wait>(&mut self, rt: &R, queue: &RecordQueue) -> bool
+    pub fn push_outbox<R: Wait>(&mut self, rt: &R, queue: &RecordQueue<A>) -> bool
         requires { queue.now ≡ B.site.queue }
         ensures none_waits { IsTrue result ↔ ((locked_of self.new).core.outbox ≡ []) }
         ensures pushed { HandsOn (locked_of self.old).core (locked_of self.new).core (locked_of self.old).pushed (locked_of self.new).pushed }
@@ -127,7 +128,7 @@ impl<B: Group> Locked<B> {
 
     /// Compares what was popped of the queue with what was pushed to it: it is the first of that, in order, its records can
     /// follow what was opened, and after each of them there are places for the entries. Nothing changes.
-    pub fn compare<R: Wait>(&mut self, rt: &R, queue: &RecordQueue, popper: &mut Popper)
+    pub fn compare<R: Wait>(&mut self, rt: &R, queue: &RecordQueue<A>, popper: &mut Popper<A>)
         requires queue { queue.now ≡ B.site.queue }
         requires popper { popper.old.queue ≡ B.site.queue }
         ensures beginning { popper.old.records ≡ take (length popper.old.records) (locked_of self.old).pushed }
@@ -140,7 +141,7 @@ impl<B: Group> Locked<B> {
     }
 
     /// Brings both halves of the seat's session together, which tells that they show the same. Nothing changes.
-    pub fn compare_seat(&mut self, registry: &Registry, seat: &mut SeatPart<B>)
+    pub fn compare_seat(&mut self, registry: &Registry<A>, seat: &mut SeatPart<B, A>)
         requires { registry.now ≡ B.site.table }
         ensures before { slice_get (locked_of self.old).book seat.old.number ≡ Some seat.old.session }
         ensures seat { seat.new ≡ seat.old }
@@ -152,7 +153,7 @@ impl<B: Group> Locked<B> {
     /// Begins a transaction of the seat.
     ///
     /// The refusals are those of the core's `begin`. After a refusal all is as before.
-    pub fn begin(&mut self, registry: &Registry, seat: &mut SeatPart<B>) -> Result<Txn, Error>
+    pub fn begin(&mut self, registry: &Registry<A>, seat: &mut SeatPart<B, A>) -> Result<Txn, Error>
         requires { registry.now ≡ B.site.table }
         ensures before { slice_get (locked_of self.old).book seat.old.number ≡ Some seat.old.session }
         ensures served { Serves (locked_of self.old).core Event.Begin (reply_by Reply.Txn result) (locked_of self.new).core }
@@ -172,8 +173,8 @@ impl<B: Group> Locked<B> {
     /// The refusals are those of the session's `insert`. After a refusal all is as before.
     pub fn insert(
         &mut self,
-        registry: &Registry,
-        seat: &mut SeatPart<B>,
+        registry: &Registry<A>,
+        seat: &mut SeatPart<B, A>,
         txn: Txn,
         key: Key,
         body: Body,
@@ -201,8 +202,8 @@ impl<B: Group> Locked<B> {
     /// The refusals are those of the session's `delete`. After a refusal all is as before.
     pub fn delete(
         &mut self,
-        registry: &Registry,
-        seat: &mut SeatPart<B>,
+        registry: &Registry<A>,
+        seat: &mut SeatPart<B, A>,
         txn: Txn,
         rid: Rid,
     ) -> Result<(), Error>
@@ -229,8 +230,8 @@ impl<B: Group> Locked<B> {
     /// The refusals are those of the session's `update`. After a refusal all is as before.
     pub fn update(
         &mut self,
-        registry: &Registry,
-        seat: &mut SeatPart<B>,
+        registry: &Registry<A>,
+        seat: &mut SeatPart<B, A>,
         txn: Txn,
         rid: Rid,
         key: Key,
@@ -259,8 +260,8 @@ impl<B: Group> Locked<B> {
     /// The refusals are those of the session's `undo_step`. After a refusal all is as before.
     pub fn undo_step(
         &mut self,
-        registry: &Registry,
-        seat: &mut SeatPart<B>,
+        registry: &Registry<A>,
+        seat: &mut SeatPart<B, A>,
         txn: Txn,
     ) -> Result<Undone, Error>
         requires { registry.now ≡ B.site.table }
@@ -284,8 +285,8 @@ impl<B: Group> Locked<B> {
     /// The refusals are those of the core's `create_index`. After a refusal all is as before.
     pub fn create_index(
         &mut self,
-        registry: &Registry,
-        seat: &mut SeatPart<B>,
+        registry: &Registry<A>,
+        seat: &mut SeatPart<B, A>,
     ) -> Result<Ticket, Error>
         requires { registry.now ≡ B.site.table }
         ensures before { slice_get (locked_of self.old).book seat.old.number ≡ Some seat.old.session }
@@ -310,9 +311,9 @@ impl<B: Group> Locked<B> {
     /// The refusals are those of the core's `drop_index`. After a refusal all is as before.
     pub fn drop_index(
         &mut self,
-        registry: &Registry,
-        seat: &mut SeatPart<B>,
-    ) -> Result<Detached<Global>, Error>
+        registry: &Registry<A>,
+        seat: &mut SeatPart<B, A>,
+    ) -> Result<Detached<A>, Error>
         requires { registry.now ≡ B.site.table }
         ensures before { slice_get (locked_of self.old).book seat.old.number ≡ Some seat.old.session }
         ensures served { Serves (locked_of self.old).core Event.Drop (reply_by reply_of_detached result) (locked_of self.new).core }
@@ -335,8 +336,8 @@ impl<B: Group> Locked<B> {
     /// The refusals are those of the session's `next_step`. After a refusal all is as before.
     pub fn next_step(
         &mut self,
-        registry: &Registry,
-        seat: &mut SeatPart<B>,
+        registry: &Registry<A>,
+        seat: &mut SeatPart<B, A>,
         txn: Txn,
     ) -> Result<(), Error>
         requires registry { registry.now ≡ B.site.table }
@@ -362,8 +363,8 @@ impl<B: Group> Locked<B> {
     /// The refusals are those of the session's `end`. After a refusal all is as before.
     pub fn end(
         &mut self,
-        registry: &Registry,
-        seat: &mut SeatPart<B>,
+        registry: &Registry<A>,
+        seat: &mut SeatPart<B, A>,
         txn: Txn,
     ) -> Result<(), Error>
         requires registry { registry.now ≡ B.site.table }
@@ -388,8 +389,8 @@ impl<B: Group> Locked<B> {
     /// The refusals are those of the session's `commit`. After a refusal all is as before.
     pub fn commit(
         &mut self,
-        registry: &Registry,
-        seat: &mut SeatPart<B>,
+        registry: &Registry<A>,
+        seat: &mut SeatPart<B, A>,
         txn: Txn,
     ) -> Result<Ticket, Error>
         requires registry { registry.now ≡ B.site.table }
@@ -446,7 +447,7 @@ impl<B: Group> Locked<B> {
     /// The places of the rows with this key, by the index.
     ///
     /// The refusals are those of the core's `find`.
-    pub fn find(&self, key: Key) -> Result<Vec<Rid>, Error>
+    pub fn find(&self, key: Key) -> Result<Vec<Rid, A>, Error>
         ensures { Serves (locked_of self.now).core (Event.Find key) (reply_by (λ rids. Reply.Found rids.items) result) (locked_of self.now).core }
     {
         self.core.find(key)
@@ -493,7 +494,7 @@ impl<B: Group> Locked<B> {
     /// that wait have left.
     ///
     /// The one error is `NoMemory`.
-    pub fn copy_whole(&self, alloc: Global) -> Result<Chunk<Global>, Error>
+    pub fn copy_whole(&self, alloc: A) -> Result<Chunk<A>, Error>
         ensures number { IfOk result (λ chunk. chunk.number ≡ (locked_of self.now).core.last) }
         ensures whole { IfOk result (λ chunk. (g : GeometryValue) → IsAllOf (locked_of self.now).core (cells_at (run_of g B.site.opened (locked_of self.now)) chunk.number) chunk.piece) }
         ensures no_memory { IfErr result (λ e. e ≡ NoMemory) }
@@ -506,7 +507,7 @@ impl<B: Group> Locked<B> {
     /// the cells that the records pushed and then those that wait have left.
     ///
     /// The one error is `NoMemory`.
-    pub fn copy_step(&self, alloc: Global, place: CopyPlace) -> Result<Chunk<Global>, Error>
+    pub fn copy_step(&self, alloc: A, place: CopyPlace) -> Result<Chunk<A>, Error>
         ensures number { IfOk result (λ chunk. chunk.number ≡ (locked_of self.now).core.last) }
         ensures piece { IfOk result (λ chunk. (g : GeometryValue) → IsPieceOf (locked_of self.now).core (cells_at (run_of g B.site.opened (locked_of self.now)) chunk.number) place chunk.piece) }
         ensures no_memory { IfErr result (λ e. e ≡ NoMemory) }

@@ -8,17 +8,18 @@ use session_halves::Half;
 use sessions::Session;
 use std::alloc::Global;
 use std::marker::{Model, PhantomData};
+use tail::Memory;
 
 /// A seat's session, with the half of it that is tied to the one under the lock. To a contract it is a `SeatValue`.
 #[derive(Drop)]
-pub struct SeatPart<B: Group> {
+pub struct SeatPart<B: Group, A: Memory = Global> {
     pub(crate) number: usize,
-    pub(crate) session: Session,
-    pub(crate) half: Half,
+    pub(crate) session: Session<A>,
+    pub(crate) half: Half<A>,
     pub(crate) site: PhantomData<B>,
 }
 
-impl<B: Group> Model for SeatPart<B> {
+impl<B: Group, A: Memory> Model for SeatPart<B, A> {
     ghost use Rattle.std.specs.Prelude.{◌≡◌, ◌<◌};
     ghost use Rattle.locked_core.specs.Seats.{SeatValue};
 
@@ -29,9 +30,9 @@ impl<B: Group> Model for SeatPart<B> {
     ghost invariant = { λ s. (s.half ≡ record { table = B.site.table; number = s.number; session = s.session }) × (s.number < B.site.seats) };
 }
 
-impl<B: Group> SeatPart<B> {
+impl<B: Group, A: Memory> SeatPart<B, A> {
     /// The seat of this number, with nothing in its session.
-    pub fn new(alloc: Global, number: usize, half: Half) -> SeatPart<B>
+    pub fn new(alloc: A, number: usize, half: Half<A>) -> SeatPart<B, A>
         requires half { half ≡ record { table = B.site.table; number = number; session = empty_session } }
         requires number { number < B.site.seats }
         ensures { result ≡ record { number = number; session = empty_session } }
@@ -45,7 +46,7 @@ impl<B: Group> SeatPart<B> {
     }
 
     /// The session.
-    pub fn into_session(self) -> Session
+    pub fn into_session(self) -> Session<A>
         ensures { result ≡ self.session }
     {
         let SeatPart {

@@ -35,6 +35,7 @@ use Rattle.nsf_core.below.txn_table.proofs.table.TxnTable.TheSendSync as table
 use Rattle.nsf_core.below.sorted_scan.proofs.scan.Scan.TheSendSync as scan
 use Rattle.nsf_core.specs.contracts.parts.Parts as CoreParts
 use Rattle.nsf_core.specs.contracts.store.Core as Core
+use Rattle.flusher.below.tail.specs.declared.memory.Memory as memory
 use Rattle.flusher.below.tail.proofs.queue.Pusher.TheSendSync as pusher
 use Rattle.flusher.below.tail.proofs.queue.RecordQueue.TheSendSync as queue
 use Rattle.session_halves.specs.contracts.half.Half as Half
@@ -43,6 +44,11 @@ use Rattle.session_halves.proofs.table.Registry.TheSendSync as registry
 use Rattle.board.proofs.board.Board.TheSendSync as board
 use Rattle.locked_core.specs.declared.group.Group as group
 use Rattle.locked_core.specs.contracts.locked.Locked as Locked
+use Rattle.sector_device.specs.declared.device.Device as device
+use Rattle.flusher.specs.contracts.part.FlushPart as FlushPart
+use Rattle.flusher.proofs.part.FlushPart.TheSendSync as flush_part
+use Rattle.shared.specs.contracts.seat.Seat as Seat
+use Rattle.shared.proofs.seat.Seat.TheSendSync as seat
 use Rattle.shared.specs.contracts.shared.Shared as Shared
 
 abbrev H : RattleType
@@ -124,14 +130,20 @@ core_parts_send =
 core_send : IsSend (Core.the_field H ghosts).row
 core_send = struct_send (shape (Core.the_type H ghosts)) (core_parts_send, tt)
 
-module _ (B : RattleType) (g : group.Ghosts B.Denot) where
-  locked_send : IsSend (Locked.the_row B g)
-  locked_send = recorded_send (Locked.the_field B g).row _ _ (Locked.the_type B g).to_one (
-      struct_send (shape (Locked.the_type B g)) (core_send, (pusher.the_send, (Vec-send Half.the_row half.the_send, (search sendable depth 6, tt))))
+module _ (B : RattleType) (g : group.Ghosts B.Denot) (m : memory.Ghosts H.Denot) where
+  locked_send : IsSend (Locked.the_row B H g m ghosts)
+  locked_send = recorded_send (Locked.the_field B H g m ghosts).row _ _ (Locked.the_type B H g m ghosts).to_one (
+      struct_send (shape (Locked.the_type B H g m ghosts)) (core_send, (pusher.the_send H m ghosts send frees, (Vec-send (Half.the_row H ghosts) (half.the_send H ghosts send frees), (search sendable depth 6, tt))))
       )
 
-  pub shared_sync : IsSync (Shared.the_row B g)
+  pub shared_sync : IsSync (Shared.the_row B H g m ghosts)
   shared_sync = let l = locked_send in
-      recorded_sync (Shared.the_field B g).row _ _ (Shared.the_type B g).to_one (
-      struct_sync (shape (Shared.the_type B g)) (search (crosses, sendable) depth 8, (queue.the_sync, (registry.the_sync, (board.the_sync H ghosts send sync frees, (search sendable depth 6, tt)))))
+      recorded_sync (Shared.the_field B H g m ghosts).row _ _ (Shared.the_type B H g m ghosts).to_one (
+      struct_sync (shape (Shared.the_type B H g m ghosts)) (search (crosses, sendable) depth 8, (queue.the_sync H m ghosts send sync frees, (registry.the_sync H ghosts send sync frees, (board.the_sync H ghosts send sync frees, (search sendable depth 6, tt)))))
       )
+
+  pub seat_send : IsSend (Seat.the_row B H g m ghosts)
+  seat_send = seat.the_send B H g m ghosts send frees
+
+  pub flush_send : (D : RattleType) (d : device.Ghosts D.Denot) → IsSend D → IsSend (FlushPart.the_row B D H g d m ghosts)
+  flush_send D d s = flush_part.the_send B D H g d m ghosts s send frees

@@ -1,7 +1,6 @@
 -- Where the copying of an image is, after each call of the flusher's part.
 use Rattle.std.proofs.Common.{◌≡◌, ◌⊎◌, ℕ, ◌-◌, false, true, Option, None, Some, Result, Ok, Err, IfOk, IfErr, OnOk, inl, inr, refl, sym, subst, ◌∙◌, ⊎_elim}
 use Rattle.std.proofs.lemmas.Bool.{false≢true}
-use Rattle.std.specs.declared.alloc.Global.{Global}
 use Rattle.records.specs.declared.error.Error.{Error}
 use Rattle.records.specs.GeometryValue.{GeometryValue}
 use Rattle.flip_image.specs.Layout.{HalvesValue}
@@ -32,7 +31,7 @@ use Rattle.loops.specs.declared.flush.Copying.TheVariants.{Idle, Steps, GivenUp}
 abbrev pub KeepsPlace : Type 0
 KeepsPlace = (pages slots synced count : ℕ) (place : Option CopyPlace) (old new : Option NewImage) → BecomesImage slots synced count old new → IsAtPlace pages place old → (new ≡ None) ⊎ IsAtPlace pages place new
 
-module _ {D : Type 0} (copying : Copying) (old new : FlushValue D) (was : StandsBy copying old) where
+module _ {D A : Type 0} (copying : Copying) (old new : FlushValue D A) (was : StandsBy copying old) where
   -- records were popped and handed in
   pub stands_by_taking : TakesIn old new → StandsBy copying new
   stands_by_taking takes sound =
@@ -41,7 +40,7 @@ module _ {D : Type 0} (copying : Copying) (old new : FlushValue D) (was : Stands
 
   -- nothing changed
   pub stands_still : new.writer ≡ old.writer → StandsBy copying new
-  stands_still same = subst (λ (w : Writer D Global). has_failed w ≡ false → IsCopying (halves_of w).geometry.pages copying (image_of w)) (sym same) was
+  stands_still same = subst (λ (w : Writer D A). has_failed w ≡ false → IsCopying (halves_of w).geometry.pages copying (image_of w)) (sym same) was
 
   -- the device failed
   pub stands_failed : has_failed new.writer ≡ true → StandsBy copying new
@@ -54,11 +53,11 @@ carried GivenUp pages slots synced count old new keeps becomes was = tt
 carried (Steps place) pages slots synced count old new keeps becomes was = ⊎_elim (λ none. inl (becomes.none none)) (λ at. keeps pages slots synced count place old new becomes at) was
 
 -- the device had not failed where a group was flushed
-pub flush_before : {D : Type 0} (old new : Writer D Global) (result : Result FlushReply Error) → OnOk result ((has_failed old ≡ false) × (has_failed new ≡ false)) → IfOk result (λ _. has_failed old ≡ false)
+pub flush_before : {D A : Type 0} (old new : Writer D A) (result : Result FlushReply Error) → OnOk result ((has_failed old ≡ false) × (has_failed new ≡ false)) → IfOk result (λ _. has_failed old ≡ false)
 flush_before old new (Ok reply) sound = sound.0
 flush_before old new (Err e) sound = tt
 
-module _ {D : Type 0} (failures : D → ℕ) (keeps : KeepsPlace) (copying : Copying) (old new : FlushValue D) (halves : halves_of new.writer ≡ halves_of old.writer) where
+module _ {D A : Type 0} (failures : D → ℕ) (keeps : KeepsPlace) (copying : Copying) (old new : FlushValue D A) (halves : halves_of new.writer ≡ halves_of old.writer) where
   pub stands_by_flush : (result : Result FlushReply Error) → IfOk result (λ reply. IsFlushReply reply old.writer new.writer) → IfOk result (λ _. has_failed old.writer ≡ false)
       → ((n : ℕ) → result ≡ Ok (Flushed n) → BecomesImage (halves_of old.writer).geometry.slots (synced_of old.writer) (n - synced_of old.writer) (image_of old.writer) (image_of new.writer))
       → IfErr result (λ e. IsNotFlushed failures e old.writer new.writer) → StandsBy copying old → StandsBy copying new
@@ -70,7 +69,7 @@ module _ {D : Type 0} (failures : D → ℕ) (keeps : KeepsPlace) (copying : Cop
   stands_by_flush (Err e) is before image (inl none) was = stands_still copying old new was none.4
   stands_by_flush (Err e) is before image (inr device) was = stands_failed copying old new was device.1
 
-module _ {D : Type 0} (old new : FlushValue D) where
+module _ {D A : Type 0} (old new : FlushValue D A) where
   -- a piece was taken
   pub stands_by_piece : {A : Type 0} (number : ℕ) (piece : Piece A) (behind : Option CopyPlace) (result : Result StepReply Error) → result ≡ Ok Taken → IfOk result (λ reply. IsStepReply number piece reply old.writer new.writer)
       → (¬ MustStartAgain piece old.writer → IsAtPiece (halves_of old.writer).geometry.pages piece (image_of old.writer))
@@ -98,5 +97,5 @@ is_due pages at.Start image is = tt
 is_due pages (at.Page page) image is = is
 is_due pages (at.Entries above) image is = is
 
-pub due_of : {D : Type 0} (copying : Copying) (place : CopyPlace) (f : FlushValue D) → copying ≡ Steps (Some place) → StandsBy copying f → has_failed f.writer ≡ false → IsPieceDue (halves_of f.writer).geometry.pages place (image_of f.writer)
+pub due_of : {D A : Type 0} (copying : Copying) (place : CopyPlace) (f : FlushValue D A) → copying ≡ Steps (Some place) → StandsBy copying f → has_failed f.writer ≡ false → IsPieceDue (halves_of f.writer).geometry.pages place (image_of f.writer)
 due_of copying place f is was sound = is_due (halves_of f.writer).geometry.pages place (image_of f.writer) (subst (λ (x : Copying). IsCopying (halves_of f.writer).geometry.pages x (image_of f.writer)) is (was sound))

@@ -1,6 +1,5 @@
 -- The states that the flush loop goes through.
 use Rattle.std.proofs.Common.{◌≡◌, ◌⊎◌, ◌≤◌, ℕ, List, [], ◌∷◌, ◌++◌, Result, IfErr, IfOk, OnErr, OnOk, false, true, inl, inr, refl, ap, subst, arith}
-use Rattle.std.specs.declared.alloc.Global.{Global}
 use Rattle.records.specs.declared.error.Error.{Error}
 use Rattle.core_model.specs.Histories.{Opened}
 use Rattle.sector_device.specs.History.{History, LeavesOnly, Rises}
@@ -17,23 +16,23 @@ use Rattle.flusher.specs.Going.{GoesOn, TakesIn}
 use Rattle.flusher.specs.Part.{FlushValue, FlushLeaves, Publishes, last_handed, run_of}
 use Rattle.loops.specs.Through.{Calls, GoesThrough, IsFlip, IsFlush, IsStep, RunsThrough}
 
-module _ {D : Type 0} (history : D → History) (failures : D → ℕ) (o : Opened) where
-  pub through_none : (f : FlushValue D) → RunsThrough history failures o f f
+module _ {D A : Type 0} (history : D → History) (failures : D → ℕ) (o : Opened) where
+  pub through_none : (f : FlushValue D A) → RunsThrough history failures o f f
   through_none f = record { states = []; steps = refl }
 
-  pub through_taking : (old new : FlushValue D) → TakesIn old new → RunsThrough history failures o old new
+  pub through_taking : (old new : FlushValue D A) → TakesIn old new → RunsThrough history failures o old new
   through_taking old new takes = record { states = new ∷ []; steps = (inl takes, refl) }
 
-  steps_then : (old mid new : FlushValue D) (states more : List (FlushValue D)) → GoesThrough history failures o old states mid → GoesThrough history failures o mid more new → GoesThrough history failures o old (states ++ more) new
-  steps_then old mid new [] more is then = subst (λ (f : FlushValue D). GoesThrough history failures o f more new) is then
+  steps_then : (old mid new : FlushValue D A) (states more : List (FlushValue D A)) → GoesThrough history failures o old states mid → GoesThrough history failures o mid more new → GoesThrough history failures o old (states ++ more) new
+  steps_then old mid new [] more is then = subst (λ (f : FlushValue D A). GoesThrough history failures o f more new) is then
   steps_then old mid new (next ∷ states) more is then = (is.0, steps_then next mid new states more is.1 then)
 
-  pub through_then : (old mid new : FlushValue D) → RunsThrough history failures o old mid → RunsThrough history failures o mid new → RunsThrough history failures o old new
+  pub through_then : (old mid new : FlushValue D A) → RunsThrough history failures o old mid → RunsThrough history failures o mid new → RunsThrough history failures o old new
   through_then old mid new first second = record { states = first.states ++ second.states; steps = steps_then old mid new first.states second.states first.steps second.steps }
 
   -- ---- calls of the writer
 
-  module _ (old new : FlushValue D) where
+  module _ (old new : FlushValue D A) where
     pub through_call : Calls history failures o old new → RunsThrough history failures o old new
     through_call call = record { states = new ∷ []; steps = (inr call, refl) }
 
@@ -60,7 +59,7 @@ module _ {D : Type 0} (history : D → History) (failures : D → ℕ) (o : Open
         later = later;
       }
 
-      pub by_step : (number : ℕ) (piece : Piece Global) (result : Result StepReply Error) → IsChunk (run_of o old) old.writer number piece → IfOk result (λ reply. IsStepReply number piece reply old.writer new.writer)
+      pub by_step : (number : ℕ) (piece : Piece A) (result : Result StepReply Error) → IsChunk (run_of o old) old.writer number piece → IfOk result (λ reply. IsStepReply number piece reply old.writer new.writer)
           → OnOk result ((has_failed old.writer ≡ false) × (has_failed new.writer ≡ false)) → IfErr result (λ e. HasFailed failures e old.writer new.writer) → synced_of new.writer ≡ synced_of old.writer → OnErr result (IsAsBefore old.writer new.writer) → Calls history failures o old new
       by_step number piece result chunk stepped sound err kept left = record {
         made = inr (inl (record { number = number; piece = piece; chunk = chunk; result = result; stepped = stepped; sound = sound; err = err; left = left }));

@@ -16,7 +16,7 @@ IsCopying pages (Steps place) image = IsAt pages place image
 IsCopying pages GivenUp image = Unit {0}
 
 -- so it is of the flusher's image, unless its device failed
-abbrev pub StandsBy : {D : Type 0} → Copying → FlushValue D → Type 0
+abbrev pub StandsBy : {D A : Type 0} → Copying → FlushValue D A → Type 0
 StandsBy copying f = has_failed f.writer ≡ false → IsCopying (halves_of f.writer).geometry.pages copying (image_of f.writer)
 
 -- the steps of an image of a full store: its beginning, each page, each full chunk of entries, what is behind them, and the flip

@@ -1,6 +1,5 @@
 -- The states that the flush loop goes through.
 use Rattle.std.specs.Prelude.{◌≡◌, ◌⊎◌, ◌≤◌, ℕ, List, [], ◌∷◌, Result, IfErr, IfOk, OnErr, OnOk, false}
-use Rattle.std.specs.declared.alloc.Global.{Global}
 use Rattle.records.specs.declared.error.Error.{Error}
 use Rattle.core_model.specs.Histories.{Opened}
 use Rattle.sector_device.specs.History.{History, LeavesOnly}
@@ -14,7 +13,7 @@ use Rattle.flusher.specs.Going.{TakesIn}
 use Rattle.flusher.specs.Part.{FlushValue, FlushLeaves, Publishes, last_handed, run_of}
 
 -- One group was flushed, with this answer of the writer.
-pub record IsFlush {D : Type 0} (failures : D → ℕ) (old new : FlushValue D) : Type 0 where
+pub record IsFlush {D A : Type 0} (failures : D → ℕ) (old new : FlushValue D A) : Type 0 where
   pub result : Result FlushReply Error
   pub flushed : IfOk result (λ reply. IsFlushReply reply old.writer new.writer)
   pub sound : OnOk result ((has_failed old.writer ≡ false) × (has_failed new.writer ≡ false))
@@ -22,9 +21,9 @@ pub record IsFlush {D : Type 0} (failures : D → ℕ) (old new : FlushValue D) 
   pub left : OnErr result (IsBeforeFlush old.writer new.writer)
 
 -- One chunk of an image was offered that may be taken, with this answer.
-pub record IsStep {D : Type 0} (failures : D → ℕ) (o : Opened) (old new : FlushValue D) : Type 0 where
+pub record IsStep {D A : Type 0} (failures : D → ℕ) (o : Opened) (old new : FlushValue D A) : Type 0 where
   pub number : ℕ
-  pub piece : Piece Global
+  pub piece : Piece A
   pub chunk : IsChunk (run_of o old) old.writer number piece
   pub result : Result StepReply Error
   pub stepped : IfOk result (λ reply. IsStepReply number piece reply old.writer new.writer)
@@ -33,7 +32,7 @@ pub record IsStep {D : Type 0} (failures : D → ℕ) (o : Opened) (old new : Fl
   pub left : OnErr result (IsAsBefore old.writer new.writer)
 
 -- An image was to be made current, with this answer.
-pub record IsFlip {D : Type 0} (failures : D → ℕ) (o : Opened) (old new : FlushValue D) : Type 0 where
+pub record IsFlip {D A : Type 0} (failures : D → ℕ) (o : Opened) (old new : FlushValue D A) : Type 0 where
   pub result : Result FlipReply Error
   pub flipped : IfOk result (λ reply. IsFlipReply (last_handed o old) reply old.writer new.writer)
   pub sound : OnOk result ((has_failed old.writer ≡ false) × (has_failed new.writer ≡ false))
@@ -42,7 +41,7 @@ pub record IsFlip {D : Type 0} (failures : D → ℕ) (o : Opened) (old new : Fl
 
 -- One call of the writer: no record was popped or handed in, and what is published is what is synced now. A crash at any moment of it
 -- leaves what one before it could, with all that were synced then.
-pub record Calls {D : Type 0} (history : D → History) (failures : D → ℕ) (o : Opened) (old new : FlushValue D) : Type 0 where
+pub record Calls {D A : Type 0} (history : D → History) (failures : D → ℕ) (o : Opened) (old new : FlushValue D A) : Type 0 where
   pub made : IsFlush failures old new ⊎ (IsStep failures o old new ⊎ IsFlip failures o old new)
   pub publishes : Publishes old new
   pub geometry : (halves_of new.writer).geometry ≡ (halves_of old.writer).geometry
@@ -51,11 +50,11 @@ pub record Calls {D : Type 0} (history : D → History) (failures : D → ℕ) (
   pub later : failures (device_of old.writer) ≤ failures (device_of new.writer)
 
 -- from each state to the next by records that were popped and handed in, or by one call of the writer; and it is the last one now
-abbrev pub GoesThrough : {D : Type 0} → (D → History) → (D → ℕ) → Opened → FlushValue D → List (FlushValue D) → FlushValue D → Type 0
+abbrev pub GoesThrough : {D A : Type 0} → (D → History) → (D → ℕ) → Opened → FlushValue D A → List (FlushValue D A) → FlushValue D A → Type 0
 GoesThrough history failures o old [] new = new ≡ old
 GoesThrough history failures o old (next ∷ states) new = (TakesIn old next ⊎ Calls history failures o old next) × GoesThrough history failures o next states new
 
 -- there are such states
-pub record RunsThrough {D : Type 0} (history : D → History) (failures : D → ℕ) (o : Opened) (old new : FlushValue D) : Type 0 where
-  pub states : List (FlushValue D)
+pub record RunsThrough {D A : Type 0} (history : D → History) (failures : D → ℕ) (o : Opened) (old new : FlushValue D A) : Type 0 where
+  pub states : List (FlushValue D A)
   pub steps : GoesThrough history failures o old states new

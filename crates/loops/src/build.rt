@@ -12,7 +12,7 @@ use crate::gate::{Gate, Point};
 use crate::rest::{Rest, has_ended, leave_room};
 use nsf_core::{BuildReply, Ticket};
 use records::Error;
-use shared::{BuildPart, Group, GroupView, Shared};
+use shared::{BuildPart, Group, GroupView, Memory, Shared};
 use std::sync::Wait;
 
 /// What a step of the builder means to the loop.
@@ -38,9 +38,9 @@ pub(crate) enum Outcome {
 /// nothing (`each_refusal` of `shared`).
 ///
 /// `Stopped` where the stop flag was read. Else the refusal is one of the core's `build_step`, but not `NoMemory`.
-pub fn build_loop<B: Group, R: Wait, G: Gate>(
+pub fn build_loop<B: Group, R: Wait, G: Gate, A: Memory>(
     rt: &R,
-    shared: &Shared<B>,
+    shared: &Shared<B, A>,
     build: &mut BuildPart<B>,
     view: &mut GroupView<B>,
     gate: &G,
@@ -56,9 +56,9 @@ pub fn build_loop<B: Group, R: Wait, G: Gate>(
 }
 
 /// The same, until the run ends, if it is in one. Then it also waits for an index where there is none.
-pub(crate) fn build_until<B: Group, R: Wait, G: Gate>(
+pub(crate) fn build_until<B: Group, R: Wait, G: Gate, A: Memory>(
     rt: &R,
-    shared: &Shared<B>,
+    shared: &Shared<B, A>,
     build: &mut BuildPart<B>,
     view: &mut GroupView<B>,
     gate: &G,
@@ -123,7 +123,10 @@ fn outcome_of(step: Result<BuildReply, Error>, waits: bool) -> Outcome
 }
 
 // One step of the builder, which may have made a record, and how many attempts were made since the store was opened, with it.
-fn build_step<B: Group, R: Wait>(rt: &R, shared: &Shared<B>) -> (Result<BuildReply, Error>, u64)
+fn build_step<B: Group, R: Wait, A: Memory>(
+    rt: &R,
+    shared: &Shared<B, A>,
+) -> (Result<BuildReply, Error>, u64)
     ensures { ∥ HasStepped B.site.opened (reply_by built result.0) result.1 ∥₁ }
 {
     let mut locked = shared.hold_last(rt);

@@ -9,15 +9,15 @@ use crate::gate::{Gate, Point};
 use crate::rest::{Rest, has_ended, pause_cleaner};
 use nsf_core::CleanReply;
 use records::Error;
-use shared::{Group, GroupView, Shared};
+use shared::{Group, GroupView, Memory, Shared};
 use std::sync::Wait;
 
 /// Makes steps of the cleaner, each under the lock anew, until the stop flag is read. What is refused it passes over. After some
 /// steps that removed nothing it leaves room for the others by a pause, and behind a round through the index that removed nothing it
 /// sleeps, longer each time.
-pub fn clean_loop<B: Group, R: Wait, G: Gate>(
+pub fn clean_loop<B: Group, R: Wait, G: Gate, A: Memory>(
     rt: &R,
-    shared: &Shared<B>,
+    shared: &Shared<B, A>,
     view: &mut GroupView<B>,
     gate: &G,
 )
@@ -27,9 +27,9 @@ pub fn clean_loop<B: Group, R: Wait, G: Gate>(
 }
 
 /// The same, until the run ends, if it is in one.
-pub(crate) fn clean_until<B: Group, R: Wait, G: Gate>(
+pub(crate) fn clean_until<B: Group, R: Wait, G: Gate, A: Memory>(
     rt: &R,
-    shared: &Shared<B>,
+    shared: &Shared<B, A>,
     view: &mut GroupView<B>,
     gate: &G,
     run: Option<u64>,
@@ -60,7 +60,10 @@ pub(crate) fn clean_until<B: Group, R: Wait, G: Gate>(
 }
 
 // One step of the cleaner.
-fn clean_step<B: Group, R: Wait>(rt: &R, shared: &Shared<B>) -> Result<CleanReply, Error>
+fn clean_step<B: Group, R: Wait, A: Memory>(
+    rt: &R,
+    shared: &Shared<B, A>,
+) -> Result<CleanReply, Error>
     ensures { ∥ WasServed B.site.opened Event.Clean (reply_by cleaner result) ∥₁ }
 {
     let mut locked = shared.hold_last(rt);

@@ -17,8 +17,7 @@ use flusher::FlushPart;
 use image_model::{CHUNK_ENTRIES, Chunk, CopyPlace};
 use records::{Error, Geometry};
 use sector_device::Device;
-use shared::{Group, GroupView, Shared};
-use std::alloc::Global;
+use shared::{Group, GroupView, Memory, Shared};
 use std::sync::Wait;
 use store_writer::{FlipReply, FlushReply, StepReply, kept_place};
 
@@ -44,10 +43,10 @@ pub(crate) enum Copying {
 ///
 /// It ends where the stop flag is read, or with `DeviceFailed` where the device failed, now or earlier, stop flag or not. What is
 /// held or waits then is not written. A crash at any moment leaves all records that were synced as the loop began (`goes_on`).
-pub fn flush_loop<B: Group, D: Device, R: Wait, G: Gate>(
+pub fn flush_loop<B: Group, D: Device, R: Wait, G: Gate, A: Memory>(
     rt: &R,
-    shared: &Shared<B>,
-    part: &mut FlushPart<B, D>,
+    shared: &Shared<B, A>,
+    part: &mut FlushPart<B, D, A>,
     view: &mut GroupView<B>,
     gate: &G,
 ) -> Result<(), Error>
@@ -61,10 +60,10 @@ pub fn flush_loop<B: Group, D: Device, R: Wait, G: Gate>(
 }
 
 /// The same, until the run ends, if it is in one.
-pub(crate) fn flush_until<B: Group, D: Device, R: Wait, G: Gate>(
+pub(crate) fn flush_until<B: Group, D: Device, R: Wait, G: Gate, A: Memory>(
     rt: &R,
-    shared: &Shared<B>,
-    part: &mut FlushPart<B, D>,
+    shared: &Shared<B, A>,
+    part: &mut FlushPart<B, D, A>,
     view: &mut GroupView<B>,
     gate: &G,
     run: Option<u64>,
@@ -110,8 +109,8 @@ pub(crate) fn flush_until<B: Group, D: Device, R: Wait, G: Gate>(
 // What was found in a round, before which so much was synced, and so much had been handed in, and which went well or was cut short for
 // want of memory. Where memory is wanting for the records that wait, there is nothing to do for a while. A round that began with records
 // that wait takes none from the queue, so there may be more at once.
-fn found<B: Group, D: Device>(
-    part: &FlushPart<B, D>,
+fn found<B: Group, D: Device, A: Memory>(
+    part: &FlushPart<B, D, A>,
     synced: u64,
     handed: u64,
     copying: Copying,
@@ -132,10 +131,10 @@ fn found<B: Group, D: Device>(
 // One round: the records that wait are handed in, where they are to be taken, a group of them is written, and some steps of an image
 // are made where they are due. Beside an image records are taken where the bell has rung, so that a few of the builder's take no group of
 // their own.
-fn round<B: Group, D: Device, R: Wait, G: Gate>(
+fn round<B: Group, D: Device, R: Wait, G: Gate, A: Memory>(
     rt: &R,
-    shared: &Shared<B>,
-    part: &mut FlushPart<B, D>,
+    shared: &Shared<B, A>,
+    part: &mut FlushPart<B, D, A>,
     copying: &mut Copying,
     takes: bool,
     looks: bool,
@@ -162,10 +161,10 @@ fn steps_a_round(geometry: Geometry) -> u32
 }
 
 // Makes some steps of an image, where as many are due.
-fn copy_some<B: Group, D: Device, R: Wait, G: Gate>(
+fn copy_some<B: Group, D: Device, R: Wait, G: Gate, A: Memory>(
     rt: &R,
-    shared: &Shared<B>,
-    part: &mut FlushPart<B, D>,
+    shared: &Shared<B, A>,
+    part: &mut FlushPart<B, D, A>,
     copying: &mut Copying,
     is_full: bool,
     gate: &G,
@@ -186,10 +185,10 @@ fn copy_some<B: Group, D: Device, R: Wait, G: Gate>(
 }
 
 // Pops the records that wait, and hands them in. What memory is wanting for waits for a later round.
-fn hand_in<B: Group, D: Device, R: Wait>(
+fn hand_in<B: Group, D: Device, R: Wait, A: Memory>(
     rt: &R,
-    shared: &Shared<B>,
-    part: &mut FlushPart<B, D>,
+    shared: &Shared<B, A>,
+    part: &mut FlushPart<B, D, A>,
     takes: bool,
     looks: bool,
 )
@@ -203,10 +202,10 @@ fn hand_in<B: Group, D: Device, R: Wait>(
 
 // Takes none while records wait for the writer, which are to be written first; and takes the lock only where some were popped, or
 // where it is to look.
-fn take_in<B: Group, D: Device, R: Wait>(
+fn take_in<B: Group, D: Device, R: Wait, A: Memory>(
     rt: &R,
-    shared: &Shared<B>,
-    part: &mut FlushPart<B, D>,
+    shared: &Shared<B, A>,
+    part: &mut FlushPart<B, D, A>,
     takes: bool,
     looks: bool,
 ) -> Result<(), Error>
@@ -227,9 +226,9 @@ fn take_in<B: Group, D: Device, R: Wait>(
 }
 
 // Writes a group, where records wait, and tells whether one waits that the log has no room for.
-fn write<B: Group, D: Device, G: Gate>(
-    shared: &Shared<B>,
-    part: &mut FlushPart<B, D>,
+fn write<B: Group, D: Device, G: Gate, A: Memory>(
+    shared: &Shared<B, A>,
+    part: &mut FlushPart<B, D, A>,
     gate: &G,
 ) -> Result<bool, Error>
     ensures goes_on { GoesOn D.history D.failures B.site.opened part.old part.new }
@@ -249,10 +248,10 @@ fn write<B: Group, D: Device, G: Gate>(
 }
 
 // Takes the next chunk of an image, or makes it current; or begins one, where it is wanted.
-fn copy<B: Group, D: Device, R: Wait, G: Gate>(
+fn copy<B: Group, D: Device, R: Wait, G: Gate, A: Memory>(
     rt: &R,
-    shared: &Shared<B>,
-    part: &mut FlushPart<B, D>,
+    shared: &Shared<B, A>,
+    part: &mut FlushPart<B, D, A>,
     copying: &mut Copying,
     is_full: bool,
     gate: &G,
@@ -281,10 +280,10 @@ fn copy<B: Group, D: Device, R: Wait, G: Gate>(
 }
 
 // Copies the piece of this place, and takes it.
-fn copy_piece<B: Group, D: Device, R: Wait, G: Gate>(
+fn copy_piece<B: Group, D: Device, R: Wait, G: Gate, A: Memory>(
     rt: &R,
-    shared: &Shared<B>,
-    part: &mut FlushPart<B, D>,
+    shared: &Shared<B, A>,
+    part: &mut FlushPart<B, D, A>,
     copying: &mut Copying,
     place: CopyPlace,
     gate: &G,
@@ -301,10 +300,10 @@ fn copy_piece<B: Group, D: Device, R: Wait, G: Gate>(
 }
 
 // Copies all cells, and takes them.
-fn copy_all<B: Group, D: Device, R: Wait, G: Gate>(
+fn copy_all<B: Group, D: Device, R: Wait, G: Gate, A: Memory>(
     rt: &R,
-    shared: &Shared<B>,
-    part: &mut FlushPart<B, D>,
+    shared: &Shared<B, A>,
+    part: &mut FlushPart<B, D, A>,
     copying: &mut Copying,
     gate: &G,
 ) -> Result<(), Error>
@@ -319,12 +318,12 @@ fn copy_all<B: Group, D: Device, R: Wait, G: Gate>(
 }
 
 // Copies the piece of this place, under the lock.
-fn copied_piece<B: Group, D: Device, R: Wait>(
+fn copied_piece<B: Group, D: Device, R: Wait, A: Memory>(
     rt: &R,
-    shared: &Shared<B>,
-    part: &mut FlushPart<B, D>,
+    shared: &Shared<B, A>,
+    part: &mut FlushPart<B, D, A>,
     place: CopyPlace,
-) -> Result<Chunk<Global>, Error>
+) -> Result<Chunk<A>, Error>
     requires due { has_failed part.old.writer ≡ false → IsPieceDue (halves_of part.old.writer).geometry.pages place (image_of part.old.writer) }
     ensures goes_on { GoesOn D.history D.failures B.site.opened part.old part.new }
     ensures through { RunsThrough D.history D.failures B.site.opened part.old part.new }
@@ -343,11 +342,11 @@ fn copied_piece<B: Group, D: Device, R: Wait>(
 }
 
 // Copies all cells, under the lock.
-fn copied_whole<B: Group, D: Device, R: Wait>(
+fn copied_whole<B: Group, D: Device, R: Wait, A: Memory>(
     rt: &R,
-    shared: &Shared<B>,
-    part: &mut FlushPart<B, D>,
-) -> Result<Chunk<Global>, Error>
+    shared: &Shared<B, A>,
+    part: &mut FlushPart<B, D, A>,
+) -> Result<Chunk<A>, Error>
     ensures goes_on { GoesOn D.history D.failures B.site.opened part.old part.new }
     ensures through { RunsThrough D.history D.failures B.site.opened part.old part.new }
     ensures copying { (copying : CopyingValue) → StandsBy copying part.old → StandsBy copying part.new }
@@ -361,11 +360,11 @@ fn copied_whole<B: Group, D: Device, R: Wait>(
 }
 
 // Takes a chunk that was copied. Where it can't be taken, a whole image is to be.
-fn take_chunk<B: Group, D: Device>(
-    shared: &Shared<B>,
-    part: &mut FlushPart<B, D>,
+fn take_chunk<B: Group, D: Device, A: Memory>(
+    shared: &Shared<B, A>,
+    part: &mut FlushPart<B, D, A>,
     copying: &mut Copying,
-    chunk: Chunk<Global>,
+    chunk: Chunk<A>,
 ) -> Result<(), Error>
     requires copying { StandsBy copying.old part.old }
     requires chunk { IsChunk (run_of B.site.opened part.old) part.old.writer chunk.number chunk.piece }
@@ -389,9 +388,9 @@ fn take_chunk<B: Group, D: Device>(
 }
 
 // Makes the image current. Where it can't be, and no group more can be written, a whole one is to be taken.
-fn flip<B: Group, D: Device>(
-    shared: &Shared<B>,
-    part: &mut FlushPart<B, D>,
+fn flip<B: Group, D: Device, A: Memory>(
+    shared: &Shared<B, A>,
+    part: &mut FlushPart<B, D, A>,
     copying: &mut Copying,
     is_full: bool,
 ) -> Result<(), Error>

@@ -2,7 +2,7 @@
 ghost use Rattle.std.specs.Prelude.{◌≡◌, None, false};
 
 use board::Bell;
-use shared::{Group, Shared};
+use shared::{Group, Memory, Shared};
 use std::sync::Wait;
 use std::thread;
 use std::time::Duration;
@@ -103,9 +103,9 @@ fn await_ring<R: Wait>(rt: &R, bell: &Bell, rings: u64) {
 
 /// A pause of the builder, so that the seats get the lock, where it has made so many steps since the last one. Answers how many it has
 /// made since then.
-pub(crate) fn leave_room<B: Group, R: Wait>(
+pub(crate) fn leave_room<B: Group, R: Wait, A: Memory>(
     rt: &R,
-    shared: &Shared<B>,
+    shared: &Shared<B, A>,
     rings: u64,
     steps: u64,
 ) -> u64 {
@@ -131,7 +131,7 @@ pub(crate) fn pause_cleaner<R: Wait>(rt: &R, bell: &Bell, rings: u64, steps: u32
 }
 
 /// Whether the run has ended in which a loop was begun, if it was begun in one.
-pub(crate) fn has_ended<B: Group>(shared: &Shared<B>, run: Option<u64>) -> bool
+pub(crate) fn has_ended<B: Group, A: Memory>(shared: &Shared<B, A>, run: Option<u64>) -> bool
     ensures { run ≡ None → result ≡ false }
 {
     match run {

@@ -1,7 +1,6 @@
 -- What an engine that served is opened with.
 use Rattle.std.proofs.Common.{◌≡◌, ◌<◌, ◌≤◌, ℕ, length, sym, ap, subst, arith}
 use Rattle.std.proofs.lemmas.List.{nil_from_length}
-use Rattle.std.specs.declared.alloc.Global.{Global}
 use Rattle.core_laws.specs.Calls.{BeginsWith}
 use Rattle.core_model.specs.Histories.{CanOpen, Opened}
 use Rattle.nsf_core.specs.Loading.{IsQuiet}
@@ -33,7 +32,7 @@ module _ (old new : CoreValue) (fresh : IsFresh old new) (can : CanOpen (held.op
     begins = subst (λ (o : Opened). BeginsWith o new) (sym fresh.same) (record { stands = fresh.stands; none_waits = ap (λ (v : CoreValue). v.outbox) fresh.made });
   }
 
-module _ {D : Type 0} (history : D → History) (o : Opened) (w : Writer D Global) (is : IsSettled history o w) where
+module _ {D A : Type 0} (history : D → History) (o : Opened) (w : Writer D A) (is : IsSettled history o w) where
   pub new_settled : IsNewWriter history o w
   new_settled = record {
     writer = is.writer;

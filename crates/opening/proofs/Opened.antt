@@ -1,7 +1,6 @@
 -- What is left of an engine that was opened and taken apart.
 use Rattle.std.proofs.Common.{◌≡◌, ℕ, List, [], refl, sym, ap, subst, ◌∙◌, inl, arith}
 use Rattle.std.proofs.lemmas.List.{nil_from_length}
-use Rattle.std.specs.declared.alloc.Global.{Global}
 use Rattle.records.specs.GeometryValue.{GeometryValue}
 use Rattle.records.specs.declared.error.Error.{Error}
 use Rattle.records.specs.declared.error.Error.TheVariants.{NoMemory}
@@ -33,7 +32,7 @@ use Rattle.opening.specs.Openings.{IsNewWriter, IsUnsound, Opens}
 both_same : {s new : State} {k next : Standing} → ServesAll s k [] new next → (new ≡ s) × (next ≡ k)
 both_same nothing = (refl, refl)
 
-module _ {D : Type 0} (history : D → History) (before : D) (engine : Parts D Global) (is : IsOpened history before engine) where
+module _ {D A : Type 0} (history : D → History) (before : D) (engine : Parts D A) (is : IsOpened history before engine) where
   pub opens : Opens (history before).disk.content (over is.geometry is.given)
   opens = record { geometry = is.geometry; given = is.given; gives = is.gives; opened = refl }
 
@@ -48,15 +47,15 @@ module _ {D : Type 0} (history : D → History) (before : D) (engine : Parts D G
   }
 
 -- what the core that was opened holds is what the store opened with
-held_is : {D : Type 0} (history : D → History) (before : D) (engine : Parts D Global) (is : IsOpened history before engine) (core : CoreValue) → core ≡ core_of engine → held.opened_of core ≡ over is.geometry is.given
+held_is : {D A : Type 0} (history : D → History) (before : D) (engine : Parts D A) (is : IsOpened history before engine) (core : CoreValue) → core ≡ core_of engine → held.opened_of core ≡ over is.geometry is.given
 held_is history before engine is core same = ap held.opened_of (same ∙ is.core)
 
 -- the core was tested, and a core may begin with what it holds
-pub sound_opened : {D : Type 0} (history : D → History) (before : D) (engine : Parts D Global) (is : IsOpened history before engine) (core : CoreValue) → core ≡ core_of engine → CanOpen (held.opened_of core) → CanOpen (over is.geometry is.given)
+pub sound_opened : {D A : Type 0} (history : D → History) (before : D) (engine : Parts D A) (is : IsOpened history before engine) (core : CoreValue) → core ≡ core_of engine → CanOpen (held.opened_of core) → CanOpen (over is.geometry is.given)
 sound_opened history before engine is core same can = subst CanOpen (held_is history before engine is core same) can
 
 -- the core was tested, and no core may begin with what it holds
-pub unsound_opened : {D : Type 0} (history : D → History) (before : D) (engine : Parts D Global) (is : IsOpened history before engine) (core : CoreValue) → core ≡ core_of engine → (CanOpen (held.opened_of core) → ⊥)
+pub unsound_opened : {D A : Type 0} (history : D → History) (before : D) (engine : Parts D A) (is : IsOpened history before engine) (core : CoreValue) → core ≡ core_of engine → (CanOpen (held.opened_of core) → ⊥)
     → (failures : D → ℕ) (after : D) → after ≡ device_of engine → failures (device_of engine) ≡ failures before → IsUnsound history failures before after
 unsound_opened history before engine is core held_by cannot failures after same quiet = record {
   opened = over is.geometry is.given;
@@ -67,14 +66,14 @@ unsound_opened history before engine is core held_by cannot failures after same 
   quiet = ap failures same ∙ quiet;
 }
 
-module _ {D : Type 0} (history : D → History) (before : D) (engine : Parts D Global) (is : IsOpened history before engine) (emptied : IsEmptied history before engine)
+module _ {D A : Type 0} (history : D → History) (before : D) (engine : Parts D A) (is : IsOpened history before engine) (emptied : IsEmptied history before engine)
     (can : CanOpen (over is.geometry is.given))
-    (core : CoreValue) (w : Writer D Global) (parts : ArePartsOf engine core w) (left : LeavesPartsOf history engine core w) where
+    (core : CoreValue) (w : Writer D A) (parts : ArePartsOf engine core w) (left : LeavesPartsOf history engine core w) where
   abbrev o : Opened
   o = over is.geometry is.given
 
   -- the run that has not begun
-  abbrev past : Past Global
+  abbrev past : Past A
   past = opening is.geometry is.given
 
   begun : LeavesParts history past core w

@@ -1,7 +1,6 @@
 -- What a store is opened with, and what its threads begin with.
 use Rattle.std.specs.FinMap.{len}
 use Rattle.std.specs.Prelude.{[], false, None, ℕ, ◌≡◌, ◌≤◌, ◌⊎◌}
-use Rattle.std.specs.declared.alloc.Global.{Global}
 use Rattle.atomic_table.specs.Seated.{TableId}
 use Rattle.records.specs.GeometryValue.{GeometryValue}
 use Rattle.records.specs.declared.error.Error.{Error}
@@ -49,7 +48,7 @@ StaysOpenable disk = (image : Image) → IsCrashImage disk image → IsOpenable 
 
 -- A flusher's part that has popped nothing: all that was opened is synced, and the device has not failed. No slot of the log is open,
 -- and no image is under way.
-pub record IsNewFlusher {D : Type 0} (board : TableId) (o : Opened) (f : FlushValue D) : Type 0 where
+pub record IsNewFlusher {D A : Type 0} (board : TableId) (o : Opened) (f : FlushValue D A) : Type 0 where
   pub handed : f.handed ≡ []
   pub held : f.held ≡ []
   pub published : f.published ≡ record { board = board; horizon = 0; failed = false }
@@ -59,7 +58,7 @@ pub record IsNewFlusher {D : Type 0} (board : TableId) (o : Opened) (f : FlushVa
   pub idle : image_of f.writer ≡ None
 
 -- A writer that has got no record yet, over what was opened. No slot of the log is open, and no image is under way.
-pub record IsNewWriter {D : Type 0} (history : D → History) (o : Opened) (w : Writer D Global) : Type 0 where
+pub record IsNewWriter {D A : Type 0} (history : D → History) (o : Opened) (w : Writer D A) : Type 0 where
   pub writer : IsWriter history (opened_run (halves_of w) o.given.last (opening_cells o.given)) o.given.last w
   pub pages : (halves_of w).geometry.pages ≡ o.pages
   pub places : (halves_of w).geometry.entries ≡ o.places
@@ -104,24 +103,24 @@ IsNotShared history failures before after Unsound = IsUnsound history failures b
 -- after the same last record. It is sound, and all of it is synced: a crash of the device leaves what opens with it. A crash at any
 -- moment of the call leaves a prefix of whatever run the engine served, with every record up to its horizon, and so with everything
 -- acknowledged; no call of the device failed. No sector was written but those that a copy writes.
-pub record IsOpenedFrom {D : Type 0} (history : D → History) (failures : D → ℕ) (engine : Parts D Global) (count : ℕ) (s : StoreValue D) : Type 0 where
+pub record IsOpenedFrom {D A : Type 0} (history : D → History) (failures : D → ℕ) (engine : Parts D A) (count : ℕ) (s : StoreValue D) : Type 0 where
   pub seats : s.site.seats ≡ count
   pub quiet : IsQuiet (core_of engine)
   pub opened : s.site.opened ≡ opened_of (core_of engine)
   pub sound : CanOpen s.site.opened
   pub stays : (image : Image) → IsCrashImage (history s.device).disk image → Opens image s.site.opened
-  pub survives : (past : Past Global) → IsAt history past engine → LeavesOnly (history (device_of engine)) (history s.device) (Survives past (horizon_of engine))
+  pub survives : (past : Past A) → IsAt history past engine → LeavesOnly (history (device_of engine)) (history s.device) (Survives past (horizon_of engine))
   pub well : failures s.device ≡ failures (device_of engine)
   pub around : WritesOnly history (InCopy (halves_of (writer_of engine))) (device_of engine) s.device
 
 -- A transaction is active, and the engine is as it was. Or none is, and what the engine holds is sound: then there was no memory, and
 -- it is as it was; or what it holds could not be written, and its run goes on.
-abbrev pub IsRefusedFrom : {D : Type 0} → (D → History) → (D → ℕ) → Parts D Global → Parts D Global → Error → Type 0
+abbrev pub IsRefusedFrom : {D A : Type 0} → (D → History) → (D → ℕ) → Parts D A → Parts D A → Error → Type 0
 IsRefusedFrom history failures old new e =
     ((e ≡ TxnsActive) × (IsQuiet (core_of old) → ⊥) × (new ≡ old))
     ⊎ (IsQuiet (core_of old) × CanOpen (opened_of (core_of old)) × (((e ≡ NoMemory) × (new ≡ old)) ⊎ IsNotWritten history failures old new e))
 
 -- why no engine was shared; it is given back
-abbrev pub IsNotOpenedFrom : {D : Type 0} → (D → History) → (D → ℕ) → Parts D Global → Parts D Global → OpenError → Type 0
+abbrev pub IsNotOpenedFrom : {D A : Type 0} → (D → History) → (D → ℕ) → Parts D A → Parts D A → OpenError → Type 0
 IsNotOpenedFrom history failures old new (Refused e) = IsRefusedFrom history failures old new e
 IsNotOpenedFrom history failures old new Unsound = IsQuiet (core_of old) × (CanOpen (opened_of (core_of old)) → ⊥) × (new ≡ old)

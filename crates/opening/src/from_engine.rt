@@ -7,8 +7,7 @@ use crate::store::OpenStore;
 use records::Error;
 use restart::Engine;
 use sector_device::Device;
-use shared::open;
-use std::alloc::Global;
+use shared::{Memory, open};
 
 /// Opens the store of an engine that served, for so many threads with a seat each. The store opens with what the engine holds, and
 /// all of that is written as a whole image, with the records that weren't flushed; an image under way is given up. No sector is
@@ -18,11 +17,11 @@ use std::alloc::Global;
 /// `TxnsActive` where a transaction is active; `Unsound` where a core may not begin with what the engine holds; `NoMemory`; and
 /// `DeviceFailed` as of a copy. With any of them the engine is given back, and its run goes on; it is as it was, but where what it
 /// holds could not be written (`refused`).
-pub fn open_engine<D: Device>(
-    alloc: Global,
-    engine: Engine<D, Global>,
+pub fn open_engine<D: Device, A: Memory>(
+    alloc: A,
+    engine: Engine<D, A>,
     seats: usize,
-) -> Result<OpenStore<D>, (OpenError, Engine<D, Global>)>
+) -> Result<OpenStore<D, A>, (OpenError, Engine<D, A>)>
     ensures opened { IfOk result (IsOpenedFrom D.history D.failures engine seats) }
     ensures refused { IfErr result (λ r. IsNotOpenedFrom D.history D.failures engine r.1 r.0) }
 {

@@ -4,8 +4,8 @@
 //! the thread that writes to the device, and the view of the one that builds the index.
 //!
 //! Proved: `open_store` opens a store as a restart does (`opened`), tells one that no core may begin with (`Unsound`), or refuses
-//! (`refused`). `open_engine` shares an engine that served: the store opens with what the engine holds, and nothing that it
-//! acknowledged is lost (`opened`); or the engine is given back (`refused`). What threads, or a crash within the opening, leave may be
+//! (`refused`). `open_engine` shares an engine that served: the store opens with what the engine holds, and no record up to
+//! its horizon is lost (`opened`); or the engine is given back (`refused`). What threads, or a crash within the opening, leave may be
 //! opened again (the laws `left_by_threads`, `left_by_an_opening`). `OpenStore::start` hands out new seats and a flusher's part with
 //! nothing popped (`seats`, `flush`).
 //! Neither: that `open_engine` doesn't read the device, and writes each sector once at most.

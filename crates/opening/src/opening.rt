@@ -12,8 +12,7 @@ use flusher::FlushPart;
 use records::Error;
 use restart::restart;
 use sector_device::Device;
-use shared::{Group, Shared, open};
-use std::alloc::Global;
+use shared::{Group, Memory, Shared, open};
 
 /// Opens the store on the device, as `restart` does, for so many threads with a seat each.
 ///
@@ -23,11 +22,11 @@ use std::alloc::Global;
 ///
 /// The other errors are those of `restart`, and `NoMemory`. With any error the device is given back, and gives what it gave; a crash
 /// at any moment of the call leaves what one before could, or what gives the same (`refused`). So it may be opened again.
-pub fn open_store<D: Device>(
-    alloc: Global,
+pub fn open_store<D: Device, A: Memory>(
+    alloc: A,
     device: D,
     seats: usize,
-) -> Result<OpenStore<D>, (OpenError, D)>
+) -> Result<OpenStore<D, A>, (OpenError, D)>
     ensures opened { IfOk result (IsOpenedOver D.history D.failures device seats) }
     ensures refused { IfErr result (λ r. IsNotShared D.history D.failures device r.1 r.0) }
 {
@@ -52,12 +51,12 @@ pub fn open_store<D: Device>(
     }
 }
 
-impl<D: Device> OpenStore<D> {
+impl<D: Device, A: Memory> OpenStore<D, A> {
     /// What the threads share, and what each of them has: new seats, each at its number; the part of the flusher, which has popped
     /// nothing, over the device with all of it synced, an empty log and no image under way; and the builder's part.
     ///
     /// The one error is `NoMemory`, and the device is given back then, as it is.
-    pub fn start<B: Group>(self) -> Result<(Shared<B>, Parts<B, D>), (Error, D)>
+    pub fn start<B: Group>(self) -> Result<(Shared<B, A>, Parts<B, D, A>), (Error, D)>
         requires names { self.site ≡ B.site }
         ensures seats { IfOk result (λ r. AreNewSeats B.site.board B.site.seats r.1.seats.items) }
         ensures flush { IfOk result (λ r. IsNewFlusher B.site.board B.site.opened r.1.flush) }

@@ -1,6 +1,6 @@
 //! A store before its threads have it.
 use sector_device::Device;
-use shared::Opening;
+use shared::{Memory, Opening};
 use std::alloc::Global;
 use std::marker::Model;
 use store_writer::StoreWriter;
@@ -9,16 +9,17 @@ use store_writer::StoreWriter;
 ///
 /// Its type keeps that the core was just opened, with what the writer stands for, all of which is synced.
 #[derive(Drop)]
-pub struct OpenStore<D: Device> {
-    pub(crate) alloc: Global,
-    pub(crate) opening: Opening,
-    pub(crate) writer: StoreWriter<D, Global>,
+pub struct OpenStore<D: Device, A: Memory = Global> {
+    pub(crate) alloc: A,
+    pub(crate) opening: Opening<A>,
+    pub(crate) writer: StoreWriter<D, A>,
 }
 
-impl<D: Device> Model for OpenStore<D> {
+impl<D: Device, A: Memory> Model for OpenStore<D, A> {
     ghost use Rattle.std.specs.Prelude.{length};
     ghost use Rattle.std.specs.Coded.{codes};
     ghost use Rattle.std.specs.FinMap as map;
+    ghost use Rattle.tail.specs.Ends.{coded_stored};
     ghost use Rattle.nsf_core.specs.Value.{value_of};
     ghost use Rattle.shared.specs.Openings.{IsJustOpened, IsOpening, names_of, opened_of};
     ghost use Rattle.store_writer.specs.Parts.{device_of};
@@ -26,7 +27,7 @@ impl<D: Device> Model for OpenStore<D> {
 
     ghost Value = { StoreValue D };
 
-    ghost coded = { Prim.hlevel (codes, map.code) };
+    ghost coded = { Prim.hlevel (codes, map.code, coded_stored) };
 
     ghost view = { λ s. record { site = names_of s.opening; device = device_of s.writer } };
 

@@ -2,15 +2,16 @@
 use crate::knowledge::Knowledge;
 use atomic_table::Seat;
 use sessions::Session;
+use std::alloc::{Allocator, Global};
 use std::marker::Model;
 
 /// One of the two halves of a session. To a contract it is a `HalfValue`.
 #[derive(Drop)]
-pub struct Half {
-    pub(crate) seat: Seat<Session, Knowledge>,
+pub struct Half<A: Allocator = Global> {
+    pub(crate) seat: Seat<Session<A>, Knowledge>,
 }
 
-impl Model for Half {
+impl<A: Allocator> Model for Half<A> {
     ghost use Rattle.std.specs.Prelude.{◌≡◌, []};
     ghost use Rattle.session_halves.specs.Halves.{HalfValue};
 
@@ -23,11 +24,11 @@ impl Model for Half {
 
 /// Makes the halves of sessions. To a contract it is a `MakerValue`.
 #[derive(Drop)]
-pub(crate) struct HalfMaker {
-    pub(crate) seat: Seat<Session, Knowledge>,
+pub(crate) struct HalfMaker<A: Allocator> {
+    pub(crate) seat: Seat<Session<A>, Knowledge>,
 }
 
-impl Model for HalfMaker {
+impl<A: Allocator> Model for HalfMaker<A> {
     ghost use Rattle.std.specs.Prelude.{◌≡◌, [], true};
     ghost use Rattle.session_halves.specs.Halves.{MakerValue};
 

@@ -2,11 +2,12 @@
 use crate::knowledge::Knowledge;
 use atomic_table::{Join, Play, Split, TableRule};
 use sessions::Session;
+use std::alloc::Allocator;
 
 /// What each half knows of its session, at every moment.
 pub struct RegistryRule;
 
-impl TableRule<Session, Knowledge, ()> for RegistryRule {
+impl<A: Allocator> TableRule<Session<A>, Knowledge, ()> for RegistryRule {
     ghost use Rattle.session_halves.specs.Rule.{AreHalvesKept, first_maker};
 
     ghost holds = { λ _. AreHalvesKept };
@@ -17,7 +18,7 @@ impl TableRule<Session, Knowledge, ()> for RegistryRule {
 /// The halves that were joined showed one session, and show another from now on.
 pub(crate) struct Change;
 
-impl Play<Session, Knowledge> for Change {
+impl<A: Allocator> Play<Session<A>, Knowledge> for Change {
     ghost use Rattle.session_halves.specs.Rule.{Changes};
 
     ghost then = { Changes };

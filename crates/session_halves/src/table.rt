@@ -8,16 +8,16 @@ use crate::knowledge::Knowledge;
 use crate::rule::{Change, Halve, HandOver, Make, RegistryRule, TakeIn};
 use atomic_table::Table;
 use sessions::Session;
-use std::alloc::{AllocError, Global};
+use std::alloc::{AllocError, Allocator, Global};
 use std::marker::Model;
 
 /// What the halves of all sessions stand on, shared by a `&`. To a contract it is its identity, which each half names.
 #[derive(Drop)]
-pub struct Registry {
-    table: Table<Session, Knowledge, (), RegistryRule, Global>,
+pub struct Registry<A: Allocator = Global> {
+    table: Table<Session<A>, Knowledge, (), RegistryRule, A>,
 }
 
-impl Model for Registry {
+impl<A: Allocator> Model for Registry<A> {
     ghost use Rattle.std.specs.Prelude.{◌≡◌};
     ghost use Rattle.atomic_table.specs.Seated.{TableId, table_id_coded};
 
@@ -30,8 +30,8 @@ impl Model for Registry {
     ghost invariant = { λ r. r.table.shared.table_id.words ≡ 1 };
 }
 
-impl Registry {
-    fn new(alloc: Global) -> Result<(Registry, HalfMaker), AllocError>
+impl<A: Allocator + Copy> Registry<A> {
+    fn new(alloc: A) -> Result<(Registry<A>, HalfMaker<A>), AllocError>
         ensures { IfOk result (λ r. r.1 ≡ record { table = r.0; next = 0 }) }
     {
         let (table, seat) = Table::of_words(alloc, &[0], &())?;
@@ -39,7 +39,7 @@ impl Registry {
     }
 
     // Both halves of a new session.
-    fn make(&self, maker: &mut HalfMaker) -> (Half, Half)
+    fn make(&self, maker: &mut HalfMaker<A>) -> (Half<A>, Half<A>)
         requires { maker.old.table ≡ self.now }
         ensures next { maker.new ≡ record maker.old { next = maker.old.next + 1 } }
         ensures one { result.0 ≡ record { table = self.now; number = maker.old.next; session = empty_session } }
@@ -54,11 +54,14 @@ impl Registry {
     /// A registry with this many sessions, with numbers from 0 on and nothing in them, and both halves of each.
     ///
     /// The error is that memory was refused.
-    pub fn open(alloc: Global, count: usize) -> Result<(Registry, Vec<Half>, Vec<Half>), AllocError>
+    pub fn open(
+        alloc: A,
+        count: usize,
+    ) -> Result<(Registry<A>, Vec<Half<A>, A>, Vec<Half<A>, A>), AllocError>
         ensures book { IfOk result (λ r. (length r.1.items ≡ count) × IsNew r.0 r.1.items) }
         ensures seats { IfOk result (λ r. (length r.2.items ≡ count) × IsNew r.0 r.2.items) }
     {
-        let (registry, mut maker) = Registry::new(alloc)?;
+        let (registry, mut maker) = Registry::<A>::new(alloc)?;
         let mut book = Vec::new(alloc);
         let mut seats = Vec::new(alloc);
         for number in 0..count {
@@ -71,7 +74,7 @@ impl Registry {
     }
 
     /// The two halves of a session come together: they showed one session, and from now on they show this one.
-    pub fn change(&self, mine: &mut Half, theirs: &mut Half, session: &Session)
+    pub fn change(&self, mine: &mut Half<A>, theirs: &mut Half<A>, session: &Session<A>)
         requires mine { mine.old.table ≡ self.now }
         requires theirs { theirs.old.table ≡ self.now }
         requires number { theirs.old.number ≡ mine.old.number }

@@ -9,20 +9,20 @@ ghost use Rattle.sessions.specs.Steps.{row_now, rows_now, unfinished_in, still_u
 use model::Write;
 use nsf_core::Core;
 use records::{Error, Rid, Txn};
-use std::alloc::Global;
+use std::alloc::Allocator;
 
 /// An active transaction: the row at each place that it holds, a change that is not finished, and whether it is rolling
 /// back.
 #[derive(Drop)]
-pub struct ActiveTxn {
+pub struct ActiveTxn<A: Allocator> {
     pub txn: Txn,
-    pub rows: Vec<Write>,
+    pub rows: Vec<Write, A>,
     pub unfinished: Option<Write>,
     pub rolling: bool,
 }
 
 // The index of a transaction.
-fn index_of(active: &[ActiveTxn], txn: Txn) -> Option<usize>
+fn index_of<A: Allocator>(active: &[ActiveTxn<A>], txn: Txn) -> Option<usize>
     ensures place { result ≡ place_from txn 0 active.now }
     ensures within { IfSome result (λ i. i < length active.now) }
 {
@@ -35,7 +35,7 @@ fn index_of(active: &[ActiveTxn], txn: Txn) -> Option<usize>
 }
 
 // The place of a transaction.
-pub(crate) fn place_of(active: &[ActiveTxn], txn: Txn) -> Option<usize>
+pub(crate) fn place_of<A: Allocator>(active: &[ActiveTxn<A>], txn: Txn) -> Option<usize>
     ensures within { IfSome result (λ i. i < length active.now) }
     ensures found { MatchOption result (active_of txn (map active_value active.now) ≡ None) (λ i. IsPlace txn active.now i) }
 {
@@ -43,7 +43,7 @@ pub(crate) fn place_of(active: &[ActiveTxn], txn: Txn) -> Option<usize>
 }
 
 // Sets a row.
-fn set_write(rows: &mut Vec<Write>, write: Write)
+fn set_write<A: Allocator>(rows: &mut Vec<Write, A>, write: Write)
     requires { vec_len rows.old < vec_capacity rows.old }
     ensures { rows.new.items ≡ with_write write rows.old.items }
 {
@@ -52,7 +52,10 @@ fn set_write(rows: &mut Vec<Write>, write: Write)
 }
 
 // Makes room for one row more.
-pub(crate) fn reserve_row(active: &mut Vec<ActiveTxn>, i: usize) -> Result<(), Error>
+pub(crate) fn reserve_row<A: Allocator>(
+    active: &mut Vec<ActiveTxn<A>, A>,
+    i: usize,
+) -> Result<(), Error>
     requires { i < vec_len active.old }
     ensures same { map active_value active.new.items ≡ map active_value active.old.items }
     ensures room { OnOk result (HasRoomAt i active.new.items) }
@@ -63,7 +66,7 @@ pub(crate) fn reserve_row(active: &mut Vec<ActiveTxn>, i: usize) -> Result<(), E
 }
 
 // The row that is at a place now.
-fn row_now(core: &Core<Global>, rid: Rid) -> Write
+fn row_now<A: Allocator + Copy>(core: &Core<A>, rid: Rid) -> Write
     ensures { result ≡ row_now (value_of core.now) rid }
 {
     let row = core.get(rid);
@@ -71,7 +74,7 @@ fn row_now(core: &Core<Global>, rid: Rid) -> Write
 }
 
 // This change, if the transaction owes a step of it.
-fn unfinished(core: &Core<Global>, txn: Txn, change: Write) -> Option<Write>
+fn unfinished<A: Allocator + Copy>(core: &Core<A>, txn: Txn, change: Write) -> Option<Write>
     ensures { result ≡ unfinished_in (value_of core.now) txn change }
 {
     core.owes(txn)?;
@@ -79,7 +82,11 @@ fn unfinished(core: &Core<Global>, txn: Txn, change: Write) -> Option<Write>
 }
 
 // This change, if there is one and the transaction owes a step of it.
-fn still_unfinished(core: &Core<Global>, txn: Txn, change: Option<Write>) -> Option<Write>
+fn still_unfinished<A: Allocator + Copy>(
+    core: &Core<A>,
+    txn: Txn,
+    change: Option<Write>,
+) -> Option<Write>
     ensures { result ≡ still_unfinished (value_of core.now) txn change }
 {
     match change {
@@ -89,7 +96,7 @@ fn still_unfinished(core: &Core<Global>, txn: Txn, change: Option<Write>) -> Opt
 }
 
 // Reads the rows at these places anew.
-fn read_again(core: &Core<Global>, rows: &mut Vec<Write>)
+fn read_again<A: Allocator + Copy>(core: &Core<A>, rows: &mut Vec<Write, A>)
     ensures { rows.new.items ≡ rows_now (value_of core.now) rows.old.items }
 {
     for i in 0..rows.len() {
@@ -98,7 +105,12 @@ fn read_again(core: &Core<Global>, rows: &mut Vec<Write>)
 }
 
 // The transaction at this place has begun a change.
-pub(crate) fn note_change(active: &mut Vec<ActiveTxn>, i: usize, core: &Core<Global>, change: Write)
+pub(crate) fn note_change<A: Allocator + Copy>(
+    active: &mut Vec<ActiveTxn<A>, A>,
+    i: usize,
+    core: &Core<A>,
+    change: Write,
+)
     requires { HasRoomAt i active.old.items }
     ensures { map active_value active.new.items ≡ changed_at (change_seen (value_of core.now) change) i (map active_value active.old.items) }
 {
@@ -109,7 +121,11 @@ pub(crate) fn note_change(active: &mut Vec<ActiveTxn>, i: usize, core: &Core<Glo
 }
 
 // The transaction at this place has made one more step of its change.
-pub(crate) fn note_step(active: &mut Vec<ActiveTxn>, i: usize, core: &Core<Global>)
+pub(crate) fn note_step<A: Allocator + Copy>(
+    active: &mut Vec<ActiveTxn<A>, A>,
+    i: usize,
+    core: &Core<A>,
+)
     requires { i < vec_len active.old }
     ensures { map active_value active.new.items ≡ changed_at (step_seen (value_of core.now)) i (map active_value active.old.items) }
 {
@@ -119,7 +135,11 @@ pub(crate) fn note_step(active: &mut Vec<ActiveTxn>, i: usize, core: &Core<Globa
 }
 
 // The transaction at this place has taken a step back, or had none left.
-pub(crate) fn note_undo(active: &mut Vec<ActiveTxn>, i: usize, core: &Core<Global>)
+pub(crate) fn note_undo<A: Allocator + Copy>(
+    active: &mut Vec<ActiveTxn<A>, A>,
+    i: usize,
+    core: &Core<A>,
+)
     requires { i < vec_len active.old }
     ensures { map active_value active.new.items ≡ changed_at (taken_back (value_of core.now)) i (map active_value active.old.items) }
 {
@@ -130,7 +150,11 @@ pub(crate) fn note_undo(active: &mut Vec<ActiveTxn>, i: usize, core: &Core<Globa
 }
 
 // Takes a transaction out, and answers its rows.
-pub(crate) fn take_out(active: &mut Vec<ActiveTxn>, i: usize, txn: Txn) -> Vec<Write>
+pub(crate) fn take_out<A: Allocator>(
+    active: &mut Vec<ActiveTxn<A>, A>,
+    i: usize,
+    txn: Txn,
+) -> Vec<Write, A>
     requires within { i < vec_len active.old }
     requires place { IsPlace txn active.old.items i }
     ensures rows { result.items ≡ rows_of txn (map active_value active.old.items) }

@@ -6,19 +6,19 @@ use crate::active::{ActiveTxn, place_of};
 use crate::commit::Commit;
 use crate::turn::Turn;
 use records::Txn;
-use std::alloc::Global;
+use std::alloc::{Allocator, Global};
 use std::marker::Model;
 
 /// What a seat knows of its own transactions. To a contract it is a `SessionValue`.
 #[derive(Drop)]
-pub struct Session {
-    pub(crate) alloc: Global,
-    pub(crate) commits: Vec<Commit>,
-    pub(crate) turns: Vec<Turn>,
-    pub(crate) active: Vec<ActiveTxn>,
+pub struct Session<A: Allocator = Global> {
+    pub(crate) alloc: A,
+    pub(crate) commits: Vec<Commit<A>, A>,
+    pub(crate) turns: Vec<Turn, A>,
+    pub(crate) active: Vec<ActiveTxn<A>, A>,
 }
 
-impl Model for Session {
+impl<A: Allocator> Model for Session<A> {
     ghost use Rattle.std.specs.Prelude.{map};
     ghost use Rattle.sessions.specs.Values.{SessionValue};
     ghost use Rattle.sessions.specs.Active.{active_value};
@@ -28,9 +28,9 @@ impl Model for Session {
     ghost view = { λ s. record { commits = s.commits.items; turns = s.turns.items; active = map active_value s.active.items } };
 }
 
-impl Session {
+impl<A: Allocator + Copy> Session<A> {
     /// A session without commit, creation or transaction. It takes no memory.
-    pub fn new(alloc: Global) -> Session
+    pub fn new(alloc: A) -> Session<A>
         ensures { result ≡ empty_session }
     {
         Session {
@@ -42,7 +42,7 @@ impl Session {
     }
 
     /// The commits, in the order in which they were made.
-    pub fn into_commits(self) -> Vec<Commit>
+    pub fn into_commits(self) -> Vec<Commit<A>, A>
         ensures { result.items ≡ self.commits }
     {
         let Session {

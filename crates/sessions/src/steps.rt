@@ -21,14 +21,14 @@ use crate::turn::Turn;
 use model::Write;
 use nsf_core::{Core, Detached, Ticket, Undone};
 use records::{Body, Error, Key, Rid, Row, Txn};
-use std::alloc::Global;
+use std::alloc::Allocator;
 
-impl Session {
+impl<A: Allocator + Copy> Session<A> {
     /// Begins a transaction of the seat.
     ///
     /// The refusals are those of the core's `begin`, `NoMemory` the last of them; it comes also where there is none for the
     /// session's part. After a refusal both are as before.
-    pub fn begin(&mut self, core: &mut Core<Global>) -> Result<Txn, Error>
+    pub fn begin(&mut self, core: &mut Core<A>) -> Result<Txn, Error>
         ensures served { Serves (value_of core.old) Event.Begin (reply_by Reply.Txn result) (value_of core.new) }
         ensures ok { IfOk result (λ txn. self.new ≡ begun self.old txn) }
         ensures unchanged { OnErr result (self.new ≡ self.old) }
@@ -52,7 +52,7 @@ impl Session {
     /// before.
     pub fn insert(
         &mut self,
-        core: &mut Core<Global>,
+        core: &mut Core<A>,
         txn: Txn,
         key: Key,
         body: Body,
@@ -77,7 +77,7 @@ impl Session {
     /// Deletes a row in a transaction of the seat: the first step, and all of the deletion where there is no index.
     ///
     /// The refusals are those of `insert`, with the core's `start_delete` in place of `start_insert`.
-    pub fn delete(&mut self, core: &mut Core<Global>, txn: Txn, rid: Rid) -> Result<(), Error>
+    pub fn delete(&mut self, core: &mut Core<A>, txn: Txn, rid: Rid) -> Result<(), Error>
         requires { is_active self.old txn ≡ true → IsReadyOrNone (txn_shown (value_of core.old) txn) }
         ensures foreign { is_active self.old txn ≡ false → (result ≡ Err NoSuchTxn) × (value_of core.new ≡ value_of core.old) }
         ensures served { is_active self.old txn ≡ true → Serves (value_of core.old) (Event.Delete txn rid) (reply_by (λ _. Reply.Stepped) result) (value_of core.new) }
@@ -100,7 +100,7 @@ impl Session {
     /// The refusals are those of `delete`.
     pub fn update(
         &mut self,
-        core: &mut Core<Global>,
+        core: &mut Core<A>,
         txn: Txn,
         rid: Rid,
         key: Key,
@@ -127,7 +127,7 @@ impl Session {
     ///
     /// `NoSuchTxn` where the transaction isn't one of the seat's, and else the refusals of the core's `next_step`. After a
     /// refusal both are as before.
-    pub fn next_step(&mut self, core: &mut Core<Global>, txn: Txn) -> Result<(), Error>
+    pub fn next_step(&mut self, core: &mut Core<A>, txn: Txn) -> Result<(), Error>
         requires { is_active self.old txn ≡ true → OwesOrNone (txn_shown (value_of core.old) txn) }
         ensures foreign { is_active self.old txn ≡ false → (result ≡ Err NoSuchTxn) × (value_of core.new ≡ value_of core.old) }
         ensures served { is_active self.old txn ≡ true → Serves (value_of core.old) (Event.Step txn) (reply_by (λ _. Reply.Stepped) result) (value_of core.new) }
@@ -147,7 +147,7 @@ impl Session {
     ///
     /// `NoSuchTxn` where the transaction isn't one of the seat's, and else the refusals of the core's `undo_step`. After a
     /// refusal both are as before.
-    pub fn undo_step(&mut self, core: &mut Core<Global>, txn: Txn) -> Result<Undone, Error>
+    pub fn undo_step(&mut self, core: &mut Core<A>, txn: Txn) -> Result<Undone, Error>
         ensures foreign { is_active self.old txn ≡ false → (result ≡ Err NoSuchTxn) × (value_of core.new ≡ value_of core.old) }
         ensures served { is_active self.old txn ≡ true → Serves (value_of core.old) (Event.Undo txn) (reply_by undone_reply result) (value_of core.new) }
         ensures ok { OnOk result (self.new ≡ rolling_back self.old (value_of core.new) txn) }
@@ -165,7 +165,7 @@ impl Session {
     ///
     /// `NoSuchTxn` where the transaction isn't one of the seat's, and else the refusals of the core's `end`. After a
     /// refusal both are as before.
-    pub fn end(&mut self, core: &mut Core<Global>, txn: Txn) -> Result<(), Error>
+    pub fn end(&mut self, core: &mut Core<A>, txn: Txn) -> Result<(), Error>
         requires { is_active self.old txn ≡ true → HasNoChange (txn_shown (value_of core.old) txn) }
         ensures foreign { is_active self.old txn ≡ false → (result ≡ Err NoSuchTxn) × (value_of core.new ≡ value_of core.old) }
         ensures served { is_active self.old txn ≡ true → Serves (value_of core.old) (Event.End txn) (reply_by (λ _. Reply.Ended) result) (value_of core.new) }
@@ -185,7 +185,7 @@ impl Session {
     ///
     /// `NoSuchTxn` where the transaction isn't one of the seat's, and else the refusals of the core's `commit`, `NoMemory`
     /// the last of them; it comes also where there is none for the session's part. After a refusal both are as before.
-    pub fn commit(&mut self, core: &mut Core<Global>, txn: Txn) -> Result<Ticket, Error>
+    pub fn commit(&mut self, core: &mut Core<A>, txn: Txn) -> Result<Ticket, Error>
         requires { is_active self.old txn ≡ true → IsReadyOrNone (txn_shown (value_of core.old) txn) }
         ensures foreign { is_active self.old txn ≡ false → (result ≡ Err NoSuchTxn) × (value_of core.new ≡ value_of core.old) }
         ensures served { is_active self.old txn ≡ true → Serves (value_of core.old) (Event.Commit txn) (reply_by reply_of_ticket result) (value_of core.new) }
@@ -211,7 +211,7 @@ impl Session {
     ///
     /// The refusals are those of the core's `create_index`, `NoMemory` the last of them; it comes also where there is none
     /// for the session's part. After a refusal both are as before.
-    pub fn create_index(&mut self, core: &mut Core<Global>) -> Result<Ticket, Error>
+    pub fn create_index(&mut self, core: &mut Core<A>) -> Result<Ticket, Error>
         ensures served { Serves (value_of core.old) Event.Create (reply_by reply_of_ticket result) (value_of core.new) }
         ensures ok { IfOk result (λ ticket. self.new ≡ with_turn self.old (Created ticket.«record»)) }
         ensures unchanged { OnErr result (self.new ≡ self.old) }
@@ -228,7 +228,7 @@ impl Session {
     ///
     /// The refusals are those of the core's `drop_index`, `NoMemory` the last of them; it comes also where there is none
     /// for the session's part. After a refusal both are as before.
-    pub fn drop_index(&mut self, core: &mut Core<Global>) -> Result<Detached<Global>, Error>
+    pub fn drop_index(&mut self, core: &mut Core<A>) -> Result<Detached<A>, Error>
         ensures served { Serves (value_of core.old) Event.Drop (reply_by reply_of_detached result) (value_of core.new) }
         ensures taken { IfOk result (λ d. entries_of d ≡ (value_of core.old).index.entries) }
         ensures ok { IfOk result (λ d. self.new ≡ with_turn self.old (Dropped d.ticket.«record»)) }

@@ -4,7 +4,7 @@ use Rattle.std.proofs.lemmas.List.{length-append}
 use Rattle.std.specs.Prelude.{slice_get}
 use Rattle.atomic_table.specs.Seated.{TableId}
 use Rattle.sessions.specs.Values.{empty_session}
-use Rattle.session_halves.specs.Halves.{HalfValue}
+use Rattle.session_halves.specs.Halves.{HalfValue, IsNew}
 use Rattle.board.specs.Views.{Sighting}
 use Rattle.shared.specs.Seats.{AreNewSeats, HasSeenNothing, IsNewSeat, SeatValue}
 
@@ -39,3 +39,14 @@ more_seats z n seats items s are new e = record {
       (λ (x : (k ≡ length seats) × (s ≡ t)). subst (IsNewSeat z k) x.1 (subst (λ m. IsNewSeat z m s) (sym are.counted ∙ sym x.0) new))
       (get_snoc seats s t k (ap (λ l. slice_get l k) (sym e) ∙ at));
 }
+
+-- at first there is none
+pub no_seats : (z : TableId) (items : List SeatValue) → items ≡ [] → AreNewSeats z 0 items
+no_seats z items none = record { counted = ap length none; each = λ k s at. absurd (nothing_at k s (ap (λ l. slice_get l k) (sym none) ∙ at)) }
+  where
+    nothing_at : (k : ℕ) (s : SeatValue) → slice_get [] k ≡ Some s → ⊥
+    nothing_at k s at = cc
+
+-- and all halves are to come
+pub all_halves : (z : TableId) (halves rest : List HalfValue) → IsNew z halves → rest ≡ halves → AreFrom z 0 rest
+all_halves z halves rest new same k h at = new k h (ap (λ l. slice_get l k) (sym same) ∙ at) ∙ ap (λ (m : ℕ). record { table = z; number = m; session = empty_session }) (omega arith)

@@ -9,18 +9,18 @@ ghost use Rattle.shared.specs.Served.{HasUndone, WasAborted, WasServedTo, WasTak
 
 use crate::seat::Seat;
 use crate::shared::Shared;
-use locked_core::Group;
+use locked_core::{Group, Memory};
 use records::{Error, Txn};
 use std::sync::Wait;
 
-impl<B: Group> Shared<B> {
+impl<B: Group, A: Memory> Shared<B, A> {
     /// Takes all changes of a transaction of the seat back, each step under the lock anew, and then ends it: it is none of the
     /// seat's from then on. At its end each place that it held has its committed row.
     ///
     /// `NoSuchTxn` where the transaction isn't one of the seat's, and else the refusals of the core's `undo_step` and `end`.
     /// After one of them the transaction is as before or rolling back. The undo steps that were made stay made (`undone`), and `abort`,
     /// called again, goes on from there (law `each_refusal`).
-    pub fn abort<R: Wait>(&self, rt: &R, seat: &mut Seat<B>, txn: Txn) -> Result<(), Error>
+    pub fn abort<R: Wait>(&self, rt: &R, seat: &mut Seat<B, A>, txn: Txn) -> Result<(), Error>
         ensures foreign { is_active seat.old.session txn ≡ false → (result ≡ Err NoSuchTxn) × (seat.new ≡ seat.old) }
         ensures ok { OnOk result (seat.new.session ≡ ended seat.old.session txn) }
         ensures aborted { OnOk result ∥ WasAborted B.site.opened seat.old.number seat.old.session txn ∥₁ }
@@ -48,7 +48,7 @@ impl<B: Group> Shared<B> {
 
     // The end of a transaction that has no change left, or else a step that takes a change back; answers whether it was the
     // end.
-    fn take_back<R: Wait>(&self, rt: &R, seat: &mut Seat<B>, txn: Txn) -> Result<bool, Error>
+    fn take_back<R: Wait>(&self, rt: &R, seat: &mut Seat<B, A>, txn: Txn) -> Result<bool, Error>
         requires { is_active seat.old.session txn ≡ true }
         ensures last { IfOk result (λ last. last ≡ true → seat.new.session ≡ ended seat.old.session txn) }
         ensures taken { IfOk result (λ last. last ≡ true → ∥ WasTakenBack B.site.opened seat.old.number seat.old.session txn ∥₁) }

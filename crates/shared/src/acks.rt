@@ -5,7 +5,7 @@ ghost use Rattle.shared.specs.Waits.{HasReadWhy};
 
 use crate::seat::{Ack, Seat};
 use crate::shared::Shared;
-use locked_core::Group;
+use locked_core::{Group, Memory};
 use nsf_core::Ticket;
 use records::Error;
 use std::hint;
@@ -21,10 +21,10 @@ const RING_LOOKS: u32 = 4_000;
 
 const LONGEST_SLEEP: u64 = 1_000;
 
-impl<B: Group> Shared<B> {
+impl<B: Group, A: Memory> Shared<B, A> {
     /// Whether the record of the ticket is safe on the device, by the horizon as it is read now. It takes no memory and
     /// waits for nothing.
-    pub fn is_acked(&self, seat: &mut Seat<B>, ticket: Ticket) -> bool
+    pub fn is_acked(&self, seat: &mut Seat<B, A>, ticket: Ticket) -> bool
         ensures reached { IsTrue result ↔ (ticket.«record» ≤ seat.new.sight.horizon) }
         ensures seen { seat.new ≡ record seat.old { sight = record seat.old.sight { horizon = seat.new.sight.horizon; checked = false } } }
         ensures rises { seat.old.sight.horizon ≤ seat.new.sight.horizon }
@@ -33,7 +33,7 @@ impl<B: Group> Shared<B> {
     }
 
     // An acknowledgement, where the horizon that is read reaches the record.
-    fn try_ack(&self, seat: &mut Seat<B>, ticket: &Ticket) -> Option<Ack<B>>
+    fn try_ack(&self, seat: &mut Seat<B, A>, ticket: &Ticket) -> Option<Ack<B>>
         ensures ticket { IfSome result (λ ack. ack.ticket ≡ ticket.now) }
         ensures reached { IfSome result (λ ack. ticket.now.«record» ≤ ack.sight.horizon) }
         ensures stays { IfSome result (λ ack. seat.new ≡ record seat.old { sight = record seat.old.sight { horizon = ack.sight.horizon; checked = false; name = stays_as seat.old.sight.name } }) }
@@ -54,7 +54,7 @@ impl<B: Group> Shared<B> {
     }
 
     // Why the seat waits no longer, if so.
-    fn ended(&self, seat: &mut Seat<B>) -> Option<Error>
+    fn ended(&self, seat: &mut Seat<B, A>) -> Option<Error>
         ensures why { IfSome result (λ e. HasReadWhy e seat.old seat.new) }
         ensures none { IfNone result (seat.new ≡ record seat.old { sight = record seat.old.sight { checked = true } }) }
         ensures unfailed { IfNone result (seat.old.sight.failed ≡ false) }
@@ -78,7 +78,7 @@ impl<B: Group> Shared<B> {
     pub fn await_ack<R: Wait>(
         &self,
         rt: &R,
-        seat: &mut Seat<B>,
+        seat: &mut Seat<B, A>,
         ticket: Ticket,
     ) -> Result<Ack<B>, Error>
         ensures ticket { IfOk result (λ ack. ack.ticket ≡ ticket) }
@@ -119,7 +119,7 @@ impl<B: Group> Shared<B> {
 
     /// How many attempts the builder has made since the store was opened, as it has published. It takes no memory and waits for
     /// nothing.
-    pub fn progress(&self, seat: &mut Seat<B>) -> u64
+    pub fn progress(&self, seat: &mut Seat<B, A>) -> u64
         ensures seen { seat.new ≡ record seat.old { sight = record seat.old.sight { progress = result } } }
         ensures rises { seat.old.sight.progress ≤ result }
     {
@@ -128,7 +128,7 @@ impl<B: Group> Shared<B> {
 
     /// Sets the stop flag, by which all threads are asked to stop. It takes no memory and waits for nothing. (That those that sleep are
     /// woken, no clause says.)
-    pub fn stop(&self, seat: &mut Seat<B>)
+    pub fn stop(&self, seat: &mut Seat<B, A>)
         ensures { seat.new ≡ record seat.old { sight = record seat.old.sight { stopped = true; stops = true } } }
     {
         self.board.stop(&mut seat.view);

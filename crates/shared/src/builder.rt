@@ -4,7 +4,7 @@ ghost use Rattle.std.specs.Prelude.{◌≡◌, ◌≤◌, max};
 use crate::shared::Shared;
 use crate::views::GroupView;
 use board::BuildView;
-use locked_core::Group;
+use locked_core::{Group, Memory};
 use std::marker::{Model, PhantomData};
 
 /// What the builder publishes with on the group's board: how many attempts it has made. To a contract it is a `BuildValue`.
@@ -27,7 +27,7 @@ impl<B: Group> Model for BuildPart<B> {
 
 impl<B: Group> BuildPart<B> {
     /// Raises the count of attempts that is published. A number that is not above it changes nothing.
-    pub fn raise_progress(&mut self, shared: &Shared<B>, progress: u64)
+    pub fn raise_progress<A: Memory>(&mut self, shared: &Shared<B, A>, progress: u64)
         ensures { self.new ≡ record { progress = max self.old.progress progress } }
     {
         shared.board.raise_progress(&mut self.view, progress);
@@ -35,7 +35,7 @@ impl<B: Group> BuildPart<B> {
 
     /// Compares what a view has seen with what was published: no count of attempts that it has seen is above the builder's own.
     /// Nothing changes but the view, which has now seen the count that was published.
-    pub fn settle(&mut self, shared: &Shared<B>, view: &mut GroupView<B>)
+    pub fn settle<A: Memory>(&mut self, shared: &Shared<B, A>, view: &mut GroupView<B>)
         ensures same { self.new ≡ self.old }
         ensures progress { view.old.progress ≤ self.old.progress }
         ensures informed { view.new ≡ record view.old { progress = self.old.progress } }

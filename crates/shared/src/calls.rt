@@ -12,17 +12,17 @@ ghost use Rattle.shared.specs.Served.{WasServed, WasServedTo};
 
 use crate::seat::Seat;
 use crate::shared::Shared;
-use locked_core::Group;
+use locked_core::{Group, Memory};
 use model::Life;
 use nsf_core::Ticket;
 use records::{Error, Key, Rid, Row, Txn};
 use std::sync::Wait;
 
-impl<B: Group> Shared<B> {
+impl<B: Group, A: Memory> Shared<B, A> {
     /// Begins a transaction of the seat.
     ///
     /// The refusals are those of the core's `begin`. After a refusal the seat is as before.
-    pub fn begin<R: Wait>(&self, rt: &R, seat: &mut Seat<B>) -> Result<Txn, Error>
+    pub fn begin<R: Wait>(&self, rt: &R, seat: &mut Seat<B, A>) -> Result<Txn, Error>
         ensures served { ∥ WasServedTo B.site.opened seat.old.number seat.old.session Event.Begin (reply_by Reply.Txn result) ∥₁ }
         ensures ok { IfOk result (λ txn. seat.new ≡ record seat.old { session = begun seat.old.session txn }) }
         ensures refused { OnErr result (seat.new ≡ seat.old) }
@@ -37,7 +37,7 @@ impl<B: Group> Shared<B> {
     ///
     /// `NoSuchTxn` where the transaction isn't one of the seat's, and else the refusals of the core's `commit`. After a
     /// refusal the seat is as before.
-    pub fn commit<R: Wait>(&self, rt: &R, seat: &mut Seat<B>, txn: Txn) -> Result<Ticket, Error>
+    pub fn commit<R: Wait>(&self, rt: &R, seat: &mut Seat<B, A>, txn: Txn) -> Result<Ticket, Error>
         requires { is_active seat.old.session txn ≡ true → is_ready seat.old.session txn ≡ true }
         ensures foreign { is_active seat.old.session txn ≡ false → result ≡ Err NoSuchTxn }
         ensures served { is_active seat.old.session txn ≡ true → ∥ WasServedTo B.site.opened seat.old.number seat.old.session (Event.Commit txn) (reply_by reply_of_ticket result) ∥₁ }
@@ -56,7 +56,7 @@ impl<B: Group> Shared<B> {
     /// Creates the index, and keeps the number of its record with the seat.
     ///
     /// The refusals are those of the core's `create_index`. After a refusal the seat is as before.
-    pub fn create_index<R: Wait>(&self, rt: &R, seat: &mut Seat<B>) -> Result<Ticket, Error>
+    pub fn create_index<R: Wait>(&self, rt: &R, seat: &mut Seat<B, A>) -> Result<Ticket, Error>
         ensures served { ∥ WasServedTo B.site.opened seat.old.number seat.old.session Event.Create (reply_by reply_of_ticket result) ∥₁ }
         ensures ok { IfOk result (λ ticket. seat.new ≡ record seat.old { session = with_turn seat.old.session (Created ticket.«record») }) }
         ensures refused { OnErr result (seat.new ≡ seat.old) }
@@ -75,7 +75,7 @@ impl<B: Group> Shared<B> {
     /// the lock (no clause says so).
     ///
     /// The refusals are those of the core's `drop_index`. After a refusal the seat is as before.
-    pub fn drop_index<R: Wait>(&self, rt: &R, seat: &mut Seat<B>) -> Result<Ticket, Error>
+    pub fn drop_index<R: Wait>(&self, rt: &R, seat: &mut Seat<B, A>) -> Result<Ticket, Error>
         ensures served { ∥ WasServedTo B.site.opened seat.old.number seat.old.session Event.Drop (reply_by reply_of_ticket result) ∥₁ }
         ensures ok { IfOk result (λ ticket. seat.new ≡ record seat.old { session = with_turn seat.old.session (Dropped ticket.«record») }) }
         ensures refused { OnErr result (seat.new ≡ seat.old) }
@@ -92,7 +92,7 @@ impl<B: Group> Shared<B> {
 
     /// The row at the place, also before its transaction's commit, as a core has it that may lie under the lock. If a transaction of the seat holds the place,
     /// that is the row which the seat's session has for it.
-    pub fn get<R: Wait>(&self, rt: &R, seat: &mut Seat<B>, rid: Rid) -> Option<Row>
+    pub fn get<R: Wait>(&self, rt: &R, seat: &mut Seat<B, A>, rid: Rid) -> Option<Row>
         ensures served { ∥ WasServedTo B.site.opened seat.old.number seat.old.session (Event.Get rid) (Reply.RowIs result) ∥₁ }
         ensures own { (txn : ℕ) (row : Option RowValue) → row_of seat.old.session txn rid ≡ Some row → result ≡ row }
         ensures seat { seat.new ≡ seat.old }
@@ -106,7 +106,7 @@ impl<B: Group> Shared<B> {
     /// The places of the rows with this key, by the index, as a core has it that may lie under the lock.
     ///
     /// The refusals are those of the core's `find`.
-    pub fn find<R: Wait>(&self, rt: &R, key: Key) -> Result<Vec<Rid>, Error>
+    pub fn find<R: Wait>(&self, rt: &R, key: Key) -> Result<Vec<Rid, A>, Error>
         ensures { ∥ WasServed B.site.opened (Event.Find key) (reply_by (λ rids. Reply.Found rids.items) result) ∥₁ }
     {
         let locked = self.hold(rt);

@@ -10,7 +10,7 @@ ghost use Rattle.shared.specs.Served.{WasChanged, WasServedTo};
 
 use crate::seat::Seat;
 use crate::shared::Shared;
-use locked_core::Group;
+use locked_core::{Group, Memory};
 use records::{Body, Error, Key, Rid, Txn};
 use std::sync::Wait;
 
@@ -22,7 +22,7 @@ pub struct Change {
     pub rest: Option<Error>,
 }
 
-impl<B: Group> Shared<B> {
+impl<B: Group, A: Memory> Shared<B, A> {
     /// Inserts a row in a transaction of the seat.
     ///
     /// `NoSuchTxn` where the transaction isn't one of the seat's, and else the refusals of the core's `start_insert`. After
@@ -31,7 +31,7 @@ impl<B: Group> Shared<B> {
     pub fn insert<R: Wait>(
         &self,
         rt: &R,
-        seat: &mut Seat<B>,
+        seat: &mut Seat<B, A>,
         txn: Txn,
         key: Key,
         body: Body,
@@ -57,7 +57,7 @@ impl<B: Group> Shared<B> {
     pub fn delete<R: Wait>(
         &self,
         rt: &R,
-        seat: &mut Seat<B>,
+        seat: &mut Seat<B, A>,
         txn: Txn,
         rid: Rid,
     ) -> Result<Change, Error>
@@ -83,7 +83,7 @@ impl<B: Group> Shared<B> {
     pub fn update<R: Wait>(
         &self,
         rt: &R,
-        seat: &mut Seat<B>,
+        seat: &mut Seat<B, A>,
         txn: Txn,
         rid: Rid,
         key: Key,
@@ -109,7 +109,7 @@ impl<B: Group> Shared<B> {
     ///
     /// `NoSuchTxn` where the transaction isn't one of the seat's, and else the refusals of the core's `next_step`. After one
     /// of them the change is still to be finished.
-    pub fn carry_on<R: Wait>(&self, rt: &R, seat: &mut Seat<B>, txn: Txn) -> Result<(), Error>
+    pub fn carry_on<R: Wait>(&self, rt: &R, seat: &mut Seat<B, A>, txn: Txn) -> Result<(), Error>
         ensures foreign { is_active seat.old.session txn ≡ false → (result ≡ Err NoSuchTxn) × (seat.new ≡ seat.old) }
         ensures none { is_active seat.old.session txn ≡ true → unfinished_of seat.old.session txn ≡ None → (OnErr result ⊥) × (seat.new ≡ seat.old) }
         ensures ok { OnOk result ((change : Write) → unfinished_of seat.old.session txn ≡ Some change → HasChanged seat.old.session txn change None seat.new.session) }
@@ -131,7 +131,7 @@ impl<B: Group> Shared<B> {
     fn start_insert<R: Wait>(
         &self,
         rt: &R,
-        seat: &mut Seat<B>,
+        seat: &mut Seat<B, A>,
         txn: Txn,
         key: Key,
         body: Body,
@@ -155,7 +155,7 @@ impl<B: Group> Shared<B> {
     fn start_delete<R: Wait>(
         &self,
         rt: &R,
-        seat: &mut Seat<B>,
+        seat: &mut Seat<B, A>,
         txn: Txn,
         rid: Rid,
     ) -> Result<(), Error>
@@ -178,7 +178,7 @@ impl<B: Group> Shared<B> {
     fn start_update<R: Wait>(
         &self,
         rt: &R,
-        seat: &mut Seat<B>,
+        seat: &mut Seat<B, A>,
         txn: Txn,
         rid: Rid,
         key: Key,
@@ -200,7 +200,7 @@ impl<B: Group> Shared<B> {
     }
 
     // One step more of a change that is to be finished.
-    fn step_change<R: Wait>(&self, rt: &R, seat: &mut Seat<B>, txn: Txn) -> Result<(), Error>
+    fn step_change<R: Wait>(&self, rt: &R, seat: &mut Seat<B, A>, txn: Txn) -> Result<(), Error>
         requires { is_unfinished seat.old.session txn ≡ true }
         ensures served { ∥ WasServedTo B.site.opened seat.old.number seat.old.session (Event.Step txn) (reply_by (λ _. Reply.Stepped) result) ∥₁ }
         ensures ok { OnOk result ((change : Write) → unfinished_of seat.old.session txn ≡ Some change → IsUnderWay seat.old.session txn change seat.new.session) }
@@ -215,7 +215,7 @@ impl<B: Group> Shared<B> {
     }
 
     // The steps that are left of a change, each under the lock anew, and the refusal of one, if it was refused.
-    fn finish_change<R: Wait>(&self, rt: &R, seat: &mut Seat<B>, txn: Txn) -> Option<Error>
+    fn finish_change<R: Wait>(&self, rt: &R, seat: &mut Seat<B, A>, txn: Txn) -> Option<Error>
         ensures none { unfinished_of seat.old.session txn ≡ None → (result ≡ None) × (seat.new.session ≡ seat.old.session) }
         ensures changed { (change : Write) → unfinished_of seat.old.session txn ≡ Some change → HasChanged seat.old.session txn change result seat.new.session }
         ensures served { IfSome result (λ e. ∥ WasServedTo B.site.opened seat.new.number seat.new.session (Event.Step txn) (Refused e) ∥₁) }

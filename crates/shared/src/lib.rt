@@ -27,7 +27,7 @@ mod views;
 pub use builder::BuildPart;
 pub use changes::Change;
 pub use laws::each_refusal;
-pub use locked_core::Group;
+pub use locked_core::{Group, Memory};
 pub use opening::{Opening, Parts, open};
 pub use seat::{Ack, Seat};
 pub use shared::Shared;

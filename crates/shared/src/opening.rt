@@ -12,7 +12,7 @@ use crate::seat::Seat;
 use crate::shared::Shared;
 use board::{Board, BuildView, FlushView, View};
 use flusher::FlushEnds;
-use locked_core::{Group, Locked, SeatPart};
+use locked_core::{Group, Locked, Memory, SeatPart};
 use nsf_core::Core;
 use records::Error;
 use session_halves::{Half, Registry};
@@ -23,16 +23,16 @@ use tail::{Popper, Pusher, RecordQueue};
 
 /// What is made for the threads, before it has its names.
 #[derive(Drop)]
-pub struct Opening {
-    pub(crate) alloc: Global,
-    pub(crate) core: Core<Global>,
-    pub(crate) queue: RecordQueue,
-    pub(crate) pusher: Pusher,
-    pub(crate) popper: Popper,
-    pub(crate) registry: Registry,
-    pub(crate) book: Vec<Half>,
-    pub(crate) halves: Vec<Half>,
-    pub(crate) board: Board<Global>,
+pub struct Opening<A: Memory = Global> {
+    pub(crate) alloc: A,
+    pub(crate) core: Core<A>,
+    pub(crate) queue: RecordQueue<A>,
+    pub(crate) pusher: Pusher<A>,
+    pub(crate) popper: Popper<A>,
+    pub(crate) registry: Registry<A>,
+    pub(crate) book: Vec<Half<A>, A>,
+    pub(crate) halves: Vec<Half<A>, A>,
+    pub(crate) board: Board<A>,
     pub(crate) flush: FlushView,
     pub(crate) build: BuildView,
     pub(crate) view: View,
@@ -40,16 +40,16 @@ pub struct Opening {
 
 /// What the threads are given: the seats, what the flusher's part is made of, and the builder's part.
 #[derive(Drop)]
-pub struct Parts<B: Group> {
-    pub seats: Vec<Seat<B>>,
-    pub ends: FlushEnds,
+pub struct Parts<B: Group, A: Memory = Global> {
+    pub seats: Vec<Seat<B, A>, A>,
+    pub ends: FlushEnds<A>,
     pub build: BuildPart<B>,
 }
 
 /// Makes what so many threads with a seat each share.
 ///
 /// The one error is `NoMemory`.
-pub fn open(alloc: Global, core: Core<Global>, count: usize) -> Result<Opening, Error>
+pub fn open<A: Memory>(alloc: A, core: Core<A>, count: usize) -> Result<Opening<A>, Error>
     ensures made { IfOk result (λ o. IsOpening count o) }
     ensures core { IfOk result (λ o. value_of o.core ≡ value_of core) }
     ensures no_memory { IfErr result (λ e. e ≡ NoMemory) }
@@ -73,11 +73,11 @@ pub fn open(alloc: Global, core: Core<Global>, count: usize) -> Result<Opening, 
     })
 }
 
-impl Opening {
+impl<A: Memory> Opening<A> {
     /// What the threads share, and their parts.
     ///
     /// The one error is `NoMemory`.
-    pub fn start<B: Group>(self) -> Result<(Shared<B>, Parts<B>), Error>
+    pub fn start<B: Group>(self) -> Result<(Shared<B, A>, Parts<B, A>), Error>
         requires names { names_of self ≡ B.site }
         requires made { IsOpening B.site.seats self }
         requires opened { IsJustOpened (value_of self.core) }
@@ -101,8 +101,8 @@ impl Opening {
             build,
             view,
         } = self;
-        let seats = seats_of::<B>(alloc, &board, view, halves)?;
-        let locked = Locked::<B>::new(core, pusher, book);
+        let seats = seats_of::<B, A>(alloc, &board, view, halves)?;
+        let locked = Locked::<B, A>::new(core, pusher, book);
         let shared = Shared {
             locked: Mutex::new(locked),
             queue,
@@ -123,12 +123,12 @@ impl Opening {
 }
 
 // A seat for each half.
-fn seats_of<B: Group>(
-    alloc: Global,
-    board: &Board<Global>,
+fn seats_of<B: Group, A: Memory>(
+    alloc: A,
+    board: &Board<A>,
     mut view: View,
-    halves: Vec<Half>,
-) -> Result<Vec<Seat<B>>, Error>
+    halves: Vec<Half<A>, A>,
+) -> Result<Vec<Seat<B, A>, A>, Error>
     requires board { board.now ≡ B.site.board }
     requires view { view ≡ nothing_seen B.site.board }
     requires counted { length halves.items ≡ B.site.seats }

@@ -2,19 +2,20 @@
 ghost use Rattle.std.specs.Prelude.{◌≡◌};
 
 use board::View;
-use locked_core::{Group, SeatPart};
+use locked_core::{Group, Memory, SeatPart};
 use nsf_core::Ticket;
 use records::Txn;
+use std::alloc::Global;
 use std::marker::{Model, PhantomData};
 
 /// One thread's place among those that share a core. To a contract it is a `SeatValue`.
 #[derive(Drop)]
-pub struct Seat<B: Group> {
-    pub(crate) part: SeatPart<B>,
+pub struct Seat<B: Group, A: Memory = Global> {
+    pub(crate) part: SeatPart<B, A>,
     pub(crate) view: View,
 }
 
-impl<B: Group> Model for Seat<B> {
+impl<B: Group, A: Memory> Model for Seat<B, A> {
     ghost use Rattle.std.specs.Prelude.{◌≡◌};
     ghost use Rattle.shared.specs.Seats.{SeatValue};
 
@@ -44,7 +45,7 @@ impl<B: Group> Model for Ack<B> {
     ghost invariant = { λ a. (a.view.board ≡ B.site.board) × (a.ticket.«record» ≤ a.view.horizon) };
 }
 
-impl<B: Group> Seat<B> {
+impl<B: Group, A: Memory> Seat<B, A> {
     ghost use Rattle.sessions.specs.Values.{is_active, is_ready, is_unfinished};
 
     /// Whether the transaction is one of the seat's.

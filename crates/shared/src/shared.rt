@@ -1,8 +1,9 @@
 //! What the threads share.
 ghost use Rattle.std.specs.Prelude.{◌≡◌};
+ghost use Rattle.tail.specs.Ends.{name_prop};
 
 use board::Board;
-use locked_core::{Group, Locked};
+use locked_core::{Group, Locked, Memory};
 use session_halves::Registry;
 use std::alloc::Global;
 use std::marker::PhantomData;
@@ -20,32 +21,32 @@ const LOOKS_BEHIND_OTHERS: u32 = 400;
 
 /// A core that several threads share by a `&`, each with its seat.
 #[derive(Drop)]
-pub struct Shared<B: Group> {
-    pub(crate) locked: Mutex<Locked<B>>,
-    pub(crate) queue: RecordQueue,
-    pub(crate) registry: Registry,
-    pub(crate) board: Board<Global>,
+pub struct Shared<B: Group, A: Memory = Global> {
+    pub(crate) locked: Mutex<Locked<B, A>>,
+    pub(crate) queue: RecordQueue<A>,
+    pub(crate) registry: Registry<A>,
+    pub(crate) board: Board<A>,
     pub(crate) site: PhantomData<B>,
-    ghost queue_is: { queue ≡ B.site.queue },
+    ghost queue_is: { queue ≡ B.site.queue } by { name_prop queue B.site.queue },
     ghost registry_is: { registry ≡ B.site.table },
     ghost board_is: { board ≡ B.site.board },
 }
 
-impl<B: Group> Shared<B> {
+impl<B: Group, A: Memory> Shared<B, A> {
     /// The lock with what lies under it, for the threads that take no seat.
-    pub fn locked(&self) -> &Mutex<Locked<B>> {
+    pub fn locked(&self) -> &Mutex<Locked<B, A>> {
         &self.locked
     }
 
     /// The queue of records to the flusher.
-    pub fn queue(&self) -> &RecordQueue
+    pub fn queue(&self) -> &RecordQueue<A>
         ensures { result.now ≡ B.site.queue }
     {
         &self.queue
     }
 
     /// The board.
-    pub fn board(&self) -> &Board<Global>
+    pub fn board(&self) -> &Board<A>
         ensures { result.now ≡ B.site.board }
     {
         &self.board
@@ -58,7 +59,7 @@ impl<B: Group> Shared<B> {
     }
 
     /// Takes the lock for a seat or for the flusher, before the builder and the cleaner.
-    pub fn hold<R: Wait>(&self, rt: &R) -> MutexGuard<'_, Locked<B>> {
+    pub fn hold<R: Wait>(&self, rt: &R) -> MutexGuard<'_, Locked<B, A>> {
         let waits = self.board.waits();
         waits.wants_lock();
         let guard = self.seize(rt);
@@ -67,7 +68,7 @@ impl<B: Group> Shared<B> {
     }
 
     /// Takes the lock for the builder or the cleaner: for a short while seats and the flusher go first.
-    pub fn hold_last<R: Wait>(&self, rt: &R) -> MutexGuard<'_, Locked<B>> {
+    pub fn hold_last<R: Wait>(&self, rt: &R) -> MutexGuard<'_, Locked<B, A>> {
         let waits = self.board.waits();
         for _ in 0..LOOKS_BEHIND_OTHERS {
             if !waits.is_lock_wanted() {
@@ -80,7 +81,7 @@ impl<B: Group> Shared<B> {
 
     // The lock, without a sleep where it is free soon: one that is left to a thread that sleeps keeps all others waiting until that
     // one is awake.
-    fn seize<R: Wait>(&self, rt: &R) -> MutexGuard<'_, Locked<B>> {
+    fn seize<R: Wait>(&self, rt: &R) -> MutexGuard<'_, Locked<B, A>> {
         for look in 0..LOCK_LOOKS {
             if let Some(guard) = self.locked.try_lock() {
                 return guard;
@@ -100,7 +101,7 @@ impl<B: Group> Shared<B> {
     }
 
     /// What lay under the lock, the queue, the registry of the sessions and the board, in one hand.
-    pub fn into_parts(self) -> (Locked<B>, RecordQueue, Registry, Board<Global>)
+    pub fn into_parts(self) -> (Locked<B, A>, RecordQueue<A>, Registry<A>, Board<A>)
         ensures queue { result.1 ≡ B.site.queue }
         ensures registry { result.2 ≡ B.site.table }
         ensures board { result.3 ≡ B.site.board }

@@ -4,13 +4,13 @@ ghost use Rattle.locked_core.specs.Locked.{locked_of};
 
 use crate::seat::{Ack, Seat};
 use board::View;
-use locked_core::{Group, Locked};
+use locked_core::{Group, Locked, Memory};
 use session_halves::Registry;
 use sessions::Session;
 
-impl<B: Group> Seat<B> {
+impl<B: Group, A: Memory> Seat<B, A> {
     /// Compares the seat's session with the one under the lock: they are the same. Nothing changes.
-    pub fn compare(&mut self, registry: &Registry, locked: &mut Locked<B>)
+    pub fn compare(&mut self, registry: &Registry<A>, locked: &mut Locked<B, A>)
         requires { registry.now ≡ B.site.table }
         ensures before { slice_get (locked_of locked.old).book self.old.number ≡ Some self.old.session }
         ensures seat { self.new ≡ self.old }
@@ -20,7 +20,7 @@ impl<B: Group> Seat<B> {
     }
 
     /// The session.
-    pub fn into_session(self) -> Session
+    pub fn into_session(self) -> Session<A>
         ensures { result ≡ self.session }
     {
         let Seat { part, view: _ } = self;

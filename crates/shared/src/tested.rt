@@ -11,13 +11,13 @@ ghost use Rattle.shared.specs.Served.{WasChanged, WasServedTo};
 use crate::changes::Change;
 use crate::seat::Seat;
 use crate::shared::Shared;
-use locked_core::Group;
+use locked_core::{Group, Memory};
 use nsf_core::Ticket;
 use records::{Body, Error, Key, Rid, Txn};
 use std::sync::Wait;
 
 #[tactic(auto, using(crate::proofs::Ready::ready_active))]
-impl<B: Group> Shared<B> {
+impl<B: Group, A: Memory> Shared<B, A> {
     /// Inserts a row in a transaction of the seat, as `insert` does, if the transaction is ready.
     ///
     /// `NoSuchTxn` where it isn't: where it is none of the seat's, has a change to finish, or is rolling back. Nothing is done then. Else
@@ -25,7 +25,7 @@ impl<B: Group> Shared<B> {
     pub fn insert_if_ready<R: Wait>(
         &self,
         rt: &R,
-        seat: &mut Seat<B>,
+        seat: &mut Seat<B, A>,
         txn: Txn,
         key: Key,
         body: Body,
@@ -50,7 +50,7 @@ impl<B: Group> Shared<B> {
     pub fn delete_if_ready<R: Wait>(
         &self,
         rt: &R,
-        seat: &mut Seat<B>,
+        seat: &mut Seat<B, A>,
         txn: Txn,
         rid: Rid,
     ) -> Result<Change, Error>
@@ -75,7 +75,7 @@ impl<B: Group> Shared<B> {
     pub fn update_if_ready<R: Wait>(
         &self,
         rt: &R,
-        seat: &mut Seat<B>,
+        seat: &mut Seat<B, A>,
         txn: Txn,
         rid: Rid,
         key: Key,
@@ -103,7 +103,7 @@ impl<B: Group> Shared<B> {
     pub fn commit_if_ready<R: Wait>(
         &self,
         rt: &R,
-        seat: &mut Seat<B>,
+        seat: &mut Seat<B, A>,
         txn: Txn,
     ) -> Result<Ticket, Error>
         ensures unready { is_ready seat.old.session txn ≡ false → result ≡ Err NoSuchTxn }

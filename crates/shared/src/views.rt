@@ -7,7 +7,7 @@ use crate::seat::Seat;
 use crate::shared::Shared;
 use board::View;
 use flusher::FlushPart;
-use locked_core::Group;
+use locked_core::{Group, Memory};
 use sector_device::Device;
 use std::marker::{Model, PhantomData};
 
@@ -29,9 +29,9 @@ impl<B: Group> Model for GroupView<B> {
     ghost invariant = { λ v. v.view.board ≡ B.site.board };
 }
 
-impl<B: Group> Shared<B> {
+impl<B: Group, A: Memory> Shared<B, A> {
     /// Makes a view of the board for a thread that has no seat. It has seen what the seat has.
-    pub fn another_view(&self, seat: &mut Seat<B>) -> GroupView<B>
+    pub fn another_view(&self, seat: &mut Seat<B, A>) -> GroupView<B>
         ensures view { result ≡ record seat.old.sight { name = leaves_as seat.old.sight.name; stops = false } }
         ensures seat { seat.new ≡ record seat.old { sight = record seat.old.sight { name = stays_as seat.old.sight.name } } }
     {
@@ -44,7 +44,7 @@ impl<B: Group> Shared<B> {
 
 impl<B: Group> GroupView<B> {
     /// Makes a view for one more thread that has no seat. It has seen what this one has.
-    pub fn another_view(&mut self, shared: &Shared<B>) -> GroupView<B>
+    pub fn another_view<A: Memory>(&mut self, shared: &Shared<B, A>) -> GroupView<B>
         ensures stays { self.new ≡ record self.old { name = stays_as self.old.name } }
         ensures leaves { result ≡ record self.old { name = leaves_as self.old.name; stops = false } }
     {
@@ -55,7 +55,7 @@ impl<B: Group> GroupView<B> {
     }
 
     /// The horizon: the number of the last record that the flusher has published as safe on the device.
-    pub fn horizon(&mut self, shared: &Shared<B>) -> u64
+    pub fn horizon<A: Memory>(&mut self, shared: &Shared<B, A>) -> u64
         ensures seen { self.new ≡ record self.old { horizon = result; checked = false } }
         ensures rises { self.old.horizon ≤ result }
     {
@@ -63,7 +63,7 @@ impl<B: Group> GroupView<B> {
     }
 
     /// Whether the flusher has published that its device failed. It stays true once this view has seen it.
-    pub fn failed(&mut self, shared: &Shared<B>) -> bool
+    pub fn failed<A: Memory>(&mut self, shared: &Shared<B, A>) -> bool
         ensures seen { self.new ≡ record self.old { failed = result; checked = true } }
         ensures stays { IsTrue self.old.failed → IsTrue result }
     {
@@ -73,8 +73,13 @@ impl<B: Group> GroupView<B> {
     /// Compares what this view has seen with what the flusher has published: no horizon that it has seen is above the last synced
     /// record, and a failed flag that it has seen is true. Nothing changes but the view, which has now seen the horizon and the failed
     /// flag that were published.
-    pub fn settle<D: Device>(&mut self, shared: &Shared<B>, flush: &mut FlushPart<B, D>)
+    pub fn settle<D: Device, A: Memory>(
+        &mut self,
+        shared: &Shared<B, A>,
+        flush: &mut FlushPart<B, D, A>,
+    )
         ensures same { flush.new ≡ flush.old }
+        ensures horizon { self.old.horizon ≤ flush.old.published.horizon }
         ensures synced { self.old.horizon ≤ synced_of flush.old.writer }
         ensures failed { IsTrue self.old.failed → has_failed flush.old.writer ≡ true }
         ensures informed { self.new ≡ record self.old { horizon = flush.old.published.horizon; failed = flush.old.published.failed } }
@@ -84,14 +89,14 @@ impl<B: Group> GroupView<B> {
 
     /// Sets the stop flag, by which all threads are asked to stop. It takes no memory and waits for nothing. (That those that sleep are
     /// woken, no clause says.)
-    pub fn stop(&mut self, shared: &Shared<B>)
+    pub fn stop<A: Memory>(&mut self, shared: &Shared<B, A>)
         ensures { self.new ≡ record self.old { stopped = true; stops = true } }
     {
         shared.board.stop(&mut self.view);
     }
 
     /// Whether all threads are asked to stop. It stays true once this view has seen it.
-    pub fn stopped(&mut self, shared: &Shared<B>) -> bool
+    pub fn stopped<A: Memory>(&mut self, shared: &Shared<B, A>) -> bool
         ensures seen { self.new ≡ record self.old { stopped = result } }
         ensures stays { IsTrue self.old.stopped → IsTrue result }
 
@@ -101,8 +106,8 @@ impl<B: Group> GroupView<B> {
         shared.board.stopped(&mut self.view)
     }
 
-    /// How many attempts the builder has made in this run, as it has published.
-    pub fn progress(&mut self, shared: &Shared<B>) -> u64
+    /// How many attempts the builder has made since the store was opened, as it has published.
+    pub fn progress<A: Memory>(&mut self, shared: &Shared<B, A>) -> u64
         ensures seen { self.new ≡ record self.old { progress = result } }
         ensures rises { self.old.progress ≤ result }
     {

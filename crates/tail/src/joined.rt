@@ -2,19 +2,21 @@
 ghost use Rattle.std.specs.Prelude.{◌≡◌, ◌++◌, slice_get, take, drop};
 ghost use Rattle.tail.specs.Ends.{Drained};
 
+use crate::memory::Memory;
 use crate::queue::{Popper, Pusher, RecordQueue};
 use crate::rule::{Ends, Pass, Popped, Queue};
 use records::Record;
+use std::alloc::Global;
 use std::marker::Model;
 use std::sync::Wait;
 
 /// A queue with both its ends, of one thread. To a contract it is what was popped, and what the queue holds.
-pub struct JoinedQueue {
-    queue: Queue,
-    pass: Pass,
+pub struct JoinedQueue<A: Memory = Global> {
+    queue: Queue<A>,
+    pass: Pass<A>,
 }
 
-impl Model for JoinedQueue {
+impl<A: Memory> Model for JoinedQueue<A> {
     ghost use Rattle.crossbeam_queue.specs.SegTies.{IsSegPassOf};
     ghost use Rattle.tail.specs.Ends.{Drained};
     ghost use Rattle.tail.specs.Rule.{KnowsWholeQueue, waiting_of};
@@ -26,16 +28,21 @@ impl Model for JoinedQueue {
     ghost invariant = { λ s. IsSegPassOf s.queue s.pass × KnowsWholeQueue s.pass.me.view.client };
 }
 
-impl Drop for JoinedQueue {
+impl<A: Memory> Drop for JoinedQueue<A> {
     fn drop(self) {
         let JoinedQueue { queue, pass: _ } = self;
         queue.destroy();
     }
 }
 
-impl JoinedQueue {
+impl<A: Memory> JoinedQueue<A> {
     /// A queue whose ends both came back.
-    pub fn join<R: Wait>(rt: &R, queue: RecordQueue, pusher: Pusher, popper: Popper) -> JoinedQueue
+    pub fn join<R: Wait>(
+        rt: &R,
+        queue: RecordQueue<A>,
+        pusher: Pusher<A>,
+        popper: Popper<A>,
+    ) -> JoinedQueue<A>
         requires pusher { pusher.queue ≡ queue }
         requires popper { popper.queue ≡ queue }
         ensures popped { result.popped ≡ popper.records }

@@ -4,6 +4,8 @@
 //! queue holds at every moment, whatever the threads do: the records that were pushed are those that were popped and
 //! then those that the queue holds, in order. A step is one push, by the pusher, or one pop, by the popper.
 //!
+//! What names the queue leaves out the type of its allocator ([`Memory`]).
+//!
 //! Proved: a push adds its record, or gives it back and has pushed nothing (`ok`, `back`). Whoever has both ends knows that what
 //! was pushed is what was popped and then what waits (`JoinedQueue::join`, `RecordQueue::compare`).
 //! Neither: that a push succeeds where there is memory, or that a pop finds a record that waits while others push.
@@ -11,8 +13,10 @@
 
 mod joined;
 mod knowledge;
+mod memory;
 mod queue;
 mod rule;
 
 pub use joined::JoinedQueue;
+pub use memory::Memory;
 pub use queue::{Popper, Pusher, RecordQueue};

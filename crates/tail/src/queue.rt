@@ -1,7 +1,8 @@
 //! The queue, and the two ends of it.
 ghost use Rattle.std.specs.Prelude.{◌≡◌, [], ◌∷◌, ◌++◌, IfOk, IfErr, OnOk, OnErr, MatchOption, length, take};
-ghost use Rattle.tail.specs.Ends.{Handed};
+ghost use Rattle.tail.specs.Ends.{Handed, name_of};
 
+use crate::memory::Memory;
 use crate::rule::{Ends, Lent, Pass, Popped, Pushed, Queue};
 use records::Record;
 use std::alloc::{AllocError, Global};
@@ -9,20 +10,22 @@ use std::marker::Model;
 use std::sync::Wait;
 
 /// The queue, which both threads share by a `&`. To a contract it is its identity, which each of its ends names.
-pub struct RecordQueue {
-    queue: Queue,
+pub struct RecordQueue<A: Memory = Global> {
+    queue: Queue<A>,
 }
 
-impl Model for RecordQueue {
-    ghost use Rattle.crossbeam_queue.specs.SegTies.{SegId};
-    ghost use Rattle.std.specs.declared.alloc.Global.{Global};
+impl<A: Memory> Model for RecordQueue<A> {
+    ghost use Rattle.std.specs.Coded.{codes};
+    ghost use Rattle.tail.specs.Ends.{QueueName, coded_stored, name_of};
 
-    ghost Value = { SegId Global };
+    ghost Value = { QueueName };
 
-    ghost view = { λ q. q.queue };
+    ghost coded = { Prim.hlevel (codes, coded_stored) };
+
+    ghost view = { λ q. name_of A.stored q.queue };
 }
 
-impl Drop for RecordQueue {
+impl<A: Memory> Drop for RecordQueue<A> {
     fn drop(self) {
         let RecordQueue { queue } = self;
         queue.destroy();
@@ -31,51 +34,57 @@ impl Drop for RecordQueue {
 
 /// The end that pushes. To a contract it is its queue, and all that was pushed.
 #[derive(Drop)]
-pub struct Pusher {
-    pub(crate) pass: Pass,
+pub struct Pusher<A: Memory = Global> {
+    pub(crate) pass: Pass<A>,
 }
 
-impl Model for Pusher {
+impl<A: Memory> Model for Pusher<A> {
     ghost use Rattle.std.specs.Prelude.{◌≡◌};
     ghost use Rattle.crossbeam_queue.specs.SegTies.{IsSegPassOf};
-    ghost use Rattle.tail.specs.Ends.{Handed, queue_of};
+    ghost use Rattle.std.specs.Coded.{codes};
+    ghost use Rattle.tail.specs.Ends.{Handed, coded_stored, name_of, queue_of};
     ghost use Rattle.tail.specs.Rule.{push_end};
 
     ghost Value = { Handed };
 
-    ghost view = { λ s. record { queue = queue_of s.pass; records = s.pass.me.view.client.pushed } };
+    ghost coded = { Prim.hlevel (codes, coded_stored) };
+
+    ghost view = { λ s. record { queue = name_of A.stored (queue_of s.pass); records = s.pass.me.view.client.pushed } };
 
     ghost invariant = { λ s. IsSegPassOf (queue_of s.pass) s.pass × (s.pass.me.view.client ≡ push_end s.pass.me.view.client.pushed) };
 }
 
 /// The end that pops. To a contract it is its queue, and all that was popped.
 #[derive(Drop)]
-pub struct Popper {
-    pub(crate) pass: Pass,
+pub struct Popper<A: Memory = Global> {
+    pub(crate) pass: Pass<A>,
 }
 
-impl Model for Popper {
+impl<A: Memory> Model for Popper<A> {
     ghost use Rattle.std.specs.Prelude.{◌≡◌};
     ghost use Rattle.crossbeam_queue.specs.SegTies.{IsSegPassOf};
-    ghost use Rattle.tail.specs.Ends.{Handed, queue_of};
+    ghost use Rattle.std.specs.Coded.{codes};
+    ghost use Rattle.tail.specs.Ends.{Handed, coded_stored, name_of, queue_of};
     ghost use Rattle.tail.specs.Rule.{pop_end};
 
     ghost Value = { Handed };
 
-    ghost view = { λ s. record { queue = queue_of s.pass; records = s.pass.me.view.client.popped } };
+    ghost coded = { Prim.hlevel (codes, coded_stored) };
+
+    ghost view = { λ s. record { queue = name_of A.stored (queue_of s.pass); records = s.pass.me.view.client.popped } };
 
     ghost invariant = { λ s. IsSegPassOf (queue_of s.pass) s.pass × (s.pass.me.view.client ≡ pop_end s.pass.me.view.client.popped) };
 }
 
-impl RecordQueue {
+impl<A: Memory> RecordQueue<A> {
     /// An empty queue with its two ends.
     ///
     /// The error is that the memory for its first records was refused.
-    pub fn new(alloc: Global) -> Result<(RecordQueue, Pusher, Popper), AllocError>
+    pub fn new(alloc: A) -> Result<(RecordQueue<A>, Pusher<A>, Popper<A>), AllocError>
         ensures pusher { IfOk result (λ r. r.1 ≡ record { queue = r.0; records = [] }) }
         ensures popper { IfOk result (λ r. r.2 ≡ record { queue = r.0; records = [] }) }
     {
-        let (queue, mut pass) = Queue::with_rule(alloc)?;
+        let (queue, mut pass) = Queue::<A>::with_rule(alloc)?;
         let other = queue.another::<Ends>(&mut pass);
         Ok((
             RecordQueue { queue },
@@ -86,7 +95,7 @@ impl RecordQueue {
 
     /// Compares the two ends, where one thread holds both, as under a lock: what was popped is the first of what was pushed, in
     /// order. Neither end changes.
-    pub fn compare<R: Wait>(&self, rt: &R, pusher: &mut Pusher, popper: &mut Popper)
+    pub fn compare<R: Wait>(&self, rt: &R, pusher: &mut Pusher<A>, popper: &mut Popper<A>)
         requires pusher { pusher.old.queue ≡ self.now }
         requires popper { popper.old.queue ≡ self.now }
         ensures beginning { popper.old.records ≡ take (length popper.old.records) pusher.old.records }
@@ -100,18 +109,23 @@ impl RecordQueue {
         self.queue.absorb::<Lent>(&mut popper.pass, back);
     }
 
-    pub(crate) fn into_queue(self) -> Queue
-        ensures { result ≡ self }
+    pub(crate) fn into_queue(self) -> Queue<A>
+        ensures { name_of A.stored result ≡ self }
     {
         let RecordQueue { queue } = self;
         queue
     }
 }
 
-impl Pusher {
+impl<A: Memory> Pusher<A> {
     /// Pushes a record behind those that were pushed before. Where there is no memory for it, or nearly 2^62 were pushed, it
     /// comes back, and nothing was pushed.
-    pub fn push<R: Wait>(&mut self, rt: &R, queue: &RecordQueue, item: Record) -> Result<(), Record>
+    pub fn push<R: Wait>(
+        &mut self,
+        rt: &R,
+        queue: &RecordQueue<A>,
+        item: Record,
+    ) -> Result<(), Record>
         requires { self.old.queue ≡ queue.now }
         ensures ok { OnOk result (self.new ≡ record self.old { records = self.old.records ++ item ∷ [] }) }
         ensures back { IfErr result (λ back. back ≡ item) }
@@ -121,9 +135,9 @@ impl Pusher {
     }
 }
 
-impl Popper {
+impl<A: Memory> Popper<A> {
     /// Pops the oldest record that waits, or finds none.
-    pub fn pop<R: Wait>(&mut self, rt: &R, queue: &RecordQueue) -> Option<Record>
+    pub fn pop<R: Wait>(&mut self, rt: &R, queue: &RecordQueue<A>) -> Option<Record>
         requires { self.old.queue ≡ queue.now }
         ensures { MatchOption result (self.new ≡ self.old) (λ item. self.new ≡ record self.old { records = self.old.records ++ item ∷ [] }) }
     {

@@ -78,6 +78,6 @@ impl Lesson<Record, Knowledge> for Popped {
     ghost fact = { Waits };
 }
 
-pub type Queue = RuledSegQueue<Record, Knowledge, QueueRule>;
+pub type Queue<A> = RuledSegQueue<Record, Knowledge, QueueRule, A>;
 
-pub type Pass = SegPass<Record, Knowledge>;
+pub type Pass<A> = SegPass<Record, Knowledge, A>;

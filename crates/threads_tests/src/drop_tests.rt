@@ -4,6 +4,7 @@ ghost use Rattle.std.specs.Prelude.{◌≡◌};
 
 use crate::example::formatted;
 use demonstration::set_up;
+use flusher::FlushPart;
 use loops::{Gate, Point, build_loop};
 use nsf_core::Ticket;
 use opening::{OpenError, OpenStore, Parts, open_store};
@@ -44,12 +45,14 @@ impl<B: Group, R: Wait> Gate for DropsIndex<'_, B, R> {
 }
 
 // Asks all to stop by a view of a view, and reads the board by the view itself.
-fn stop_and_look<B: Group>(
+fn stop_and_look<B: Group, D: Device>(
     shared: &Shared<B>,
+    flush: &mut FlushPart<B, D>,
     build: &mut BuildPart<B>,
     view: &mut GroupView<B>,
 ) -> Seen {
     view.another_view(shared).stop(shared);
+    view.settle(shared, flush);
     build.settle(shared, view);
     (
         view.horizon(shared),
@@ -59,10 +62,11 @@ fn stop_and_look<B: Group>(
 }
 
 // Creates an index over a hundred rows, and builds it.
-fn build<B: Group, R: Wait>(
+fn build<B: Group, D: Device + Drop, R: Wait>(
     rt: &R,
     shared: &Shared<B>,
     mut seat: Seat<B>,
+    mut flush: FlushPart<B, D>,
     mut build: BuildPart<B>,
 ) -> Result<Ended, Error> {
     set_up(rt, shared, &mut seat)?;
@@ -74,7 +78,7 @@ fn build<B: Group, R: Wait>(
         dropped: Cell::new(false),
     };
     let built = build_loop(rt, shared, &mut build, &mut view, &gate);
-    let seen = stop_and_look(shared, &mut build, &mut view);
+    let seen = stop_and_look(shared, &mut flush, &mut build, &mut view);
     Ok((built, gate.dropped.get(), seen))
 }
 
@@ -85,11 +89,11 @@ fn build_with<B: Group, D: Device + Drop, R: Wait>(
 ) -> Result<Ended, Error> {
     let Parts {
         mut seats,
+        flush,
         build: view,
-        ..
     } = parts;
     match seats.pop() {
-        Some(seat) => build(rt, shared, seat, view),
+        Some(seat) => build(rt, shared, seat, flush, view),
         None => Err(Error::NoMemory),
     }
 }

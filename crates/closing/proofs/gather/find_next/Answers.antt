@@ -6,7 +6,7 @@ use Rattle.closing.proofs.Gathering.{list_at, list_within}
 use Rattle.closing.proofs.gather.find_next.Goals as goal
 
 pub loop-k-preserved : goal.loop-k-preserved
-loop-k-preserved c = λ j list lt at. elim (cases_eq j c.loop-k.k) [
+loop-k-preserved g c = λ j list lt at. elim (cases_eq j c.loop-k.k) [
   | inl is ↦
       let same = list_at c.args.lists.now c.loop-k.k c.index-lists-k.result list c.index-lists-k.is (ap (slice_get (lists_of c.args.lists.now)) (sym is) ∙ at) in
       ap (heads_with c.args.number) (same ∙ sym c.deref.ensures.value) ∙ (sym c.heads.ensures ∙ c.if-heads.false)
@@ -14,4 +14,4 @@ loop-k-preserved c = λ j list lt at. elim (cases_eq j c.loop-k.k) [
 ]
 
 pub returns-clause-none : goal.returns-clause-none
-returns-clause-none c = λ k list at. let within = list_within c.args.lists.now k list at in c.loop-k.invariant k list (omega arith) at
+returns-clause-none g c = λ k list at. let within = list_within c.args.lists.now k list at in c.loop-k.invariant k list (omega arith) at

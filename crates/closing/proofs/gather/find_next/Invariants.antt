@@ -5,4 +5,4 @@ use Rattle.closing.specs.Gathered.{heads_with, lists_of}
 use Rattle.closing.proofs.gather.find_next.Given as goal
 
 abbrev pub invariant-loop-k : goal.invariant-loop-k
-invariant-loop-k l = (j : ℕ) (list : List CommitValue) → j < l.k → slice_get (lists_of l.lists) j ≡ Some list → heads_with l.number list ≡ false
+invariant-loop-k g l = (j : ℕ) (list : List CommitValue) → j < l.k → slice_get (lists_of l.lists) j ≡ Some list → heads_with l.number list ≡ false

@@ -2,7 +2,6 @@ use Rattle.std.proofs.Common.{ap, ◌∙◌, sym, ◌++◌, ◌∷◌, []}
 use Rattle.sessions.specs.Values.{CommitValue, SessionValue}
 use Rattle.shared.specs.Seats.{SeatValue}
 use Rattle.std.specs.declared.vec.Vec.{Vec}
-use Rattle.std.specs.declared.alloc.Global.{Global}
 use Rattle.closing.specs.Gathered.{commits_of, lists_of, sessions_of}
 use Rattle.closing.proofs.Lists.{map_more}
 use Rattle.closing.proofs.gather.lists_of_seats.Goals as goal
@@ -15,7 +14,7 @@ loop-seat-preserved g c =
       finite = tt;
       lists =
           ap lists_of c.in_ok-push.ensures.items
-          ∙ (map_more (λ (v : Vec CommitValue Global). v.items) c.loop-seat.lists.items c.into_commits.result
+          ∙ (map_more (λ (v : Vec CommitValue _). v.items) c.loop-seat.lists.items c.into_commits.result
           ∙ ((λ i. was.lists i ++ commits i ∷ [])
           ∙ sym (ap commits_of (map_more (λ (s : SeatValue). s.session) c.loop-seat.yielded c.in-Some.seat) ∙ map_more (λ (s : SessionValue). s.commits) (sessions_of c.loop-seat.yielded) c.in-Some.seat.session)));
     }

@@ -7,7 +7,7 @@ use Rattle.sessions.proofs.Lists.{one_changed}
 use Rattle.sessions.proofs.active.note_change.Goals as goal
 
 pub returns : goal.returns
-returns c =
+returns g c =
     let one = c.index_mut-one.result.now in
     let rows = c.set_write.ensures ∙ ap (λ (w : Write). with_write w one.rows.items) c.row_now-write.ensures in
     one_changed c.args.active.now.items c.args.i one c.index_mut-one.ensures.value (change_seen (value_of c.args.core.now) c.args.change) _

@@ -4,7 +4,7 @@ use Rattle.sessions.specs.Steps.{rows_now}
 use Rattle.sessions.proofs.active.read_again.Given as goal
 
 abbrev pub invariant-loop-i : goal.invariant-loop-i
-invariant-loop-i l = record {
+invariant-loop-i g l = record {
   same : rows_now (value_of l.core) l.rows.items ≡ rows_now (value_of l.core) l.initial.rows.items;
   read : rows_now (value_of l.core) (take l.i l.rows.items) ≡ take l.i l.rows.items;
 }

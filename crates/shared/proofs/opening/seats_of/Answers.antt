@@ -1,7 +1,8 @@
-use Rattle.std.proofs.Common.{ap, ◌∙◌, arith, length}
+use Rattle.std.proofs.Common.{◌≡◌, ℕ, [], ap, ◌∙◌, arith, length, subst}
 use Rattle.board.specs.Views.{Sighting}
 use Rattle.locked_core.specs.Seats.{SeatValue}
-use Rattle.shared.proofs.Seats.{first_half, more_seats, rest_halves, sees_nothing, stays_blind}
+use Rattle.shared.specs.Seats.{AreNewSeats}
+use Rattle.shared.proofs.Seats.{all_halves, first_half, more_seats, no_seats, rest_halves, sees_nothing, stays_blind}
 use Rattle.shared.proofs.opening.seats_of.Goals as goal
 
 pub new-part-requires-clause-half : goal.new-part-requires-clause-half
@@ -19,3 +20,22 @@ loop-half-preserved g c =
       left = omega (arith, was.left, ap length c.in-Some.ensures.steps.0);
       halves = rest_halves g.B.Group.site.table c.loop-half.number _ _ c.in-Some.half was.halves c.in-Some.ensures.steps.0;
     }
+
+pub loop-half-init : goal.loop-half-init
+loop-half-init g c =
+    let z = g.B.Group.site in
+    let all = c.into_iter-half-iterator.ensures.into_iter_gives.0 in
+    record {
+      seats = no_seats z.board c.in_ok-seats.seats.items c.in_ok-seats.ensures.items;
+      board = ap (λ (v : Sighting). v.board) c.requires.view;
+      nothing = ap (λ (v : Sighting). record v { name = [] }) c.requires.view;
+      left = omega (arith, ap length all, c.requires.counted);
+      halves = all_halves z.table _ _ c.requires.halves all;
+    }
+
+pub returns-clause-seats : goal.returns-clause-seats
+returns-clause-seats g c =
+    let z = g.B.Group.site in
+    let none = c.in-None.ensures.steps.0 in
+    let all : c.loop-half.number ≡ z.seats = omega (arith, c.loop-half.invariant.left, none, c.loop-half.half-iterator.rest.ok) in
+    subst (λ (n : ℕ). AreNewSeats z.board n c.loop-half.seats.items) all c.loop-half.invariant.seats

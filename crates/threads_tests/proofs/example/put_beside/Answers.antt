@@ -1,13 +1,12 @@
 use denote.Param.{param}
 use denote.Param.Send.{sendable}
 use Rattle.std.proofs.Crossing.{crosses}
-use Rattle.loops.proofs.Crosses.{shared_sync}
+use Rattle.loops.proofs.Crosses.{seat_send, shared_sync}
 use Rattle.records.proofs.key.Key.TheSendSync as key
-use Rattle.shared.proofs.seat.Seat.TheSendSync as seat
 use Rattle.threads_tests.proofs.example.put_beside.Goals as goal
 
 pub run_beside-requires-send-F : goal.run_beside-requires-send-F
 run_beside-requires-send-F g c κs within =
     let r = c.type_bounds.sync-R in
     let s = shared_sync (param 0 g.row.B) g.B.Group in
-    search (seat.the_send, key.the_send, sendable, crosses) depth 20
+    search (seat_send, key.the_send, sendable, crosses) depth 20

@@ -7,7 +7,7 @@ use Rattle.session_halves.proofs.Keeps.{IsNew-push, IsNew-nil}
 use Rattle.session_halves.proofs.table.Registry.open.Goals as goal
 
 pub loop-number-init : goal.loop-number-init
-loop-number-init c =
+loop-number-init g c =
     let z : TableId = c.registry.inside.table.shared.table_id in record {
       next = search rules;
       books = ap length c.new-book.ensures.items;
@@ -17,7 +17,7 @@ loop-number-init c =
     }
 
 pub loop-number-preserved : goal.loop-number-preserved
-loop-number-preserved c =
+loop-number-preserved g c =
     let z : TableId = c.registry.inside.table.shared.table_id in
     let before = c.loop-number.invariant in
     let number : c.loop-number.maker.next ≡ c.loop-number.number = ap (λ (m : MakerValue). m.next) before.next in

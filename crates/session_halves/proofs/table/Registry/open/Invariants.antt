@@ -3,7 +3,7 @@ use Rattle.session_halves.specs.Halves.{IsNew}
 use Rattle.session_halves.proofs.table.Registry.open.Given as goal
 
 abbrev pub invariant-loop-number : goal.invariant-loop-number
-invariant-loop-number l = record {
+invariant-loop-number g l = record {
   next : l.maker ≡ record { table = l.registry-inside.table.shared.table_id; next = l.number };
   books : length l.book.items ≡ l.number;
   book : IsNew l.registry-inside.table.shared.table_id l.book.items;

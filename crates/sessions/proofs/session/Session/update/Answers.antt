@@ -9,7 +9,7 @@ use Rattle.nsf_core.specs.Replies.{reply_by}
 use Rattle.sessions.proofs.session.Session.update.Goals as goal
 
 pub returns-in_err-check_change-clause-served : goal.returns-in_err-check_change-clause-served
-returns-in_err-check_change-clause-served c = λ mine.
+returns-in_err-check_change-clause-served g c = λ mine.
     let p = err_from_is_err_and c.from_residual.result c.from_residual.ensures.1 in
     let v = value_of c.args.core.now in
     let row : Row = record { key = c.args.key; body = c.args.body } in

@@ -1,4 +1,4 @@
-use Rattle.std.proofs.Common.{ap, subst}
+use Rattle.std.proofs.Common.{ap, rules, subst}
 use Rattle.session_halves.specs.Halves.{IsNew}
 use Rattle.locked_core.specs.Names.{Names}
 use Rattle.shared.proofs.opening.Opening.start.Goals as goal
@@ -8,3 +8,6 @@ seats_of-requires-clause-halves g c = subst (λ z. IsNew z c.args.self.halves.it
 
 pub new-locked-requires-clause-book : goal.new-locked-requires-clause-book
 new-locked-requires-clause-book g c = subst (λ z. IsNew z c.args.self.book.items) (ap (λ (n : Names). n.table) c.requires.names) c.requires.made.book
+
+pub returns-in_err-seats-clause-no_memory : goal.returns-in_err-seats-clause-no_memory
+returns-in_err-seats-clause-no_memory g c = let told = c.in_err-seats.ensures.no_memory in search (rules, told, c.from_residual.ensures)

@@ -9,6 +9,7 @@ use Rattle.shared.specs.Seats.{SeatValue}
 use Rattle.shared.specs.Served.{WasServedTo}
 use Rattle.shared.proofs.Made.{insert_made}
 use Rattle.shared.proofs.Moments.{served_to}
+use Rattle.shared.proofs.SameSeat.{any_session, same_on_err}
 use Rattle.shared.proofs.shared.Shared.start_insert.Goals as goal
 
 pub returns-clause-served : goal.returns-clause-served
@@ -28,3 +29,12 @@ returns-clause-ok g c =
     subst (λ (s : SeatValue). IfOk c.insert-started.result (λ rid. IsUnderWay s.session c.args.txn (record { rid = rid; row = Some (record { key = c.args.key; body = c.args.body }) }) c.insert-started.new.seat.session)) c.seat.view_is
     (insert_made o (value_of was.core) (value_of c.insert-started.new.self.core) was.pusher.records (map shown was.book.items) was.shared part.number part.session c.insert-started.new.seat.session c.insert-started.ensures.before c.args.txn
     (λ own. subst (λ (s : SeatValue). is_active s.session c.args.txn ≡ true → is_ready s.session c.args.txn ≡ true) (sym c.seat.view_is) c.requires own) (record { key = c.args.key; body = c.args.body }) c.insert-started.result (λ none. (c.insert-started.ensures.foreign none).0) c.insert-started.ensures.served c.insert-started.ensures.ok)
+
+pub returns-clause-foreign : goal.returns-clause-foreign
+returns-clause-foreign g c = λ none. (c.insert-started.ensures.foreign (ap (λ (s : SeatValue). is_active s.session c.args.txn) c.seat.view_is ∙ none)).0
+
+pub returns-clause-refused : goal.returns-clause-refused
+returns-clause-refused g c = let new = c.insert-started in same_on_err c.seat.inside.part new.new.seat c.seat.inside.view _ c.seat.view_is new.ensures.number new.result new.ensures.refused
+
+pub returns-clause-seat : goal.returns-clause-seat
+returns-clause-seat g c = let new = c.insert-started in any_session c.seat.inside.part new.new.seat c.seat.inside.view _ c.seat.view_is new.ensures.number

@@ -1,0 +1,11 @@
+//! Tests of one seat to which memory is refused.
+//!
+//! Proved of them is safety.
+#![tactic(auto)]
+
+#[cfg(test)]
+mod play;
+#[cfg(test)]
+mod refusal_tests;
+#[cfg(test)]
+mod requests;

@@ -1,0 +1,159 @@
+// What a seat is asked, and what it answers.
+ghost use Rattle.std.specs.Prelude.{◌≡◌};
+
+use nsf_core::Ticket;
+use records::{Body, Error, Key, Rid, Txn};
+use shared::{Change, Group, Memory, Seat, Shared};
+use std::sync::Wait;
+
+/// A request for the transaction that began last, and for the row that was inserted last.
+#[derive(Clone, Copy)]
+pub(crate) enum Request {
+    Create,
+    Begin,
+    Insert(&'static [u8]),
+    Update(&'static [u8]),
+    Delete,
+    Abort,
+    Commit,
+}
+
+/// What a seat answers: the number of a record and that of a commit, the number of a transaction, or the place of a row.
+#[derive(Clone, Copy, PartialEq)]
+pub(crate) enum Answer {
+    Written(u64, Option<u64>),
+    Begun(u64),
+    Changed(Rid),
+    Ended,
+    Refused(Error),
+}
+
+/// The transaction that began last, and the place of the row that was inserted last.
+#[derive(Clone, Copy)]
+pub(crate) struct Last {
+    txn: Option<Txn>,
+    rid: Option<Rid>,
+}
+
+impl Last {
+    /// None yet.
+    pub(crate) fn none() -> Last {
+        Last {
+            txn: None,
+            rid: None,
+        }
+    }
+
+    // The transaction, if there is one.
+    fn begun(&self) -> Result<Txn, Error> {
+        self.txn.ok_or(Error::NoSuchTxn)
+    }
+
+    // The place, if there is one.
+    fn inserted(&self) -> Result<Rid, Error> {
+        self.rid.ok_or(Error::NoSuchRow)
+    }
+}
+
+// A record that was made, as an answer.
+fn written(ticket: Ticket) -> Answer {
+    Answer::Written(ticket.record.get(), ticket.commit)
+}
+
+// The place of a change that was begun. One that found no memory for a later step is carried on.
+fn carried<B: Group, A: Memory, R: Wait>(
+    rt: &R,
+    shared: &Shared<B, A>,
+    seat: &mut Seat<B, A>,
+    txn: Txn,
+    change: Change,
+) -> Result<Answer, Error>
+    ensures { seat.new.number ≡ seat.old.number }
+{
+    match change.rest {
+        None => Ok(Answer::Changed(change.rid)),
+        Some(Error::NoMemory) => {
+            shared.carry_on(rt, seat, txn)?;
+            Ok(Answer::Changed(change.rid))
+        }
+        Some(error) => Err(error),
+    }
+}
+
+// A change of the row that was inserted last, or the insertion of one.
+fn make_change<B: Group, A: Memory, R: Wait>(
+    rt: &R,
+    shared: &Shared<B, A>,
+    seat: &mut Seat<B, A>,
+    last: &mut Last,
+    request: Request,
+) -> Result<Change, Error>
+    ensures { seat.new.number ≡ seat.old.number }
+{
+    let txn = last.begun()?;
+    let body = Body::new(b"body")?;
+    match request {
+        Request::Insert(key) => {
+            let change = shared.insert_if_ready(rt, seat, txn, Key::new(key)?, body)?;
+            last.rid = Some(change.rid);
+            Ok(change)
+        }
+        Request::Update(key) => {
+            shared.update_if_ready(rt, seat, txn, last.inserted()?, Key::new(key)?, body)
+        }
+        _ => shared.delete_if_ready(rt, seat, txn, last.inserted()?),
+    }
+}
+
+// One request, once.
+fn ask<B: Group, A: Memory, R: Wait>(
+    rt: &R,
+    shared: &Shared<B, A>,
+    seat: &mut Seat<B, A>,
+    last: &mut Last,
+    request: Request,
+) -> Result<Answer, Error>
+    ensures { seat.new.number ≡ seat.old.number }
+{
+    match request {
+        Request::Create => Ok(written(shared.create_index(rt, seat)?)),
+        Request::Begin => {
+            let txn = shared.begin(rt, seat)?;
+            last.txn = Some(txn);
+            Ok(Answer::Begun(txn.number()))
+        }
+        Request::Abort => {
+            shared.abort(rt, seat, last.begun()?)?;
+            Ok(Answer::Ended)
+        }
+        Request::Commit => Ok(written(shared.commit_if_ready(rt, seat, last.begun()?)?)),
+        _ => {
+            let change = make_change(rt, shared, seat, last, request)?;
+            carried(rt, shared, seat, last.begun()?, change)
+        }
+    }
+}
+
+// An answer or a refusal, as an answer.
+fn told(answered: Result<Answer, Error>) -> Answer {
+    match answered {
+        Ok(answer) => answer,
+        Err(error) => Answer::Refused(error),
+    }
+}
+
+/// What a seat answers to a request, which is made once more where memory was refused.
+pub(crate) fn ask_again<B: Group, A: Memory, R: Wait>(
+    rt: &R,
+    shared: &Shared<B, A>,
+    seat: &mut Seat<B, A>,
+    last: &mut Last,
+    request: Request,
+) -> Answer
+    ensures { seat.new.number ≡ seat.old.number }
+{
+    match ask(rt, shared, seat, last, request) {
+        Err(Error::NoMemory) => told(ask(rt, shared, seat, last, request)),
+        answered => told(answered),
+    }
+}
