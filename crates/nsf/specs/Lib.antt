@@ -7,8 +7,11 @@ pub use Rattle.core_model.specs.Histories
 pub use Rattle.nsf_core.specs.Value
 pub use Rattle.restart.specs.Building
 pub use Rattle.restart.specs.Lawful
+pub use Rattle.restart.specs.Migrating
 pub use Rattle.restart.specs.Reopening
 pub use Rattle.restart.specs.Store
+pub use Rattle.restart.specs.Story
+pub use Rattle.moving.specs.Moved
 pub use Rattle.shared.specs.Changed
 pub use Rattle.shared.specs.Seats
 pub use Rattle.shared.specs.Served

@@ -235,6 +235,7 @@ fn close<B: Group, D: Device, R: Wait>(
     requires seats { AreAllSeats B.site.seats seats.items }
     ensures { LeavesCommits D.history B.site.opened result.0 result.1 }
 {
+    flush.stands();
     match finish(rt, alloc, shared, seats, flush, Vec::new(alloc)) {
         Ok(closed) => (closed.device, Ok(())),
         Err((error, device)) => (device, Err(error)),

@@ -21,13 +21,13 @@
 //!     granted(engine.serve(Event::Commit { txn }))?;
 //!     granted(engine.serve(Event::Create))?;
 //!     engine.build_to_end()?;
-//!     granted(engine.serve(Event::Flush))?;
+//!     granted(engine.flush_all())?;
 //!     Ok(engine.into_device())
 //! }
 //! ```
 //!
-//! What `restart`, `run`, `serve` and `build_to_end` promise is in their contracts. `granted` is the program's own: it makes an error of
-//! a `Reply::Refused`.
+//! What `restart`, `run`, `serve`, `build_to_end` and `flush_all` promise is in their contracts. `granted` is the program's own: it makes
+//! an error of a reply that tells that nothing was done (`Refused`, `Skipped`, `LogFull`).
 //!
 //! # Many threads
 //!
@@ -35,19 +35,30 @@
 //!
 //! ```
 //! impl Put {
+//!     fn put_in<B: Group, R: Wait>(&self, rt: &R, shared: &Shared<B>, seat: &mut Seat<B>, txn: Txn) -> Result<Ticket, Error>
+//!         ensures { seat.new.number ≡ seat.old.number }
+//!     {
+//!         let change = shared.insert_if_ready(rt, seat, txn, self.key, Body::new(b"")?)?;
+//!         match change.rest {
+//!             Some(error) => Err(error),
+//!             None => shared.commit_if_ready(rt, seat, txn),
+//!         }
+//!     }
+//!
 //!     fn put<B: Group, R: Wait>(&self, rt: &R, shared: &Shared<B>, seat: &mut Seat<B>) -> Result<(), Error>
 //!         ensures { seat.new.number ≡ seat.old.number }
 //!     {
 //!         let txn = shared.begin(rt, seat)?;
-//!         if seat.ready(txn) {
-//!             shared.insert(rt, seat, txn, self.key, Body::new(b"")?)?;
+//!         match self.put_in(rt, shared, seat, txn) {
+//!             Ok(ticket) => {
+//!                 shared.await_ack(rt, seat, ticket)?;
+//!                 Ok(())
+//!             }
+//!             Err(error) => {
+//!                 shared.abort(rt, seat, txn)?;
+//!                 Err(error)
+//!             }
 //!         }
-//!         if !seat.ready(txn) {
-//!             return Err(Error::NoSuchTxn);
-//!         }
-//!         let ticket = shared.commit(rt, seat, txn)?;
-//!         shared.await_ack(rt, seat, ticket)?;
-//!         Ok(())
 //!     }
 //! }
 //!
@@ -82,14 +93,17 @@
 //!
 //! That what is shared may go to other threads is `Rattle.nsf.proofs.Crosses.shared_sync`.
 //!
-//! A store of version 1 of the format is told as `OldVersion`. `migrate` moves it to another device, which has to have the sectors of
-//! its geometry in version 2 (`Geometry::sectors`), and opens it there.
+//! A store of version 1 of the format is told as `OldVersion`. `old_geometry` tells its geometry. `migrate` moves it to another device,
+//! which has to have the sectors of that geometry in version 2 (`Geometry::sectors`), and opens it there.
+//!
+//! What calls leave, and what may be opened again, laws say (`left_by_threads` and the others below). A program calls a law to cite it;
+//! the call does nothing.
 //!
 //! # What is promised
 //!
 //! Of one thread: the contracts of `restart`, and above them `live_through` and `live_on` of `headline`. Of many: when all clients of `serve`
 //! have ended, a crash leaves what was opened with commits of some seats set over it, up to a record; all of them where nothing was
-//! refused (`leaves`, `written`); as many clients come back as went in (`clients`).
+//! refused (`leaves`). So it may be opened again (the law `left_by_threads`). As many clients come back as went in (`clients`).
 //! Only tested (`nsf_tests`): both examples. Neither: that a client is called, or that the commits are those of these clients.
 #![tactic(auto)]
 
@@ -101,12 +115,16 @@ pub use file_disk as file;
 pub use flusher::FlushPart;
 pub use loops::{Ended, Gate, NoGate, Point, build_loop, clean_loop, flush_loop, run_beside};
 pub use model::Life;
+pub use moving::{NotVersionOne, old_geometry};
 pub use nsf_core::{BuildReply, CleanReply, Core, Ticket};
-pub use opening::{OpenError, OpenStore, Parts, format_store, open_engine, open_store};
+pub use opening::{
+    OpenError, OpenStore, Parts, format_store, left_by_a_run, left_by_an_opening, left_by_threads,
+    open_engine, open_store, sound_or_not,
+};
 pub use records::{
     BODY_MAX, Body, Error, Geometry, KEY_MAX, Key, Mark, Pair, Rid, Row, SLOTS_PER_PAGE, Txn,
 };
-pub use restart::{Engine, Event, MigrateError, Reply, migrate, restart};
+pub use restart::{Engine, Event, MigrateError, Reply, every_story, migrate, restart};
 pub use sector_device::{Device, Failed, Fate, FaultDisk, MemDisk, Which};
 pub use sessions::Commit;
-pub use shared::{Ack, BuildPart, Change, Group, GroupView, Seat, Shared};
+pub use shared::{Ack, BuildPart, Change, Group, GroupView, Seat, Shared, each_refusal};

@@ -98,7 +98,7 @@ static inline const char *nsf_message(uint32_t refusal)
     case NSF_NOT_BUILT: return "the index is not complete yet";
     case NSF_STOPPED: return "the store was told to stop";
     case NSF_EXHAUSTED: return "the last number that a record may have is given away";
-    case NSF_OLD_VERSION: return "the store is of an older version of the format: it is moved before it is opened";
+    case NSF_OLD_VERSION: return "the store is of an older version of the format: `nsf-store migrate` moves it to a new file";
     case NSF_NO_SUCH_EVENT: return "no event has this kind";
     case NSF_UNREADY: return "the transaction owes a step, has changes left, or is rolling back: nothing was done";
     default: return "no refusal has this number";

@@ -9,7 +9,8 @@ use Rattle.records.specs.declared.error.Error.{Error}
 use Rattle.records.specs.declared.error.Error.TheVariants.{NoMemory, DeviceFailed, BadGeometry}
 use Rattle.sector_device.specs.Disk.{Image, sector, IsSynced}
 use Rattle.file_disk.specs.FileDisk.{history_of, failures_of}
-use Rattle.flip_image.specs.Store.{IsFormatted}
+use Rattle.flip_image.specs.declared.half.Half.TheVariants.{A}
+use Rattle.flip_image.specs.Store.{AreGatesClosed, IsFormatted}
 use Rattle.core_model.specs.Histories.{CanOpen}
 use Rattle.nsf_core.specs.Opening.{opened_of}
 use Rattle.restart.specs.Parts.{core_of}
@@ -123,7 +124,7 @@ pub record IsOpenedOn (P : Image → Type 0) (s : Opened) : Type 0 where
 abbrev pub IsRefused : Disk → Error → Type 0
 IsRefused disk e = (after : Disk) × serving.IsRefusedOn history_of failures_of disk after e
 
--- None was, for the reason that a restart on such a disk gives.
+-- No store was opened on such a disk, for the reason that a restart gives.
 pub record IsRefusedOn (P : Image → Type 0) (status : ℕ) : Type 0 where
   pub disk : Disk
   pub error : Error
@@ -133,7 +134,7 @@ pub record IsRefusedOn (P : Image → Type 0) (status : ℕ) : Type 0 where
 
 -- a store of this geometry as it is made, in as many sectors as it needs
 abbrev pub IsMade : GeometryValue → Image → Type 0
-IsMade g content = IsFormatted g content × (length content ≡ geometry.sectors_of g)
+IsMade g content = IsFormatted g content × AreGatesClosed g A content × (length content ≡ geometry.sectors_of g)
 
 -- a content of just these sectors
 abbrev pub Is : Image → Image → Type 0

@@ -1,4 +1,4 @@
-//! The examples of README, run: one thread makes a store, and many go on with it.
+//! The examples of README and of `nsf`, run: one thread makes a store, and many go on with it.
 //!
 //! Proved of them is safety, and that the contracts suffice for such a caller.
 #![tactic(auto)]

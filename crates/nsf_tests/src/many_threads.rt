@@ -1,7 +1,7 @@
 //! A store under many threads.
 ghost use Rattle.std.specs.Prelude.{◌≡◌};
 
-use nsf::{Body, Client, Error, Group, Key, MemDisk, OpenError, Seat, Shared, serve};
+use nsf::{Body, Client, Error, Group, Key, MemDisk, OpenError, Seat, Shared, Ticket, Txn, serve};
 use std::alloc::Global;
 use std::sync::Wait;
 use std::thread::Threads;
@@ -14,7 +14,24 @@ pub struct Put {
 }
 
 impl Put {
-    // The row is put, or it is told why it isn't.
+    // The row is put and committed in the transaction, or it is told why it isn't.
+    fn put_in<B: Group, R: Wait>(
+        &self,
+        rt: &R,
+        shared: &Shared<B>,
+        seat: &mut Seat<B>,
+        txn: Txn,
+    ) -> Result<Ticket, Error>
+        ensures { seat.new.number ≡ seat.old.number }
+    {
+        let change = shared.insert_if_ready(rt, seat, txn, self.key, Body::new(b"")?)?;
+        match change.rest {
+            Some(error) => Err(error),
+            None => shared.commit_if_ready(rt, seat, txn),
+        }
+    }
+
+    // The same in a transaction of its own, which is taken back where it isn't put.
     fn put<B: Group, R: Wait>(
         &self,
         rt: &R,
@@ -24,15 +41,16 @@ impl Put {
         ensures { seat.new.number ≡ seat.old.number }
     {
         let txn = shared.begin(rt, seat)?;
-        if seat.ready(txn) {
-            shared.insert(rt, seat, txn, self.key, Body::new(b"")?)?;
+        match self.put_in(rt, shared, seat, txn) {
+            Ok(ticket) => {
+                shared.await_ack(rt, seat, ticket)?;
+                Ok(())
+            }
+            Err(error) => {
+                shared.abort(rt, seat, txn)?;
+                Err(error)
+            }
         }
-        if !seat.ready(txn) {
-            return Err(Error::NoSuchTxn);
-        }
-        let ticket = shared.commit(rt, seat, txn)?;
-        shared.await_ack(rt, seat, ticket)?;
-        Ok(())
     }
 }
 

@@ -2,10 +2,11 @@
 use nsf::{Body, Error, Event, Geometry, Key, MemDisk, Reply, Rid, format_store, restart};
 use std::alloc::Global;
 
-// The reply, unless it tells a refusal.
+// The reply, unless it tells that nothing was done. (What is asked for below is never `Skipped`, nor is the log full.)
 fn granted(reply: Reply<Global>) -> Result<Reply<Global>, Error> {
     match reply {
         Reply::Refused(error) => Err(error),
+        Reply::Skipped | Reply::LogFull => Err(Error::NoSuchTxn),
         reply => Ok(reply),
     }
 }
@@ -30,7 +31,7 @@ fn fill(
     granted(engine.serve(Event::Commit { txn }))?;
     granted(engine.serve(Event::Create))?;
     engine.build_to_end()?;
-    granted(engine.serve(Event::Flush))?;
+    granted(engine.flush_all())?;
     Ok(engine.into_device())
 }
 

@@ -7,6 +7,8 @@ use Rattle.nsf.proofs.clients.close.Goals as goal
 pub returns-in-Ok : goal.returns-in-Ok
 returns-in-Ok g c = record {
   geometry = (halves_of c.args.flush.writer).geometry;
+  pages = c.stands.ensures.pages;
+  places = c.stands.ensures.places;
   seats = c.args.seats.items;
   popped = popped_by c.args.flush;
   floor = synced_of c.args.flush.writer;
@@ -18,6 +20,8 @@ returns-in-Ok g c = record {
 pub returns-in-Err : goal.returns-in-Err
 returns-in-Err g c = record {
   geometry = (halves_of c.args.flush.writer).geometry;
+  pages = c.stands.ensures.pages;
+  places = c.stands.ensures.places;
   seats = c.args.seats.items;
   popped = popped_by c.args.flush;
   floor = synced_of c.args.flush.writer;

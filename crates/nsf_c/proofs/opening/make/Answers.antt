@@ -10,7 +10,7 @@ use Rattle.nsf_c.proofs.opening.make.Goals as goal
 
 made : (c : goal.After-open_on) → IsDisk (IsMade c.args.geometry) c.format.new.device
 made c = record {
-  content = (c.in_ok-format.ensures.formatted, c.in_ok-format.ensures.outside.sectors ∙ ap (λ (image : List (List ℕ)). length image) c.in_ok-disk.ensures.zeros ∙ length-replicate {A = List ℕ} _ zero_sector ∙ c.sectors.ensures);
+  content = (c.in_ok-format.ensures.formatted, c.in_ok-format.ensures.closed, c.in_ok-format.ensures.outside.sectors ∙ ap (λ (image : List (List ℕ)). length image) c.in_ok-disk.ensures.zeros ∙ length-replicate {A = List ℕ} _ zero_sector ∙ c.sectors.ensures);
   synced = c.in_ok-format.ensures.synced;
   failures = c.in_ok-format.ensures.quiet ∙ c.in_ok-disk.ensures.failures;
 }
