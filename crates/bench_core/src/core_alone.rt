@@ -8,47 +8,33 @@ use std::marker::Model;
 // More steps than a build of so many rows makes.
 const STEPS_MAX: u32 = 100_000;
 
-// Calls of the core, each in a function of its own: what the core promises of one is no part of another's proof.
+/// Calls of a core.
+///
+/// What is measured is generic over them, so that its proofs read nothing of what a core is made of, nor of what it promises.
+pub(crate) trait CoreCalls {
+    /// Begins a transaction.
+    fn begin(&mut self) -> Result<Txn, Error>;
 
-fn new(alloc: Global, geometry: Geometry) -> Result<Core<Global>, Error> {
-    Core::new(alloc, geometry, 0)
+    /// Inserts a row.
+    fn insert(&mut self, txn: Txn, key: Key, body: Body) -> Result<Rid, Error>;
+
+    /// Commits the transaction.
+    fn commit(&mut self, txn: Txn) -> Result<Ticket, Error>;
+
+    /// Creates the index.
+    fn create_index(&mut self) -> Result<Ticket, Error>;
+
+    /// Makes a step of the builder.
+    fn build_step(&mut self) -> Result<BuildReply, Error>;
+
+    /// Lets the records go that the core made.
+    fn let_go(&mut self);
+
+    /// The entry above this pair, or the first.
+    fn above(&self, pair: Option<&Pair>) -> Option<(Pair, Mark)>;
 }
 
-fn begin(core: &mut Core<Global>) -> Result<Txn, Error> {
-    core.begin()
-}
-
-fn insert(core: &mut Core<Global>, txn: Txn, key: Key, body: Body) -> Result<Rid, Error> {
-    if !core.ready(txn) {
-        return Err(Error::NoSuchTxn);
-    }
-    core.start_insert(txn, key, body)
-}
-
-fn commit(core: &mut Core<Global>, txn: Txn) -> Result<Ticket, Error> {
-    if !core.ready(txn) {
-        return Err(Error::NoSuchTxn);
-    }
-    core.commit(txn)
-}
-
-fn create_index(core: &mut Core<Global>) -> Result<Ticket, Error> {
-    core.create_index()
-}
-
-fn build_step(core: &mut Core<Global>) -> Result<BuildReply, Error> {
-    core.build_step()
-}
-
-fn take_outbox(core: &mut Core<Global>, taken: &mut Vec<Record>) {
-    core.take_outbox(taken);
-}
-
-fn above(core: &Core<Global>, pair: Option<&Pair>) -> Option<(Pair, Mark)> {
-    core.above(pair)
-}
-
-/// A core of 256 pages. Clauses see nothing of it.
+/// A core without a device. Clauses see nothing of it.
 #[derive(Drop)]
 pub(crate) struct CoreAlone {
     core: Core<Global>,
@@ -66,65 +52,98 @@ impl Model for CoreAlone {
 
 impl CoreAlone {
     /// A core without rows.
-    pub(crate) fn empty(alloc: Global) -> Result<CoreAlone> {
-        let core = new(alloc, Geometry::new(256, 65_536, 4)?)?;
-        Ok(CoreAlone {
-            core,
-            taken: Vec::new(alloc),
-        })
+    pub(crate) fn empty(alloc: Global, geometry: Geometry) -> Result<CoreAlone, Error> {
+        match Core::new(alloc, geometry, 0) {
+            Ok(core) => Ok(CoreAlone {
+                core,
+                taken: Vec::new(alloc),
+            }),
+            Err(error) => Err(error),
+        }
+    }
+}
+
+impl CoreCalls for CoreAlone {
+    fn begin(&mut self) -> Result<Txn, Error> {
+        self.core.begin()
     }
 
-    // Lets the records go that the core made.
+    fn insert(&mut self, txn: Txn, key: Key, body: Body) -> Result<Rid, Error> {
+        if !self.core.ready(txn) {
+            return Err(Error::NoSuchTxn);
+        }
+        self.core.start_insert(txn, key, body)
+    }
+
+    fn commit(&mut self, txn: Txn) -> Result<Ticket, Error> {
+        if !self.core.ready(txn) {
+            return Err(Error::NoSuchTxn);
+        }
+        self.core.commit(txn)
+    }
+
+    fn create_index(&mut self) -> Result<Ticket, Error> {
+        self.core.create_index()
+    }
+
+    fn build_step(&mut self) -> Result<BuildReply, Error> {
+        self.core.build_step()
+    }
+
     fn let_go(&mut self) {
         self.taken.clear();
-        take_outbox(&mut self.core, &mut self.taken);
+        self.core.take_outbox(&mut self.taken);
     }
 
-    // Inserts the rows of these pairs in one transaction.
-    fn insert_page(&mut self, pairs: &[Pair], body: Body) -> Result<()> {
-        let txn = begin(&mut self.core)?;
-        for pair in pairs {
-            insert(&mut self.core, txn, pair.key, body)?;
-        }
-        commit(&mut self.core, txn)?;
-        Ok(())
+    fn above(&self, pair: Option<&Pair>) -> Option<(Pair, Mark)> {
+        self.core.above(pair)
     }
+}
 
-    /// Inserts the rows of these pairs, a page in a transaction.
-    pub(crate) fn insert_all(&mut self, pairs: &[Pair]) -> Result<()> {
-        let body = Body::new(b"row")?;
-        for page in pairs.chunks(SLOTS_PER_PAGE as usize) {
-            self.insert_page(page, body)?;
-            self.let_go();
-        }
-        Ok(())
+// Inserts the rows of these pairs in one transaction.
+fn insert_page(core: &mut impl CoreCalls, pairs: &[Pair], body: Body) -> Result<()> {
+    let txn = core.begin()?;
+    for pair in pairs {
+        core.insert(txn, pair.key, body)?;
     }
+    core.commit(txn)?;
+    Ok(())
+}
 
-    /// Creates the index and makes the builder's steps to the last.
-    pub(crate) fn build(&mut self) -> Result<()> {
-        create_index(&mut self.core)?;
-        for _ in 0..STEPS_MAX {
-            match build_step(&mut self.core)? {
-                BuildReply::Scanned(_) | BuildReply::Placed(_) => {}
-                BuildReply::Marked(..) => self.let_go(),
-                BuildReply::Done(_) => return Ok(()),
-                BuildReply::Rejected(_) | BuildReply::Idle => bail!("a pair had an entry before"),
-            }
-        }
-        bail!("the build does not end")
+/// Inserts the rows of these pairs, a page in a transaction.
+pub(crate) fn insert_all(core: &mut impl CoreCalls, pairs: &[Pair]) -> Result<()> {
+    let body = Body::new(b"row")?;
+    for page in pairs.chunks(SLOTS_PER_PAGE as usize) {
+        insert_page(core, page, body)?;
+        core.let_go();
     }
+    Ok(())
+}
 
-    /// How many of these pairs, which are in order, the index has as live entries in a row, from its first on.
-    pub(crate) fn live_entries(&self, pairs: &[Pair]) -> usize {
-        let mut last = None;
-        let mut found = 0_usize;
-        for pair in pairs {
-            if above(&self.core, last.as_ref()) != Some((*pair, Mark::Live)) {
-                return found;
-            }
-            last = Some(*pair);
-            found = found.saturating_add(1);
+/// Creates the index and makes the builder's steps to the last.
+pub(crate) fn build(core: &mut impl CoreCalls) -> Result<()> {
+    core.create_index()?;
+    for _ in 0..STEPS_MAX {
+        match core.build_step()? {
+            BuildReply::Scanned(_) | BuildReply::Placed(_) => {}
+            BuildReply::Marked(..) => core.let_go(),
+            BuildReply::Done(_) => return Ok(()),
+            BuildReply::Rejected(_) | BuildReply::Idle => bail!("a pair had an entry before"),
         }
-        found
     }
+    bail!("the build does not end")
+}
+
+/// How many of these pairs, which are in order, the index has as live entries in a row, from its first on.
+pub(crate) fn live_entries(core: &impl CoreCalls, pairs: &[Pair]) -> usize {
+    let mut last = None;
+    let mut found = 0_usize;
+    for pair in pairs {
+        if core.above(last.as_ref()) != Some((*pair, Mark::Live)) {
+            return found;
+        }
+        last = Some(*pair);
+        found = found.saturating_add(1);
+    }
+    found
 }

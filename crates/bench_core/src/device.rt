@@ -1,14 +1,15 @@
 //! A disk in memory.
+use crate::clock::{now, since};
 use file_disk::{Detached, FileDisk};
 use flip_image::Halves;
 use records::{Error, Geometry};
 use sector_device::Device;
-use std::alloc::{Allocator, Global};
+use std::alloc::{AllocError, Allocator, Global};
 use std::marker::Model;
-use store_reader::{Found, read_store};
+use std::rt::Clock;
+use store_reader::read_store;
 
-/// A disk in memory. Clauses see nothing of it.
-#[derive(Drop)]
+/// A disk in memory. It is given up by a call, and never let go. Clauses see nothing of it.
 pub(crate) struct Disk {
     pub(crate) device: FileDisk<Detached, Global>,
 }
@@ -25,24 +26,45 @@ fn format<D: Device>(device: &mut D, geometry: Geometry) -> Result<(), Error> {
     Halves::format(device, geometry)
 }
 
-fn found_on<D: Device, A: Allocator + Copy>(alloc: A, device: &mut D) -> Result<Found<A>, Error> {
-    read_store(alloc, device)
+fn read<R: Clock, D: Device, A: Allocator + Copy>(
+    rt: &R,
+    alloc: A,
+    device: &mut D,
+) -> Result<u64, Error> {
+    let begun = now(rt);
+    match read_store(alloc, device) {
+        Ok(_found) => Ok(since(rt, begun)),
+        Err(error) => Err(error),
+    }
 }
 
-fn zeros(alloc: Global, sectors: usize) -> Result<FileDisk<Detached, Global>, Error> {
-    Ok(FileDisk::new(alloc, Detached, sectors)?)
+fn zeros(alloc: Global, sectors: usize) -> Result<FileDisk<Detached, Global>, AllocError> {
+    FileDisk::new(alloc, Detached, sectors)
 }
 
 impl Disk {
     /// A disk with a new store.
     pub(crate) fn formatted(alloc: Global, geometry: Geometry) -> Result<Disk, Error> {
-        let mut device = zeros(alloc, geometry.sectors() as usize)?;
-        format(&mut device, geometry)?;
-        Ok(Disk { device })
+        let Ok(mut device) = zeros(alloc, geometry.sectors() as usize) else {
+            return Err(Error::NoMemory);
+        };
+        match format(&mut device, geometry) {
+            Ok(()) => Ok(Disk { device }),
+            Err(error) => {
+                Disk { device }.let_go();
+                Err(error)
+            }
+        }
     }
 
-    /// Reads the store.
-    pub(crate) fn read(&mut self, alloc: Global) -> Result<Found<Global>, Error> {
-        found_on(alloc, &mut self.device)
+    /// Gives up the disk.
+    pub(crate) fn let_go(self) {
+        let Disk { device } = self;
+        device.into_below();
+    }
+
+    /// How long it takes to read the store.
+    pub(crate) fn read<R: Clock>(&mut self, rt: &R, alloc: Global) -> Result<u64, Error> {
+        read(rt, alloc, &mut self.device)
     }
 }

@@ -15,6 +15,7 @@ mod rows;
 mod store;
 mod table;
 
+use crate::store::Store;
 use anyhow::Result;
 use records::Geometry;
 use std::alloc::Global;
@@ -23,7 +24,7 @@ use std::rt::Clock;
 
 // A small round, with what is found.
 fn check<R: Print + Alloc<A = Global> + Clock>(rt: &R) -> Result<()> {
-    let round = round::play(rt, Geometry::new(4, 1_024, 4)?)?;
+    let round = round::play::<Store, R>(rt, Geometry::new(4, 1_024, 4)?)?;
     println!(rt;
         "rows: {}, entries of the core's index: {}, rows found by the store: {}",
         round.all.rows, round.all.entries, round.image.found

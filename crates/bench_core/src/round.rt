@@ -1,10 +1,9 @@
 //! A round of all that is measured.
 use crate::clock::{now, since};
-use crate::core_alone::CoreAlone;
-use crate::device::Disk;
+use crate::core_alone::{self, CoreAlone, CoreCalls};
 use crate::floors;
 use crate::rows::pairs_of;
-use crate::store::Store;
+use crate::store::{self, OpenStore};
 use anyhow::Result;
 use records::{
     ENTRIES_PER_SECTOR, Geometry, HEADER_SECTORS, HEADS_SECTORS, PAGE_SECTORS, Pair, SLOTS_PER_PAGE,
@@ -78,23 +77,23 @@ fn rows_in(pages: u32) -> u64 {
 }
 
 // How long it takes to insert the rows of these pairs into a core.
-fn insert_alone<R: Clock>(rt: &R, core: &mut CoreAlone, pairs: &[Pair]) -> Result<u64> {
+fn insert_alone<R: Clock>(rt: &R, core: &mut impl CoreCalls, pairs: &[Pair]) -> Result<u64> {
     let begun = now(rt);
-    core.insert_all(pairs)?;
+    core_alone::insert_all(core, pairs)?;
     Ok(since(rt, begun))
 }
 
 // How long it takes to build its index.
-fn build_alone<R: Clock>(rt: &R, core: &mut CoreAlone) -> Result<u64> {
+fn build_alone<R: Clock>(rt: &R, core: &mut impl CoreCalls) -> Result<u64> {
     let begun = now(rt);
-    core.build()?;
+    core_alone::build(core)?;
     Ok(since(rt, begun))
 }
 
 // A round in a core without rows.
 fn times_in_core<R: Alloc<A = Global> + Clock>(
     rt: &R,
-    core: &mut CoreAlone,
+    core: &mut impl CoreCalls,
     pairs: &mut Vec<Pair>,
 ) -> Result<CoreTimes> {
     let inserted = insert_alone(rt, core, pairs)?;
@@ -107,70 +106,70 @@ fn times_in_core<R: Alloc<A = Global> + Clock>(
         built,
         sorted,
         put,
-        entries: core.live_entries(pairs),
+        entries: core_alone::live_entries(core, pairs),
     })
 }
 
 // A round in the core.
 fn core_times<R: Alloc<A = Global> + Clock>(rt: &R, pages: u32) -> Result<CoreTimes> {
     let mut pairs = pairs_of(rt.alloc(), pages)?;
-    let mut core = CoreAlone::empty(rt.alloc())?;
+    let mut core = CoreAlone::empty(rt.alloc(), Geometry::new(256, 65_536, 4)?)?;
     times_in_core(rt, &mut core, &mut pairs)
 }
 
 // A store that was just formatted.
-fn new_store(alloc: Global, geometry: Geometry) -> Result<Store> {
-    let disk = Disk::formatted(alloc, geometry)?;
-    Ok(Store::open(alloc, disk)?)
+fn new_store<S: OpenStore>(alloc: Global, geometry: Geometry) -> Result<S> {
+    let disk = S::formatted(alloc, geometry)?;
+    Ok(S::open(alloc, disk)?)
 }
 
-// How long it takes to insert the rows of a new store, without a flush.
-fn insert<R: Alloc<A = Global> + Clock>(rt: &R, geometry: Geometry) -> Result<u64> {
-    let mut store = new_store(rt.alloc(), geometry)?;
+// How long it takes to insert rows, without a flush.
+fn insert_into<R: Clock>(rt: &R, store: &mut impl OpenStore, pages: u32) -> Result<u64> {
     let begun = now(rt);
-    store.insert(geometry.pages)?;
+    store::insert(store, pages)?;
     Ok(since(rt, begun))
 }
 
+// How long it takes to insert the rows of a new store, without a flush.
+fn insert<S: OpenStore, R: Alloc<A = Global> + Clock>(rt: &R, geometry: Geometry) -> Result<u64> {
+    let mut store = new_store::<S>(rt.alloc(), geometry)?;
+    let inserted = insert_into(rt, &mut store, geometry.pages);
+    S::let_go(store.close());
+    inserted
+}
+
 // How long it takes to insert rows, with a flush behind each page.
-fn fill<R: Clock>(rt: &R, store: &mut Store, pages: u32) -> Result<u64> {
+fn fill<R: Clock>(rt: &R, store: &mut impl OpenStore, pages: u32) -> Result<u64> {
     let begun = now(rt);
-    store.fill(pages)?;
+    store::fill(store, pages)?;
     Ok(since(rt, begun))
 }
 
 // How long it takes to build its index.
-fn build<R: Clock>(rt: &R, store: &mut Store) -> Result<u64> {
+fn build<R: Clock>(rt: &R, store: &mut impl OpenStore) -> Result<u64> {
     let begun = now(rt);
-    store.build()?;
+    store::build(store)?;
     Ok(since(rt, begun))
 }
 
 // How long it takes to take an image.
-fn take_image<R: Clock>(rt: &R, store: &mut Store) -> Result<u64> {
+fn take_image<R: Clock>(rt: &R, store: &mut impl OpenStore) -> Result<u64> {
     let begun = now(rt);
-    store.take_image()?;
-    Ok(since(rt, begun))
-}
-
-// How long it takes to read the store on a disk.
-fn read<R: Alloc<A = Global> + Clock>(rt: &R, disk: &mut Disk) -> Result<u64> {
-    let begun = now(rt);
-    let _found = disk.read(rt.alloc())?;
+    store::take_image_of(store)?;
     Ok(since(rt, begun))
 }
 
 // The store on a disk, and how long it takes to open it.
-fn open<R: Alloc<A = Global> + Clock>(rt: &R, disk: Disk) -> Result<(Store, u64)> {
+fn open<S: OpenStore, R: Alloc<A = Global> + Clock>(rt: &R, disk: S::Disk) -> Result<(S, u64)> {
     let begun = now(rt);
-    let store = Store::open(rt.alloc(), disk)?;
+    let store = S::open(rt.alloc(), disk)?;
     Ok((store, since(rt, begun)))
 }
 
 // A round of changes of a new store, into which so many rows were put before in this time.
 fn times_of_rows<R: Clock>(
     rt: &R,
-    store: &mut Store,
+    store: &mut impl OpenStore,
     geometry: Geometry,
     inserted: u64,
 ) -> Result<RowTimes> {
@@ -185,17 +184,27 @@ fn times_of_rows<R: Clock>(
 }
 
 // The disk of a store that was closed and opened, so that its log is empty.
-fn emptied(alloc: Global, store: Store) -> Result<Disk> {
-    let store = Store::open(alloc, store.close())?;
+fn emptied<S: OpenStore>(alloc: Global, store: S) -> Result<S::Disk> {
+    let store = S::open(alloc, store.close())?;
     Ok(store.close())
 }
 
 // A round of changes, and a disk with a row in each slot and the index, whose log is empty.
-fn row_times<R: Alloc<A = Global> + Clock>(rt: &R, geometry: Geometry) -> Result<(RowTimes, Disk)> {
-    let inserted = insert(rt, geometry)?;
-    let mut store = new_store(rt.alloc(), geometry)?;
-    let times = times_of_rows(rt, &mut store, geometry, inserted)?;
-    Ok((times, emptied(rt.alloc(), store)?))
+fn row_times<S: OpenStore, R: Alloc<A = Global> + Clock>(
+    rt: &R,
+    geometry: Geometry,
+) -> Result<(RowTimes, S::Disk)> {
+    let inserted = insert::<S, R>(rt, geometry)?;
+    let mut store = new_store::<S>(rt.alloc(), geometry)?;
+    let times = times_of_rows(rt, &mut store, geometry, inserted);
+    let disk = emptied(rt.alloc(), store)?;
+    match times {
+        Ok(times) => Ok((times, disk)),
+        Err(error) => {
+            S::let_go(disk);
+            Err(error)
+        }
+    }
 }
 
 // How many sectors the image of a store has with an entry for each row.
@@ -207,9 +216,9 @@ fn image_sectors(geometry: Geometry) -> u64 {
 }
 
 // How long it takes to take an image in steps, and then one at once, behind a full log.
-fn take_images<R: Clock>(rt: &R, store: &mut Store) -> Result<(u64, u64)> {
+fn take_images<R: Clock>(rt: &R, store: &mut impl OpenStore) -> Result<(u64, u64)> {
     let imaged = take_image(rt, store)?;
-    store.fill_log()?;
+    store::fill_log(store)?;
     let at_once = take_image(rt, store)?;
     Ok((imaged, at_once))
 }
@@ -224,7 +233,7 @@ fn copy_both<R: Alloc<A = Global> + Clock>(rt: &R, geometry: Geometry) -> Result
 // A round of images of a store that was opened in this time.
 fn times_of_images<R: Alloc<A = Global> + Clock>(
     rt: &R,
-    store: &mut Store,
+    store: &mut impl OpenStore,
     geometry: Geometry,
     read: u64,
     restarted: u64,
@@ -238,27 +247,38 @@ fn times_of_images<R: Alloc<A = Global> + Clock>(
         imaged_at_once,
         half_copied,
         image_copied,
-        found: store.count(geometry.pages)?,
+        found: store::count(store, geometry.pages)?,
     })
 }
 
 // A round of images, over a disk whose log is empty.
-fn image_times<R: Alloc<A = Global> + Clock>(
+fn image_times<S: OpenStore, R: Alloc<A = Global> + Clock>(
     rt: &R,
     geometry: Geometry,
-    mut disk: Disk,
+    mut disk: S::Disk,
 ) -> Result<ImageTimes> {
-    let read = read(rt, &mut disk)?;
-    let (mut store, restarted) = open(rt, disk)?;
-    times_of_images(rt, &mut store, geometry, read, restarted)
+    let read = match S::read(rt, rt.alloc(), &mut disk) {
+        Ok(read) => read,
+        Err(error) => {
+            S::let_go(disk);
+            return Err(error.into());
+        }
+    };
+    let (mut store, restarted) = open::<S, R>(rt, disk)?;
+    let times = times_of_images(rt, &mut store, geometry, read, restarted);
+    S::let_go(store.close());
+    times
 }
 
-/// Measures all.
-pub(crate) fn play<R: Alloc<A = Global> + Clock>(rt: &R, geometry: Geometry) -> Result<Round> {
+/// Measures all, with stores of this kind.
+pub(crate) fn play<S: OpenStore, R: Alloc<A = Global> + Clock>(
+    rt: &R,
+    geometry: Geometry,
+) -> Result<Round> {
     let few = core_times(rt, geometry.pages.div_ceil(16))?;
     let all = core_times(rt, geometry.pages)?;
-    let (store, disk) = row_times(rt, geometry)?;
-    let image = image_times(rt, geometry, disk)?;
+    let (store, disk) = row_times::<S, R>(rt, geometry)?;
+    let image = image_times::<S, R>(rt, geometry, disk)?;
     Ok(Round {
         few,
         all,

@@ -6,7 +6,7 @@ use std::alloc::Global;
 // A number for each of 32,768, each another one, in no order.
 fn mixed(number: u32) -> u32 {
     let number = number % 32_768;
-    number.wrapping_mul(2 * number + 1) % 65_536
+    number.wrapping_mul(number.wrapping_mul(2).wrapping_add(1)) % 65_536
 }
 
 /// The key of the row in this slot.

@@ -4,11 +4,12 @@ use crate::rows::key_at;
 use anyhow::{Result, bail};
 use file_disk::{Detached, FileDisk};
 use model::Life;
-use records::{Body, Error, Key, SLOTS_PER_PAGE, Txn};
+use records::{Body, Error, Geometry, Key, SLOTS_PER_PAGE, Txn};
 use restart::{Engine, Event, Reply, restart};
 use sector_device::Device;
 use std::alloc::{Allocator, Global};
 use std::marker::Model;
+use std::rt::Clock;
 
 // How many steps the builder makes between two flushes.
 const STEPS_PER_FLUSH: u32 = 64;
@@ -16,22 +17,84 @@ const STEPS_PER_FLUSH: u32 = 64;
 // More requests of a kind than are made behind one another.
 const REQUESTS_MAX: u32 = 100_000;
 
+/// What is looked at of a reply.
+#[derive(Clone, Copy)]
+pub(crate) enum Said {
+    Txn(Txn),
+    /// So many rows have the key.
+    Found(usize),
+    Life(Life),
+    Flushed,
+    LogFull,
+    /// An image is current.
+    Flipped,
+    Other,
+}
+
+/// A store that is open. It is closed, and never let go.
+///
+/// What is measured is generic over it, so that its proofs read nothing of what a store is made of, nor of what it promises.
+pub(crate) trait OpenStore: Sized {
+    /// The disk that it lies on.
+    type Disk;
+
+    /// A disk with a new store.
+    fn formatted(alloc: Global, geometry: Geometry) -> Result<Self::Disk, Error>;
+
+    /// How long it takes to read the store on the disk.
+    fn read<R: Clock>(rt: &R, alloc: Global, disk: &mut Self::Disk) -> Result<u64, Error>;
+
+    /// Opens the store on a disk.
+    fn open(alloc: Global, disk: Self::Disk) -> Result<Self, Error>;
+
+    /// Serves a request.
+    fn ask(&mut self, event: Event) -> Result<Said, Error>;
+
+    /// Flushes all.
+    fn flush_all(&mut self) -> Result<Said, Error>;
+
+    /// Takes an image, in steps, or at once where the log is full.
+    fn copy_all(&mut self) -> Result<Said, Error>;
+
+    /// Gives up all but the disk.
+    fn close(self) -> Self::Disk;
+
+    /// Gives up a disk.
+    fn let_go(disk: Self::Disk);
+}
+
+fn said_by<A: Allocator>(reply: &Reply<A>) -> Result<Said, Error> {
+    Ok(match reply {
+        Reply::Refused(error) => return Err(*error),
+        Reply::Txn(txn) => Said::Txn(*txn),
+        Reply::Found(places) => Said::Found(places.len()),
+        Reply::Life(life) => Said::Life(*life),
+        Reply::Horizon(_) => Said::Flushed,
+        Reply::LogFull => Said::LogFull,
+        Reply::Flipped(_) => Said::Flipped,
+        _ => Said::Other,
+    })
+}
+
 // Calls of an engine, each in a function of its own: what the engine promises of one is no part of another's proof.
 
 fn opened<D: Device, A: Allocator + Copy>(alloc: A, device: D) -> Result<Engine<D, A>, (Error, D)> {
     restart(alloc, device)
 }
 
-fn reply_to<D: Device, A: Allocator + Copy>(engine: &mut Engine<D, A>, event: Event) -> Reply<A> {
-    engine.serve(event)
+fn serve<D: Device, A: Allocator + Copy>(
+    engine: &mut Engine<D, A>,
+    event: Event,
+) -> Result<Said, Error> {
+    said_by(&engine.serve(event))
 }
 
-fn reply_to_flushes<D: Device, A: Allocator + Copy>(engine: &mut Engine<D, A>) -> Reply<A> {
-    engine.flush_all()
+fn flush_all<D: Device, A: Allocator + Copy>(engine: &mut Engine<D, A>) -> Result<Said, Error> {
+    said_by(&engine.flush_all())
 }
 
-fn reply_to_copies<D: Device, A: Allocator + Copy>(engine: &mut Engine<D, A>) -> Reply<A> {
-    engine.take_image()
+fn take_image<D: Device, A: Allocator + Copy>(engine: &mut Engine<D, A>) -> Result<Said, Error> {
+    said_by(&engine.take_image())
 }
 
 fn device_of<D: Device, A: Allocator + Copy>(engine: Engine<D, A>) -> D {
@@ -39,7 +102,6 @@ fn device_of<D: Device, A: Allocator + Copy>(engine: Engine<D, A>) -> D {
 }
 
 /// A store that is open. Clauses see nothing of it.
-#[derive(Drop)]
 pub(crate) struct Store {
     engine: Engine<FileDisk<Detached, Global>, Global>,
 }
@@ -52,138 +114,160 @@ impl Model for Store {
     ghost view = { λ _. tt };
 }
 
-impl Store {
-    /// Opens the store on a disk.
-    pub(crate) fn open(alloc: Global, disk: Disk) -> Result<Store, Error> {
-        match opened(alloc, disk.device) {
+impl OpenStore for Store {
+    type Disk = Disk;
+
+    fn formatted(alloc: Global, geometry: Geometry) -> Result<Disk, Error> {
+        Disk::formatted(alloc, geometry)
+    }
+
+    fn read<R: Clock>(rt: &R, alloc: Global, disk: &mut Disk) -> Result<u64, Error> {
+        disk.read(rt, alloc)
+    }
+
+    fn open(alloc: Global, disk: Disk) -> Result<Store, Error> {
+        let Disk { device } = disk;
+        match opened(alloc, device) {
             Ok(engine) => Ok(Store { engine }),
-            Err((error, _)) => Err(error),
+            Err((error, device)) => {
+                Disk { device }.let_go();
+                Err(error)
+            }
         }
     }
 
-    /// Gives up all but the disk.
-    pub(crate) fn close(self) -> Disk {
+    fn ask(&mut self, event: Event) -> Result<Said, Error> {
+        serve(&mut self.engine, event)
+    }
+
+    fn flush_all(&mut self) -> Result<Said, Error> {
+        flush_all(&mut self.engine)
+    }
+
+    fn copy_all(&mut self) -> Result<Said, Error> {
+        take_image(&mut self.engine)
+    }
+
+    fn close(self) -> Disk {
+        let Store { engine } = self;
         Disk {
-            device: device_of(self.engine),
+            device: device_of(engine),
         }
     }
 
-    fn ask(&mut self, event: Event) -> Result<Reply<Global>, Error> {
-        match reply_to(&mut self.engine, event) {
-            Reply::Refused(error) => Err(error),
-            reply => Ok(reply),
+    fn let_go(disk: Disk) {
+        disk.let_go();
+    }
+}
+
+fn flush(store: &mut impl OpenStore) -> Result<()> {
+    match store.flush_all()? {
+        Said::Flushed => Ok(()),
+        _ => bail!("the store was not flushed"),
+    }
+}
+
+fn begin(store: &mut impl OpenStore) -> Result<Txn> {
+    match store.ask(Event::Begin)? {
+        Said::Txn(txn) => Ok(txn),
+        _ => bail!("no transaction began"),
+    }
+}
+
+// Inserts the rows of a page in one transaction.
+fn insert_page(store: &mut impl OpenStore, page: u32, body: Body) -> Result<()> {
+    let txn = begin(store)?;
+    for slot in 0..SLOTS_PER_PAGE {
+        let key = key_at(page, slot)?;
+        store.ask(Event::Insert { txn, key, body })?;
+    }
+    store.ask(Event::Commit { txn })?;
+    Ok(())
+}
+
+/// Inserts a row into each slot of so many pages, and flushes nothing.
+pub(crate) fn insert(store: &mut impl OpenStore, pages: u32) -> Result<()> {
+    let body = Body::new(b"row")?;
+    for page in 0..pages {
+        insert_page(store, page, body)?;
+    }
+    Ok(())
+}
+
+/// Inserts a row into each slot of so many pages, and flushes behind each page.
+pub(crate) fn fill(store: &mut impl OpenStore, pages: u32) -> Result<()> {
+    let body = Body::new(b"row")?;
+    for page in 0..pages {
+        insert_page(store, page, body)?;
+        flush(store)?;
+    }
+    Ok(())
+}
+
+// Makes as many steps of the builder as stand between two flushes.
+fn build_some(store: &mut impl OpenStore) -> Result<()> {
+    for _ in 0..STEPS_PER_FLUSH {
+        store.ask(Event::Build)?;
+    }
+    flush(store)
+}
+
+fn is_complete(store: &mut impl OpenStore) -> Result<bool> {
+    Ok(matches!(store.ask(Event::Life)?, Said::Life(Life::Complete)))
+}
+
+/// Builds the index to its end, and flushes meanwhile.
+pub(crate) fn build(store: &mut impl OpenStore) -> Result<()> {
+    store.ask(Event::Create)?;
+    for _ in 0..REQUESTS_MAX {
+        build_some(store)?;
+        if is_complete(store)? {
+            return Ok(());
         }
     }
+    bail!("the build does not end")
+}
 
-    fn flush(&mut self) -> Result<()> {
-        match reply_to_flushes(&mut self.engine) {
-            Reply::Horizon(_) => Ok(()),
-            _ => bail!("the store was not flushed"),
+// Commits and flushes, and tells whether the log was full.
+fn commit_and_flush(store: &mut impl OpenStore) -> Result<bool> {
+    let txn = begin(store)?;
+    store.ask(Event::Commit { txn })?;
+    Ok(matches!(store.ask(Event::Flush)?, Said::LogFull))
+}
+
+/// Commits and flushes until the log is full.
+pub(crate) fn fill_log(store: &mut impl OpenStore) -> Result<()> {
+    for _ in 0..REQUESTS_MAX {
+        if commit_and_flush(store)? {
+            return Ok(());
         }
     }
+    bail!("the log is never full")
+}
 
-    fn begin(&mut self) -> Result<Txn> {
-        match self.ask(Event::Begin)? {
-            Reply::Txn(txn) => Ok(txn),
-            _ => bail!("no transaction began"),
-        }
+/// Takes an image, and makes it current. It is taken in steps, or at once where the log is full.
+pub(crate) fn take_image_of(store: &mut impl OpenStore) -> Result<()> {
+    match store.copy_all()? {
+        Said::Flipped => Ok(()),
+        _ => bail!("no image became current"),
     }
+}
 
-    // Inserts the rows of a page in one transaction.
-    fn insert_page(&mut self, page: u32, body: Body) -> Result<()> {
-        let txn = self.begin()?;
+// How many rows with this key are found.
+fn found(store: &mut impl OpenStore, key: Key) -> Result<usize> {
+    match store.ask(Event::Find { key })? {
+        Said::Found(rows) => Ok(rows),
+        _ => Ok(0),
+    }
+}
+
+/// How many rows are found by the keys of the rows of so many pages.
+pub(crate) fn count(store: &mut impl OpenStore, pages: u32) -> Result<usize> {
+    let mut rows = 0_usize;
+    for page in 0..pages {
         for slot in 0..SLOTS_PER_PAGE {
-            let key = key_at(page, slot)?;
-            self.ask(Event::Insert { txn, key, body })?;
-        }
-        self.ask(Event::Commit { txn })?;
-        Ok(())
-    }
-
-    /// Inserts a row into each slot of so many pages, and flushes nothing.
-    pub(crate) fn insert(&mut self, pages: u32) -> Result<()> {
-        let body = Body::new(b"row")?;
-        for page in 0..pages {
-            self.insert_page(page, body)?;
-        }
-        Ok(())
-    }
-
-    /// Inserts a row into each slot of so many pages, and flushes behind each page.
-    pub(crate) fn fill(&mut self, pages: u32) -> Result<()> {
-        let body = Body::new(b"row")?;
-        for page in 0..pages {
-            self.insert_page(page, body)?;
-            self.flush()?;
-        }
-        Ok(())
-    }
-
-    // Makes as many steps of the builder as stand between two flushes.
-    fn build_some(&mut self) -> Result<()> {
-        for _ in 0..STEPS_PER_FLUSH {
-            self.ask(Event::Build)?;
-        }
-        self.flush()
-    }
-
-    fn is_complete(&mut self) -> Result<bool> {
-        Ok(matches!(self.ask(Event::Life)?, Reply::Life(Life::Complete)))
-    }
-
-    /// Builds the index to its end, and flushes meanwhile.
-    pub(crate) fn build(&mut self) -> Result<()> {
-        self.ask(Event::Create)?;
-        for _ in 0..REQUESTS_MAX {
-            self.build_some()?;
-            if self.is_complete()? {
-                return Ok(());
-            }
-        }
-        bail!("the build does not end")
-    }
-
-    // Commits and flushes, and tells whether the log was full.
-    fn commit_and_flush(&mut self) -> Result<bool> {
-        let txn = self.begin()?;
-        self.ask(Event::Commit { txn })?;
-        Ok(matches!(self.ask(Event::Flush)?, Reply::LogFull))
-    }
-
-    /// Commits and flushes until the log is full.
-    pub(crate) fn fill_log(&mut self) -> Result<()> {
-        for _ in 0..REQUESTS_MAX {
-            if self.commit_and_flush()? {
-                return Ok(());
-            }
-        }
-        bail!("the log is never full")
-    }
-
-    /// Takes an image, and makes it current. It is taken in steps, or at once where the log is full.
-    pub(crate) fn take_image(&mut self) -> Result<()> {
-        match reply_to_copies(&mut self.engine) {
-            Reply::Flipped(_) => Ok(()),
-            _ => bail!("no image became current"),
+            rows = rows.saturating_add(found(store, key_at(page, slot)?)?);
         }
     }
-
-    // How many rows with this key are found.
-    fn found(&mut self, key: Key) -> Result<usize> {
-        match self.ask(Event::Find { key })? {
-            Reply::Found(places) => Ok(places.len()),
-            _ => Ok(0),
-        }
-    }
-
-    /// How many rows are found by the keys of the rows of so many pages.
-    pub(crate) fn count(&mut self, pages: u32) -> Result<usize> {
-        let mut found = 0_usize;
-        for page in 0..pages {
-            for slot in 0..SLOTS_PER_PAGE {
-                found = found.saturating_add(self.found(key_at(page, slot)?)?);
-            }
-        }
-        Ok(found)
-    }
+    Ok(rows)
 }

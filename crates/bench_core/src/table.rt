@@ -1,5 +1,6 @@
 //! What is printed of the rounds.
 use crate::round::{Round, play};
+use crate::store::Store;
 use anyhow::Result;
 use records::Geometry;
 use std::alloc::Global;
@@ -130,7 +131,7 @@ pub(crate) fn print<R: Print + Alloc<A = Global> + Clock>(rt: &R, count: u32) ->
     let geometry = Geometry::new(256, 65_536, 256)?;
     let mut rounds = Vec::new(rt.alloc());
     for _ in 0..count {
-        rounds.push(play(rt, geometry)?)?;
+        rounds.push(play::<Store, R>(rt, geometry)?)?;
     }
     for line in LINES {
         print_line(rt, line, &rounds)?;

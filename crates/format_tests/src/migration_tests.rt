@@ -1,13 +1,16 @@
 // A store of version 1 is moved to another disk.
-use crate::opened::{Edit, GROUP, Memory, ample, set};
+use crate::opened::{ample, open};
 use model::Life;
 use records::{Body, Error, Key, Mark, Pair, Rid, Row};
 use refused_memory::Refusing;
-use restart::MigrateError;
+use restart::{Event, MigrateError};
 use sector_device::{Fate, SECTOR_SIZE, Which};
 use std::alloc::Global;
+use std::process::Abort;
 use std::test::Fail;
-use store_for_tests::{Answer, Contents, Disk, Store, requests};
+use store_for_tests::{
+    Answer, Contents, Disk, Edit, GROUP, OpenStore, StoreMemory, edit, requests,
+};
 
 // The sectors of the least store, in version 1 and in version 2.
 const OLD_SECTORS: u64 = 1_118;
@@ -66,9 +69,7 @@ const DROP: &[u8] = b"\0\x02\0\x22\
 // A disk with a store of version 1, synced.
 fn old_disk(alloc: Global, edits: &[Edit<'_>]) -> Result<Disk, Error> {
     let mut disk = Disk::bare(alloc, OLD_SECTORS)?;
-    for edit in edits {
-        set(&mut disk, *edit)?;
-    }
+    edit(&mut disk, edits)?;
     Ok(disk.crash(Fate::New))
 }
 
@@ -80,29 +81,44 @@ fn sectors_of(alloc: Global, disk: &mut Disk) -> Result<Vec<[u8; SECTOR_SIZE]>, 
     Ok(sectors)
 }
 
-// The moved store, or why it isn't moved.
-fn moved_or_why<'a>(
-    memory: &'a Memory,
+// What a moved store held at first, what it answered then, and what it left.
+#[derive(Drop)]
+struct MovedStore {
+    held: Contents,
+    answers: Result<Vec<Answer>, Error>,
+    disk: Disk,
+}
+
+// Moves the store to the new disk, and runs these requests there.
+fn move_and_run<M: StoreMemory>(
+    memory: M,
+    alloc: Global,
     old: &mut Disk,
     new: Disk,
-) -> Result<Store<&'a Memory>, MigrateError> {
-    match Store::moved(memory, old, new) {
-        Ok(store) => Ok(store),
+    events: &[Event],
+) -> Result<MovedStore, MigrateError> {
+    match memory.moved(old, new) {
+        Ok(mut store) => Ok(MovedStore {
+            held: store.contents(),
+            answers: store.run(alloc, events),
+            disk: store.close(),
+        }),
         Err((error, _)) => Err(error),
     }
 }
 
 // The same, of an old disk with these sectors. It is as before, and has no sector that a crash may change.
-fn moved<'a>(
+fn moved<M: StoreMemory>(
+    memory: M,
     alloc: Global,
-    memory: &'a Memory,
     edits: &[Edit<'_>],
     sectors: u64,
-) -> Result<Result<Store<&'a Memory>, MigrateError>, Fail> {
+    events: &[Event],
+) -> Result<Result<MovedStore, MigrateError>, Fail> {
     let mut old = old_disk(alloc, edits)?;
     let before = sectors_of(alloc, &mut old)?;
     let new = Disk::bare(alloc, sectors)?;
-    let moved = moved_or_why(memory, &mut old, new);
+    let moved = move_and_run(memory, alloc, &mut old, new, events);
     if sectors_of(alloc, &mut old.crash(Fate::Junk))? != before {
         Err("an old disk that was written")?;
     }
@@ -121,6 +137,31 @@ fn ant() -> Result<Row, Error> {
         key: Key::new(b"ant")?,
         body: Body::new(b"x")?,
     })
+}
+
+// What the store on the disk holds.
+fn held_on<M: StoreMemory>(memory: M, disk: Disk) -> Result<Contents, Fail> {
+    let store = open(memory, disk)?;
+    let held = store.contents();
+    store.close();
+    Ok(held)
+}
+
+// Moves a store with these sectors, and opens it again behind a crash. What it holds both times is this.
+fn check_moved<M: StoreMemory>(
+    rt: &impl Abort,
+    memory: M,
+    alloc: Global,
+    edits: &[Edit<'_>],
+    wanted: Contents,
+) -> Result<(), Fail> {
+    let Ok(MovedStore { held, disk, .. }) = moved(memory, alloc, edits, SECTORS, &[])? else {
+        return Err("a store that is moved")?;
+    };
+    assert_eq!(rt; held, wanted);
+    let again = held_on(memory, disk.crash(Fate::Junk))?;
+    assert_eq!(rt; again, wanted);
+    Ok(())
 }
 
 #[test]
@@ -156,31 +197,53 @@ fn stores_of_version_1_are_moved(rt: HostRuntime) -> Result<(), Fail> {
         (IMAGED_UNFINISHED, imaged),
     ];
     for (edits, wanted) in cases {
-        let Ok(store) = moved(rt.alloc(), &memory, edits, SECTORS)? else {
-            return Err("a store that is moved")?;
-        };
-        assert_eq!(rt; store.contents(), wanted);
-        let Ok(again) = Store::open(&memory, store.close().crash(Fate::Junk)) else {
-            return Err("a store that is opened")?;
-        };
-        assert_eq!(rt; again.contents(), wanted);
+        check_moved(&rt, &memory, rt.alloc(), edits, wanted)?;
     }
     Ok(())
+}
+
+// What a moved store answers to a script.
+fn answers_of<M: StoreMemory>(memory: M, alloc: Global, script: &str) -> Result<Vec<Answer>, Fail> {
+    let events = requests(alloc, script)?;
+    match moved(memory, alloc, LOGGED, SECTORS, &events)? {
+        Ok(moved) => Ok(moved.answers?),
+        Err(_) => Err("a store that is moved")?,
+    }
 }
 
 #[test]
 fn a_moved_store_goes_on(rt: HostRuntime) -> Result<(), Fail> {
     let memory = ample(rt.alloc());
-    let Ok(mut store) = moved(rt.alloc(), &memory, LOGGED, SECTORS)? else {
-        return Err("a store that is moved")?;
-    };
-    let script = requests(rt.alloc(), "begin\ninsert 1 =b =\ncommit 1\n")?;
-    let answers = store.run(rt.alloc(), &script)?;
+    let answers = answers_of(&memory, rt.alloc(), "begin\ninsert 1 =b =\ncommit 1\n")?;
     let [Answer::Txn(_), Answer::Rid(rid), Answer::Ticket(ticket)] = *answers else {
         return Err("a row of a transaction that commits")?;
     };
     assert_eq!(rt; (rid, ticket.record.get()), (Rid { page: 0, slot: 1 }, 4));
     Ok(())
+}
+
+// Why a store with these sectors isn't moved to a disk of so many.
+fn why_not_moved<M: StoreMemory>(
+    memory: M,
+    alloc: Global,
+    edits: &[Edit<'_>],
+    sectors: u64,
+) -> Result<Option<MigrateError>, Fail> {
+    match moved(memory, alloc, edits, sectors, &[])? {
+        Ok(_) => Ok(None),
+        Err(error) => Ok(Some(error)),
+    }
+}
+
+// Why the store on the disk isn't opened.
+fn why_not_open<M: StoreMemory>(memory: M, disk: Disk) -> Option<Error> {
+    match memory.open(disk) {
+        Ok(store) => {
+            store.close();
+            None
+        }
+        Err((error, _)) => Some(error),
+    }
 }
 
 #[test]
@@ -220,11 +283,11 @@ fn stores_that_are_not_moved(rt: HostRuntime) -> Result<(), Fail> {
         ),
     ];
     for (name, edits, sectors, wanted) in cases {
-        let refused = moved(rt.alloc(), &memory, edits, sectors)?.err();
+        let refused = why_not_moved(&memory, rt.alloc(), edits, sectors)?;
         assert_eq!(rt; refused, Some(wanted), "{name}");
     }
-    let opened = Store::open(&memory, old_disk(rt.alloc(), LOGGED)?);
-    assert!(rt; matches!(opened, Err((Error::OldVersion, _))));
+    let refused = why_not_open(&memory, old_disk(rt.alloc(), LOGGED)?);
+    assert_eq!(rt; refused, Some(Error::OldVersion));
     Ok(())
 }
 
@@ -262,7 +325,7 @@ fn harmed_stores_of_version_1(rt: HostRuntime) -> Result<(), Fail> {
     for (edits, sector) in cases {
         let mut old = old_disk(rt.alloc(), edits)?;
         let new = Disk::bare(rt.alloc(), 0)?;
-        let Err(error) = moved_or_why(&memory, &mut old, new) else {
+        let Err(error) = move_and_run(&memory, rt.alloc(), &mut old, new, &[]) else {
             return Err("a store that was harmed")?;
         };
         assert_eq!(rt;
@@ -277,8 +340,26 @@ fn harmed_stores_of_version_1(rt: HostRuntime) -> Result<(), Fail> {
 // More than the calls of a disk in a migration, and than its allocations.
 const CALLS: u64 = 1_000;
 
-// Why a store isn't moved where these calls of the old disk and of the new one fail, of which 0 is none, and the allocations behind
-// so many are refused; and whether the new disk was written.
+// Why a store isn't moved, and whether the new disk was written.
+fn hindrance<M: StoreMemory>(
+    memory: M,
+    old: &mut Disk,
+    new: Disk,
+) -> Result<Option<(MigrateError, bool)>, Error> {
+    match memory.moved(old, new) {
+        Ok(store) => {
+            store.close();
+            Ok(None)
+        }
+        Err((error, disk)) => {
+            let mut disk = disk.crash(Fate::New);
+            Ok(Some((error, disk.sector(0)? != [0; SECTOR_SIZE])))
+        }
+    }
+}
+
+// The same, where these calls of the old disk and of the new one fail, of which 0 is none, and the allocations behind so many are
+// refused.
 fn hindered(
     alloc: Global,
     calls: (u64, u64),
@@ -287,13 +368,7 @@ fn hindered(
     let memory = Refusing::new(alloc, before);
     let mut old = old_disk(alloc, LOGGED)?.failing(Which::All, calls.0);
     let new = Disk::bare(alloc, SECTORS)?.failing(Which::All, calls.1);
-    match Store::moved(&memory, &mut old, new) {
-        Ok(_) => Ok(None),
-        Err((error, disk)) => {
-            let mut disk = disk.crash(Fate::New);
-            Ok(Some((error, disk.sector(0)? != [0; SECTOR_SIZE])))
-        }
-    }
+    Ok(hindrance(&memory, &mut old, new)?)
 }
 
 // Each call of the old disk fails in turn, and each of the new one, and each allocation is refused in turn.

@@ -1,11 +1,12 @@
 // Rows of each length in each slot of a page, of which each fourth lies across the end of a sector.
-use crate::opened::{Memory, ample, open};
+use crate::opened::{ample, open};
 use records::{Body, Key, Rid, Row, Txn};
 use restart::Event;
 use sector_device::Fate;
+use std::alloc::Global;
 use std::process::Abort;
 use std::test::Fail;
-use store_for_tests::{Answer, Disk, Store};
+use store_for_tests::{Answer, Disk, OpenStore, StoreMemory};
 
 // How many lengths a body may have, from 0 on.
 const LENGTHS: u32 = 70;
@@ -23,7 +24,7 @@ fn row_of(length: u32) -> Result<Row, Fail> {
 }
 
 // Fills each page with rows of a length of its own, the first page with rows of this one.
-fn fill(store: &mut Store<&Memory>, first: u32) -> Result<(), Fail> {
+fn fill(store: &mut impl OpenStore, first: u32) -> Result<(), Fail> {
     for page in 0..PAGES {
         let txn = Txn::new(u64::from(page) + 1).ok_or("a transaction")?;
         let Row { key, body } = row_of(first.saturating_add(page))?;
@@ -37,7 +38,7 @@ fn fill(store: &mut Store<&Memory>, first: u32) -> Result<(), Fail> {
 }
 
 // Makes an image current.
-fn copy(store: &mut Store<&Memory>) -> Result<(), Fail> {
+fn copy(store: &mut impl OpenStore) -> Result<(), Fail> {
     for _ in 0..2 * PAGES {
         if matches!(store.ask(&Event::Copy), Answer::Flipped(_)) {
             return Ok(());
@@ -46,7 +47,12 @@ fn copy(store: &mut Store<&Memory>) -> Result<(), Fail> {
     Err("an image")?
 }
 
-fn check(rt: &impl Abort, store: &mut Store<&Memory>, first: u32) -> Result<(), Fail> {
+fn fill_and_copy(store: &mut impl OpenStore, first: u32) -> Result<(), Fail> {
+    fill(store, first)?;
+    copy(store)
+}
+
+fn check(rt: &impl Abort, store: &mut impl OpenStore, first: u32) -> Result<(), Fail> {
     for page in 0..PAGES {
         let wanted = Answer::Row(Some(row_of(first.saturating_add(page))?));
         for slot in 0..63 {
@@ -59,15 +65,32 @@ fn check(rt: &impl Abort, store: &mut Store<&Memory>, first: u32) -> Result<(), 
     Ok(())
 }
 
+// What a crash leaves of a new store once it is filled and an image is current.
+fn filled<M: StoreMemory>(memory: M, alloc: Global, first: u32) -> Result<Disk, Fail> {
+    let mut store = open(memory, Disk::formatted(alloc, PAGES, 128)?)?;
+    let copied = fill_and_copy(&mut store, first);
+    let disk = store.close();
+    copied?;
+    Ok(disk.crash(Fate::Junk))
+}
+
+fn fill_and_check<M: StoreMemory>(
+    rt: &impl Abort,
+    memory: M,
+    alloc: Global,
+    first: u32,
+) -> Result<(), Fail> {
+    let mut store = open(memory, filled(memory, alloc, first)?)?;
+    let checked = check(rt, &mut store, first);
+    store.close();
+    checked
+}
+
 #[test]
 fn rows_of_each_length_in_each_slot(rt: HostRuntime) -> Result<(), Fail> {
     let memory = ample(rt.alloc());
     for round in 0..LENGTHS / PAGES {
-        let mut store = open(&memory, Disk::formatted(rt.alloc(), PAGES, 128)?)?;
-        fill(&mut store, PAGES * round)?;
-        copy(&mut store)?;
-        let mut store = open(&memory, store.close().crash(Fate::Junk))?;
-        check(&rt, &mut store, PAGES * round)?;
+        fill_and_check(&rt, &memory, rt.alloc(), PAGES * round)?;
     }
     Ok(())
 }

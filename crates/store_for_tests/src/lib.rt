@@ -3,13 +3,15 @@
 #![tactic(auto)]
 
 mod answer;
+mod bytes;
 mod contents;
 mod disk;
 mod scripts;
 mod store;
 
 pub use answer::Answer;
+pub use bytes::{Edit, GROUP, edit, write_at};
 pub use contents::{Contents, Entry};
 pub use disk::Disk;
 pub use scripts::requests;
-pub use store::Store;
+pub use store::{OpenStore, Store, StoreMemory};

@@ -4,6 +4,7 @@ use crate::contents::{Contents, contents_of, entries_of};
 use crate::disk::Disk;
 use nsf_core::Core;
 use records::Error;
+use refused_memory::Refusing;
 use restart::{Engine, Event, MigrateError, Reply, migrate, restart};
 use sector_device::{Device, FaultDisk, MemDisk};
 use std::alloc::{Allocator, Global};
@@ -46,8 +47,41 @@ fn answers_of<A: Allocator>(alloc: Global, replies: &[Reply<A>]) -> Result<Vec<A
     Ok(answers)
 }
 
-/// A store that is open.
-#[derive(Drop)]
+/// A store that is open. It is closed, and never let go.
+///
+/// Tests are generic over it, so that their proofs read nothing of what a store is made of.
+pub trait OpenStore {
+    /// Runs the requests, and tells the answers.
+    fn run(&mut self, alloc: Global, events: &[Event]) -> Result<Vec<Answer>, Error>;
+
+    /// Runs one request.
+    fn ask(&mut self, event: &Event) -> Answer;
+
+    /// What it holds now.
+    fn contents(&self) -> Contents;
+
+    /// How many entries it has, marked ones too; 1,000 where there are more.
+    fn entries(&self) -> usize;
+
+    /// Gives up all but the disk.
+    fn close(self) -> Disk;
+}
+
+/// Memory in which a store is opened.
+pub trait StoreMemory: Copy {
+    type Store: OpenStore;
+
+    /// Opens the store on the disk, or gives it back.
+    fn open(self, disk: Disk) -> Result<Self::Store, (Error, Disk)>;
+
+    /// Moves the store of version 1 on the old disk to the new one, and opens it there; or gives the new one back.
+    fn moved(self, old: &mut Disk, new: Disk) -> Result<Self::Store, (MigrateError, Disk)>;
+
+    /// How many allocations were refused.
+    fn refused(self) -> u64;
+}
+
+/// A store that is open, over memory of this kind.
 pub struct Store<A: Allocator> {
     engine: Engine<FaultDisk<MemDisk<Global>>, A>,
 }
@@ -60,30 +94,12 @@ impl<A: Allocator> Model for Store<A> {
     ghost view = { λ _. tt };
 }
 
-impl<A: Allocator + Copy> Store<A> {
-    /// Opens the store on the disk, or gives it back.
-    pub fn open(alloc: A, disk: Disk) -> Result<Store<A>, (Error, Disk)> {
-        match opened(alloc, disk.device) {
-            Ok(engine) => Ok(Store { engine }),
-            Err((error, device)) => Err((error, Disk { device })),
-        }
-    }
-
-    /// Moves the store of version 1 on the old disk to the new one, and opens it there; or gives the new one back.
-    pub fn moved(alloc: A, old: &mut Disk, new: Disk) -> Result<Store<A>, (MigrateError, Disk)> {
-        match moved(alloc, &mut old.device, new.device) {
-            Ok(engine) => Ok(Store { engine }),
-            Err((error, device)) => Err((error, Disk { device })),
-        }
-    }
-
-    /// Runs the requests, and tells the answers.
-    pub fn run(&mut self, alloc: Global, events: &[Event]) -> Result<Vec<Answer>, Error> {
+impl<A: Allocator + Copy> OpenStore for Store<A> {
+    fn run(&mut self, alloc: Global, events: &[Event]) -> Result<Vec<Answer>, Error> {
         answers_of(alloc, &replies_to(&mut self.engine, events)?)
     }
 
-    /// Runs one request.
-    pub fn ask(&mut self, event: &Event) -> Answer {
+    fn ask(&mut self, event: &Event) -> Answer {
         match replies_to(&mut self.engine, &[*event]) {
             Ok(replies) => match replies.first() {
                 Some(reply) => answer_of(reply),
@@ -93,20 +109,44 @@ impl<A: Allocator + Copy> Store<A> {
         }
     }
 
-    /// What it holds now.
-    pub fn contents(&self) -> Contents {
+    fn contents(&self) -> Contents {
         contents_of(core_of(&self.engine))
     }
 
-    /// How many entries it has, marked ones too; 1,000 where there are more.
-    pub fn entries(&self) -> usize {
+    fn entries(&self) -> usize {
         entries_of(core_of(&self.engine))
     }
 
-    /// Gives up all but the disk.
-    pub fn close(self) -> Disk {
+    fn close(self) -> Disk {
+        let Store { engine } = self;
         Disk {
-            device: device_of(self.engine),
+            device: device_of(engine),
         }
+    }
+}
+
+impl<'a> StoreMemory for &'a Refusing<Global> {
+    type Store = Store<&'a Refusing<Global>>;
+
+    fn open(self, disk: Disk) -> Result<Store<&'a Refusing<Global>>, (Error, Disk)> {
+        match opened(self, disk.device) {
+            Ok(engine) => Ok(Store { engine }),
+            Err((error, device)) => Err((error, Disk { device })),
+        }
+    }
+
+    fn moved(
+        self,
+        old: &mut Disk,
+        new: Disk,
+    ) -> Result<Store<&'a Refusing<Global>>, (MigrateError, Disk)> {
+        match moved(self, &mut old.device, new.device) {
+            Ok(engine) => Ok(Store { engine }),
+            Err((error, device)) => Err((error, Disk { device })),
+        }
+    }
+
+    fn refused(self) -> u64 {
+        Refusing::refused(self)
     }
 }

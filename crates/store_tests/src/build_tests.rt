@@ -1,12 +1,11 @@
 // An index is built over as many rows as a store holds.
-use crate::opened::{Memory, ample, open};
+use crate::opened::{ample, open};
 use nsf_core::BuildReply;
 use records::{Body, Key, Pair, Txn, compare_pairs};
 use restart::Event;
-use std::alloc::Global;
 use std::process::Abort;
 use std::test::Fail;
-use store_for_tests::{Answer, Disk, Store};
+use store_for_tests::{Answer, Disk, OpenStore, StoreMemory};
 
 const PAGES: u32 = 256;
 
@@ -20,7 +19,7 @@ fn insertion(txn: Txn, n: u32) -> Result<Event, Fail> {
 }
 
 // Transactions of 64 insertions each put a row in each place.
-fn fill(rt: &impl Abort, store: &mut Store<&Memory>) -> Result<(), Fail> {
+fn fill(rt: &impl Abort, store: &mut impl OpenStore) -> Result<(), Fail> {
     for number in 0..ROWS / 64 {
         let txn = Txn::new(u64::from(number) + 1).ok_or("a transaction")?;
         store.ask(&Event::Begin);
@@ -42,11 +41,8 @@ fn put_by(answer: Answer) -> Option<Pair> {
 }
 
 // Each page is taken, each pair is put in, above the one before, and there is a checkpoint after each 64.
-#[test]
-fn an_index_over_every_place(rt: HostRuntime) -> Result<(), Fail> {
-    let memory = ample(rt.alloc());
-    let mut store = open(&memory, Disk::formatted(rt.alloc(), PAGES, 4)?)?;
-    fill(&rt, &mut store)?;
+fn fill_and_build(rt: &impl Abort, store: &mut impl OpenStore) -> Result<(), Fail> {
+    fill(rt, store)?;
     store.ask(&Event::Create);
     let mut last = None;
     let mut placed: u32 = 0;
@@ -67,4 +63,17 @@ fn an_index_over_every_place(rt: HostRuntime) -> Result<(), Fail> {
     );
     assert!(rt; placed == ROWS);
     Ok(())
+}
+
+fn fill_and_build_over<M: StoreMemory>(rt: &impl Abort, memory: M, disk: Disk) -> Result<(), Fail> {
+    let mut store = open(memory, disk)?;
+    let built = fill_and_build(rt, &mut store);
+    store.close();
+    built
+}
+
+#[test]
+fn an_index_over_every_place(rt: HostRuntime) -> Result<(), Fail> {
+    let memory = ample(rt.alloc());
+    fill_and_build_over(&rt, &memory, Disk::formatted(rt.alloc(), PAGES, 4)?)
 }

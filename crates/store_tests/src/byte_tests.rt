@@ -1,9 +1,11 @@
 // A store byte by byte, as the format document has it.
-use crate::opened::{ample, open, write_at};
+use crate::opened::{ample, open};
+use restart::Event;
 use sector_device::SECTOR_SIZE;
+use std::alloc::Global;
 use std::process::Abort;
 use std::test::Fail;
-use store_for_tests::{Disk, requests};
+use store_for_tests::{Disk, GROUP, OpenStore, StoreMemory, requests, write_at};
 
 // A sector, and what stands in it at these places: the rest is zeros.
 type Sector<'a> = (u64, &'a [(usize, &'a [u8])]);
@@ -21,16 +23,20 @@ fn check(rt: &impl Abort, disk: &mut Disk, (n, pieces): Sector<'_>) -> Result<()
 const SCRIPT: &str = "begin\ninsert 1 =ant =x\ncommit 1\nflush\n\
     create\nbuild 2\nbegin\ninsert 2 =a =\nstep 2\nimage\nimage\nimage\nimage\n";
 
+// What these requests to a new store leave.
+fn left_by<M: StoreMemory>(memory: M, alloc: Global, events: &[Event]) -> Result<Disk, Fail> {
+    let mut store = open(memory, Disk::formatted(alloc, 1, 4)?)?;
+    let run = store.run(alloc, events);
+    let disk = store.close();
+    run?;
+    Ok(disk)
+}
+
 // The first restart makes half B current: half A is in sectors 2 to 1083, half B begins at 1084, and its first gate is in 2134.
 #[test]
 fn a_store_byte_by_byte(rt: HostRuntime) -> Result<(), Fail> {
     let memory = ample(rt.alloc());
-    let mut store = open(&memory, Disk::formatted(rt.alloc(), 1, 4)?)?;
-    store.run(rt.alloc(), &requests(rt.alloc(), SCRIPT)?)?;
-    let mut disk = store.close();
-    let group = b"\0\x02\0\x31\
-        \0\0\0\0\0\0\0\x01\0\0\0\0\0\0\0\x01\x01\0\0\0\0\0\0\0\0\x01\x03\x61\x6e\x74\x01\x78\
-        \0\0\0\0\0\0\0\x02\0\0\0\0\0\0\0\x01\x07";
+    let mut disk = left_by(&memory, rt.alloc(), &requests(rt.alloc(), SCRIPT)?)?;
     let sectors: [Sector<'_>; 13] = [
         (
             0,
@@ -62,7 +68,7 @@ fn a_store_byte_by_byte(rt: HostRuntime) -> Result<(), Fail> {
         (1052, &[]),
         // the group in the log of half B
         (2134, &[(0, b"\xa5")]),
-        (2135, &[(0, group)]),
+        (2135, &[(0, GROUP)]),
         (2136, &[]),
         (2142, &[]),
     ];

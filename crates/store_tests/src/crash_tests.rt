@@ -1,11 +1,11 @@
 // A store is stopped at each call of its device in turn, and crashes; and so are the restarts behind it.
-use crate::opened::{Memory, ample, open};
+use crate::opened::{ample, open};
 use restart::Event;
 use sector_device::{Fate, Which};
 use std::alloc::Global;
 use std::process::Abort;
 use std::test::Fail;
-use store_for_tests::{Answer, Contents, Disk, Store, requests};
+use store_for_tests::{Answer, Contents, Disk, OpenStore, StoreMemory, requests};
 
 // More than the calls that a run makes.
 const CALLS: u64 = 1_000;
@@ -26,9 +26,11 @@ fn told_safe(answer: Answer) -> Option<u64> {
 }
 
 // What the store holds at first, and whenever all is told to be safe.
-fn given_by(alloc: Global, events: &[Event]) -> Result<Vec<Contents>, Fail> {
-    let memory = ample(alloc);
-    let mut store = open(&memory, Disk::formatted(alloc, 1, 4)?)?;
+fn given_by(
+    alloc: Global,
+    store: &mut impl OpenStore,
+    events: &[Event],
+) -> Result<Vec<Contents>, Fail> {
     let mut given = vec![in alloc; store.contents()]?;
     for event in events {
         if told_safe(store.ask(event)).is_some() {
@@ -38,13 +40,36 @@ fn given_by(alloc: Global, events: &[Event]) -> Result<Vec<Contents>, Fail> {
     Ok(given)
 }
 
+// The same of a new store.
+fn given_by_new<M: StoreMemory>(
+    memory: M,
+    alloc: Global,
+    events: &[Event],
+) -> Result<Vec<Contents>, Fail> {
+    let mut store = open(memory, Disk::formatted(alloc, 1, 4)?)?;
+    let given = given_by(alloc, &mut store, events);
+    store.close();
+    given
+}
+
 // The number up to which all was told to be safe.
-fn run_all(store: &mut Store<&Memory>, events: &[Event]) -> u64 {
+fn run_all(store: &mut impl OpenStore, events: &[Event]) -> u64 {
     let mut safe: u64 = 0;
     for event in events {
         safe = told_safe(store.ask(event)).unwrap_or(safe);
     }
     safe
+}
+
+// That number, and the disk, of a store that is opened there for these requests, if it can be.
+fn run_over<M: StoreMemory>(memory: M, disk: Disk, events: &[Event]) -> (u64, Disk) {
+    match memory.open(disk) {
+        Ok(mut store) => {
+            let safe = run_all(&mut store, events);
+            (safe, store.close())
+        }
+        Err((_, disk)) => (0, disk),
+    }
 }
 
 // What a run that was stopped had told to be safe, what a crash left of it, and whether the device has failed, and a restart was
@@ -59,16 +84,20 @@ struct Stopped {
 
 // Opens the store that is left on the disk, once a restart was stopped at this of its calls, and another one. What is held then, and
 // whether a restart was stopped.
-fn held_at_last(
-    memory: &Memory,
+fn held_at_last<M: StoreMemory>(
+    memory: M,
     mut disk: Disk,
     (which, fate): Case,
     call: u64,
 ) -> Result<(Contents, bool), Fail> {
     let mut again = false;
     for call in [call, call, 0] {
-        match Store::open(memory, disk.crash(fate).failing(which, call)) {
-            Ok(store) => return Ok((store.contents(), again)),
+        match memory.open(disk.crash(fate).failing(which, call)) {
+            Ok(store) => {
+                let held = store.contents();
+                store.close();
+                return Ok((held, again));
+            }
             Err((_, stopped)) => disk = stopped,
         }
         again = true;
@@ -86,10 +115,7 @@ fn stop_at(
 ) -> Result<Stopped, Fail> {
     let memory = ample(alloc);
     let disk = Disk::formatted(alloc, 1, 4)?.failing(case.0, call);
-    let (safe, disk) = match Store::open(&memory, disk) {
-        Ok(mut store) => (run_all(&mut store, events), store.close()),
-        Err((_, disk)) => (0, disk),
-    };
+    let (safe, disk) = run_over(&memory, disk, events);
     let failed = call <= disk.made();
     let (left, again) = held_at_last(&memory, disk, case, restart_call)?;
     Ok(Stopped {
@@ -154,7 +180,7 @@ fn stop_at_each(
 // Stops a run of the script so.
 fn stop(rt: &impl Abort, alloc: Global, cases: &[(Case, u64)]) -> Result<(), Fail> {
     let events = requests(alloc, SCRIPT)?;
-    let given = given_by(alloc, &events)?;
+    let given = given_by_new(&ample(alloc), alloc, &events)?;
     assert!(rt; given.len() == 5);
     for case in cases {
         stop_at_each(rt, alloc, &events, &given, *case)?;

@@ -1,20 +1,26 @@
 // Stores that were harmed.
-use crate::opened::{Edit, GROUP, ample, set};
+use crate::opened::ample;
 use records::Error;
 use std::alloc::Global;
 use std::test::Fail;
-use store_for_tests::{Disk, Store};
+use store_for_tests::{Disk, Edit, GROUP, OpenStore, StoreMemory, edit};
 
-// Why the least store, just formatted and then changed so, isn't opened.
+// Why the store on the disk isn't opened.
+fn why_not_open<M: StoreMemory>(memory: M, disk: Disk) -> Option<Error> {
+    match memory.open(disk) {
+        Ok(store) => {
+            store.close();
+            None
+        }
+        Err((error, _)) => Some(error),
+    }
+}
+
+// The same of the least store, just formatted and then changed so.
 fn refusal(alloc: Global, edits: &[Edit<'_>]) -> Result<Option<Error>, Error> {
     let mut disk = Disk::formatted(alloc, 1, 4)?;
-    for edit in edits {
-        set(&mut disk, *edit)?;
-    }
-    Ok(match Store::open(&ample(alloc), disk) {
-        Ok(_) => None,
-        Err((error, _)) => Some(error),
-    })
+    edit(&mut disk, edits)?;
+    Ok(why_not_open(&ample(alloc), disk))
 }
 
 const fn damaged(sector: u64) -> Option<Error> {

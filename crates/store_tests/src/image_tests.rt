@@ -1,11 +1,12 @@
 // Images that are copied piece by piece.
 use crate::opened::{ample, open};
 use model::Life;
+use restart::Event;
 use sector_device::Fate;
 use std::alloc::Global;
 use std::process::Abort;
 use std::test::Fail;
-use store_for_tests::{Answer, Contents, Disk, requests};
+use store_for_tests::{Answer, Contents, Disk, OpenStore, StoreMemory, requests};
 
 // How many pieces were copied, and the last answer.
 fn copies_of(answers: &[Answer]) -> (usize, Option<Answer>) {
@@ -18,6 +19,27 @@ fn copies_of(answers: &[Answer]) -> (usize, Option<Answer>) {
     (copies, answers.last().copied())
 }
 
+// What these requests to the store on the disk are answered, and what they leave.
+fn run_over<M: StoreMemory>(
+    memory: M,
+    alloc: Global,
+    disk: Disk,
+    events: &[Event],
+) -> Result<(Vec<Answer>, Disk), Fail> {
+    let mut store = open(memory, disk)?;
+    let run = store.run(alloc, events);
+    let disk = store.close();
+    Ok((run?, disk))
+}
+
+// What the store on the disk holds, and how many entries.
+fn held_on<M: StoreMemory>(memory: M, disk: Disk) -> Result<(Contents, usize), Fail> {
+    let store = open(memory, disk)?;
+    let held = (store.contents(), store.entries());
+    store.close();
+    Ok(held)
+}
+
 // So many pieces are copied in one run of the script, which ends with the flip up to this record. What a crash leaves then, and how
 // many entries.
 fn flip(
@@ -28,14 +50,13 @@ fn flip(
     (copies, number): (usize, u64),
 ) -> Result<(Contents, usize), Fail> {
     let memory = ample(alloc);
-    let mut store = open(&memory, Disk::formatted(alloc, pages, 16)?)?;
-    let answers = store.run(alloc, &requests(alloc, script)?)?;
+    let disk = Disk::formatted(alloc, pages, 16)?;
+    let (answers, disk) = run_over(&memory, alloc, disk, &requests(alloc, script)?)?;
     assert_eq!(rt;
         copies_of(&answers),
         (copies, Some(Answer::Flipped(number)))
     );
-    let store = open(&memory, store.close().crash(Fate::Junk))?;
-    Ok((store.contents(), store.entries()))
+    held_on(&memory, disk.crash(Fate::Junk))
 }
 
 // Four transactions of 50 rows each, with this behind them.

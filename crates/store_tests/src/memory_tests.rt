@@ -1,6 +1,6 @@
 // Memory is refused to a store, each allocation in turn. What was refused for want of memory is asked again, and every other
 // reply is that of a store to which nothing was refused.
-use crate::opened::{Memory, open};
+use crate::opened::open;
 use records::Error;
 use refused_memory::Refusing;
 use restart::Event;
@@ -8,19 +8,15 @@ use sector_device::Fate;
 use std::alloc::Global;
 use std::process::Abort;
 use std::test::Fail;
-use store_for_tests::{Answer, Contents, Disk, Store, requests};
+use store_for_tests::{Answer, Contents, Disk, OpenStore, StoreMemory, requests};
 
 // How often a run is played at most.
 const PLAYS: u64 = 2_000;
 
 // Opens the store, if need be a second time. Without a refusal of memory there is no want of it.
-fn open_again<'a>(
-    rt: &impl Abort,
-    memory: &'a Memory,
-    disk: Disk,
-) -> Result<Store<&'a Memory>, Fail> {
+fn open_again<M: StoreMemory>(rt: &impl Abort, memory: M, disk: Disk) -> Result<M::Store, Fail> {
     let before = memory.refused();
-    match Store::open(memory, disk) {
+    match memory.open(disk) {
         Ok(store) => Ok(store),
         Err((error, disk)) => {
             assert!(rt; error == Error::NoMemory && before < memory.refused());
@@ -30,10 +26,10 @@ fn open_again<'a>(
 }
 
 // The answer, if need be to a second request.
-fn ask_again(
+fn ask_again<M: StoreMemory>(
     rt: &impl Abort,
-    memory: &Memory,
-    store: &mut Store<&Memory>,
+    memory: M,
+    store: &mut M::Store,
     event: &Event,
 ) -> Answer {
     let before = memory.refused();
@@ -46,21 +42,52 @@ fn ask_again(
     }
 }
 
-// The answers to the requests, what a crash leaves then, and how many allocations were refused.
+// The answers to the requests.
+fn answers_of<M: StoreMemory>(
+    rt: &impl Abort,
+    memory: M,
+    alloc: Global,
+    store: &mut M::Store,
+    events: &[Event],
+) -> Result<Vec<Answer>, Fail> {
+    let mut answers = Vec::new(alloc);
+    for event in events {
+        answers.push(ask_again(rt, memory, store, event))?;
+    }
+    Ok(answers)
+}
+
+// What the store on the disk holds.
+fn held_on<M: StoreMemory>(rt: &impl Abort, memory: M, disk: Disk) -> Result<Contents, Fail> {
+    let store = open_again(rt, memory, disk)?;
+    let held = store.contents();
+    store.close();
+    Ok(held)
+}
+
+// The answers to the requests, of a new store, what a crash leaves then, and how many allocations were refused.
+fn play_in<M: StoreMemory>(
+    rt: &impl Abort,
+    memory: M,
+    alloc: Global,
+    events: &[Event],
+) -> Result<(Vec<Answer>, Contents, u64), Fail> {
+    let mut store = open_again(rt, memory, Disk::formatted(alloc, 2, 12)?)?;
+    let answers = answers_of(rt, memory, alloc, &mut store, events);
+    let disk = store.close().crash(Fate::Junk);
+    let answers = answers?;
+    let left = held_on(rt, memory, disk)?;
+    Ok((answers, left, memory.refused()))
+}
+
+// The same, where the allocation is refused that so many come before.
 fn play(
     rt: &impl Abort,
     alloc: Global,
     events: &[Event],
     before: u64,
 ) -> Result<(Vec<Answer>, Contents, u64), Fail> {
-    let memory = Refusing::new(alloc, before);
-    let mut answers = Vec::new(alloc);
-    let mut store = open_again(rt, &memory, Disk::formatted(alloc, 2, 12)?)?;
-    for event in events {
-        answers.push(ask_again(rt, &memory, &mut store, event))?;
-    }
-    let left = open_again(rt, &memory, store.close().crash(Fate::Junk))?.contents();
-    Ok((answers, left, memory.refused()))
+    play_in(rt, &Refusing::new(alloc, before), alloc, events)
 }
 
 // Refuses each allocation in turn, and at last none. How many were refused.
