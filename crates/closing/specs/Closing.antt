@@ -22,7 +22,7 @@ abbrev pub table_with : Table → List CommitValue → Table
 table_with table [] = table
 table_with table (c ∷ cs) = table_with (applied table c.writes) cs
 
--- those of them whose records have a number up to this one
+-- the commits whose records have a number up to this one
 abbrev pub up_to : ℕ → List CommitValue → List CommitValue
 up_to number commits = filter (λ c. nat_le c.ticket.«record» number) commits
 

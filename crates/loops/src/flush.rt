@@ -42,7 +42,8 @@ pub(crate) enum Copying {
 /// until records are made, or for a short while. After want of memory it tries again.
 ///
 /// It ends where the stop flag is read, or with `DeviceFailed` where the device failed, now or earlier, stop flag or not. What is
-/// held or waits then is not written. A crash at any moment leaves all records that were synced as the loop began (`goes_on`).
+/// held or waits then is not written. A crash at any moment leaves all records that were synced as the loop began (`goes_on`), and
+/// those that were synced before the call of the writer that it falls into (`through`).
 pub fn flush_loop<B: Group, D: Device, R: Wait, G: Gate, A: Memory>(
     rt: &R,
     shared: &Shared<B, A>,

@@ -6,7 +6,8 @@
 //! own.
 //!
 //! Proved: `flush_loop` ends with `Ok` only where the stop flag was read and the device has not failed, and with `DeviceFailed`
-//! where the device failed (`stopped`, `failed`); over all its rounds no record is lost and no horizon falls (`goes_on`).
+//! where the device failed (`stopped`, `failed`); over all its rounds no record is lost and no horizon falls (`goes_on`);
+//! a crash within a call of its writer leaves all that was synced before that call (`through`).
 //! `build_loop` ends with a ticket only where some core that may lie under the lock answers that it completed the index (`done`).
 //! `run_beside` keeps what the clients promise (`clients`).
 //! Neither: that a thread is started or a call returns, that the builder or the cleaner makes a step, that the flusher writes, when an

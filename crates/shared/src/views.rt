@@ -1,5 +1,5 @@
 //! Views of the board for threads that have no seat.
-ghost use Rattle.std.specs.Prelude.{◌≡◌, ◌≤◌, [], false, true, IsTrue};
+ghost use Rattle.std.specs.Prelude.{◌≡◌, ◌≤◌, false, true, IsTrue};
 ghost use Rattle.board.specs.Views.{leaves_as, stays_as};
 ghost use Rattle.store_writer.specs.Parts.{has_failed, synced_of};
 
@@ -95,13 +95,10 @@ impl<B: Group> GroupView<B> {
         shared.board.stop(&mut self.view);
     }
 
-    /// Whether all threads are asked to stop. It stays true once this view has seen it.
+    /// Whether all threads are asked to stop. It stays true once this view has seen it. (Who asked, no clause says.)
     pub fn stopped<A: Memory>(&mut self, shared: &Shared<B, A>) -> bool
         ensures seen { self.new ≡ record self.old { stopped = result } }
         ensures stays { IsTrue self.old.stopped → IsTrue result }
-
-        // Where the view was never made two, nobody else can have asked.
-        ensures alone { self.old.name ≡ [] → IsTrue result → IsTrue self.old.stops }
     {
         shared.board.stopped(&mut self.view)
     }
