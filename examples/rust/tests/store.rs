@@ -48,11 +48,11 @@ fn a_refusal_has_its_number() {
     assert!(matches!(store.commit(7), Err(Refused::Store(9))));
     let txn = store.begin().unwrap();
     assert!(matches!(
-        store.insert(txn, &[0; 25], &[]),
+        store.insert(txn, &[0; 57], &[]),
         Err(Refused::Store(14))
     ));
     assert!(matches!(
-        store.insert(txn, &[], &[0; 38]),
+        store.insert(txn, &[], &[0; 70]),
         Err(Refused::Store(15))
     ));
     assert!(matches!(store.find(b"key"), Err(Refused::Store(18))));
