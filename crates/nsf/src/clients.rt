@@ -38,7 +38,8 @@ pub struct Served<C, D> {
     /// What `run_beside` told of the builder: the ticket of an index, where one was completed meanwhile; else why none was. (No clause
     /// says more of it.)
     pub built: Result<Ticket, Error>,
-    /// Why not all was written to the device, if so, as `finish` tells it: `DeviceFailed`, or `NoMemory`.
+    /// Why not all was written to the device, if so: what `finish` tells, which is `DeviceFailed` or `NoMemory`. (Here no clause says
+    /// so.)
     pub written: Result<(), Error>,
 }
 

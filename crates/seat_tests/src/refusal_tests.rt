@@ -17,14 +17,16 @@ const PLAYS: u64 = 2_000;
 // So many allocations there are at least.
 const LEAST: u64 = 25;
 
-// The first two places.
+// The first three places.
 const FIRST: Rid = Rid { page: 0, slot: 0 };
 
 const SECOND: Rid = Rid { page: 0, slot: 1 };
 
+const THIRD: Rid = Rid { page: 0, slot: 2 };
+
 // An index is created; rows are inserted and changed, and taken back; others are kept. An insertion makes two records, a change of a
 // key three, a deletion two; to take one back takes as many.
-const STEPS: [(Request, Answer); 14] = [
+const STEPS: [(Request, Answer); 15] = [
     (Request::Create, Answer::Written(1, None)),
     (Request::Begin, Answer::Begun(1)),
     (Request::Insert(b"ant"), Answer::Changed(FIRST)),
@@ -37,12 +39,13 @@ const STEPS: [(Request, Answer); 14] = [
     (Request::Commit, Answer::Written(22, Some(1))),
     (Request::Begin, Answer::Begun(3)),
     (Request::Insert(b"fox"), Answer::Changed(SECOND)),
-    (Request::Delete, Answer::Changed(SECOND)),
-    (Request::Commit, Answer::Written(27, Some(2))),
+    (Request::Insert(b"gnu"), Answer::Changed(THIRD)),
+    (Request::Delete, Answer::Changed(THIRD)),
+    (Request::Commit, Answer::Written(29, Some(2))),
 ];
 
-// The rows of the first two places.
-type Rows = [Option<Row>; 2];
+// The rows of the first three places.
+type Rows = [Option<Row>; 3];
 
 // A new store on the device.
 fn format<D: Device>(device: &mut D, geometry: Geometry) -> Result<(), Error> {
@@ -57,11 +60,12 @@ fn formatted(alloc: Global) -> Result<MemDisk<Global>, Error> {
     Ok(disk)
 }
 
-// What the store on the device opens with at the first two places.
+// What the store on the device opens with at the first three places.
 fn left_on<D: Device + Drop>(alloc: Global, device: D) -> Result<Rows, Error> {
     match restart(alloc, device) {
         Ok(engine) => {
-            let rows = [engine.core().get(FIRST), engine.core().get(SECOND)];
+            let core = engine.core();
+            let rows = [core.get(FIRST), core.get(SECOND), core.get(THIRD)];
             drop(engine.into_device());
             Ok(rows)
         }
@@ -69,18 +73,30 @@ fn left_on<D: Device + Drop>(alloc: Global, device: D) -> Result<Rows, Error> {
     }
 }
 
-// Whether all is as it should be where this allocation is refused, and how many were. Where the end is refused, no commit need be left.
+// A row with this key.
+fn row(key: &[u8]) -> Result<Option<Row>, Error> {
+    Ok(Some(Row {
+        key: Key::new(key)?,
+        body: Body::new(b"body")?,
+    }))
+}
+
+// Whether these are the rows of both commits; where the end was refused, of the first ones.
+fn are_right(rows: Rows, finished: bool) -> Result<bool, Error> {
+    let (eel, fox) = (row(b"eel")?, row(b"fox")?);
+    let one_or_none = rows == [None, None, None] || rows == [eel, None, None];
+    Ok(rows == [eel, fox, None] || !finished && one_or_none)
+}
+
+// Whether all is as it should be where this allocation is refused, and how many were. Where none is, the end isn't refused either.
 fn play_short<R: Wait>(rt: &R, alloc: Global, before: u64) -> Result<(bool, u64), Error> {
     let memory = Refusing::new(alloc, before);
-    let kept = Row {
-        key: Key::new(b"eel")?,
-        body: Body::new(b"body")?,
-    };
     let played = play(rt, &memory, formatted(alloc)?, &STEPS)?;
     let rows = left_on(alloc, played.device)?;
-    let lost = !played.finished && rows == [None, None];
-    let right = played.wrong.is_none() && (lost || rows == [Some(kept), None]);
-    Ok((right, memory.refused()))
+    let refused = memory.refused();
+    let ended = played.finished || refused > 0;
+    let right = ended && played.wrong.is_none() && are_right(rows, played.finished)?;
+    Ok((right, refused))
 }
 
 #[test]
