@@ -2,7 +2,7 @@
 //! that computes them: a restart runs on it, and its maps give images their cells.
 //!
 //! Proved: each function of the plain program has the definition as its exact contract (`CellMaps::redo`, `follow`, `recover`,
-//! `RowMap::apply`, `after_action`); want of memory leaves a map as it was (`err`). Laws: `beginnings` (what a store gives is a
+//! `RowMap::redo_all`); want of memory leaves a map as it was (`err`). Laws: `beginnings` (what a store gives is a
 //! prefix of a history, and stays one), `copied_image`, `following_records`, `inside_pages`.
 #![tactic(auto)]
 
@@ -18,7 +18,7 @@ mod write;
 
 pub use cell_maps::{CellMaps, Recovered, Redone};
 pub use entry_map::EntryMap;
-pub use key_action::{KeyAction, after_action};
+pub use key_action::KeyAction;
 pub use laws::{
     beginnings, commit_order, copied_image, following_records, inside_pages, listed_changes,
     one_more_change, one_more_item, one_more_record, set_is_there,

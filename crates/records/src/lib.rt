@@ -42,7 +42,7 @@ pub use record::{
     Action, IndexAction, Part, RECORD_MAX, RECORD_MIN, Record, TxnAction, each_has_a_spelling,
     one_spelling,
 };
-pub use rid::{Rid, SLOTS_PER_PAGE, compare_rids};
+pub use rid::{Rid, SLOTS_PER_PAGE};
 pub use row::Row;
 pub use sink::Sink;
 pub use txn::{TXNS_MAX, Txn};
