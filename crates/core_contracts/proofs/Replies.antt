@@ -11,12 +11,14 @@ use Rattle.records.specs.declared.pair.Pair.{Pair}
 use Rattle.model.specs.declared.life.Life.{Life}
 use Rattle.model.specs.declared.life.Life.TheVariants.{Absent, Building, Complete}
 use Rattle.core_contracts.specs.Events.{BuildReply, CleanReply, Cleaned, Done, Event, Idle, Kept, Placed, Rejected, Reply, Scanned, Standing, Wrapped}
-use Rattle.core_contracts.specs.Replies.{HasNoPlace, IsAnyActive, IsBuildDue, IsCleanDue, IsStepDue, IsFirst, IsHeldByOther, IsOfNone, IsProper, build_step, change_of, clean_step, last_refusals, refusals, refusals_of}
+use Rattle.core_contracts.specs.Replies.{HasNoPlace, IsAnyActive, IsBuildDue, IsCleanDue, IsStepDue, IsFirst, IsHeldByOther, IsOfNone, IsProper, build_step}
+use Rattle.core_contracts.specs.Replies.{change_of, clean_step, last_refusals, refusals, refusals_of}
 use Rattle.core_contracts.specs.Served.{HasStanding, IsEnabledAny}
 use Rattle.core_model.proofs.Laws.{nat_decided, not_none}
 use Rattle.core_model.specs.Invariants.{IsWellFormed}
 use Rattle.core_model.specs.States.{Active, State}
-use Rattle.core_model.specs.Steps.{Attempt, CanStart, HasFreePlaces, IsActive, IsEnabled, IsReady, Start, MachineStep, all_reserved, is_indexed, new_txn, txn_at}
+use Rattle.core_model.specs.Steps.{Attempt, CanStart, HasFreePlaces, IsActive, IsEnabled, IsReady, Start, MachineStep, all_reserved, is_indexed, new_txn}
+use Rattle.core_model.specs.Steps.{txn_at}
 
 -- ---- a step that is not refused is enabled
 not_refused : {A B : Type 0} {e : Error} → (A × (◌≡◌ {A = Option Error} None (Some e))) ⊎ ((A → ⊥) × B) → (A → ⊥) × B
@@ -39,7 +41,8 @@ least_more n m h = omega (arith, h)
 start_room : (s : State) (k : Standing) (t : ℕ) (c : ChangeValue) → IsFirst (last_refusals s k (Start t c)) None → HasFreePlaces s
 start_room s k t c f e = least_more _ _ (λ less. last_room s k (Start t c) f (e, less))
 
-attempt_room : (s : State) (k : Standing) (p : Pair) → IsFirst (last_refusals s k (Attempt p)) None → get s.entries p ≡ None → len s.entries + all_reserved s.pledges < s.places
+attempt_room : (s : State) (k : Standing) (p : Pair) → IsFirst (last_refusals s k (Attempt p)) None → get s.entries p ≡ None
+    → len s.entries + all_reserved s.pledges < s.places
 attempt_room s k p f e = more_by _ _ (λ less. last_room s k (Attempt p) f (e, less))
   where
     more_by : (n m : ℕ) → (m ≤ n → ⊥) → n < m
@@ -73,10 +76,12 @@ no_txn_above s n h = by_txn (s.txns (n + 1)) refl
 
 -- ---- of which step an event is
 module _ (s : State) (k : Standing) (i : IsWellFormed s) (h : HasStanding s k) where
-  by_step : (e : MachineStep) (step : Option MachineStep) → step ≡ Some e → (IsFirst (last_refusals s k e) None → IsEnabled s e) → IsFirst (refusals_of s k step) None → IsEnabledAny s step
+  by_step : (e : MachineStep) (step : Option MachineStep) → step ≡ Some e → (IsFirst (last_refusals s k e) None → IsEnabled s e)
+      → IsFirst (refusals_of s k step) None → IsEnabledAny s step
   by_step e step is f last = subst (IsEnabledAny s) (sym is) (f (subst (λ o. IsFirst (refusals_of s k o) None) is last))
 
-  change_enabled : (t : ℕ) (r : Place) (rows : Rows) → (s.txns t ≡ None → ⊥) → IsReady (txn_at s t) → get s.rows r ≡ old_row rows → (IsHeldByOther s t r → ⊥) → r.page < s.pages
+  change_enabled : (t : ℕ) (r : Place) (rows : Rows) → (s.txns t ≡ None → ⊥) → IsReady (txn_at s t) → get s.rows r ≡ old_row rows → (IsHeldByOther s t r → ⊥)
+      → r.page < s.pages
       → IsFirst (last_refusals s k (Start t (change_of s t r rows))) None → CanStart s t (change_of s t r rows)
   change_enabled t r rows known ready before free inside last = record {
     active = is_active s t known;
@@ -115,7 +120,8 @@ module _ (s : State) (k : Standing) (i : IsWellFormed s) (h : HasStanding s k) w
   clean_enabled (Kept p) d = tt
   clean_enabled Wrapped d = tt
 
-  pub due_enabled : (e : Event) (reply : Reply) (step : Option MachineStep) → (IsOfNone s e → ⊥) → IsProper s e → IsFirst (refusals s k e) None → IsStepDue s k e reply step → IsFirst (refusals_of s k step) None → IsEnabledAny s step
+  pub due_enabled : (e : Event) (reply : Reply) (step : Option MachineStep) → (IsOfNone s e → ⊥) → IsProper s e → IsFirst (refusals s k e) None
+      → IsStepDue s k e reply step → IsFirst (refusals_of s k step) None → IsEnabledAny s step
   due_enabled Event.Begin reply step known proper first d last = by_step _ step d.1 (λ l. no_txn_above s k.begun h.begun) last
   due_enabled (Event.Insert t row) reply step known proper first d last =
       by_step _ step d.3 (change_enabled t d.0 (Inserted row) known proper d.1.free.empty (λ held. not_none held.1 d.1.free.unheld) d.1.free.inside) last
@@ -130,7 +136,8 @@ module _ (s : State) (k : Standing) (i : IsWellFormed s) (h : HasStanding s k) w
   due_enabled Event.Create reply step known proper first d last =
       let f : (is_indexed s.life ≡ true → ⊥) × IsFirst ((IsAnyActive s, Error.TxnsActive) ∷ []) None = not_refused first in
       by_step _ step d.1 (λ l. (not_indexed s.life f.0, quiet s (not_refused f.1).0)) last
-  due_enabled Event.Build reply step known proper first d last = subst (IsEnabledAny s) (sym d.3) (build_enabled d.0 d.1 (subst (λ o. IsFirst (refusals_of s k o) None) d.3 last))
+  due_enabled Event.Build reply step known proper first d last =
+      subst (IsEnabledAny s) (sym d.3) (build_enabled d.0 d.1 (subst (λ o. IsFirst (refusals_of s k o) None) d.3 last))
   due_enabled Event.Clean reply step known proper first d last = by_step _ step d.3 (λ l. clean_enabled d.0 d.1) last
   due_enabled (Event.Get r) reply step known proper first d last = subst (IsEnabledAny s) (sym d.1) tt
   due_enabled (Event.Find key) reply step known proper first d last = subst (IsEnabledAny s) (sym d.3) tt

@@ -97,7 +97,10 @@ next_pair = record { given = a9.given; rising = a9.rising; all_taken = a9.all_ta
 
 allowed_0 : IsAllowed (opened opening) k0 Event.Create (Reply.Ticketed 1) (Some MachineStep.Create)
 unfolding update
-allowed_0 = accepted (λ h. h) tt (inr (λ e. true≢false (sym e), inr (λ h. active_there (sym h.2), refl))) (Reply.Ticketed 1) (Some MachineStep.Create) (refl, refl) (nothing_refused 0 (omega arith))
+allowed_0 = accepted (λ h. h) tt (inr (λ e. true≢false (sym e), inr (λ h. active_there (sym h.2), refl))) (Reply.Ticketed 1) (Some MachineStep.Create) (
+  refl,
+  refl,
+) (nothing_refused 0 (omega arith))
 
 allowed_1 : IsAllowed (s1) k1 Event.Begin (Txn 1) (Some (MachineStep.Begin 1))
 unfolding update
@@ -105,11 +108,18 @@ allowed_1 = accepted (λ h. h) tt (inr (λ h. too_many h, refl)) (Txn 1) (Some (
 
 allowed_2 : IsAllowed (s2) k2 (Event.Insert 1 row) (Reply.Rid place) (Some (Start 1 insertion))
 unfolding update
-allowed_2 = accepted (λ h. active_there h) (refl, refl) (inr (λ h. no_changes h, inr (λ h. h place free_place, refl))) (Reply.Rid place) (Some (Start 1 insertion)) (place, record { free = free_place; least = λ q f. none_below q }, refl, refl) (inr (λ h. few_entries _ _ (len-empty pair_cmp Mark) first_reserved h.1, inr (λ h. not_last 1 (omega arith) h.0, refl)))
+allowed_2 = accepted (λ h. active_there h) (refl, refl) (inr (λ h. no_changes h, inr (λ h. h place free_place, refl))) (Reply.Rid place)
+    (Some (Start 1 insertion)) (place, record { free = free_place; least = λ q f. none_below q }, refl, refl)
+    (inr (λ h. few_entries _ _ (len-empty pair_cmp Mark) first_reserved h.1, inr (λ h. not_last 1 (omega arith) h.0, refl)))
 
 allowed_3 : IsAllowed (s3) k3 Event.Build (Built (Scanned 0)) (Some (Take 0))
 unfolding update
-allowed_3 = accepted (λ h. h) tt (inr (λ e. building≢absent e, refl)) (Built (Scanned 0)) (Some (Take 0)) (Scanned 0, (((None, refl), omega arith), refl, omega arith, refl), refl, refl) (nothing_refused 2 (omega arith))
+allowed_3 = accepted (λ h. h) tt (inr (λ e. building≢absent e, refl)) (Built (Scanned 0)) (Some (Take 0)) (
+  Scanned 0,
+  (((None, refl), omega arith), refl, omega arith, refl),
+  refl,
+  refl,
+) (nothing_refused 2 (omega arith))
 
 allowed_4 : IsAllowed (s4) k4 (Event.Undo 1) Undone (Some (MachineStep.Undo 1))
 unfolding update
@@ -129,38 +139,70 @@ allowed_7 = accepted (λ h. active_there h) refl refl Ended (Some (MachineStep.E
 
 allowed_8 : IsAllowed (s8) k8 Event.Build (Built (Rejected pair)) (Some (Attempt pair))
 unfolding update
-allowed_8 = accepted (λ h. h) tt (inr (λ e. building≢absent e, refl)) (Built (Rejected pair)) (Some (Attempt pair)) (Rejected pair, (((None, refl), omega arith), next_pair, λ e. not_none is_marked e), refl, refl) (inr (λ h. not_none is_marked h.0, inr (λ h. not_last 5 (omega arith) h.0, refl)))
+allowed_8 = accepted (λ h. h) tt (inr (λ e. building≢absent e, refl)) (Built (Rejected pair)) (Some (Attempt pair)) (
+  Rejected pair,
+  (((None, refl), omega arith), next_pair, λ e. not_none is_marked e),
+  refl,
+  refl,
+)
+    (inr (λ h. not_none is_marked h.0, inr (λ h. not_last 5 (omega arith) h.0, refl)))
 
 allowed_9 : IsAllowed (s9) k9 Event.Build (Built (Done 6)) (Some Finish)
 unfolding update
-allowed_9 = accepted (λ h. h) tt (inr (λ e. building≢absent e, refl)) (Built (Done 6)) (Some Finish) (Done 6, (((None, refl), omega arith), a10, refl), refl, refl) (nothing_refused 5 (omega arith))
+allowed_9 = accepted (λ h. h) tt (inr (λ e. building≢absent e, refl)) (Built (Done 6)) (Some Finish) (
+  Done 6,
+  (((None, refl), omega arith), a10, refl),
+  refl,
+  refl,
+) (nothing_refused 5 (omega arith))
 
 from_9 : ServesAll s9 k9 ((Event.Build, Built (Done 6)) ∷ []) last standing
 from_9 = served {s = s9} {new = last} {k = k9} {next = standing} Event.Build (Built (Done 6)) (Some Finish) [] allowed_9 nothing
 
 from_8 : ServesAll s8 k8 ((Event.Build, Built (Rejected pair)) ∷ (Event.Build, Built (Done 6)) ∷ []) last standing
-from_8 = served {s = s8} {new = last} {k = k8} {next = standing} Event.Build (Built (Rejected pair)) (Some (Attempt pair)) ((Event.Build, Built (Done 6)) ∷ []) allowed_8 from_9
+from_8 = served {s = s8} {new = last} {k = k8} {next = standing} Event.Build (Built (Rejected pair)) (Some (Attempt pair))
+    ((Event.Build, Built (Done 6)) ∷ []) allowed_8 from_9
 
 from_7 : ServesAll s7 k7 ((Event.End 1, Ended) ∷ (Event.Build, Built (Rejected pair)) ∷ (Event.Build, Built (Done 6)) ∷ []) last standing
-from_7 = served {s = s7} {new = last} {k = k7} {next = standing} (Event.End 1) Ended (Some (MachineStep.End 1)) ((Event.Build, Built (Rejected pair)) ∷ (Event.Build, Built (Done 6)) ∷ []) allowed_7 from_8
+from_7 = served {s = s7} {new = last} {k = k7} {next = standing} (Event.End 1) Ended (Some (MachineStep.End 1))
+    ((Event.Build, Built (Rejected pair)) ∷ (Event.Build, Built (Done 6)) ∷ []) allowed_7 from_8
 
-from_6 : ServesAll s6 k6 ((Event.Undo 1, Empty) ∷ (Event.End 1, Ended) ∷ (Event.Build, Built (Rejected pair)) ∷ (Event.Build, Built (Done 6)) ∷ []) last standing
-from_6 = served {s = s6} {new = last} {k = k6} {next = standing} (Event.Undo 1) Empty (Some (MachineStep.Undo 1)) ((Event.End 1, Ended) ∷ (Event.Build, Built (Rejected pair)) ∷ (Event.Build, Built (Done 6)) ∷ []) allowed_6 from_7
+from_6 : ServesAll s6 k6 ((Event.Undo 1, Empty) ∷ (Event.End 1, Ended) ∷ (Event.Build, Built (Rejected pair)) ∷ (Event.Build, Built (Done 6)) ∷ []) last
+    standing
+from_6 = served {s = s6} {new = last} {k = k6} {next = standing} (Event.Undo 1) Empty (Some (MachineStep.Undo 1))
+    ((Event.End 1, Ended) ∷ (Event.Build, Built (Rejected pair)) ∷ (Event.Build, Built (Done 6)) ∷ []) allowed_6 from_7
 
-from_5 : ServesAll s5 k5 ((Event.Undo 1, Undone) ∷ (Event.Undo 1, Empty) ∷ (Event.End 1, Ended) ∷ (Event.Build, Built (Rejected pair)) ∷ (Event.Build, Built (Done 6)) ∷ []) last standing
-from_5 = served {s = s5} {new = last} {k = k5} {next = standing} (Event.Undo 1) Undone (Some (MachineStep.Undo 1)) ((Event.Undo 1, Empty) ∷ (Event.End 1, Ended) ∷ (Event.Build, Built (Rejected pair)) ∷ (Event.Build, Built (Done 6)) ∷ []) allowed_5 from_6
+from_5 : ServesAll s5 k5 ((Event.Undo 1, Undone) ∷ (Event.Undo 1, Empty) ∷ (Event.End 1, Ended) ∷ (Event.Build, Built (Rejected pair))
+    ∷ (Event.Build, Built (Done 6)) ∷ []) last standing
+from_5 = served {s = s5} {new = last} {k = k5} {next = standing} (Event.Undo 1) Undone (Some (MachineStep.Undo 1))
+    ((Event.Undo 1, Empty) ∷ (Event.End 1, Ended) ∷ (Event.Build, Built (Rejected pair)) ∷ (Event.Build, Built (Done 6)) ∷ []) allowed_5 from_6
 
-from_4 : ServesAll s4 k4 ((Event.Undo 1, Undone) ∷ (Event.Undo 1, Undone) ∷ (Event.Undo 1, Empty) ∷ (Event.End 1, Ended) ∷ (Event.Build, Built (Rejected pair)) ∷ (Event.Build, Built (Done 6)) ∷ []) last standing
-from_4 = served {s = s4} {new = last} {k = k4} {next = standing} (Event.Undo 1) Undone (Some (MachineStep.Undo 1)) ((Event.Undo 1, Undone) ∷ (Event.Undo 1, Empty) ∷ (Event.End 1, Ended) ∷ (Event.Build, Built (Rejected pair)) ∷ (Event.Build, Built (Done 6)) ∷ []) allowed_4 from_5
+from_4 : ServesAll s4 k4 ((Event.Undo 1, Undone) ∷ (Event.Undo 1, Undone) ∷ (Event.Undo 1, Empty) ∷ (Event.End 1, Ended) ∷ (Event.Build, Built (Rejected pair))
+    ∷ (Event.Build, Built (Done 6)) ∷ []) last standing
+from_4 = served {s = s4} {new = last} {k = k4} {next = standing} (Event.Undo 1) Undone (Some (MachineStep.Undo 1))
+    ((Event.Undo 1, Undone) ∷ (Event.Undo 1, Empty) ∷ (Event.End 1, Ended) ∷ (Event.Build, Built (Rejected pair)) ∷ (Event.Build, Built (Done 6)) ∷ [])
+    allowed_4 from_5
 
-from_3 : ServesAll s3 k3 ((Event.Build, Built (Scanned 0)) ∷ (Event.Undo 1, Undone) ∷ (Event.Undo 1, Undone) ∷ (Event.Undo 1, Empty) ∷ (Event.End 1, Ended) ∷ (Event.Build, Built (Rejected pair)) ∷ (Event.Build, Built (Done 6)) ∷ []) last standing
-from_3 = served {s = s3} {new = last} {k = k3} {next = standing} Event.Build (Built (Scanned 0)) (Some (Take 0)) ((Event.Undo 1, Undone) ∷ (Event.Undo 1, Undone) ∷ (Event.Undo 1, Empty) ∷ (Event.End 1, Ended) ∷ (Event.Build, Built (Rejected pair)) ∷ (Event.Build, Built (Done 6)) ∷ []) allowed_3 from_4
+from_3 : ServesAll s3 k3 ((Event.Build, Built (Scanned 0)) ∷ (Event.Undo 1, Undone) ∷ (Event.Undo 1, Undone) ∷ (Event.Undo 1, Empty) ∷ (Event.End 1, Ended)
+    ∷ (Event.Build, Built (Rejected pair)) ∷ (Event.Build, Built (Done 6)) ∷ []) last standing
+from_3 = served {s = s3} {new = last} {k = k3} {next = standing} Event.Build (Built (Scanned 0)) (Some (Take 0))
+    ((Event.Undo 1, Undone) ∷ (Event.Undo 1, Undone) ∷ (Event.Undo 1, Empty) ∷ (Event.End 1, Ended) ∷ (Event.Build, Built (Rejected pair))
+    ∷ (Event.Build, Built (Done 6)) ∷ []) allowed_3 from_4
 
-from_2 : ServesAll s2 k2 ((Event.Insert 1 row, Reply.Rid place) ∷ (Event.Build, Built (Scanned 0)) ∷ (Event.Undo 1, Undone) ∷ (Event.Undo 1, Undone) ∷ (Event.Undo 1, Empty) ∷ (Event.End 1, Ended) ∷ (Event.Build, Built (Rejected pair)) ∷ (Event.Build, Built (Done 6)) ∷ []) last standing
-from_2 = served {s = s2} {new = last} {k = k2} {next = standing} (Event.Insert 1 row) (Reply.Rid place) (Some (Start 1 insertion)) ((Event.Build, Built (Scanned 0)) ∷ (Event.Undo 1, Undone) ∷ (Event.Undo 1, Undone) ∷ (Event.Undo 1, Empty) ∷ (Event.End 1, Ended) ∷ (Event.Build, Built (Rejected pair)) ∷ (Event.Build, Built (Done 6)) ∷ []) allowed_2 from_3
+from_2 : ServesAll s2 k2 ((Event.Insert 1 row, Reply.Rid place) ∷ (Event.Build, Built (Scanned 0)) ∷ (Event.Undo 1, Undone) ∷ (Event.Undo 1, Undone)
+    ∷ (Event.Undo 1, Empty) ∷ (Event.End 1, Ended) ∷ (Event.Build, Built (Rejected pair)) ∷ (Event.Build, Built (Done 6)) ∷ []) last standing
+from_2 = served {s = s2} {new = last} {k = k2} {next = standing} (Event.Insert 1 row) (Reply.Rid place) (Some (Start 1 insertion))
+    ((Event.Build, Built (Scanned 0)) ∷ (Event.Undo 1, Undone) ∷ (Event.Undo 1, Undone) ∷ (Event.Undo 1, Empty) ∷ (Event.End 1, Ended)
+    ∷ (Event.Build, Built (Rejected pair)) ∷ (Event.Build, Built (Done 6)) ∷ []) allowed_2 from_3
 
-from_1 : ServesAll s1 k1 ((Event.Begin, Txn 1) ∷ (Event.Insert 1 row, Reply.Rid place) ∷ (Event.Build, Built (Scanned 0)) ∷ (Event.Undo 1, Undone) ∷ (Event.Undo 1, Undone) ∷ (Event.Undo 1, Empty) ∷ (Event.End 1, Ended) ∷ (Event.Build, Built (Rejected pair)) ∷ (Event.Build, Built (Done 6)) ∷ []) last standing
-from_1 = served {s = s1} {new = last} {k = k1} {next = standing} Event.Begin (Txn 1) (Some (MachineStep.Begin 1)) ((Event.Insert 1 row, Reply.Rid place) ∷ (Event.Build, Built (Scanned 0)) ∷ (Event.Undo 1, Undone) ∷ (Event.Undo 1, Undone) ∷ (Event.Undo 1, Empty) ∷ (Event.End 1, Ended) ∷ (Event.Build, Built (Rejected pair)) ∷ (Event.Build, Built (Done 6)) ∷ []) allowed_1 from_2
+from_1 : ServesAll s1 k1 ((Event.Begin, Txn 1) ∷ (Event.Insert 1 row, Reply.Rid place) ∷ (Event.Build, Built (Scanned 0)) ∷ (Event.Undo 1, Undone)
+    ∷ (Event.Undo 1, Undone) ∷ (Event.Undo 1, Empty) ∷ (Event.End 1, Ended) ∷ (Event.Build, Built (Rejected pair)) ∷ (Event.Build, Built (Done 6)) ∷ []) last
+    standing
+from_1 = served {s = s1} {new = last} {k = k1} {next = standing} Event.Begin (Txn 1) (Some (MachineStep.Begin 1))
+    ((Event.Insert 1 row, Reply.Rid place) ∷ (Event.Build, Built (Scanned 0)) ∷ (Event.Undo 1, Undone) ∷ (Event.Undo 1, Undone) ∷ (Event.Undo 1, Empty)
+    ∷ (Event.End 1, Ended) ∷ (Event.Build, Built (Rejected pair)) ∷ (Event.Build, Built (Done 6)) ∷ []) allowed_1 from_2
 
 pub served_script : ServesAll (opened opening) (standing_at 0) script last standing
-served_script = served {s = opened opening} {new = last} {k = k0} {next = standing} Event.Create (Reply.Ticketed 1) (Some MachineStep.Create) ((Event.Begin, Txn 1) ∷ (Event.Insert 1 row, Reply.Rid place) ∷ (Event.Build, Built (Scanned 0)) ∷ (Event.Undo 1, Undone) ∷ (Event.Undo 1, Undone) ∷ (Event.Undo 1, Empty) ∷ (Event.End 1, Ended) ∷ (Event.Build, Built (Rejected pair)) ∷ (Event.Build, Built (Done 6)) ∷ []) allowed_0 from_1
+served_script = served {s = opened opening} {new = last} {k = k0} {next = standing} Event.Create (Reply.Ticketed 1) (Some MachineStep.Create)
+    ((Event.Begin, Txn 1) ∷ (Event.Insert 1 row, Reply.Rid place) ∷ (Event.Build, Built (Scanned 0)) ∷ (Event.Undo 1, Undone) ∷ (Event.Undo 1, Undone)
+    ∷ (Event.Undo 1, Empty) ∷ (Event.End 1, Ended) ∷ (Event.Build, Built (Rejected pair)) ∷ (Event.Build, Built (Done 6)) ∷ []) allowed_0 from_1

@@ -70,7 +70,12 @@ pub record Standing : Type 0 where
 -- what a step of the builder changes of what is counted
 abbrev pub after_build : Standing → BuildReply → Standing
 after_build k (Scanned page) = record k { scanned = k.scanned + 1 }
-after_build k (Placed p) = record k { made = k.made + 1; attempts = k.attempts + 1; all_attempts = k.all_attempts + 1; scanned = 0 }
+after_build k (Placed p) = record k {
+  made = k.made + 1;
+  attempts = k.attempts + 1;
+  all_attempts = k.all_attempts + 1;
+  scanned = 0;
+}
 after_build k (Rejected p) = record k { attempts = k.attempts + 1; all_attempts = k.all_attempts + 1; scanned = 0 }
 after_build k (BuildReply.Marked p n) = record k { made = k.made + 1; attempts = 0 }
 after_build k (Done n) = record k { made = k.made + 1 }
@@ -102,4 +107,12 @@ standing_after k (Refused error) = k
 
 -- after a restart that read records up to this number
 abbrev pub standing_at : ℕ → Standing
-standing_at last = record { made = last; begun = 0; active = 0; commits = 0; attempts = 0; all_attempts = 0; scanned = 0 }
+standing_at last = record {
+  made = last;
+  begun = 0;
+  active = 0;
+  commits = 0;
+  attempts = 0;
+  all_attempts = 0;
+  scanned = 0;
+}

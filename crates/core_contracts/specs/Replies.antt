@@ -3,7 +3,8 @@ use Rattle.std.specs.FinMap.{get, len}
 use Rattle.std.specs.List.{Contains}
 use Rattle.std.specs.List.Sorted.{IsStrictlySortedBy}
 use Rattle.std.specs.Ordering.{is_lt}
-use Rattle.std.specs.Prelude.{List, None, Option, Some, [], false, length, true, ℕ, ◌+◌, ◌<◌, ◌↔◌, ◌∷◌, ◌≡◌, ◌≢◌, ◌≤◌, ◌⊎◌}
+use Rattle.std.specs.Prelude.{List, None, Option, Some, [], false, length, true, ℕ, ◌+◌, ◌<◌, ◌↔◌, ◌∷◌, ◌≡◌, ◌≢◌, ◌≤◌}
+use Rattle.std.specs.Prelude.{◌⊎◌}
 use Rattle.records.specs.ChangeValue.{ChangeValue}
 use Rattle.records.specs.Orders.{rid_cmp}
 use Rattle.records.specs.Values.{Place}
@@ -17,12 +18,16 @@ use Rattle.records.specs.declared.number.TheConstants.{LAST_NUMBER}
 use Rattle.records.specs.declared.rid.TheConstants.{SLOTS_PER_PAGE}
 use Rattle.records.specs.declared.row.Row.{Row}
 use Rattle.model.specs.declared.life.Life.TheVariants.{Absent, Complete}
-use Rattle.core_contracts.specs.Events.{BuildReply, Built, CleanReply, Cleaned, Cleaner, Done, Empty, Ended, Event, Found, Idle, Kept, LifeIs, Placed, Refused, Rejected, Reply, Rid, RowIs, Scanned, Skipped, Standing, Stepped, Txn, Undone, Wrapped}
+use Rattle.core_contracts.specs.Events.{BuildReply, Built, CleanReply, Cleaned, Cleaner, Done, Empty, Ended, Event}
+use Rattle.core_contracts.specs.Events.{Found, Idle, Kept, LifeIs, Placed, Refused, Rejected, Reply, Rid, RowIs}
+use Rattle.core_contracts.specs.Events.{Scanned, Skipped, Standing, Stepped, Txn, Undone, Wrapped}
 use Rattle.core_model.specs.Records.{action_of}
 use Rattle.records.specs.declared.limits.TheConstants.{ATTEMPTS_PER_CHECKPOINT}
 use Rattle.records.specs.declared.txn.TheConstants.{TXNS_MAX}
 use Rattle.core_model.specs.States.{Active, OldMarked, RowSet, State}
-use Rattle.core_model.specs.Steps.{Attempt, CanClean, CanFinish, Checkpoint, Finish, IsBuilding, IsReady, Keep, Next, Start, MachineStep, Take, Wrap, above, after, all_reserved, is_indexed, places_of, txn_at}
+use Rattle.core_model.specs.Steps.{Attempt, CanClean, CanFinish, Checkpoint, Finish, IsBuilding, IsReady, Keep, Next}
+use Rattle.core_model.specs.Steps.{Start, MachineStep, Take, Wrap, above, after, all_reserved, is_indexed, places_of}
+use Rattle.core_model.specs.Steps.{txn_at}
 use Rattle.core_model.specs.Changes.{Unchanged, as_list}
 
 -- ---- what an event asks for first
@@ -85,9 +90,12 @@ IsAnyActive s = (t : ℕ) × (x : Active) × (s.txns t ≡ Some x)
 -- the refusals that the state alone decides
 abbrev pub refusals : State → Standing → Event → Refusals
 refusals s k Event.Begin = (TXNS_MAX ≤ k.active, Error.TooManyTxns) ∷ []
-refusals s k (Event.Insert t row) = (HasNoMoreChanges s t, Error.TooManyChanges) ∷ (((r : Place) → IsFree s r → ⊥), Error.HeapFull) ∷ []
-refusals s k (Event.Delete t rid) = (HasNoMoreChanges s t, Error.TooManyChanges) ∷ (IsHeldByOther s t rid, Error.RowBusy) ∷ (get s.rows rid ≡ None, Error.NoSuchRow) ∷ []
-refusals s k (Event.Update t rid row) = (HasNoMoreChanges s t, Error.TooManyChanges) ∷ (IsHeldByOther s t rid, Error.RowBusy) ∷ (get s.rows rid ≡ None, Error.NoSuchRow) ∷ []
+refusals s k (Event.Insert t row) = (HasNoMoreChanges s t, Error.TooManyChanges)
+    ∷ (((r : Place) → IsFree s r → ⊥), Error.HeapFull) ∷ []
+refusals s k (Event.Delete t rid) = (HasNoMoreChanges s t, Error.TooManyChanges)
+    ∷ (IsHeldByOther s t rid, Error.RowBusy) ∷ (get s.rows rid ≡ None, Error.NoSuchRow) ∷ []
+refusals s k (Event.Update t rid row) = (HasNoMoreChanges s t, Error.TooManyChanges)
+    ∷ (IsHeldByOther s t rid, Error.RowBusy) ∷ (get s.rows rid ≡ None, Error.NoSuchRow) ∷ []
 refusals s k Event.Create = (is_indexed s.life ≡ true, Error.IndexExists) ∷ (IsAnyActive s, Error.TxnsActive) ∷ []
 refusals s k Event.Drop = (s.life ≡ Absent, Error.NoIndex) ∷ (IsAnyActive s, Error.TxnsActive) ∷ []
 refusals s k Event.Build = (s.life ≡ Absent, Error.NoIndex) ∷ []
@@ -97,13 +105,18 @@ refusals s k _ = []
 
 -- the step has no entry place to reserve or to use
 abbrev pub HasNoPlace : State → MachineStep → Type 0
-HasNoPlace s (Start t c) = (is_indexed s.life ≡ true) × (s.places < len s.entries + all_reserved s.pledges + places_of true)
+HasNoPlace s (Start t c) = (is_indexed s.life ≡ true)
+    × (s.places < len s.entries + all_reserved s.pledges + places_of true)
 HasNoPlace s (Attempt p) = (get s.entries p ≡ None) × (s.places ≤ len s.entries + all_reserved s.pledges)
 HasNoPlace s _ = ⊥
 
 -- and those that come last, of the step that is due
 abbrev pub last_refusals : State → Standing → MachineStep → Refusals
-last_refusals s k e = (HasNoPlace s e, Error.IndexFull) ∷ ((LAST_NUMBER ≤ k.made) × (action_of s e ≢ None), Error.Exhausted) ∷ []
+last_refusals s k e = (HasNoPlace s e, Error.IndexFull) ∷ (
+  (LAST_NUMBER ≤ k.made)
+      × (action_of s e ≢ None),
+  Error.Exhausted,
+) ∷ []
 
 -- the refusals that only the step itself can meet; none where no step is due
 abbrev pub refusals_of : State → Standing → Option MachineStep → Refusals
@@ -130,12 +143,14 @@ pub record IsNextPair (s : State) (p : Pair) : Type 0 where
   pub given : s.given p ≡ true
   pub rising : above s.bound p ≡ true
   pub all_taken : (n : ℕ) → n < s.pages → s.taken n ≡ true
-  pub none_left : (q : Pair) → above s.bound q ≡ true → above (Some q) p ≡ true → s.taken q.rid.page ≡ true → s.missed q ≡ true
+  pub none_left : (q : Pair) → above s.bound q ≡ true → above (Some q) p ≡ true → s.taken q.rid.page ≡ true
+      → s.missed q ≡ true
 
 -- when each answer of the builder is due
 abbrev pub IsBuildDue : State → Standing → BuildReply → Type 0
 IsBuildDue s k Idle = s.life ≡ Complete
-IsBuildDue s k (BuildReply.Marked p n) = IsBuilding s.life × (ATTEMPTS_PER_CHECKPOINT ≤ k.attempts) × (s.bound ≡ Some p) × (n ≡ k.made + 1)
+IsBuildDue s k (BuildReply.Marked p n) = IsBuilding s.life × (ATTEMPTS_PER_CHECKPOINT ≤ k.attempts) × (s.bound ≡ Some p)
+    × (n ≡ k.made + 1)
 IsBuildDue s k (Scanned page) = IsBetween s k × (page ≡ k.scanned) × (page < s.pages) × (s.taken page ≡ false)
 IsBuildDue s k (Placed p) = IsBetween s k × IsNextPair s p × (get s.entries p ≡ None)
 IsBuildDue s k (Rejected p) = IsBetween s k × IsNextPair s p × (get s.entries p ≢ None)
@@ -176,18 +191,25 @@ pub record AreFound (s : State) (key : List ℕ) (rids : List Place) : Type 0 wh
 -- the reply of an event that succeeds, and its step, if it makes one
 abbrev pub IsStepDue : State → Standing → Event → Reply → Option MachineStep → Type 0
 IsStepDue s k Event.Begin reply step = (reply ≡ Txn (k.begun + 1)) × (step ≡ Some (MachineStep.Begin (k.begun + 1)))
-IsStepDue s k (Event.Insert t row) reply step = (r : Place) × IsLeastFree s r × (reply ≡ Rid r) × (step ≡ Some (Start t (change_of s t r (Inserted row))))
-IsStepDue s k (Event.Delete t r) reply step = (old : Row) × (get s.rows r ≡ Some old) × (reply ≡ Stepped) × (step ≡ Some (Start t (change_of s t r (Deleted old))))
-IsStepDue s k (Event.Update t r row) reply step = (old : Row) × (get s.rows r ≡ Some old) × (reply ≡ Stepped) × (step ≡ Some (Start t (change_of s t r (Updated old row))))
+IsStepDue s k (Event.Insert t row) reply step = (r : Place) × IsLeastFree s r × (reply ≡ Rid r)
+    × (step ≡ Some (Start t (change_of s t r (Inserted row))))
+IsStepDue s k (Event.Delete t r) reply step = (old : Row) × (get s.rows r ≡ Some old) × (reply ≡ Stepped)
+    × (step ≡ Some (Start t (change_of s t r (Deleted old))))
+IsStepDue s k (Event.Update t r row) reply step = (old : Row) × (get s.rows r ≡ Some old) × (reply ≡ Stepped)
+    × (step ≡ Some (Start t (change_of s t r (Updated old row))))
 IsStepDue s k (Event.Step t) reply step = (reply ≡ Stepped) × (step ≡ Some (Next t))
-IsStepDue s k (Event.Undo t) reply step = ((((txn_at s t).changes ≡ Unchanged) × (reply ≡ Empty)) ⊎ (((txn_at s t).changes ≢ Unchanged) × (reply ≡ Undone))) × (step ≡ Some (MachineStep.Undo t))
+IsStepDue s k (Event.Undo t) reply step = ((((txn_at s t).changes ≡ Unchanged) × (reply ≡ Empty))
+    ⊎ (((txn_at s t).changes ≢ Unchanged) × (reply ≡ Undone))) × (step ≡ Some (MachineStep.Undo t))
 IsStepDue s k (Event.End t) reply step = (reply ≡ Ended) × (step ≡ Some (MachineStep.End t))
-IsStepDue s k (Event.Commit t) reply step = (reply ≡ Reply.Committed (k.made + 1) (k.commits + 1)) × (step ≡ Some (MachineStep.Commit t))
+IsStepDue s k (Event.Commit t) reply step = (reply ≡ Reply.Committed (k.made + 1) (k.commits + 1))
+    × (step ≡ Some (MachineStep.Commit t))
 IsStepDue s k Event.Create reply step = (reply ≡ Reply.Ticketed (k.made + 1)) × (step ≡ Some MachineStep.Create)
 IsStepDue s k Event.Build reply step = (b : BuildReply) × IsBuildDue s k b × (reply ≡ Built b) × (step ≡ build_step b)
-IsStepDue s k Event.Clean reply step = (c : CleanReply) × IsCleanDue s c × (reply ≡ Cleaner c) × (step ≡ Some (clean_step c))
+IsStepDue s k Event.Clean reply step = (c : CleanReply) × IsCleanDue s c × (reply ≡ Cleaner c)
+    × (step ≡ Some (clean_step c))
 IsStepDue s k (Event.Get r) reply step = (reply ≡ RowIs (get s.rows r)) × (step ≡ None)
-IsStepDue s k (Event.Find key) reply step = (rids : List Place) × AreFound s key rids × (reply ≡ Found rids) × (step ≡ None)
+IsStepDue s k (Event.Find key) reply step = (rids : List Place) × AreFound s key rids × (reply ≡ Found rids)
+    × (step ≡ None)
 IsStepDue s k Event.Life reply step = (reply ≡ LifeIs s.life) × (step ≡ None)
 IsStepDue s k Event.Drop reply step = (reply ≡ Reply.Ticketed (k.made + 1)) × (step ≡ Some MachineStep.Drop)
 
@@ -218,10 +240,14 @@ after_any s (Some e) = after s e
 pub data IsAllowed (s : State) (k : Standing) (e : Event) : Reply → Option MachineStep → Type 0 where
   unknown : IsOfNone s e → IsAllowed s k e (Refused Error.NoSuchTxn) None
   skipped : (IsOfNone s e → ⊥) → (IsProper s e → ⊥) → IsAllowed s k e Skipped None
-  refused : (IsOfNone s e → ⊥) → IsProper s e → (error : Error) → IsFirst (refusals s k e) (Some error) → IsAllowed s k e (Refused error) None
-  refused_last : (IsOfNone s e → ⊥) → IsProper s e → IsFirst (refusals s k e) None → (reply : Reply) (step : Option MachineStep) → IsStepDue s k e reply step
+  refused : (IsOfNone s e → ⊥) → IsProper s e → (error : Error) → IsFirst (refusals s k e) (Some error)
+      → IsAllowed s k e (Refused error) None
+  refused_last : (IsOfNone s e → ⊥) → IsProper s e → IsFirst (refusals s k e) None
+      → (reply : Reply) (step : Option MachineStep) → IsStepDue s k e reply step
       → (error : Error) → IsFirst (refusals_of s k step) (Some error) → IsAllowed s k e (Refused error) None
-  no_memory : (IsOfNone s e → ⊥) → IsProper s e → IsFirst (refusals s k e) None → (reply : Reply) (step : Option MachineStep) → IsStepDue s k e reply step
+  no_memory : (IsOfNone s e → ⊥) → IsProper s e → IsFirst (refusals s k e) None
+      → (reply : Reply) (step : Option MachineStep) → IsStepDue s k e reply step
       → IsFirst (refusals_of s k step) None → WantsMemory s e step → IsAllowed s k e (Refused Error.NoMemory) None
-  accepted : (IsOfNone s e → ⊥) → IsProper s e → IsFirst (refusals s k e) None → (reply : Reply) (step : Option MachineStep) → IsStepDue s k e reply step
+  accepted : (IsOfNone s e → ⊥) → IsProper s e → IsFirst (refusals s k e) None
+      → (reply : Reply) (step : Option MachineStep) → IsStepDue s k e reply step
       → IsFirst (refusals_of s k step) None → IsAllowed s k e reply step

@@ -1,7 +1,8 @@
 -- Lists of events with their replies, and the history that they tell.
 use Rattle.std.specs.FinMap.{len}
 use Rattle.std.specs.Ordering.{nat_cmp}
-use Rattle.std.specs.Prelude.{List, None, Option, Some, [], false, length, map, true, ℕ, ◌++◌, ◌+◌, ◌<◌, ◌∷◌, ◌≡◌, ◌≢◌, ◌≤◌}
+use Rattle.std.specs.Prelude.{List, None, Option, Some, [], false, length, map, true, ℕ, ◌++◌, ◌+◌, ◌<◌, ◌∷◌, ◌≡◌, ◌≢◌}
+use Rattle.std.specs.Prelude.{◌≤◌}
 use Rattle.records.specs.RecordValue.{RecordValue}
 use Rattle.records.specs.Values.{Place}
 use Rattle.records.specs.declared.number.TheConstants.{LAST_NUMBER}
@@ -10,7 +11,9 @@ use Rattle.records.specs.declared.pair.Pair.{Pair}
 use Rattle.records.specs.declared.row.Row.{Row}
 use Rattle.model.specs.History.{Deed, Item}
 use Rattle.model.specs.declared.write.Write.{Write}
-use Rattle.core_contracts.specs.Events.{BuildReply, Built, Cleaner, Done, Empty, Ended, Event, Found, Idle, LifeIs, Placed, Refused, Rejected, Reply, Rid, RowIs, Scanned, Skipped, Standing, Stepped, Txn, Undone, standing_after, standing_at}
+use Rattle.core_contracts.specs.Events.{BuildReply, Built, Cleaner, Done, Empty, Ended, Event, Found, Idle, LifeIs}
+use Rattle.core_contracts.specs.Events.{Placed, Refused, Rejected, Reply, Rid, RowIs, Scanned, Skipped, Standing}
+use Rattle.core_contracts.specs.Events.{Stepped, Txn, Undone, standing_after, standing_at}
 use Rattle.core_model.specs.Records.{action_of}
 use Rattle.core_contracts.specs.Replies.{IsAllowed, after_any}
 use Rattle.core_model.specs.Logs.{HasMade, next_number, one_record}
@@ -22,7 +25,9 @@ use Rattle.core_model.specs.Steps.{IsBuilding, IsEnabled, MachineStep, update}
 -- one event after another, each with an allowed reply
 pub data ServesAll : State → Standing → List (Event × Reply) → State → Standing → Type 0 where
   nothing : {s : State} {k : Standing} → ServesAll s k [] s k
-  served : {s new : State} {k next : Standing} (e : Event) (reply : Reply) (step : Option MachineStep) (rest : List (Event × Reply)) → IsAllowed s k e reply step → ServesAll (after_any s step) (standing_after k reply) rest new next → ServesAll s k ((e, reply) ∷ rest) new next
+  served : {s new : State} {k next : Standing} (e : Event) (reply : Reply) (step : Option MachineStep)
+      (rest : List (Event × Reply)) → IsAllowed s k e reply step
+      → ServesAll (after_any s step) (standing_after k reply) rest new next → ServesAll s k ((e, reply) ∷ rest) new next
 
 -- a transaction is asked for one write more
 abbrev pub one_write : (ℕ → List Write) → ℕ → Place → Option Row → ℕ → List Write
@@ -98,7 +103,8 @@ items_of_build (BuildReply.Marked p n) = record { number = n; deed = Deed.Checkp
 items_of_build (Done n) = record { number = n; deed = Deed.Completed } ∷ []
 items_of_build Idle = []
 
--- what a reply adds to the history: a commit, a creation, a checkpoint, the end of a build or a dropping, with the number of its record
+-- what a reply adds to the history: a commit, a creation, a checkpoint, the end of a build or a dropping, with the
+-- number of its record
 abbrev pub items_at : (ℕ → List Write) → Reply → Event → List Item
 items_at writes (Txn t) e = []
 items_at writes (Rid r) e = []
@@ -154,7 +160,8 @@ asked_over writes (p ∷ rest) = asked_over (asked_after writes p.1 p.0) rest
 
 -- The core has replied to these events so since it was opened, each reply one that was allowed then; and it made these
 -- records, of which the history is theirs.
-pub record HasServed (o : Opened) (made : List RecordValue) (pairs : List (Event × Reply)) (s : State) (k : Standing) : Type 0 where
+pub record HasServed (o : Opened) (made : List RecordValue) (pairs : List (Event × Reply)) (s : State)
+    (k : Standing) : Type 0 where
   pub served : ServesAll (opened o) (standing_at o.given.last) pairs s k
   pub log : HasMade o made (items_of no_writes pairs) (asked_over no_writes pairs) s
   pub number : k.made ≡ o.given.last + length made

@@ -1,6 +1,8 @@
--- A script with its replies: a row is inserted while the index is built, its page is taken, and the insertion is undone.
+-- A script with its replies: a row is inserted while the index is built, its page is taken, and the insertion is
+-- undone.
 use Rattle.std.specs.Prelude.{List, [], ◌∷◌}
-use Rattle.core_contracts.specs.Events.{Built, Done, Empty, Ended, Event, Rejected, Reply, Scanned, Standing, Txn, Undone}
+use Rattle.core_contracts.specs.Events.{Built, Done, Empty, Ended, Event, Rejected, Reply, Scanned, Standing, Txn}
+use Rattle.core_contracts.specs.Events.{Undone}
 use Rattle.core_model.specs.Example.{pair, place, row}
 
 -- The builder's insertion of the pair is then rejected.

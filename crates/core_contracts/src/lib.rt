@@ -1,7 +1,8 @@
 //! What the contracts of a core speak of: events, the replies that each may get, and a core that has served them.
 //!
-//! Definitions, and no code that runs. `IsAllowed` says which reply each event may get in a state, and the step that is made with
-//! it. `items_of` says which history events and replies tell. That code replies so is the contract of `nsf_core`.
+//! Definitions, and no code that runs. `IsAllowed` says which reply each event may get in a state, and the step that is
+//! made with it. `items_of` says which history events and replies tell. That code replies so is the contract of
+//! `nsf_core`.
 #![tactic(auto)]
 
 ghost use Rattle.std.specs.Prelude.{Option, take, length, ◌≡◌, ◌≤◌, ◌+◌, ◌++◌, [], ◌∷◌, ℕ, List};
@@ -23,27 +24,47 @@ ghost use Rattle.core_model.specs.Histories.{Opened, CanOpen, opened, IsFaithful
 /// An event that gets an allowed reply is one enabled step, or none, and makes at most one record,
 /// as the reply says.
 pub fn each_reply()
-    ensures { (s : State) (k : Standing) (e : Event) (reply : Reply) (step : Option MachineStep) → IsWellFormed s → HasStanding s k → IsAllowed s k e reply step → IsMove s k step (standing_after k reply) }
+    ensures { (s : State) (k : Standing) (e : Event) (reply : Reply) (step : Option MachineStep) → IsWellFormed s
+        → HasStanding s k → IsAllowed s k e reply step → IsMove s k step (standing_after k reply) }
 {}
 
 /// From what was opened on: each event with its reply adds its record, if it makes one, and its item to the history.
 pub fn each_service()
-    ensures begins { (o : Opened) → o.given.last ≤ LAST_NUMBER → HasServed o [] [] (opened o) (standing_at o.given.last) }
-    ensures goes_on { (o : Opened) → CanOpen o → (made : List RecordValue) (pairs : List (Event × Reply)) (s : State) (k : Standing) → HasServed o made pairs s k → (e : Event) (reply : Reply) (step : Option MachineStep) → IsAllowed s k e reply step
-        → HasServed o (made ++ records_by s k.made step) (pairs ++ (e, reply) ∷ []) (after_any s step) (standing_after k reply) }
-    ensures numbers { (o : Opened) (made : List RecordValue) (pairs : List (Event × Reply)) (s : State) (k : Standing) → HasServed o made pairs s k → (k.made ≤ LAST_NUMBER) × (k.begun ≤ LAST_NUMBER + TXNS_MAX) }
-    ensures faithful { (o : Opened) → CanOpen o → (made : List RecordValue) (pairs : List (Event × Reply)) (s : State) (k : Standing) → HasServed o made pairs s k
-        → IsFaithful s (table_after o.given.table (items_of no_writes pairs)) × (s.life ≡ life_after o.given.life (items_of no_writes pairs)) }
-    ensures recovers { (o : Opened) → CanOpen o → (made : List RecordValue) (pairs : List (Event × Reply)) (s : State) (k : Standing) → HasServed o made pairs s k → (n : ℕ) → n ≤ length made
-        → IsBeginning o.given (items_of no_writes pairs) (o.given.last + n) (given_after o.given (take n made)) × CanOpen (record o { given = given_after o.given (take n made) }) }
-    ensures crashed { (o : Opened) → CanOpen o → (made : List RecordValue) (pairs : List (Event × Reply)) (s : State) (k : Standing) → HasServed o made pairs s k → (handed waiting : List RecordValue) → made ≡ handed ++ waiting
-        → (n : ℕ) → n ≤ length handed → IsBeginning o.given (items_of no_writes pairs) (o.given.last + n) (given_after o.given (take n handed)) × CanOpen (record o { given = given_after o.given (take n handed) }) }
+    ensures begins { (o : Opened) → o.given.last ≤ LAST_NUMBER
+        → HasServed o [] [] (opened o) (standing_at o.given.last) }
+    ensures goes_on { (o : Opened) → CanOpen o
+        → (made : List RecordValue) (pairs : List (Event × Reply)) (s : State) (k : Standing)
+        → HasServed o made pairs s k → (e : Event) (reply : Reply) (step : Option MachineStep)
+        → IsAllowed s k e reply step
+        → HasServed o (made ++ records_by s k.made step) (pairs ++ (e, reply) ∷ []) (after_any s step)
+        (standing_after k reply) }
+    ensures numbers { (o : Opened) (made : List RecordValue) (pairs : List (Event × Reply)) (s : State) (k : Standing)
+        → HasServed o made pairs s k → (k.made ≤ LAST_NUMBER) × (k.begun ≤ LAST_NUMBER + TXNS_MAX) }
+    ensures faithful { (o : Opened) → CanOpen o
+        → (made : List RecordValue) (pairs : List (Event × Reply)) (s : State) (k : Standing)
+        → HasServed o made pairs s k
+        → IsFaithful s (table_after o.given.table (items_of no_writes pairs))
+        × (s.life ≡ life_after o.given.life (items_of no_writes pairs)) }
+    ensures recovers { (o : Opened) → CanOpen o
+        → (made : List RecordValue) (pairs : List (Event × Reply)) (s : State) (k : Standing)
+        → HasServed o made pairs s k → (n : ℕ) → n ≤ length made
+        → IsBeginning o.given (items_of no_writes pairs) (o.given.last + n) (given_after o.given (take n made))
+        × CanOpen (record o { given = given_after o.given (take n made) }) }
+    ensures crashed { (o : Opened) → CanOpen o
+        → (made : List RecordValue) (pairs : List (Event × Reply)) (s : State) (k : Standing)
+        → HasServed o made pairs s k → (handed waiting : List RecordValue) → made ≡ handed ++ waiting
+        → (n : ℕ) → n ≤ length handed → IsBeginning o.given (items_of no_writes pairs) (o.given.last + n)
+        (given_after o.given (take n handed)) × CanOpen (record o { given = given_after o.given (take n handed) }) }
 {}
 
 /// So it is of a list of events, each with an allowed reply; and the numbers of the items rise.
 pub fn all_replies()
-    ensures log { (o : Opened) → CanOpen o → o.given.last ≤ LAST_NUMBER → (pairs : List (Event × Reply)) (s : State) (k : Standing) → ServesAll (opened o) (standing_at o.given.last) pairs s k → (made : List RecordValue) × HasServed o made pairs s k }
-    ensures rising { (o : Opened) (last : ℕ) (pairs : List (Event × Reply)) (s : State) (k : Standing) → ServesAll (opened o) (standing_at last) pairs s k → AreRising last (items_of no_writes pairs) }
+    ensures log { (o : Opened) → CanOpen o → o.given.last ≤ LAST_NUMBER
+        → (pairs : List (Event × Reply)) (s : State) (k : Standing)
+        → ServesAll (opened o) (standing_at o.given.last) pairs s k → (made : List RecordValue)
+        × HasServed o made pairs s k }
+    ensures rising { (o : Opened) (last : ℕ) (pairs : List (Event × Reply)) (s : State) (k : Standing)
+        → ServesAll (opened o) (standing_at last) pairs s k → AreRising last (items_of no_writes pairs) }
 {}
 
 /// An insertion is undone while the index is built, after the builder took its page: each reply is

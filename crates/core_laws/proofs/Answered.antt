@@ -42,13 +42,15 @@ same_count n m e = cc
 txn_one : (x y : TxnState) (a : Active) → ShowsTxn x a → ShowsTxn y a → x.reserved ≡ y.reserved → without_rows x ≡ without_rows y
 txn_one x y a f g places =
     let changes : x.changes ≡ y.changes = sym f.changes ∙ g.changes in
-    let progress : x.progress ≡ y.progress = sym (progress_told x.progress a.phase f.phase) ∙ ap (progress_at a.phase) (sym f.rolling ∙ g.rolling) ∙ progress_told y.progress a.phase g.phase in
+    let progress : x.progress ≡ y.progress = sym (progress_told x.progress a.phase f.phase) ∙ ap (progress_at a.phase) (sym f.rolling ∙ g.rolling)
+    ∙ progress_told y.progress a.phase g.phase in
     λ i. without_rows (record x { changes = changes i; progress = progress i; reserved = places i })
 
 abbrev places_of : Option TxnState → Option ℕ
 places_of o = option_map (λ (x : TxnState). x.reserved) o
 
-txns_one : (o o' : Option TxnState) (a : Option Active) → AreOne o a → AreOne o' a → places_of o ≡ places_of o' → option_map without_rows o ≡ option_map without_rows o'
+txns_one : (o o' : Option TxnState) (a : Option Active) → AreOne o a → AreOne o' a → places_of o ≡ places_of o'
+    → option_map without_rows o ≡ option_map without_rows o'
 txns_one None None a f g places = refl
 txns_one None (Some y) a f g places = absurd (no_active g.0 (sym f ∙ g.1))
 txns_one (Some x) None a f g places = absurd (no_active f.0 (sym g ∙ f.1))
@@ -75,7 +77,8 @@ shown_alike v w s k f g outbox = record {
 }
 
 -- ---- two answers
-module _ (old new next : CoreValue) (e : Event) (reply other : Reply) (safe : IsSafe old) (f : Serves old e reply new) (g : Serves old e other next) (n : reply ≢ Refused Error.NoMemory) (m : other ≢ Refused Error.NoMemory) where
+module _ (old new next : CoreValue) (e : Event) (reply other : Reply) (safe : IsSafe old) (f : Serves old e reply new) (g : Serves old e other next)
+    (n : reply ≢ Refused Error.NoMemory) (m : other ≢ Refused Error.NoMemory) where
   abbrev s : State
   s = safe.state
 
@@ -95,7 +98,9 @@ module _ (old new next : CoreValue) (e : Event) (reply other : Reply) (safe : Is
   answer_reply = same.0
 
   left : Shows next (after_any s a.step) (standing_after k reply)
-  left = subst (λ r. Shows next (after_any s a.step) (standing_after k r)) (sym same.0) (subst (λ t. Shows next (after_any s t) (standing_after k other)) (sym same.1) b.shown)
+  left = subst (λ r. Shows next (after_any s a.step) (standing_after k r)) (sym same.0)
+      (subst (λ t. Shows next (after_any s t) (standing_after k other)) (sym same.1) b.shown)
 
   pub answer_alike : AreAlike new next
-  answer_alike = shown_alike new next (after_any s a.step) (standing_after k reply) a.shown left (a.outbox ∙ ap (λ t. old.outbox ++ records_by s k.made t) same.1 ∙ sym b.outbox)
+  answer_alike = shown_alike new next (after_any s a.step) (standing_after k reply) a.shown left (a.outbox
+      ∙ ap (λ t. old.outbox ++ records_by s k.made t) same.1 ∙ sym b.outbox)

@@ -33,7 +33,8 @@ module _ (v : CoreValue) (e : Event) (safe : IsSafe v) where
       let a : Answers v s k e (Refused error) v = is.1 s k safe.is in
       let b : Answers v s k e reply new = serves s k safe.is in
       let plain : Refused error ≢ Refused Error.NoMemory = by_state error is.0 in
-      let granted : reply ≡ Refused Error.NoMemory → ⊥ = λ lack. memory_granted s k h e (Refused error) a.step b.step a.allowed plain (subst (λ r. IsAllowed s k e r b.step) lack b.allowed) in
+      let granted : reply ≡ Refused Error.NoMemory → ⊥ = λ lack.
+      memory_granted s k h e (Refused error) a.step b.step a.allowed plain (subst (λ r. IsAllowed s k e r b.step) lack b.allowed) in
       (reply_one s k h e reply (Refused error) b.step a.step b.allowed a.allowed granted plain).0
 
   pub check_one : (error other : Error) → IsRefused v e error → IsRefused v e other → error ≡ other

@@ -12,9 +12,11 @@ use Rattle.core_model.specs.States.{State}
 use Rattle.core_model.specs.Steps.{CanClean, IsBuilding, MachineStep, Start}
 use Rattle.model.specs.declared.life.Life.{Life}
 use Rattle.model.specs.declared.life.Life.TheVariants.{Building, Complete}
-use Rattle.core_contracts.specs.Events.{BuildReply, Built, CleanReply, Cleaned, Cleaner, Done, Event, Idle, Kept, Placed, Refused, Rejected, Reply, Scanned, Standing, Wrapped}
+use Rattle.core_contracts.specs.Events.{BuildReply, Built, CleanReply, Cleaned, Cleaner, Done, Event, Idle, Kept, Placed, Refused, Rejected, Reply, Scanned}
+use Rattle.core_contracts.specs.Events.{Standing, Wrapped}
 use Rattle.core_contracts.specs.Served.{HasStanding}
-use Rattle.core_contracts.specs.Replies.{IsAllowed, IsBuildDue, IsCleanDue, IsStepDue, IsFirst, IsNextEntry, IsNextPair, Refusals, WantsMemory, accepted, build_step, change_of, clean_step, no_memory, refusals, refusals_of, refused, refused_last, skipped, unknown}
+use Rattle.core_contracts.specs.Replies.{IsAllowed, IsBuildDue, IsCleanDue, IsStepDue, IsFirst, IsNextEntry, IsNextPair, Refusals, WantsMemory, accepted}
+use Rattle.core_contracts.specs.Replies.{build_step, change_of, clean_step, no_memory, refusals, refusals_of, refused, refused_last, skipped, unknown}
 use Rattle.core_laws.specs.Granted.{IsGranted}
 use Rattle.core_laws.proofs.Levels.{level_by}
 use Rattle.core_laws.proofs.Ordered.{sorted_one}
@@ -55,7 +57,8 @@ IsWant (accepted x y f r t d g) = ⊥
 
 module _ (s : State) (k : Standing) (h : HasStanding s k) where
   entry_one : (p q : Pair) → IsNextEntry s p → IsNextEntry s q → p ≡ q
-  entry_one p q f g = level_by pair_cmp_total pair_cmp-IsAntisymmetric p q (pair_cmp p q) refl (g.least p f.there f.above_place) (f.least q g.there g.above_place)
+  entry_one p q f g = level_by pair_cmp_total pair_cmp-IsAntisymmetric p q (pair_cmp p q) refl (g.least p f.there f.above_place)
+      (f.least q g.there g.above_place)
 
   clean_one : (c d : CleanReply) → IsCleanDue s c → IsCleanDue s d → c ≡ d
   clean_one (Cleaned p) (Cleaned q) f g = ap Cleaned (entry_one p q f.0 g.0)
@@ -97,7 +100,8 @@ module _ (s : State) (k : Standing) (h : HasStanding s k) where
   build_one Idle (Rejected q) f g = absurd (complete_apart s.life f g.0.0)
   build_one Idle (Done m) f g = absurd (complete_apart s.life f g.0.0)
   build_one (BuildReply.Marked p n) Idle f g = absurd (complete_apart s.life g f.0)
-  build_one (BuildReply.Marked p n) (BuildReply.Marked q m) f g = let same : p ≡ q = same_pair p q (sym f.2 ∙ g.2) in ap (λ x. BuildReply.Marked x n) same ∙ ap (BuildReply.Marked q) (f.3 ∙ sym g.3)
+  build_one (BuildReply.Marked p n) (BuildReply.Marked q m) f g = let same : p ≡ q = same_pair p q (sym f.2 ∙ g.2) in ap (λ x. BuildReply.Marked x n) same
+      ∙ ap (BuildReply.Marked q) (f.3 ∙ sym g.3)
   build_one (BuildReply.Marked p n) (Scanned page) f g = absurd (few_many k.attempts g.0.1 f.1)
   build_one (BuildReply.Marked p n) (Placed q) f g = absurd (few_many k.attempts g.0.1 f.1)
   build_one (BuildReply.Marked p n) (Rejected q) f g = absurd (few_many k.attempts g.0.1 f.1)
@@ -160,14 +164,16 @@ module _ (s : State) (k : Standing) (h : HasStanding s k) where
       (f.2 ∙ ap Cleaner same ∙ sym g.2, f.3 ∙ ap (λ c. Some (clean_step c)) same ∙ sym g.3)
   due_one (Event.Get p) r r' t t' f g = (f.0 ∙ sym g.0, f.1 ∙ sym g.1)
   due_one (Event.Find key) r r' t t' f g =
-      let same : f.0 ≡ g.0 = sorted_one f.0 g.0 f.1.in_order g.1.in_order (λ q c. (g.1.live q).1 ((f.1.live q).0 c)) (λ q c. (f.1.live q).1 ((g.1.live q).0 c)) in
+      let same : f.0 ≡ g.0 = sorted_one f.0 g.0 f.1.in_order g.1.in_order (λ q c. (g.1.live q).1 ((f.1.live q).0 c)) (λ q c.
+      (f.1.live q).1 ((g.1.live q).0 c)) in
       (f.2 ∙ ap Reply.Found same ∙ sym g.2, f.3 ∙ sym g.3)
   due_one Event.Life r r' t t' f g = (f.0 ∙ sym g.0, f.1 ∙ sym g.1)
   due_one Event.Drop r r' t t' f g = (f.0 ∙ sym g.0, f.1 ∙ sym g.1)
 
   module _ (e : Event) where
     -- the last refusals of the step that is due
-    last_one : (r r' : Reply) (t t' : Option MachineStep) → IsStepDue s k e r t → IsStepDue s k e r' t' → (a b : Option Error) → IsFirst (refusals_of s k t) a → IsFirst (refusals_of s k t') b → a ≡ b
+    last_one : (r r' : Reply) (t t' : Option MachineStep) → IsStepDue s k e r t → IsStepDue s k e r' t' → (a b : Option Error) → IsFirst (refusals_of s k t) a
+        → IsFirst (refusals_of s k t') b → a ≡ b
     last_one r r' t t' d d' a b f g = first_one (refusals_of s k t') a b (subst (λ x. IsFirst (refusals_of s k x) a) (due_one e r r' t t' d d').1 f) g
 
     one : (r r' : Reply) (t t' : Option MachineStep) (a : IsAllowed s k e r t) (b : IsAllowed s k e r' t') → (IsWant a → ⊥) → (IsWant b → ⊥) → AreOne r r' t t'
@@ -192,14 +198,16 @@ module _ (s : State) (k : Standing) (h : HasStanding s k) where
     one r r' t t' (refused_last x y f r0 t0 d er g) (unknown a) n n' = absurd (x a)
     one r r' t t' (refused_last x y f r0 t0 d er g) (skipped x' y') n n' = absurd (y' y)
     one r r' t t' (refused_last x y f r0 t0 d er g) (refused x' y' er' f') n n' = absurd (no_error er' (first_one (refusals s k e) (Some er') None f' f))
-    one r r' t t' (refused_last x y f r0 t0 d er g) (refused_last x' y' f' r1 t1 d' er' g') n n' = (ap Refused (same_error er er' (last_one r0 r1 t0 t1 d d' (Some er) (Some er') g g')), refl)
+    one r r' t t' (refused_last x y f r0 t0 d er g) (refused_last x' y' f' r1 t1 d' er' g') n n' =
+        (ap Refused (same_error er er' (last_one r0 r1 t0 t1 d d' (Some er) (Some er') g g')), refl)
     one r r' t t' (refused_last x y f r0 t0 d er g) (no_memory x' y' f' r1 t1 d' g' w) n n' = absurd (n' tt)
     one r r' t t' (refused_last x y f r0 t0 d er g) (accepted x' y' f' r1 t1 d' g') n n' = absurd (no_error er (last_one r0 r1 t0 t1 d d' (Some er) None g g'))
     one r r' t t' (no_memory x y f r0 t0 d g w) other n n' = absurd (n tt)
     one r r' t t' (accepted x y f r0 t0 d g) (unknown a) n n' = absurd (x a)
     one r r' t t' (accepted x y f r0 t0 d g) (skipped x' y') n n' = absurd (y' y)
     one r r' t t' (accepted x y f r0 t0 d g) (refused x' y' er' f') n n' = absurd (no_error er' (first_one (refusals s k e) (Some er') None f' f))
-    one r r' t t' (accepted x y f r0 t0 d g) (refused_last x' y' f' r1 t1 d' er' g') n n' = absurd (no_error er' (last_one r1 r0 t1 t0 d' d (Some er') None g' g))
+    one r r' t t' (accepted x y f r0 t0 d g) (refused_last x' y' f' r1 t1 d' er' g') n n' =
+        absurd (no_error er' (last_one r1 r0 t1 t0 d' d (Some er') None g' g))
     one r r' t t' (accepted x y f r0 t0 d g) (no_memory x' y' f' r1 t1 d' g' w) n n' = absurd (n' tt)
     one r r' t t' (accepted x y f r0 t0 d g) (accepted x' y' f' r1 t1 d' g') n n' = due_one e r0 r1 t0 t1 d d'
 
@@ -212,7 +220,8 @@ module _ (s : State) (k : Standing) (h : HasStanding s k) where
     plain r t (no_memory x y f r0 t0 d g wants) n w = n refl
     plain r t (accepted x y f r0 t0 d g) n w = w
 
-    pub reply_one : (r r' : Reply) (t t' : Option MachineStep) → IsAllowed s k e r t → IsAllowed s k e r' t' → r ≢ Refused Error.NoMemory → r' ≢ Refused Error.NoMemory → AreOne r r' t t'
+    pub reply_one : (r r' : Reply) (t t' : Option MachineStep) → IsAllowed s k e r t → IsAllowed s k e r' t' → r ≢ Refused Error.NoMemory
+        → r' ≢ Refused Error.NoMemory → AreOne r r' t t'
     reply_one r r' t t' a b n n' = one r r' t t' a b (plain r t a n) (plain r' t' b n')
 
     -- where another reply is allowed too, its step takes memory
@@ -220,7 +229,8 @@ module _ (s : State) (k : Standing) (h : HasStanding s k) where
     wanted r r' t t' (unknown a) (no_memory x y f r0 t0 d g w) n is = absurd (x a)
     wanted r r' t t' (skipped x y) (no_memory x' y' f r0 t0 d g w) n is = absurd (y y')
     wanted r r' t t' (refused x y er f) (no_memory x' y' f' r0 t0 d g w) n is = absurd (no_error er (first_one (refusals s k e) (Some er) None f f'))
-    wanted r r' t t' (refused_last x y f r0 t0 d er g) (no_memory x' y' f' r1 t1 d' g' w) n is = absurd (no_error er (last_one r0 r1 t0 t1 d d' (Some er) None g g'))
+    wanted r r' t t' (refused_last x y f r0 t0 d er g) (no_memory x' y' f' r1 t1 d' g' w) n is =
+        absurd (no_error er (last_one r0 r1 t0 t1 d d' (Some er) None g g'))
     wanted r r' t t' (no_memory x y f r0 t0 d g w) (no_memory x' y' f' r1 t1 d' g' w') n is = absurd (n tt)
     wanted r r' t t' (accepted x y f r0 t0 d g) (no_memory x' y' f' r1 t1 d' g' w) n is = subst (WantsMemory s e) (sym (due_one e r0 r1 t0 t1 d d').1) w
     wanted r r' t t' a (unknown b) n is = absurd is
@@ -230,15 +240,18 @@ module _ (s : State) (k : Standing) (h : HasStanding s k) where
     wanted r r' t t' a (accepted x y f r0 t0 d g) n is = absurd is
 
     -- want of memory is answered as such, and in no other way
-    answered : (r r' : Reply) (t t' : Option MachineStep) (a : IsAllowed s k e r t) (b : IsAllowed s k e r' t') → r ≢ Refused Error.NoMemory → r' ≡ Refused Error.NoMemory → IsWant b
+    answered : (r r' : Reply) (t t' : Option MachineStep) (a : IsAllowed s k e r t) (b : IsAllowed s k e r' t') → r ≢ Refused Error.NoMemory
+        → r' ≡ Refused Error.NoMemory → IsWant b
     answered r r' t t' a (unknown b) n is = absurd (n ((one r r' t t' a (unknown b) (plain r t a n) (λ w. w)).0 ∙ is))
     answered r r' t t' a (skipped x y) n is = absurd (n ((one r r' t t' a (skipped x y) (plain r t a n) (λ w. w)).0 ∙ is))
     answered r r' t t' a (refused x y er f) n is = absurd (n ((one r r' t t' a (refused x y er f) (plain r t a n) (λ w. w)).0 ∙ is))
-    answered r r' t t' a (refused_last x y f r0 t0 d er g) n is = absurd (n ((one r r' t t' a (refused_last x y f r0 t0 d er g) (plain r t a n) (λ w. w)).0 ∙ is))
+    answered r r' t t' a (refused_last x y f r0 t0 d er g) n is =
+        absurd (n ((one r r' t t' a (refused_last x y f r0 t0 d er g) (plain r t a n) (λ w. w)).0 ∙ is))
     answered r r' t t' a (no_memory x y f r0 t0 d g w) n is = tt
     answered r r' t t' a (accepted x y f r0 t0 d g) n is = absurd (n ((one r r' t t' a (accepted x y f r0 t0 d g) (plain r t a n) (λ w. w)).0 ∙ is))
 
-    pub memory_wanted : (r : Reply) (t t' : Option MachineStep) → IsAllowed s k e r t → r ≢ Refused Error.NoMemory → IsAllowed s k e (Refused Error.NoMemory) t' → WantsMemory s e t
+    pub memory_wanted : (r : Reply) (t t' : Option MachineStep) → IsAllowed s k e r t → r ≢ Refused Error.NoMemory → IsAllowed s k e (Refused Error.NoMemory) t'
+        → WantsMemory s e t
     memory_wanted r t t' a n b = wanted r (Refused Error.NoMemory) t t' a b (plain r t a n) (answered r (Refused Error.NoMemory) t t' a b n refl)
 
     -- ---- and that reply is no refusal, nor is the event skipped
@@ -263,7 +276,8 @@ module _ (s : State) (k : Standing) (h : HasStanding s k) where
     granted r r' t t' (unknown a) (no_memory x y f r0 t0 d g w) n is = absurd (x a)
     granted r r' t t' (skipped x y) (no_memory x' y' f r0 t0 d g w) n is = absurd (y y')
     granted r r' t t' (refused x y er f) (no_memory x' y' f' r0 t0 d g w) n is = absurd (no_error er (first_one (refusals s k e) (Some er) None f f'))
-    granted r r' t t' (refused_last x y f r0 t0 d er g) (no_memory x' y' f' r1 t1 d' g' w) n is = absurd (no_error er (last_one r0 r1 t0 t1 d d' (Some er) None g g'))
+    granted r r' t t' (refused_last x y f r0 t0 d er g) (no_memory x' y' f' r1 t1 d' g' w) n is =
+        absurd (no_error er (last_one r0 r1 t0 t1 d d' (Some er) None g g'))
     granted r r' t t' (no_memory x y f r0 t0 d g w) (no_memory x' y' f' r1 t1 d' g' w') n is = absurd (n tt)
     granted r r' t t' (accepted x y f r0 t0 d g) (no_memory x' y' f' r1 t1 d' g' w) n is = due_granted e r0 t0 d
     granted r r' t t' a (unknown b) n is = absurd is
@@ -272,5 +286,6 @@ module _ (s : State) (k : Standing) (h : HasStanding s k) where
     granted r r' t t' a (refused_last x y f r0 t0 d er g) n is = absurd is
     granted r r' t t' a (accepted x y f r0 t0 d g) n is = absurd is
 
-    pub memory_granted : (r : Reply) (t t' : Option MachineStep) → IsAllowed s k e r t → r ≢ Refused Error.NoMemory → IsAllowed s k e (Refused Error.NoMemory) t' → IsGranted r
+    pub memory_granted : (r : Reply) (t t' : Option MachineStep) → IsAllowed s k e r t → r ≢ Refused Error.NoMemory
+        → IsAllowed s k e (Refused Error.NoMemory) t' → IsGranted r
     memory_granted r t t' a n b = granted r (Refused Error.NoMemory) t t' a b (plain r t a n) (answered r (Refused Error.NoMemory) t t' a b n refl)

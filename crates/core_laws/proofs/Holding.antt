@@ -1,5 +1,6 @@
 -- What a core holds that stands for the abstract one.
-use Rattle.std.proofs.Common.{List, None, Option, Some, [], ap, arith, cond, eqb, false, inl, inr, length, refl, slice_get, subst, suc, sym, true, ℕ, ◌++◌, ◌+◌, ◌-◌, ◌∙◌, ◌∷◌, ◌≡◌, ◌≢◌, ◌≤◌}
+use Rattle.std.proofs.Common.{List, None, Option, Some, [], ap, arith, cond, eqb, false, inl, inr, length, refl, slice_get, subst, suc, sym, true, ℕ, ◌++◌, ◌+◌}
+use Rattle.std.proofs.Common.{◌-◌, ◌∙◌, ◌∷◌, ◌≡◌, ◌≢◌, ◌≤◌}
 use Rattle.std.proofs.lemmas.Bool.Decides.{eqb_tells}
 use Rattle.std.proofs.lemmas.List.{length-append}
 use Rattle.std.specs.FinMap.{get, get-empty, len}
@@ -84,7 +85,8 @@ same_active : (a b : Active) → (◌≡◌ {A = Option Active} (Some a) (Some b
 same_active a b e = cc
 
 module _ (v : CoreValue) (r : Place) (t : ℕ) where
-  by_changes : (x : TxnState) (phase : Phase) (cs : Changes) → txn_shown v t ≡ Some x → as_list cs ≡ x.changes → IsProgressOf x.progress phase → IsBusyWith cs phase r → IsBeingChanged v r
+  by_changes : (x : TxnState) (phase : Phase) (cs : Changes) → txn_shown v t ≡ Some x → as_list cs ≡ x.changes → IsProgressOf x.progress phase
+      → IsBusyWith cs phase r → IsBeingChanged v r
   by_changes x phase Unchanged here same at busy = absurd busy
   by_changes x phase (older ▹ c) here same at busy = record {
     number = t;
@@ -108,7 +110,8 @@ module _ (v : CoreValue) (r : Place) (t : ℕ) where
 
 module _ (v : CoreValue) (s : State) (k : Standing) (h : Shows v s k) where
   being_changed : (r : Place) → IsUnfinished s r → IsBeingChanged v r
-  being_changed r u = by_txn v r u.transaction (txn_shown v u.transaction) u.txn refl (subst (AreOne (txn_shown v u.transaction)) u.active (h.txns u.transaction)) u.busy
+  being_changed r u = by_txn v r u.transaction (txn_shown v u.transaction) u.txn refl
+      (subst (AreOne (txn_shown v u.transaction)) u.active (h.txns u.transaction)) u.busy
 
   covered : (p : Pair) → IsCovered v.life v.scan.last p → IsCovered s.life s.bound p
   covered p is = subst (λ l. IsCovered l s.bound p) (sym h.life) (subst (λ b. IsCovered v.life b p) (sym h.bound) is)
@@ -119,7 +122,8 @@ module _ (v : CoreValue) (s : State) (k : Standing) (h : Shows v s k) where
       sums : (a b c d e f : ℕ) → a ≡ b → c ≡ d → e ≡ f → a + c ≤ e → b + d ≤ f
       sums a b c d e f p q r l = omega (arith, p, q, r, l)
 
-  pub holding : (o : Opened) (items : List Item) → IsFaithful s (table_after o.given.table items) → s.life ≡ life_after o.given.life items → HoldsHistory o items v
+  pub holding : (o : Opened) (items : List Item) → IsFaithful s (table_after o.given.table items) → s.life ≡ life_after o.given.life items
+      → HoldsHistory o items v
   holding o items f life = record {
     table = f.back (cells_shown v) (cells v s k h);
     life = sym h.life ∙ life;
@@ -151,5 +155,6 @@ module _ (o : Opened) (can : CanOpen o) (pairs : List (Event × Reply)) (handed 
   pub numbered : v.last ≡ o.given.last + length (handed ++ v.outbox)
   numbered = sym so.stands.shown.made ∙ so.served.number
 
-  pub recovers : (n : ℕ) → n ≤ length (handed ++ v.outbox) → IsBeginning o.given (items_of no_writes pairs) (o.given.last + n) (given_after o.given (take n (handed ++ v.outbox)))
+  pub recovers : (n : ℕ) → n ≤ length (handed ++ v.outbox)
+      → IsBeginning o.given (items_of no_writes pairs) (o.given.last + n) (given_after o.given (take n (handed ++ v.outbox)))
   recovers n le = (served_recovers o can (handed ++ v.outbox) pairs so.state so.standing so.served n le).0

@@ -15,7 +15,8 @@ use Rattle.nsf_core.specs.Moves.{fresh}
 use Rattle.core_laws.specs.Calls.{BeginsWith}
 use Rattle.core_laws.specs.Openings.{empty_after, store_with}
 
-pub loaded : (g : GeometryValue) (given : Given) → IsGivenInside g.pages given → len given.entries ≤ g.entries → given.last ≤ LAST_NUMBER → BeginsWith (store_with g given) (holding g given)
+pub loaded : (g : GeometryValue) (given : Given) → IsGivenInside g.pages given → len given.entries ≤ g.entries → given.last ≤ LAST_NUMBER
+    → BeginsWith (store_with g given) (holding g given)
 loaded g given inside room last = record { stands = stands_for g given inside room last; none_waits = refl }
 
 module _ (g : GeometryValue) (base : ℕ) where

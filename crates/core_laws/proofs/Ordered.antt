@@ -47,14 +47,17 @@ lowest x q xs sorted c = elim (rid_decided x q) [
 ]
 
 -- those behind equal firsts are the same
-tails : (x y : Place) (xs ys : List Place) → x ≡ y → IsStrictlySortedBy rid_cmp (x ∷ xs) → ((q : Place) → Contains (x ∷ xs) q → Contains (y ∷ ys) q) → (q : Place) → Contains xs q → Contains ys q
+tails : (x y : Place) (xs ys : List Place) → x ≡ y → IsStrictlySortedBy rid_cmp (x ∷ xs) → ((q : Place) → Contains (x ∷ xs) q → Contains (y ∷ ys) q)
+    → (q : Place) → Contains xs q → Contains ys q
 tails x y xs ys same sorted into q c = Contains-tail y ys q (λ e. other x q (behind x q xs sorted c) (same ∙ e)) (into q (later x q xs c))
 
-pub sorted_one : (xs ys : List Place) → IsStrictlySortedBy rid_cmp xs → IsStrictlySortedBy rid_cmp ys → ((q : Place) → Contains xs q → Contains ys q) → ((q : Place) → Contains ys q → Contains xs q) → xs ≡ ys
+pub sorted_one : (xs ys : List Place) → IsStrictlySortedBy rid_cmp xs → IsStrictlySortedBy rid_cmp ys → ((q : Place) → Contains xs q → Contains ys q)
+    → ((q : Place) → Contains ys q → Contains xs q) → xs ≡ ys
 sorted_one [] [] f g into back = refl
 sorted_one [] (y ∷ ys) f g into back = absurd (nowhere y (back y (here y ys)))
 sorted_one (x ∷ xs) [] f g into back = absurd (nowhere x (into x (here x xs)))
 sorted_one (x ∷ xs) (y ∷ ys) f g into back =
-    let same : x ≡ y = level_by rid_cmp_total rid_cmp-IsAntisymmetric x y (rid_cmp x y) refl (lowest y x ys g (into x (here x xs))) (lowest x y xs f (back y (here y ys))) in
+    let same : x ≡ y = level_by rid_cmp_total rid_cmp-IsAntisymmetric x y (rid_cmp x y) refl (lowest y x ys g (into x (here x xs)))
+    (lowest x y xs f (back y (here y ys))) in
     let rest : xs ≡ ys = sorted_one xs ys (parted x xs f).1 (parted y ys g).1 (tails x y xs ys same f into) (tails y x ys xs (sym same) g back) in
     ap (λ z. z ∷ xs) same ∙ ap (λ zs. y ∷ zs) rest

@@ -33,7 +33,15 @@ module _ (v : CoreValue) (waiting : List RecordValue) (s : State) (k : Standing)
       places = h.places;
       cleaned = h.cleaned;
       bound = h.bound;
-      scan = record { run = h.scan.run; made = h.scan.made; given = h.scan.given; missed = h.scan.missed; taken = h.scan.taken; in_a_row = h.scan.in_a_row; untaken = h.scan.untaken };
+      scan = record {
+        run = h.scan.run;
+        made = h.scan.made;
+        given = h.scan.given;
+        missed = h.scan.missed;
+        taken = h.scan.taken;
+        in_a_row = h.scan.in_a_row;
+        untaken = h.scan.untaken;
+      };
       made = h.made;
       begun = h.begun;
       active = h.active;
@@ -57,7 +65,8 @@ begins o v b = record {
     within : o.given.last ≤ LAST_NUMBER
     within = b.stands.standing.within
 
-pub replies : (o : Opened) → CanOpen o → (pairs : List (Event × Reply)) (handed : List RecordValue) (v : CoreValue) → HasReplied o pairs handed v → (e : Event) (reply : Reply) (new : CoreValue) → Serves v e reply new
+pub replies : (o : Opened) → CanOpen o → (pairs : List (Event × Reply)) (handed : List RecordValue) (v : CoreValue) → HasReplied o pairs handed v
+    → (e : Event) (reply : Reply) (new : CoreValue) → Serves v e reply new
     → HasReplied o (pairs ++ (e, reply) ∷ []) handed new
 replies o can pairs handed v so e reply new serves =
     let s : State = so.state in
@@ -72,20 +81,24 @@ replies o can pairs handed v so e reply new serves =
           (served_allowed o can (handed ++ v.outbox) pairs s k so.served e reply a.step a.allowed);
     }
 
-pub hands_on : (o : Opened) (pairs : List (Event × Reply)) (handed : List RecordValue) (v : CoreValue) → HasReplied o pairs handed v → (new : CoreValue) (before after : List RecordValue) (on : HandsOn v new before after)
+pub hands_on : (o : Opened) (pairs : List (Event × Reply)) (handed : List RecordValue) (v : CoreValue) → HasReplied o pairs handed v
+    → (new : CoreValue) (before after : List RecordValue) (on : HandsOn v new before after)
     → HasReplied o pairs (handed ++ on.handed) new
 hands_on o pairs handed v so new before after on = record {
   state = so.state;
   standing = so.standing;
   stands = subst (λ w. IsState w so.state so.standing) (sym on.others) (other_outbox v new.outbox so.state so.standing so.stands);
-  served = subst (λ made. HasServed o made pairs so.state so.standing) (ap (λ rs. handed ++ rs) on.split ∙ sym (append_assoc handed on.handed new.outbox)) so.served;
+  served = subst (λ made. HasServed o made pairs so.state so.standing) (ap (λ rs. handed ++ rs) on.split
+      ∙ sym (append_assoc handed on.handed new.outbox)) so.served;
 }
 
 -- from any call on
 module _ (o : Opened) (can : CanOpen o) where
-  goes_on : (v : CoreValue) (pairs : List (Event × Reply)) (handed : List RecordValue) (new : CoreValue) → Calls v pairs handed new → (earlier : List (Event × Reply)) (gone : List RecordValue) → HasReplied o earlier gone v
+  goes_on : (v : CoreValue) (pairs : List (Event × Reply)) (handed : List RecordValue) (new : CoreValue) → Calls v pairs handed new
+      → (earlier : List (Event × Reply)) (gone : List RecordValue) → HasReplied o earlier gone v
       → HasReplied o (earlier ++ pairs) (gone ++ handed) new
-  goes_on v pairs handed new no_call earlier gone so = subst (λ ps. HasReplied o ps (gone ++ []) v) (sym (append-nil earlier)) (subst (λ rs. HasReplied o earlier rs v) (sym (append-nil gone)) so)
+  goes_on v pairs handed new no_call earlier gone so =
+      subst (λ ps. HasReplied o ps (gone ++ []) v) (sym (append-nil earlier)) (subst (λ rs. HasReplied o earlier rs v) (sym (append-nil gone)) so)
   goes_on v pairs handed new (served {now = now} e reply rest _ serves later) earlier gone so =
       subst (λ ps. HasReplied o ps (gone ++ handed) new) (append_assoc earlier ((e, reply) ∷ []) rest)
       (goes_on now rest handed new later (earlier ++ (e, reply) ∷ []) gone (replies o can earlier gone v so e reply now serves))
@@ -93,5 +106,6 @@ module _ (o : Opened) (can : CanOpen o) where
       subst (λ rs. HasReplied o (earlier ++ rest) rs new) (append_assoc gone on.handed more)
       (goes_on now rest more new later earlier (gone ++ on.handed) (hands_on o earlier gone v so now before after on))
 
-  pub all_calls : (v : CoreValue) → BeginsWith o v → (pairs : List (Event × Reply)) (handed : List RecordValue) (new : CoreValue) → Calls v pairs handed new → HasReplied o pairs handed new
+  pub all_calls : (v : CoreValue) → BeginsWith o v → (pairs : List (Event × Reply)) (handed : List RecordValue) (new : CoreValue) → Calls v pairs handed new
+      → HasReplied o pairs handed new
   all_calls v b pairs handed new calls = goes_on v pairs handed new calls [] [] (begins o v b)

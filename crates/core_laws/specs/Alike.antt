@@ -9,8 +9,9 @@ use Rattle.nsf_core.specs.Moves.{txn_shown}
 abbrev pub without_rows : TxnState → TxnState
 without_rows x = record x { rows = [] }
 
--- They have the same rows, entries, reserved places, life, counts and waiting records, the cleaner and the scan are at the same pair,
--- and each transaction has the same changes, is as far, and has reserved as much. How the scan keeps the pairs that wait is not told.
+-- They have the same rows, entries, reserved places, life, counts and waiting records, the cleaner and the scan are at
+-- the same pair, and each transaction has the same changes, is as far, and has reserved as much. How the scan keeps the
+-- pairs that wait is not told.
 pub record AreAlike (v w : CoreValue) : Type 0 where
   pub heap : v.heap ≡ w.heap
   pub index : v.index ≡ w.index

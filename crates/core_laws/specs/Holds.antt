@@ -14,7 +14,8 @@ use Rattle.model.specs.Table.{IsPairOf, Table}
 use Rattle.model.specs.declared.life.Life.TheVariants.{Absent}
 use Rattle.txn_table.specs.Table.{TxnState, last_change}
 use Rattle.txn_table.specs.declared.progress.Progress.{Progress}
-use Rattle.txn_table.specs.declared.progress.Progress.TheVariants.{OwesEntry, OwesRow, Ready, Rolling, UndoesEntry, UndoesRow}
+use Rattle.txn_table.specs.declared.progress.Progress.TheVariants.{OwesEntry, OwesRow, Ready, Rolling, UndoesEntry}
+use Rattle.txn_table.specs.declared.progress.Progress.TheVariants.{UndoesRow}
 use Rattle.core_model.specs.Changes.{pair_of}
 use Rattle.core_model.specs.Histories.{IsCovered, Opened}
 use Rattle.nsf_core.specs.View.{CoreValue}
@@ -27,7 +28,12 @@ lists_of (txn ∷ txns) = with_list (lists_of txns) txn.0 (Some txn.1.changes)
 
 -- its rows, its entries, the changes of its active transactions, and the index's life
 abbrev pub cells_shown : CoreValue → Cells
-cells_shown v = record { rows = v.heap.rows; entries = v.index.entries; pending = lists_of v.txns.active; life = v.life }
+cells_shown v = record {
+  rows = v.heap.rows;
+  entries = v.index.entries;
+  pending = lists_of v.txns.active;
+  life = v.life;
+}
 
 -- the rows with the changes of every active transaction taken back, the last change first
 abbrev pub committed_rows : CoreValue → Table
@@ -56,14 +62,15 @@ pub record IsBeingChanged (v : CoreValue) (r : Place) : Type 0 where
 abbrev pub IsVisible : CoreValue → Pair → Type 0
 IsVisible v p = get v.index.entries p ≡ Some Live
 
--- What the core holds is what this history tells. The committed rows are its table, and the index's life is its life. Each visible entry names a row
--- with its key; as far as the index is built, the pair of each row is visible that is not just being changed; and without an
--- index there is no entry. The entries, with the reserved places, have room.
+-- What the core holds is what this history tells. The committed rows are its table, and the index's life is its life.
+-- Each visible entry names a row with its key; as far as the index is built, the pair of each row is visible that is
+-- not just being changed; and without an index there is no entry. The entries, with the reserved places, have room.
 pub record HoldsHistory (o : Opened) (items : List Item) (v : CoreValue) : Type 0 where
   pub table : committed_rows v ≡ table_after o.given.table items
   pub life : v.life ≡ life_after o.given.life items
   pub sound : (p : Pair) → IsVisible v p → IsPairOf v.heap.rows p
-  pub complete : (r : Place) (row : Row) → get v.heap.rows r ≡ Some row → (IsBeingChanged v r → ⊥) → IsCovered v.life v.scan.last (pair_of r row) → IsVisible v (pair_of r row)
+  pub complete : (r : Place) (row : Row) → get v.heap.rows r ≡ Some row → (IsBeingChanged v r → ⊥)
+      → IsCovered v.life v.scan.last (pair_of r row) → IsVisible v (pair_of r row)
   pub empty : v.life ≡ Absent → (p : Pair) → get v.index.entries p ≡ None
   pub room : len v.index.entries + v.index.pledged ≤ v.index.capacity
 

@@ -2,7 +2,8 @@
 use Rattle.std.proofs.Common.{Bool, None, length, Some, List, [], ◌∷◌, true, false, cond, ap, refl, subst, sym, ◌&&◌, ◌∙◌, ◌≡◌, ◌≢◌}
 use Rattle.std.specs.Prelude.{T}
 use Rattle.std.specs.Cmp.{tied_itself}
-use Rattle.std.specs.FinMap.{FinMap, empty, empty_of_len, entries, entries-from_sorted, entries_sorted, find, from_sorted, get, get-from_sorted, is_sorted, len-entries, same_entries_map}
+use Rattle.std.specs.FinMap.{FinMap, empty, empty_of_len, entries, entries-from_sorted, entries_sorted, find, from_sorted, get, get-from_sorted, is_sorted}
+use Rattle.std.specs.FinMap.{len-entries, same_entries_map}
 use Rattle.std.specs.FinMap.Entries.{below_all}
 use Rattle.std.specs.Ordering.{eq_by_cmp, is_lt}
 use Rattle.std.specs.declared.cmp.Ordering.{Ordering}
@@ -42,7 +43,8 @@ module _ {K X : Type 0} {R : K → K → Ordering} (o : IsExact R) where
       ∙ sym (get-set_at o (from_sorted (e ∷ es)) e.0 None q ∙ ap (cond (eq_by_cmp R q e.0) None) (get-from_sorted R (e ∷ es) q sorted)))
     where
       by : (q : K) (b : Bool) → eq_by_cmp R q e.0 ≡ b → find R q es ≡ cond (eq_by_cmp R q e.0) None (cond (eq_by_cmp R q e.0) (Some e.1) (find R q es))
-      by q true is = ap (λ k. find R k es) (key_is o q e.0 is) ∙ none_below e.0 es (first _ _ sorted) ∙ sym (ap (λ b. cond b None (cond b (Some e.1) (find R q es))) is)
+      by q true is = ap (λ k. find R k es) (key_is o q e.0 is) ∙ none_below e.0 es (first _ _ sorted)
+          ∙ sym (ap (λ b. cond b None (cond b (Some e.1) (find R q es))) is)
       by q false is = sym (ap (λ b. cond b None (cond b (Some e.1) (find R q es))) is)
 
   module _ (left : List (K × X)) (e : K × X) (es : List (K × X)) (is : left ≡ e ∷ es) (sorted : T (is_sorted R left)) where
@@ -64,4 +66,5 @@ module _ {K X : Type 0} {R : K → K → Ordering} (o : IsExact R) where
 
   -- and none of them is an empty one
   pub none_in_order : (es : List (K × X)) → es ≡ [] → from_sorted {R = R} es ≡ empty
-  none_in_order es none = ap from_sorted none ∙ empty_of_len (from_sorted []) (len-entries (from_sorted []) ∙ ap (λ xs. length xs) (entries-from_sorted {X = X} R [] tt))
+  none_in_order es none = ap from_sorted none ∙ empty_of_len (from_sorted []) (len-entries (from_sorted [])
+      ∙ ap (λ xs. length xs) (entries-from_sorted {X = X} R [] tt))

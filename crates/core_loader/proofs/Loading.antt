@@ -44,9 +44,11 @@ rows_quiet all left old now so quiet = subst IsQuiet (sym so.core) quiet
 
 module _ (all left : Table) (old now : CoreValue) (so : AreRowsLoaded all left old now) (rid : Place) (row : Row) (next : get left rid ≡ Some row) where
   pub row_within : IsWithin old.heap.pages all → rid.page < now.heap.pages
-  row_within within = subst (λ (v : CoreValue). rid.page < v.heap.pages) (sym so.core) (within rid row (is_its rid_exact all left so.done so.moved rid row next).0)
+  row_within within = subst (λ (v : CoreValue). rid.page < v.heap.pages) (sym so.core)
+      (within rid row (is_its rid_exact all left so.done so.moved rid row next).0)
 
-  pub one_row : (rest : Table) (new : CoreValue) → rest ≡ set_at left rid None → new ≡ with_rows now (set_at now.heap.rows rid (Some row)) → AreRowsLoaded all rest old new
+  pub one_row : (rest : Table) (new : CoreValue) → rest ≡ set_at left rid None → new ≡ with_rows now (set_at now.heap.rows rid (Some row))
+      → AreRowsLoaded all rest old new
   one_row rest new is then = record {
     done = set_at so.done rid (Some row);
     core = then ∙ ap (λ (v : CoreValue). with_rows v (set_at v.heap.rows rid (Some row))) so.core;
@@ -65,14 +67,20 @@ pub record AreEntriesLoaded (all left : Index) (old now : CoreValue) : Type 0 wh
   pub room : len left + len done + old.index.pledged ≤ old.index.capacity
 
 pub no_entry : (all : Index) (old : CoreValue) → old.index.entries ≡ empty → len all + old.index.pledged ≤ old.index.capacity → AreEntriesLoaded all all old old
-no_entry all old none room = record { done = old.index.entries; core = refl; moved = none_moved pair_exact all old.index.entries none; room = fits (ap len none ∙ len-empty pair_cmp Mark) }
+no_entry all old none room = record {
+  done = old.index.entries;
+  core = refl;
+  moved = none_moved pair_exact all old.index.entries none;
+  room = fits (ap len none ∙ len-empty pair_cmp Mark);
+}
   where
     fits : len old.index.entries ≡ 0 → len all + len old.index.entries + old.index.pledged ≤ old.index.capacity
     fits e = omega (arith, e, room)
 
 module _ (all left : Index) (old now : CoreValue) (so : AreEntriesLoaded all left old now) (pair : Pair) (mark : Mark) (next : get left pair ≡ Some mark) where
   pub entry_within : AreEntriesWithin old.heap.pages all → pair.rid.page < now.heap.pages
-  entry_within within = subst (λ (v : CoreValue). pair.rid.page < v.heap.pages) (sym so.core) (within pair (λ none. absurd (some_and_none (sym (is_its pair_exact all left so.done so.moved pair mark next).0 ∙ none))))
+  entry_within within = subst (λ (v : CoreValue). pair.rid.page < v.heap.pages) (sym so.core)
+      (within pair (λ none. absurd (some_and_none (sym (is_its pair_exact all left so.done so.moved pair mark next).0 ∙ none))))
     where
       some_and_none : Some mark ≡ None → ⊥
       some_and_none e = absurd cc
@@ -95,7 +103,8 @@ module _ (all left : Index) (old now : CoreValue) (so : AreEntriesLoaded all lef
     core = then ∙ ap (λ (v : CoreValue). entry_loaded v pair (Some mark)) so.core;
     moved = subst (λ (m : Index). IsMoved all m (set_at so.done pair (Some mark))) (sym is) (one_moved pair_exact all left so.done so.moved pair mark next);
     room = subst (λ (m : Index). len m + len (set_at so.done pair (Some mark)) + old.index.pledged ≤ old.index.capacity) (sym is)
-        (sums (len (set_at left pair None) + len (set_at so.done pair (Some mark))) (len left + len so.done) old.index.pledged old.index.capacity (len_moved pair_exact all left so.done so.moved pair mark next) so.room);
+        (sums (len (set_at left pair None) + len (set_at so.done pair (Some mark))) (len left + len so.done) old.index.pledged old.index.capacity
+        (len_moved pair_exact all left so.done so.moved pair mark next) so.room);
   }
     where
       sums : (a b c d : ℕ) → a ≡ b → b + c ≤ d → a + c ≤ d
@@ -109,7 +118,8 @@ all_entries all left old now so none = so.core ∙ ap (with_entries old) (all_mo
 begun_runs : (start : Option Pair) (pages : ℕ) → HasRun (begun start pages) (begun_run start pages)
 begun_runs start pages = by_test (nat_lt 0 pages) refl
   where
-    by_test : (b : Bool) → nat_lt 0 pages ≡ b → HasRun (record { pages = pages; last = start; wanted = cond b (Some 0) None; waiting = [] }) (begun_run start pages)
+    by_test : (b : Bool) → nat_lt 0 pages ≡ b
+        → HasRun (record { pages = pages; last = start; wanted = cond b (Some 0) None; waiting = [] }) (begun_run start pages)
     by_test true some = record {
       pages = refl;
       last_is = refl;
@@ -132,7 +142,8 @@ begun_runs start pages = by_test (nat_lt 0 pages) refl
         no_page : (n : ℕ) → n < pages → ⊥
         no_page n less = let some : nat_lt 0 pages ≡ true = lt-ltb 0 pages (omega (arith, less)) in absurd cc
 
-module _ (g : GeometryValue) (given : Given) (inside : IsGivenInside g.pages given) (room : len given.entries ≤ g.entries) (last : given.last ≤ LAST_NUMBER) where
+module _ (g : GeometryValue) (given : Given) (inside : IsGivenInside g.pages given) (room : len given.entries ≤ g.entries)
+    (last : given.last ≤ LAST_NUMBER) where
   abbrev store : Opened
   store = record { given = given; pages = g.pages; places = g.entries }
 
@@ -154,7 +165,15 @@ module _ (g : GeometryValue) (given : Given) (inside : IsGivenInside g.pages giv
       places = refl;
       cleaned = refl;
       bound = refl;
-      scan = record { run = begun_run (highest_of given.life) g.pages; made = begun_runs (highest_of given.life) g.pages; given = λ p. refl; missed = λ p. refl; taken = λ n. refl; in_a_row = refl; untaken = λ page n wanted le. refl };
+      scan = record {
+        run = begun_run (highest_of given.life) g.pages;
+        made = begun_runs (highest_of given.life) g.pages;
+        given = λ p. refl;
+        missed = λ p. refl;
+        taken = λ n. refl;
+        in_a_row = refl;
+        untaken = λ page n wanted le. refl;
+      };
       made = refl;
       begun = refl;
       active = refl;

@@ -15,7 +15,8 @@ module _ {K X : Type 0} {R : K → K → Ordering} (o : IsExact R) where
   none_moved all done is = record { at = λ q. inl (refl, ap (λ (m : FinMap R X). get m q) is ∙ get-empty R q) }
 
   pub all_moved : (all left done : FinMap R X) → IsMoved all left done → left ≡ empty → done ≡ all
-  all_moved all left done moved is = alike o done all (λ q. ⊎_elim (λ here. here.1 ∙ sym (sym here.0 ∙ ap (λ (m : FinMap R X). get m q) is ∙ get-empty R q)) (λ there. there.1) (moved.at q))
+  all_moved all left done moved is = alike o done all (λ q.
+      ⊎_elim (λ here. here.1 ∙ sym (sym here.0 ∙ ap (λ (m : FinMap R X). get m q) is ∙ get-empty R q)) (λ there. there.1) (moved.at q))
 
   module _ (all left done : FinMap R X) (moved : IsMoved all left done) (k : K) (x : X) (next : get left k ≡ Some x) where
     pub is_its : (get all k ≡ Some x) × (get done k ≡ None)
@@ -34,16 +35,19 @@ module _ {K X : Type 0} {R : K → K → Ordering} (o : IsExact R) where
         done_at q b is = get-set_at o done k (Some x) q ∙ ap (λ t. cond t (Some x) (get done q)) is
 
         by_key : (q : K) (b : Bool) → eq_by_cmp R q k ≡ b
-            → ((get (set_at left k None) q ≡ get all q) × (get (set_at done k (Some x)) q ≡ None)) ⊎ ((get (set_at left k None) q ≡ None) × (get (set_at done k (Some x)) q ≡ get all q))
+            → ((get (set_at left k None) q ≡ get all q) × (get (set_at done k (Some x)) q ≡ None))
+            ⊎ ((get (set_at left k None) q ≡ None) × (get (set_at done k (Some x)) q ≡ get all q))
         by_key q true same = inr (left_at q true same, done_at q true same ∙ sym (ap (get all) (key_is o q k same) ∙ is_its.0))
-        by_key q false other = ⊎_elim (λ here. inl (left_at q false other ∙ here.0, done_at q false other ∙ here.1)) (λ there. inr (left_at q false other ∙ there.0, done_at q false other ∙ there.1)) (moved.at q)
+        by_key q false other = ⊎_elim (λ here. inl (left_at q false other ∙ here.0, done_at q false other ∙ here.1)) (λ there.
+            inr (left_at q false other ∙ there.0, done_at q false other ∙ there.1)) (moved.at q)
 
     -- one leaves the one map, and one comes into the other
     pub len_moved : len (set_at left k None) + len (set_at done k (Some x)) ≡ len left + len done
     len_moved =
         let less : len (set_at left k None) < len left = len_less o left (set_at left k None) k x next refl in
         let left_len : len (set_at left k None) ≡ len left - 1 = len-remove o.total left k ∙ ap (λ b. cond b (len left - 1) (len left)) (ap is_some next) in
-        let done_len : len (set_at done k (Some x)) ≡ len done + 1 = len-insert o.total done k x ∙ ap (λ b. cond b (len done) (len done + 1)) (ap is_some is_its.1) in
+        let done_len : len (set_at done k (Some x)) ≡ len done + 1 = len-insert o.total done k x
+        ∙ ap (λ b. cond b (len done) (len done + 1)) (ap is_some is_its.1) in
         sums (len (set_at left k None)) (len (set_at done k (Some x))) (len left) (len done) less left_len done_len
       where
         sums : (a b c d : ℕ) → a < c → a ≡ c - 1 → b ≡ d + 1 → a + b ≡ c + d

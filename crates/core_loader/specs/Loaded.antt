@@ -19,7 +19,8 @@ with_entries v entries = record v { index = record v.index { entries = entries }
 
 -- a core of this geometry with just what is given, and no transaction
 abbrev pub holding : GeometryValue → Given → CoreValue
-holding geometry given = life_loaded (with_entries (with_rows (fresh geometry given.last) given.table) given.entries) given.life
+holding geometry given = life_loaded (with_entries (with_rows (fresh geometry given.last) given.table) given.entries)
+    given.life
 
 -- what the abstract core begins with
 abbrev pub store_of : {A : Type 0} → Restored A → Opened

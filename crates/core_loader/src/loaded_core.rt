@@ -59,7 +59,8 @@ fn load_entries<A: Allocator + Copy>(core: &mut Core<A>, entries: &EntryMap<A>) 
 /// else `NoMemory`.
 pub fn load<A: Allocator + Copy>(alloc: A, found: &Restored<A>) -> Result<Core<A>, Error>
     ensures made { IfOk result (λ core. value_of core ≡ holding found.now.geometry (given_in found.now)) }
-    ensures opened { IfOk result (λ core. IsState (value_of core) (opened (store_of found.now)) (standing_at found.now.last)) }
+    ensures opened { IfOk result (λ core. IsState (value_of core) (opened (store_of found.now))
+        (standing_at found.now.last)) }
     ensures full { (result ≡ Err Error.IndexFull) ↔ (found.now.geometry.entries < map.len found.now.entries) }
     ensures refused { IfErr result (λ e. (e ≡ Error.IndexFull) ⊎ (e ≡ Error.NoMemory)) }
 {

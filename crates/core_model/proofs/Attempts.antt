@@ -8,10 +8,12 @@ use Rattle.core_model.specs.Changes.{Changes, Unchanged, new_pair, old_pair, ◌
 use Rattle.core_model.specs.Histories.{Opened, highest_of, opened}
 use Rattle.core_model.specs.Invariants.{Invariant, IsOneBuild, Runs, no_step, one_step}
 use Rattle.core_model.specs.States.{Active, Made, NewMarked, OldMarked, OldSet, Phase, RowSet, State}
-use Rattle.core_model.specs.Steps.{Attempt, Begin, Checkpoint, Clean, Commit, Create, Drop, End, Finish, IsEnabled, Keep, Next, Start, MachineStep, Take, Undo, Wrap, above, after, carried_on, is_indexed, moved_by, started, txn_at, undone, undone_first, undone_row}
+use Rattle.core_model.specs.Steps.{Attempt, Begin, Checkpoint, Clean, Commit, Create, Drop, End, Finish, IsEnabled, Keep, Next, Start, MachineStep, Take, Undo}
+use Rattle.core_model.specs.Steps.{Wrap, above, after, carried_on, is_indexed, moved_by, started, txn_at, undone, undone_first, undone_row}
 
 -- in this run
-pub above_checkpoint : (s : State) (p : Pair) → Invariant s → (highest : Option Pair) → s.life ≡ Building highest → IsEnabled s (Attempt p) → above highest p ≡ true
+pub above_checkpoint : (s : State) (p : Pair) → Invariant s → (highest : Option Pair) → s.life ≡ Building highest → IsEnabled s (Attempt p)
+    → above highest p ≡ true
 above_checkpoint s p i highest building can = i.coherent.behind highest building p can.rising
 
 building_not_absent : (highest : Option Pair) → Building highest ≢ Absent
@@ -79,7 +81,8 @@ module _ (highest : Option Pair) where
   run_past s s' es (one_step e rest enabled r) d h = run_past (after s e) s' rest r d.1 (step_past s e d.0 h enabled)
 
 -- after a restart, in the build that it found
-pub above_opened : (o : Opened) (highest : Option Pair) → o.given.life ≡ Building highest → (steps : List MachineStep) (s : State) → Runs (opened o) steps s → IsOneBuild steps → (p : Pair) → IsEnabled s (Attempt p) → above highest p ≡ true
+pub above_opened : (o : Opened) (highest : Option Pair) → o.given.life ≡ Building highest → (steps : List MachineStep) (s : State) → Runs (opened o) steps s
+    → IsOneBuild steps → (p : Pair) → IsEnabled s (Attempt p) → above highest p ≡ true
 above_opened o highest building steps s run one p can =
     let first : IsPast highest (opened o) = record {
       indexed = λ e. building_not_absent highest (sym building ∙ e);

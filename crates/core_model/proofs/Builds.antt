@@ -1,5 +1,6 @@
 -- Each step of the builder and of the cleaner keeps the invariant.
-use Rattle.std.proofs.Common.{Bool, None, Option, Some, ap, false, inl, inr, nat_eq, not, refl, subst, sym, true, true≢false, ℕ, ◌&&◌, ◌<◌, ◌||◌, ◌∙◌, ◌≡◌, ◌≢◌, ◌⊎◌}
+use Rattle.std.proofs.Common.{Bool, None, Option, Some, ap, false, inl, inr, nat_eq, not, refl, subst, sym, true, true≢false, ℕ, ◌&&◌, ◌<◌, ◌||◌, ◌∙◌, ◌≡◌, ◌≢◌}
+use Rattle.std.proofs.Common.{◌⊎◌}
 use Rattle.std.specs.Cmp.Lexicographic.{nat_list_cmp_total}
 use Rattle.std.specs.FinMap.{get, get-empty, nat_cmp-IsAntisymmetric, slice_cmp-IsAntisymmetric}
 use Rattle.records.specs.Maps.{get-set_at_other, get-set_at_same, pair_exact, set_at}
@@ -20,7 +21,8 @@ use Rattle.core_model.proofs.Orders.{above_trans, by_test, level, not_above}
 use Rattle.core_model.specs.Changes.{pair_of}
 use Rattle.core_model.specs.Invariants.{IsAhead, IsBacked, IsCoherent, IsHeld, IsPhaseOf, IsVisibleOrAhead, TxnHolds}
 use Rattle.core_model.specs.States.{Active, State}
-use Rattle.core_model.specs.Steps.{CanAttempt, CanClean, CanFinish, IsBuilding, IsPassed, above, attempted, created, dropped, is_indexed, is_pair_of, page_taken}
+use Rattle.core_model.specs.Steps.{CanAttempt, CanClean, CanFinish, IsBuilding, IsPassed, above, attempted, created, dropped, is_indexed, is_pair_of}
+use Rattle.core_model.specs.Steps.{page_taken}
 
 -- the index is created, where it was absent and no transaction is active
 module _ (s : State) (i : IsCoherent s) (absent : s.life ≡ Absent) (quiet : (t : ℕ) → s.txns t ≡ None) where
@@ -97,7 +99,8 @@ module _ (s : State) (i : IsCoherent s) (n : ℕ) where
   page_txns : (t : ℕ) (x : Active) → s.txns t ≡ Some x → TxnHolds (page_taken s n) t x
   page_txns t x e = let h : TxnHolds s t x = i.txns t x e in record { names = h.names; chained = h.chained; phase = h.phase }
 
-  page_ahead : (r : Place) (row : Row) → get s.rows r ≡ Some row → (life : Life) → IsAhead life s.bound s.missed (pair_of r row) → IsAhead life s.bound (page_taken s n).missed (pair_of r row)
+  page_ahead : (r : Place) (row : Row) → get s.rows r ≡ Some row → (life : Life) → IsAhead life s.bound s.missed (pair_of r row)
+      → IsAhead life s.bound (page_taken s n).missed (pair_of r row)
   page_ahead r row e Absent a = tt
   page_ahead r row e (Building h) a = (a.0, no_more (s.missed (pair_of r row)) (nat_eq r.page n) _ a.1 (test_by_pair r row (get s.rows r) e))
   page_ahead r row e Complete a = a
@@ -118,7 +121,8 @@ module _ (s : State) (i : IsCoherent s) (n : ℕ) where
     inside = i.inside;
     txns = page_txns;
     sound = i.sound;
-    visible = λ r row e idle. page_visible r row e (i.visible r row e (λ h. idle (record { transaction = h.transaction; txn = h.txn; active = h.active; busy = h.busy })));
+    visible = λ r row e idle. page_visible r row e (i.visible r row e (λ h.
+        idle (record { transaction = h.transaction; txn = h.txn; active = h.active; busy = h.busy })));
     empty = i.empty;
     backed = page_backed;
     behind = i.behind;
@@ -169,7 +173,12 @@ module _ (s : State) (i : IsCoherent s) (p : Pair) (can : CanAttempt s p) where
   attempt_txns : (t : ℕ) (x : Active) → s.txns t ≡ Some x → TxnHolds (attempted s p) t x
   attempt_txns t x e =
       let h : TxnHolds s t x = i.txns t x e in
-      record { names = h.names; chained = h.chained; phase = phase_kept (is_indexed s.life) s.entries entries' marked_stays x.changes x.phase x.rolling h.phase }
+      record {
+        names = h.names;
+        chained = h.chained;
+        phase = phase_kept
+            (is_indexed s.life) s.entries entries' marked_stays x.changes x.phase x.rolling h.phase;
+      }
 
   not_building : {A : Type 0} (h : Option Pair) → s.life ≡ Absent → s.life ≡ Building h → A
   not_building h a b = absurd (true≢false (sym (ap is_indexed b) ∙ ap is_indexed a))
@@ -192,7 +201,8 @@ module _ (s : State) (i : IsCoherent s) (p : Pair) (can : CanAttempt s p) where
   attempt_visible r row e h = elim h [
     | inl live ↦ inl (present_stays (pair_of r row) Live live)
     | inr w ↦
-        let ahead : (above s.bound (pair_of r row) ≡ true) × (s.missed (pair_of r row) ≡ false) = subst (λ life. IsAhead life s.bound s.missed (pair_of r row)) can.building.1 w.1 in
+        let ahead : (above s.bound (pair_of r row) ≡ true)
+        × (s.missed (pair_of r row) ≡ false) = subst (λ life. IsAhead life s.bound s.missed (pair_of r row)) can.building.1 w.1 in
         attempt_ahead (pair_of r row) (i.inside r row e) w.0 ahead.0 ahead.1
   ]
 
@@ -213,7 +223,8 @@ module _ (s : State) (i : IsCoherent s) (p : Pair) (can : CanAttempt s p) where
     inside = i.inside;
     txns = attempt_txns;
     sound = attempt_sound;
-    visible = λ r row e idle. attempt_visible r row e (i.visible r row e (λ h. idle (record { transaction = h.transaction; txn = h.txn; active = h.active; busy = h.busy })));
+    visible = λ r row e idle. attempt_visible r row e (i.visible r row e (λ h.
+        idle (record { transaction = h.transaction; txn = h.txn; active = h.active; busy = h.busy })));
     empty = λ e q. not_building can.building.0 e can.building.1;
     backed = attempt_backed;
     behind = λ h b q a. i.behind h b q (above_trans s.bound p q can.rising a);
@@ -242,7 +253,8 @@ module _ (s : State) (i : IsCoherent s) (b : IsBuilding s.life) where
     inside = i.inside;
     txns = recorded_txns;
     sound = i.sound;
-    visible = λ r row e idle. recorded_visible (pair_of r row) (i.visible r row e (λ h. idle (record { transaction = h.transaction; txn = h.txn; active = h.active; busy = h.busy })));
+    visible = λ r row e idle. recorded_visible (pair_of r row)
+        (i.visible r row e (λ h. idle (record { transaction = h.transaction; txn = h.txn; active = h.active; busy = h.busy })));
     empty = λ e p. absurd (true≢false (ap is_indexed e));
     backed = λ h e p g a. on_recorded p (i.backed b.0 b.1 p g a);
     behind = λ h e p a. subst (λ o. above o p ≡ true) (same_highest e) a;
@@ -262,7 +274,12 @@ module _ (s : State) (i : IsCoherent s) (can : CanFinish s) where
   finished_txns : (t : ℕ) (x : Active) → s.txns t ≡ Some x → TxnHolds finished t x
   finished_txns t x e =
       let h : TxnHolds s t x = i.txns t x e in
-      record { names = h.names; chained = h.chained; phase = subst (λ life. IsPhaseOf (is_indexed life) s.entries x.changes x.phase x.rolling) can.building.1 h.phase }
+      record {
+        names = h.names;
+        chained = h.chained;
+        phase = subst (λ life.
+            IsPhaseOf (is_indexed life) s.entries x.changes x.phase x.rolling) can.building.1 h.phase;
+      }
 
   finished_held : (r : Place) (t : ℕ) → s.holder r ≡ Some t → IsHeld finished r t
   finished_held r t e = let h : IsHeld s r t = i.held r t e in record { txn = h.txn; active = h.active; row = h.row; inside = h.inside }
@@ -271,7 +288,8 @@ module _ (s : State) (i : IsCoherent s) (can : CanFinish s) where
   finished_visible r row e h = elim h [
     | inl live ↦ inl live
     | inr w ↦
-        let ahead : (above s.bound (pair_of r row) ≡ true) × (s.missed (pair_of r row) ≡ false) = subst (λ life. IsAhead life s.bound s.missed (pair_of r row)) can.building.1 w.1 in
+        let ahead : (above s.bound (pair_of r row) ≡ true)
+        × (s.missed (pair_of r row) ≡ false) = subst (λ life. IsAhead life s.bound s.missed (pair_of r row)) can.building.1 w.1 in
         absurd (true≢false (sym (can.none_left (pair_of r row) ahead.0 (can.all_taken r.page (i.inside r row e))) ∙ ahead.1))
   ]
 
@@ -282,7 +300,8 @@ module _ (s : State) (i : IsCoherent s) (can : CanFinish s) where
     inside = i.inside;
     txns = finished_txns;
     sound = i.sound;
-    visible = λ r row e idle. finished_visible r row e (i.visible r row e (λ h. idle (record { transaction = h.transaction; txn = h.txn; active = h.active; busy = h.busy })));
+    visible = λ r row e idle. finished_visible r row e
+        (i.visible r row e (λ h. idle (record { transaction = h.transaction; txn = h.txn; active = h.active; busy = h.busy })));
     empty = λ e p. absurd (true≢false (ap is_indexed e));
     backed = λ h e p g a. absurd (cc);
     behind = λ h e p a. absurd (cc);
@@ -311,7 +330,8 @@ module _ (s : State) (i : IsCoherent s) (p : Pair) (can : CanClean s p) where
       record {
         names = h.names;
         chained = h.chained;
-        phase = phase_same (is_indexed s.life) s.holder t s.entries fewer (λ q k. clean_other q (λ same. not_none (ap (λ w. s.holder w.rid) (sym same) ∙ k) can.free)) x.changes x.phase x.rolling h.names h.phase;
+        phase = phase_same (is_indexed s.life) s.holder t s.entries fewer (λ q k.
+            clean_other q (λ same. not_none (ap (λ w. s.holder w.rid) (sym same) ∙ k) can.free)) x.changes x.phase x.rolling h.names h.phase;
       }
 
   clean_sound : (q : Pair) → get fewer q ≡ Some Live → IsPairOf s.rows q
@@ -362,7 +382,8 @@ module _ (s : State) (i : IsCoherent s) (p : Pair) (can : CanClean s p) where
     inside = i.inside;
     txns = clean_txns;
     sound = clean_sound;
-    visible = λ r row e idle. clean_visible (pair_of r row) (i.visible r row e (λ h. idle (record { transaction = h.transaction; txn = h.txn; active = h.active; busy = h.busy })));
+    visible = λ r row e idle. clean_visible (pair_of r row)
+        (i.visible r row e (λ h. idle (record { transaction = h.transaction; txn = h.txn; active = h.active; busy = h.busy })));
     empty = clean_empty;
     backed = clean_backed;
     behind = i.behind;

@@ -82,9 +82,11 @@ module _ (s : State) (holder' : Place → Option ℕ) (r : Place) (t : ℕ) (x x
       entry_backed_by q (inr m) (inl is) = inl is
       entry_backed_by q (inr m) (inr some) = inr (λ e. some (sym (other q m) ∙ e))
 
-      module _ (row : get s.rows r ≡ latest (made_of x') r (get s.committed r)) (phase : IsPhaseOf (is_indexed s.life) entries' x'.changes x'.phase x'.rolling) where
+      module _ (row : get s.rows r ≡ latest (made_of x') r (get s.committed r))
+          (phase : IsPhaseOf (is_indexed s.life) entries' x'.changes x'.phase x'.rolling) where
         entry_step : ((q : Pair) → q.rid ≡ r → get entries' q ≡ Some Live → IsPairOf s.rows q)
-            → ((of : Row) → get s.rows r ≡ Some of → (IsUnfinished (moved s s.rows entries' holder' r t x x') r → ⊥) → IsVisibleOrAhead (moved s s.rows entries' holder' r t x x') (pair_of r of))
+            → ((of : Row) → get s.rows r ≡ Some of → (IsUnfinished (moved s s.rows entries' holder' r t x x') r → ⊥)
+            → IsVisibleOrAhead (moved s s.rows entries' holder' r t x x') (pair_of r of))
             → IsCoherent (moved s s.rows entries' holder' r t x x')
         entry_step sound visible = framed s s.rows entries' holder' r t x x' entry_frame (record {
           row = row;
@@ -109,17 +111,25 @@ module _ (s : State) (holder' : Place → Option ℕ) (r : Place) (t : ℕ) (x x
           (λ q k e. mark_sound q (pair_decided q p) e)
           (λ of e idle. absurd (idle (record { transaction = t; txn = x'; active = txn_here s t x'; busy = busy })))
 
-      put_sound : (of : Row) → get s.rows r ≡ Some of → pair_of r of ≡ p → (q : Pair) → (q ≡ p) ⊎ (q ≢ p) → get (set_at s.entries p (Some Live)) q ≡ Some Live → IsPairOf s.rows q
-      put_sound of at is q (inl same) e = record { row = of; is_there = ap (get s.rows) (ap (λ w. w.rid) same ∙ here) ∙ at; has_key = ap (λ w. w.key) (is ∙ sym same) }
+      put_sound : (of : Row) → get s.rows r ≡ Some of → pair_of r of ≡ p → (q : Pair) → (q ≡ p) ⊎ (q ≢ p) → get (set_at s.entries p (Some Live)) q ≡ Some Live
+          → IsPairOf s.rows q
+      put_sound of at is q (inl same) e = record {
+        row = of;
+        is_there = ap (get s.rows) (ap (λ w. w.rid) same ∙ here)
+            ∙ at;
+        has_key = ap (λ w. w.key) (is ∙ sym same);
+      }
       put_sound of at is q (inr m) e = i.sound q (sym (other p here indexed Live q m) ∙ e)
 
-      pub put_step : (of : Row) → get s.rows r ≡ Some of → pair_of r of ≡ p → IsPhaseOf (is_indexed s.life) (set_at s.entries p (Some Live)) x'.changes x'.phase x'.rolling
+      pub put_step : (of : Row) → get s.rows r ≡ Some of → pair_of r of ≡ p
+          → IsPhaseOf (is_indexed s.life) (set_at s.entries p (Some Live)) x'.changes x'.phase x'.rolling
           → IsCoherent (moved s s.rows (set_at s.entries p (Some Live)) holder' r t x x')
       put_step of at is phase = entry_step p here indexed Live row phase
           (λ q k e. put_sound of at is q (pair_decided q p) e)
           (λ of' at' idle. inl (ap (get (set_at s.entries p (Some Live))) (ap (pair_of r) (same_some at' at) ∙ is) ∙ now p here indexed Live))
 
-    module _ (v : Option Row) (phase : IsPhaseOf (is_indexed s.life) s.entries x'.changes x'.phase x'.rolling) (replaced : (row : Row) → get s.rows r ≡ Some row → Replaced s r row v) where
+    module _ (v : Option Row) (phase : IsPhaseOf (is_indexed s.life) s.entries x'.changes x'.phase x'.rolling) (replaced : (row : Row) → get s.rows r ≡ Some row
+        → Replaced s r row v) where
       abbrev rows' : Table
       rows' = set_at s.rows r v
 
@@ -139,7 +149,8 @@ module _ (s : State) (holder' : Place → Option ℕ) (r : Place) (t : ℕ) (x x
       }
 
       -- an entry of the row that goes is of the new row too, or marked
-      on_new : (q : Pair) → q.rid ≡ r → (is : IsPairOf s.rows q) → Replaced s r is.row v → (s.life ≡ Absent) ⊎ (IsPairOf rows' q ⊎ (get s.entries q ≡ Some Marked))
+      on_new : (q : Pair) → q.rid ≡ r → (is : IsPairOf s.rows q) → Replaced s r is.row v → (s.life ≡ Absent)
+          ⊎ (IsPairOf rows' q ⊎ (get s.entries q ≡ Some Marked))
       unfolding Replaced
       on_new q k is (inl a) = inl a
       on_new q k is (inr (inl stay)) = inr (inl (record { row = stay.it; is_there = ap (get rows') k ∙ set_now ∙ stay.is; has_key = stay.key ∙ is.has_key }))
@@ -153,7 +164,8 @@ module _ (s : State) (holder' : Place → Option ℕ) (r : Place) (t : ℕ) (x x
       row_sound q e (inr (inl is)) = is
       row_sound q e (inr (inr marked)) = absurd (live≢marked e marked)
 
-      row_backed_by : (q : Pair) (h : Option Pair) → s.life ≡ Building h → (s.life ≡ Absent) ⊎ (IsPairOf rows' q ⊎ (get s.entries q ≡ Some Marked)) → IsPairOf rows' q ⊎ (get s.entries q ≢ None)
+      row_backed_by : (q : Pair) (h : Option Pair) → s.life ≡ Building h → (s.life ≡ Absent) ⊎ (IsPairOf rows' q ⊎ (get s.entries q ≡ Some Marked))
+          → IsPairOf rows' q ⊎ (get s.entries q ≢ None)
       row_backed_by q h b (inl a) = absurd (not_building s.life h b a)
       row_backed_by q h b (inr (inl is)) = inl is
       row_backed_by q h b (inr (inr marked)) = inr (λ e. not_none marked e)

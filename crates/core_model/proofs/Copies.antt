@@ -26,7 +26,8 @@ run-append : (s s' s'' : State) (es later : List MachineStep) → Runs s es s' �
 run-append s s' s'' es later no_step r = r
 run-append s s' s'' es later (one_step e rest a first) r = one_step {s = s} {s' = s''} e (rest ++ later) a (run-append (after s e) s' s'' rest later first r)
 
-shift : (last n : ℕ) (o : Option Action) (records : List RecordValue) → n ≡ last + length (one_record last o ++ records) → n ≡ next_number last o + length records
+shift : (last n : ℕ) (o : Option Action) (records : List RecordValue) → n ≡ last + length (one_record last o ++ records)
+    → n ≡ next_number last o + length records
 shift last n None records h = h
 shift last n (Some action) records h = omega (arith, h)
 
@@ -37,26 +38,34 @@ items-append s s' es later no_step writes last n h = ap (λ m. items_from writes
     no_more : last + 0 ≡ last
     no_more = omega arith
 items-append s s' es later (one_step f rest b r) writes last n h =
-    ap (λ l. map (item_at last) (deeds_of writes f) ++ l) (items-append (after s f) s' rest later r (writes_after writes f) (next_number last (action_of s f)) n (shift last n (action_of s f) _ h))
-    ∙ sym (append_assoc (map (item_at last) (deeds_of writes f)) (items_from (writes_after writes f) (after s f) (next_number last (action_of s f)) rest) (items_from (writes_over (writes_after writes f) rest) s' n later))
+    ap (λ l. map (item_at last) (deeds_of writes f) ++ l)
+    (items-append (after s f) s' rest later r (writes_after writes f) (next_number last (action_of s f)) n (shift last n (action_of s f) _ h))
+    ∙ sym (append_assoc (map (item_at last) (deeds_of writes f)) (items_from (writes_after writes f) (after s f) (next_number last (action_of s f)) rest)
+    (items_from (writes_over (writes_after writes f) rest) s' n later))
 
 -- all items of a run are up to its last record
-all_up_to : (s s' : State) (es : List MachineStep) → Runs s es s' → (writes : ℕ → List Write) (last n : ℕ) → last + length (records_from s last es) ≤ n → up_to n (items_from writes s last es) ≡ items_from writes s last es
+all_up_to : (s s' : State) (es : List MachineStep) → Runs s es s' → (writes : ℕ → List Write) (last n : ℕ) → last + length (records_from s last es) ≤ n
+    → up_to n (items_from writes s last es) ≡ items_from writes s last es
 all_up_to s s' es no_step writes last n le = refl
 all_up_to s s' es (one_step e rest a r) writes last n le =
     up_to-append n (map (item_at last) (deeds_of writes e)) (items_from (writes_after writes e) (after s e) (next_number last (action_of s e)) rest)
-    ∙ ap (λ l. l ++ up_to n (items_from (writes_after writes e) (after s e) (next_number last (action_of s e)) rest)) (here (action_of s e) (deeds_of writes e) (no_deeds s writes e) le)
-    ∙ ap (λ l. map (item_at last) (deeds_of writes e) ++ l) (all_up_to (after s e) s' rest r (writes_after writes e) (next_number last (action_of s e)) n (fewer (action_of s e) le))
+    ∙ ap (λ l. l ++ up_to n (items_from (writes_after writes e) (after s e) (next_number last (action_of s e)) rest))
+    (here (action_of s e) (deeds_of writes e) (no_deeds s writes e) le)
+    ∙ ap (λ l. map (item_at last) (deeds_of writes e) ++ l)
+    (all_up_to (after s e) s' rest r (writes_after writes e) (next_number last (action_of s e)) n (fewer (action_of s e) le))
   where
-    here : (o : Option Action) (ds : List Deed) → (o ≡ None → ds ≡ []) → last + length (one_record last o ++ records_from (after s e) (next_number last o) rest) ≤ n → up_to n (map (item_at last) ds) ≡ map (item_at last) ds
+    here : (o : Option Action) (ds : List Deed) → (o ≡ None → ds ≡ [])
+        → last + length (one_record last o ++ records_from (after s e) (next_number last o) rest) ≤ n → up_to n (map (item_at last) ds) ≡ map (item_at last) ds
     here None ds h le = subst (λ l. up_to n (map (item_at last) l) ≡ map (item_at last) l) (sym (h refl)) refl
     here (Some action) ds h le = up_here last n (omega (arith, le)) ds
 
-    fewer : (o : Option Action) → last + length (one_record last o ++ records_from (after s e) (next_number last o) rest) ≤ n → next_number last o + length (records_from (after s e) (next_number last o) rest) ≤ n
+    fewer : (o : Option Action) → last + length (one_record last o ++ records_from (after s e) (next_number last o) rest) ≤ n
+        → next_number last o + length (records_from (after s e) (next_number last o) rest) ≤ n
     fewer None le = le
     fewer (Some action) le = omega (arith, le)
 
-module _ (o : Opened) (can : CanOpen o) (before : List RecordValue) (items : List Item) (writes : ℕ → List Write) (s : State) (h : HasMade o before items writes s) (cells : Cells) (c : HasCells s cells)
+module _ (o : Opened) (can : CanOpen o) (before : List RecordValue) (items : List Item) (writes : ℕ
+    → List Write) (s : State) (h : HasMade o before items writes s) (cells : Cells) (c : HasCells s cells)
     (es : List MachineStep) (s' : State) (run : Runs s es s') where
   abbrev base : ℕ
   base = o.given.last + length before
@@ -86,7 +95,8 @@ module _ (o : Opened) (can : CanOpen o) (before : List RecordValue) (items : Lis
     same_items =
         let enough : o.given.last + length (records_over o h.steps) ≤ base + k = omega (arith, last_is) in
         up_to-append (base + k) items (items_from writes s base es)
-        ∙ ap (λ l. l ++ up_to (base + k) (items_from writes s base es)) (ap (up_to (base + k)) h.history ∙ all_up_to (opened o) s h.steps h.run no_writes o.given.last (base + k) enough)
+        ∙ ap (λ l. l ++ up_to (base + k) (items_from writes s base es)) (ap (up_to (base + k)) h.history
+        ∙ all_up_to (opened o) s h.steps h.run no_writes o.given.last (base + k) enough)
         ∙ ap (λ l. items_over o h.steps ++ l) (part.items ∙ ap (λ w. items_from w s base part.steps) h.asked)
         ∙ sym (items-append (opened o) s h.steps part.steps h.run no_writes o.given.last base last_is)
 
@@ -94,7 +104,8 @@ module _ (o : Opened) (can : CanOpen o) (before : List RecordValue) (items : Lis
     given = recovered (cells_after image (take k log)) (base + k)
 
     is_recovered : IsRecovered part.end given
-    is_recovered = recovers_state part.end (run_keeps _ part.end (h.steps ++ part.steps) whole (opened_holds o can)) (cells_after image (take k log)) set (base + k)
+    is_recovered = recovers_state part.end (run_keeps _ part.end (h.steps ++ part.steps) whole (opened_holds o can)) (cells_after image (take k log)) set
+        (base + k)
 
     image_opens : CanOpen (record o { given = given })
     image_opens =
@@ -105,8 +116,10 @@ module _ (o : Opened) (can : CanOpen o) (before : List RecordValue) (items : Lis
     image_begins = (
       record {
         has_floor = omega arith;
-        table = is_recovered.table ∙ told_table o (h.steps ++ part.steps) part.end whole (items_over o (h.steps ++ part.steps)) (items_deeds no_writes (opened o) o.given.last (h.steps ++ part.steps)) ∙ ap (table_after o.given.table) (sym same_items);
-        life = set.life ∙ told_life o (h.steps ++ part.steps) part.end whole (items_over o (h.steps ++ part.steps)) (items_deeds no_writes (opened o) o.given.last (h.steps ++ part.steps)) ∙ ap (life_after o.given.life) (sym same_items);
+        table = is_recovered.table ∙ told_table o (h.steps ++ part.steps) part.end whole (items_over o (h.steps ++ part.steps))
+            (items_deeds no_writes (opened o) o.given.last (h.steps ++ part.steps)) ∙ ap (table_after o.given.table) (sym same_items);
+        life = set.life ∙ told_life o (h.steps ++ part.steps) part.end whole (items_over o (h.steps ++ part.steps))
+            (items_deeds no_writes (opened o) o.given.last (h.steps ++ part.steps)) ∙ ap (life_after o.given.life) (sym same_items);
         shown = image_opens.sound;
       },
       image_opens,

@@ -1,5 +1,6 @@
 -- The worked run.
-use Rattle.std.proofs.Common.{Bool, None, Some, [], ap, arith, false, inl, inr, nat_eq, not, refl, suc, sym, true, true≢false, zero, ℕ, ◌&&◌, ◌+◌, ◌<◌, ◌∙◌, ◌∷◌, ◌≡◌, ◌≢◌, ◌≤◌}
+use Rattle.std.proofs.Common.{Bool, None, Some, [], ap, arith, false, inl, inr, nat_eq, not, refl, suc, sym, true, true≢false, zero, ℕ, ◌&&◌, ◌+◌, ◌<◌, ◌∙◌}
+use Rattle.std.proofs.Common.{◌∷◌, ◌≡◌, ◌≢◌, ◌≤◌}
 use Rattle.std.specs.FinMap.{empty, get, get-empty, insert, len, len-empty}
 use Rattle.records.specs.Maps.{get-set_at_other, get-set_at_same, pair_exact, rid_exact, set_at}
 use Rattle.records.specs.Orders.{pair_cmp, rid_cmp}
@@ -181,7 +182,8 @@ from_1 : Runs s1 (Begin 1 ∷ Start 1 insertion ∷ Take 0 ∷ Undo 1 ∷ Undo 1
 from_1 = one_step {s = s1} {s' = last} (Begin 1) (Start 1 insertion ∷ Take 0 ∷ Undo 1 ∷ Undo 1 ∷ Undo 1 ∷ End 1 ∷ Attempt pair ∷ Finish ∷ []) refl from_2
 
 pub example : Runs (opened opening) steps last
-example = one_step {s = opened opening} {s' = last} Create (Begin 1 ∷ Start 1 insertion ∷ Take 0 ∷ Undo 1 ∷ Undo 1 ∷ Undo 1 ∷ End 1 ∷ Attempt pair ∷ Finish ∷ []) (refl, λ t. refl) from_1
+example = one_step {s = opened opening} {s' = last} Create
+    (Begin 1 ∷ Start 1 insertion ∷ Take 0 ∷ Undo 1 ∷ Undo 1 ∷ Undo 1 ∷ End 1 ∷ Attempt pair ∷ Finish ∷ []) (refl, λ t. refl) from_1
 
 -- with no row and no entry a core may begin
 pub example_opens : CanOpen opening

@@ -19,7 +19,9 @@ use Rattle.core_model.proofs.Pledged.{pledged_step}
 use Rattle.core_model.specs.Changes.{Changes, Unchanged, as_list, new_pair, old_pair, ◌▹◌}
 use Rattle.core_model.specs.Invariants.{HasShape, IsFit, IsHolderOf, IsNumbered, IsShaped, IsWellFormed}
 use Rattle.core_model.specs.States.{Active, Made, NewMarked, OldMarked, OldSet, Phase, RowSet, State}
-use Rattle.core_model.specs.Steps.{Attempt, Begin, Checkpoint, Clean, Commit, Create, Drop, End, Finish, IsEnabled, Keep, Next, Start, MachineStep, Take, Undo, Wrap, after, carried_on, freed, is_indexed, new_txn, row_made, row_undone, started, txn_at, undoing, undone, undone_first, update, with_change, with_phase, with_txn, without_newest}
+use Rattle.core_model.specs.Steps.{Attempt, Begin, Checkpoint, Clean, Commit, Create, Drop, End, Finish, IsEnabled, Keep, Next, Start, MachineStep, Take, Undo}
+use Rattle.core_model.specs.Steps.{Wrap, after, carried_on, freed, is_indexed, new_txn, row_made, row_undone, started, txn_at, undoing, undone, undone_first}
+use Rattle.core_model.specs.Steps.{update, with_change, with_phase, with_txn, without_newest}
 
 -- ---- the transactions
 row_shape : (indexed : Bool) (c : ChangeValue) (o : Option Pair) → new_pair indexed c ≡ o → HasShape indexed c (row_made o)
@@ -34,9 +36,11 @@ module _ (s : State) (w : IsWellFormed s) (t : ℕ) where
   abbrev indexed : Bool
   indexed = is_indexed s.life
 
-  put_fit : (holder' : Place → Option ℕ) (x' : Active) → ((u : ℕ) (r : Place) → u ≢ t → s.holder r ≡ Some u → holder' r ≡ Some u) → IsFit holder' indexed t x' → (u : ℕ) (y : Active) → with_txn s t x' u ≡ Some y → IsFit holder' indexed u y
+  put_fit : (holder' : Place → Option ℕ) (x' : Active) → ((u : ℕ) (r : Place) → u ≢ t → s.holder r ≡ Some u → holder' r ≡ Some u) → IsFit holder' indexed t x'
+      → (u : ℕ) (y : Active) → with_txn s t x' u ≡ Some y → IsFit holder' indexed u y
   put_fit holder' x' keep fit u y e = elim (nat_decided u t) [
-    | inl same ↦ subst (λ v. IsFit holder' indexed v y) (sym same) (subst (λ z. IsFit holder' indexed t z) (same_some (ap (with_txn s t x') same ∙ txn_here s t x') e) fit)
+    | inl same ↦ subst (λ v. IsFit holder' indexed v y) (sym same)
+        (subst (λ z. IsFit holder' indexed t z) (same_some (ap (with_txn s t x') same ∙ txn_here s t x') e) fit)
     | inr m ↦
         let f : IsFit s.holder indexed u y = w.txns u y (sym (txn_apart s t x' u m) ∙ e) in
         record { names = holds_more s.holder holder' u (λ r. keep u r m) y.changes f.names; shaped = f.shaped; numbered = f.numbered }
@@ -50,7 +54,11 @@ module _ (s : State) (w : IsWellFormed s) (t : ℕ) where
     | inl same ↦ absurd (not_none e (ap (update nat_cmp s.txns t None) same ∙ update_here nat_cmp_total s.txns t None))
     | inr m ↦
         let f : IsFit s.holder indexed u y = w.txns u y (sym (update_apart nat_cmp-IsAntisymmetric s.txns t None u m) ∙ e) in
-        record { names = holds_more s.holder (λ r. freed t (s.holder r)) u (λ r h. ap (freed t) h ∙ stays u m) y.changes f.names; shaped = f.shaped; numbered = f.numbered }
+        record {
+          names = holds_more s.holder (λ r. freed t (s.holder r)) u (λ r h. ap (freed t) h ∙ stays u m) y.changes f.names;
+          shaped = f.shaped;
+          numbered = f.numbered;
+        }
   ]
     where
       stays : (u : ℕ) → u ≢ t → freed t (Some u) ≡ Some u
@@ -83,16 +91,22 @@ module _ (s : State) (w : IsWellFormed s) (t : ℕ) where
         numbered = (position, now.numbered);
       }
 
-      started_fit : (o : Option Pair) → old_pair indexed c ≡ o → (u : ℕ) (y : Active) → (started s t x c o).txns u ≡ Some y → IsFit (started s t x c o).holder (is_indexed (started s t x c o).life) u y
-      started_fit (Some p) e u y a = put_fit held_too (with_change x c OldMarked) others_hold (change_fit OldMarked (record { it = p; is = e; holds = tt })) u y a
-      started_fit None e u y a = put_fit held_too (with_change x c (row_made (new_pair indexed c))) others_hold (change_fit (row_made (new_pair indexed c)) (row_shape indexed c (new_pair indexed c) refl)) u y a
+      started_fit : (o : Option Pair) → old_pair indexed c ≡ o → (u : ℕ) (y : Active) → (started s t x c o).txns u ≡ Some y
+          → IsFit (started s t x c o).holder (is_indexed (started s t x c o).life) u y
+      started_fit (Some p) e u y a = put_fit held_too (with_change x c OldMarked) others_hold
+          (change_fit OldMarked (record { it = p; is = e; holds = tt })) u y a
+      started_fit None e u y a = put_fit held_too (with_change x c (row_made (new_pair indexed c))) others_hold
+          (change_fit (row_made (new_pair indexed c)) (row_shape indexed c (new_pair indexed c) refl)) u y a
 
-    phase_fit : (c : ChangeValue) (older : Changes) → x.changes ≡ older ▹ c → (phase : Phase) → HasShape indexed c phase → IsFit s.holder indexed t (with_phase x phase)
+    phase_fit : (c : ChangeValue) (older : Changes) → x.changes ≡ older ▹ c → (phase : Phase) → HasShape indexed c phase
+        → IsFit s.holder indexed t (with_phase x phase)
     phase_fit c older e phase shape = record { names = now.names; shaped = subst (λ cs. IsShaped indexed cs phase) (sym e) shape; numbered = now.numbered }
 
-    carried_fit : (cs : Changes) → x.changes ≡ cs → (phase : Phase) (u : ℕ) (y : Active) → (carried_on s t x cs phase).txns u ≡ Some y → IsFit (carried_on s t x cs phase).holder (is_indexed (carried_on s t x cs phase).life) u y
+    carried_fit : (cs : Changes) → x.changes ≡ cs → (phase : Phase) (u : ℕ) (y : Active) → (carried_on s t x cs phase).txns u ≡ Some y
+        → IsFit (carried_on s t x cs phase).holder (is_indexed (carried_on s t x cs phase).life) u y
     carried_fit Unchanged e phase u y a = w.txns u y a
-    carried_fit (older ▹ c) e OldMarked u y a = same_fit (with_phase x (row_made (new_pair indexed c))) (phase_fit c older e (row_made (new_pair indexed c)) (row_shape indexed c (new_pair indexed c) refl)) u y a
+    carried_fit (older ▹ c) e OldMarked u y a = same_fit (with_phase x (row_made (new_pair indexed c)))
+        (phase_fit c older e (row_made (new_pair indexed c)) (row_shape indexed c (new_pair indexed c) refl)) u y a
     carried_fit (older ▹ c) e RowSet u y a = same_fit (with_phase x Made) (phase_fit c older e Made tt) u y a
     carried_fit (older ▹ c) e Made u y a = w.txns u y a
     carried_fit (older ▹ c) e (NewMarked b) u y a = w.txns u y a
@@ -105,20 +119,26 @@ module _ (s : State) (w : IsWellFormed s) (t : ℕ) where
       numbered = (subst IsNumbered e now.numbered).1;
     }
 
-    undoing_fit : (c : ChangeValue) (older : Changes) → x.changes ≡ older ▹ c → (phase : Phase) → HasShape indexed c phase → IsFit s.holder indexed t (undoing x phase)
+    undoing_fit : (c : ChangeValue) (older : Changes) → x.changes ≡ older ▹ c → (phase : Phase) → HasShape indexed c phase
+        → IsFit s.holder indexed t (undoing x phase)
     undoing_fit c older e phase shape = record { names = now.names; shaped = subst (λ cs. IsShaped indexed cs phase) (sym e) shape; numbered = now.numbered }
 
-    row_fit : (c : ChangeValue) (older : Changes) → x.changes ≡ older ▹ c → (o : Option Pair) → old_pair indexed c ≡ o → IsFit s.holder indexed t (row_undone x older o)
+    row_fit : (c : ChangeValue) (older : Changes) → x.changes ≡ older ▹ c → (o : Option Pair) → old_pair indexed c ≡ o
+        → IsFit s.holder indexed t (row_undone x older o)
     row_fit c older e None k = older_fit c older e
     row_fit c older e (Some p) k = undoing_fit c older e OldSet (record { it = p; is = k; holds = tt })
 
-    first_fit : (c : ChangeValue) (older : Changes) → x.changes ≡ older ▹ c → (b : Bool) (o : Option Pair) → new_pair indexed c ≡ o → (u : ℕ) (y : Active) → (undone_first s t x c older b o).txns u ≡ Some y
+    first_fit : (c : ChangeValue) (older : Changes) → x.changes ≡ older ▹ c → (b : Bool) (o : Option Pair) → new_pair indexed c ≡ o → (u : ℕ) (y : Active)
+        → (undone_first s t x c older b o).txns u ≡ Some y
         → IsFit (undone_first s t x c older b o).holder (is_indexed (undone_first s t x c older b o).life) u y
-    first_fit c older e b (Some p) k u y a = same_fit (undoing x (NewMarked b)) (undoing_fit c older e (NewMarked b) (record { it = p; is = k; holds = tt })) u y a
+    first_fit c older e b (Some p) k u y a = same_fit (undoing x (NewMarked b))
+        (undoing_fit c older e (NewMarked b) (record { it = p; is = k; holds = tt })) u y a
     first_fit c older e b None k u y a = same_fit (row_undone x older (old_pair indexed c)) (row_fit c older e (old_pair indexed c) refl) u y a
 
-    undone_fit : (cs : Changes) → x.changes ≡ cs → (phase : Phase) → x.phase ≡ phase → (u : ℕ) (y : Active) → (undone s t x cs phase).txns u ≡ Some y → IsFit (undone s t x cs phase).holder (is_indexed (undone s t x cs phase).life) u y
-    undone_fit Unchanged e phase k u y a = same_fit (undoing x phase) (record { names = now.names; shaped = subst (λ ph. IsShaped indexed x.changes ph) k now.shaped; numbered = now.numbered }) u y a
+    undone_fit : (cs : Changes) → x.changes ≡ cs → (phase : Phase) → x.phase ≡ phase → (u : ℕ) (y : Active) → (undone s t x cs phase).txns u ≡ Some y
+        → IsFit (undone s t x cs phase).holder (is_indexed (undone s t x cs phase).life) u y
+    undone_fit Unchanged e phase k u y a = same_fit (undoing x phase)
+        (record { names = now.names; shaped = subst (λ ph. IsShaped indexed x.changes ph) k now.shaped; numbered = now.numbered }) u y a
     undone_fit (older ▹ c) e OldMarked k u y a = first_fit c older e _ (new_pair indexed c) refl u y a
     undone_fit (older ▹ c) e RowSet k u y a = first_fit c older e _ (new_pair indexed c) refl u y a
     undone_fit (older ▹ c) e Made k u y a = first_fit c older e _ (new_pair indexed c) refl u y a
@@ -128,7 +148,8 @@ module _ (s : State) (w : IsWellFormed s) (t : ℕ) where
 indexed_same : (s : State) → IsWellFormed s → (b : Bool) → is_indexed s.life ≡ b → (t : ℕ) (x : Active) → s.txns t ≡ Some x → IsFit s.holder b t x
 indexed_same s w b e t x a = subst (λ i. IsFit s.holder i t x) e (w.txns t x a)
 
-txns_step : (s : State) (e : MachineStep) → IsWellFormed s → IsEnabled s e → (t : ℕ) (x : Active) → (after s e).txns t ≡ Some x → IsFit (after s e).holder (is_indexed (after s e).life) t x
+txns_step : (s : State) (e : MachineStep) → IsWellFormed s → IsEnabled s e → (t : ℕ) (x : Active) → (after s e).txns t ≡ Some x
+    → IsFit (after s e).holder (is_indexed (after s e).life) t x
 txns_step s (Begin t) w a = same_fit s w t new_txn (record { names = tt; shaped = refl; numbered = tt })
 txns_step s (Start t c) w a = started_fit s w t (txn_at s t) a.active c a.mine a.position (old_pair (is_indexed s.life) c) refl
 txns_step s (Next t) w a = carried_fit s w t (txn_at s t) a.0 (txn_at s t).changes refl (txn_at s t).phase
@@ -169,7 +190,8 @@ module _ (s : State) (w : IsWellFormed s) (t : ℕ) (x : Active) where
     carried_rows (older ▹ c) e (NewMarked b) = w.rows
     carried_rows (older ▹ c) e OldSet = w.rows
 
-    first_rows : (c : ChangeValue) (older : Changes) → x.changes ≡ older ▹ c → (b : Bool) (o : Option Pair) → RowsInside (undone_first s t x c older b o).pages (undone_first s t x c older b o).rows
+    first_rows : (c : ChangeValue) (older : Changes) → x.changes ≡ older ▹ c → (b : Bool) (o : Option Pair)
+        → RowsInside (undone_first s t x c older b o).pages (undone_first s t x c older b o).rows
     first_rows c older e b (Some p) = w.rows
     first_rows c older e b None = set_rows s.pages s.rows c.rid _ (change_inside s w t x active c older e) w.rows
 
@@ -210,7 +232,8 @@ module _ (s : State) (w : IsWellFormed s) (t : ℕ) (x : Active) where
   started_held : (c : ChangeValue) → c.rid.page < s.pages → (o : Option Pair) → HeldInside (started s t x c o).pages (started s t x c o).holder
   started_held c l o r u e = elim (rid_decided r c.rid) [
     | inl same ↦ subst (λ pages. r.page < pages) (same_pages o) (subst (λ (p : Place). p.page < s.pages) (sym same) l)
-    | inr n ↦ subst (λ pages. r.page < pages) (same_pages o) (w.held r u (sym (update_apart rid_cmp-IsAntisymmetric s.holder c.rid (Some t) r n) ∙ ap (λ f. f r) (same_holder o) ∙ e))
+    | inr n ↦ subst (λ pages. r.page < pages) (same_pages o)
+        (w.held r u (sym (update_apart rid_cmp-IsAntisymmetric s.holder c.rid (Some t) r n) ∙ ap (λ f. f r) (same_holder o) ∙ e))
   ]
     where
       same_pages : (o : Option Pair) → s.pages ≡ (started s t x c o).pages
@@ -229,7 +252,8 @@ module _ (s : State) (w : IsWellFormed s) (t : ℕ) (x : Active) where
   carried_held (older ▹ c) (NewMarked b) = w.held
   carried_held (older ▹ c) OldSet = w.held
 
-  first_held : (c : ChangeValue) (older : Changes) (b : Bool) (o : Option Pair) → HeldInside (undone_first s t x c older b o).pages (undone_first s t x c older b o).holder
+  first_held : (c : ChangeValue) (older : Changes) (b : Bool) (o : Option Pair)
+      → HeldInside (undone_first s t x c older b o).pages (undone_first s t x c older b o).holder
   first_held c older b (Some p) = w.held
   first_held c older b None = w.held
 

@@ -1,8 +1,10 @@
 -- Each record of a run can follow the ones before it.
-use Rattle.std.proofs.Common.{List, None, Option, Some, [], ap, append-nil, arith, cond, inl, inr, is_some, length, refl, subst, suc, sym, take, true, true≢false, zero, ℕ, ◌++◌, ◌+◌, ◌-◌, ◌<◌, ◌∙◌, ◌∷◌, ◌≡◌, ◌≢◌, ◌≤◌}
+use Rattle.std.proofs.Common.{List, None, Option, Some, [], ap, append-nil, arith, cond, inl, inr, is_some, length, refl, subst, suc, sym, take, true}
+use Rattle.std.proofs.Common.{true≢false, zero, ℕ, ◌++◌, ◌+◌, ◌-◌, ◌<◌, ◌∙◌, ◌∷◌, ◌≡◌, ◌≢◌, ◌≤◌}
 use Rattle.std.proofs.lemmas.List.{append_assoc}
 use Rattle.std.specs.Cmp.{nat_cmp_total}
-use Rattle.std.specs.FinMap.{FinMap, empty_of_len, entries, entries_sorted, get, get-empty, get-entries, get-remove, len, len-remove, nat_cmp-IsAntisymmetric, remove}
+use Rattle.std.specs.FinMap.{FinMap, empty_of_len, entries, entries_sorted, get, get-empty, get-entries, get-remove, len, len-remove, nat_cmp-IsAntisymmetric}
+use Rattle.std.specs.FinMap.{remove}
 use Rattle.std.specs.FinMap.Entries.{find, is_sorted}
 use Rattle.std.specs.Ordering.{nat_cmp}
 use Rattle.std.specs.Prelude.{T, map}
@@ -35,7 +37,8 @@ use Rattle.core_model.specs.Invariants.{Invariant, IsNumbered, IsShaped, IsWellF
 use Rattle.core_model.specs.Logs.{HasMade, IsLogOf, RecoversPrefix, item_at, items_from, items_over, next_number, one_record, records_from, records_over}
 use Rattle.core_model.specs.Records.{HasCells, IsListOf, action_of, begun_action, first_action, next_action, place_action, set_by_any, undo_action}
 use Rattle.core_model.specs.States.{Active, Made, NewMarked, OldMarked, OldSet, Phase, RowSet, State}
-use Rattle.core_model.specs.Steps.{Attempt, Begin, Checkpoint, Clean, Commit, Create, Drop, End, Finish, IsBuilding, IsEnabled, IsPassed, Keep, Next, Start, MachineStep, Take, Undo, Wrap, after, is_indexed, txn_at}
+use Rattle.core_model.specs.Steps.{Attempt, Begin, Checkpoint, Clean, Commit, Create, Drop, End, Finish, IsBuilding, IsEnabled, IsPassed, Keep, Next, Start}
+use Rattle.core_model.specs.Steps.{MachineStep, Take, Undo, Wrap, after, is_indexed, txn_at}
 
 -- ---- a map has no more entries than one that has all its keys
 some_len : {Y : Type 0} (n : FinMap nat_cmp Y) (k : ℕ) → get n k ≢ None → 1 ≤ len n
@@ -58,7 +61,8 @@ shorter n k h =
 still_there : {Y : Type 0} (n : FinMap nat_cmp Y) (k q : ℕ) → q ≢ k → get n q ≢ None → get (remove n k) q ≢ None
 still_there n k q m h e = h (sym (get-remove nat_cmp_total n k q ∙ ap (λ b. cond b None (get n q)) (apart nat_cmp-IsAntisymmetric q k m)) ∙ e)
 
-keys_fit : {X Y : Type 0} (es : List (ℕ × X)) → T (is_sorted nat_cmp es) → (n : FinMap nat_cmp Y) → ((k : ℕ) → find nat_cmp k es ≢ None → get n k ≢ None) → length es ≤ len n
+keys_fit : {X Y : Type 0} (es : List (ℕ × X)) → T (is_sorted nat_cmp es) → (n : FinMap nat_cmp Y) → ((k : ℕ) → find nat_cmp k es ≢ None → get n k ≢ None)
+    → length es ≤ len n
 keys_fit [] sorted n h = omega arith
 keys_fit {X} {Y} (e ∷ es) sorted n h =
     let rest : length es ≤ len (remove n e.0) = keys_fit {Y = Y} es (right _ _ sorted) (remove n e.0) later in
@@ -133,11 +137,13 @@ module _ (s : State) (i : IsWellFormed s) (cells : Cells) (k : HasCells s cells)
     new_there : (p : Pair) → new_pair (is_indexed s.life) c ≡ Some p → cells.life ≢ Absent
     new_there p h = there (not_absent s.life (gone_is (is_indexed s.life) c.rid (new_row c.rows) (old_row c.rows) p h).there)
 
-    begun_follows : (o : Option Pair) → new_pair (is_indexed s.life) c ≡ o → MayFollow s.pages cells (Some (begun_action t c (old_pair (is_indexed s.life) c) o))
+    begun_follows : (o : Option Pair) → new_pair (is_indexed s.life) c ≡ o
+        → MayFollow s.pages cells (Some (begun_action t c (old_pair (is_indexed s.life) c) o))
     begun_follows None h = (inside, tt, last_of)
     begun_follows (Some p) h = (inside, new_there p h, last_of)
 
-  start_follows : len s.pledges ≤ TXNS_MAX → (t : ℕ) (x : Active) → s.txns t ≡ Some x → (c : ChangeValue) → c.position ≡ length (as_list x.changes) → c.rid.page < s.pages → (o : Option Pair) → old_pair (is_indexed s.life) c ≡ o
+  start_follows : len s.pledges ≤ TXNS_MAX → (t : ℕ) (x : Active) → s.txns t ≡ Some x → (c : ChangeValue) → c.position ≡ length (as_list x.changes)
+      → c.rid.page < s.pages → (o : Option Pair) → old_pair (is_indexed s.life) c ≡ o
       → MayFollow s.pages cells (Some (first_action t c o))
   start_follows few t x active c e l None h = (l, tt, next_on few t x active c e, room few t x active)
   start_follows few t x active c e l (Some p) h = (
@@ -147,15 +153,18 @@ module _ (s : State) (i : IsWellFormed s) (cells : Cells) (k : HasCells s cells)
     room few t x active,
   )
 
-  next_follows : len s.pledges ≤ TXNS_MAX → (t : ℕ) (x : Active) → s.txns t ≡ Some x → (cs : Changes) → x.changes ≡ cs → (phase : Phase) → IsShaped (is_indexed s.life) cs phase → MayFollow s.pages cells (next_action t cs phase)
+  next_follows : len s.pledges ≤ TXNS_MAX → (t : ℕ) (x : Active) → s.txns t ≡ Some x → (cs : Changes) → x.changes ≡ cs → (phase : Phase)
+      → IsShaped (is_indexed s.life) cs phase → MayFollow s.pages cells (next_action t cs phase)
   next_follows few t x active Unchanged e phase h = tt
   next_follows few t x active (older ▹ c) e OldMarked h = (inside t x active c older e, tt, inr (last_of t x active c older e), room few t x active)
-  next_follows few t x active (older ▹ c) e RowSet h = (inside t x active c older e, new_there t x active c older e h.it h.is, inr (last_of t x active c older e), room few t x active)
+  next_follows few t x active (older ▹ c) e RowSet h =
+      (inside t x active c older e, new_there t x active c older e h.it h.is, inr (last_of t x active c older e), room few t x active)
   next_follows few t x active (older ▹ c) e Made h = tt
   next_follows few t x active (older ▹ c) e (NewMarked b) h = tt
   next_follows few t x active (older ▹ c) e OldSet h = tt
 
-  undo_follows : (t : ℕ) (x : Active) → s.txns t ≡ Some x → (cs : Changes) → x.changes ≡ cs → (phase : Phase) → IsShaped (is_indexed s.life) cs phase → MayFollow s.pages cells (undo_action (is_indexed s.life) t cs phase)
+  undo_follows : (t : ℕ) (x : Active) → s.txns t ≡ Some x → (cs : Changes) → x.changes ≡ cs → (phase : Phase) → IsShaped (is_indexed s.life) cs phase
+      → MayFollow s.pages cells (undo_action (is_indexed s.life) t cs phase)
   undo_follows t x active Unchanged e phase h = tt
   undo_follows t x active (older ▹ c) e OldMarked h = begun_follows t x active c older e _ refl
   undo_follows t x active (older ▹ c) e RowSet h = begun_follows t x active c older e _ refl
@@ -184,7 +193,8 @@ module _ (s : State) (i : IsWellFormed s) (cells : Cells) (k : HasCells s cells)
   may_follow few Wrap a = tt
   may_follow few Drop a = λ e. a.0 (sym k.life ∙ e)
 
-pub step_record : (s : State) (e : MachineStep) (cells : Cells) (last : ℕ) (action : Action) → IsWellFormed s → IsEnabled s e → HasCells s cells → len s.pledges ≤ TXNS_MAX → action_of s e ≡ Some action
+pub step_record : (s : State) (e : MachineStep) (cells : Cells) (last : ℕ) (action : Action) → IsWellFormed s → IsEnabled s e → HasCells s cells
+    → len s.pledges ≤ TXNS_MAX → action_of s e ≡ Some action
     → CanFollow s.pages last cells (record { number = last + 1; action = action })
 step_record s e cells last action i a k few is = record { number = refl; allowed = subst (MayFollow s.pages cells) is (may_follow s i cells k few e a) }
 
@@ -192,11 +202,13 @@ step_record s e cells last action i a k few is = record { number = refl; allowed
 pub log_begins : (pages base : ℕ) (cells : Cells) (s : State) → HasCells s cells → IsLogOf pages base cells [] s
 log_begins pages base cells s k = record { set = k; in_order = tt }
 
-pub log_goes_on : (base : ℕ) (cells : Cells) (log : List RecordValue) (s : State) → IsWellFormed s → IsLogOf s.pages base cells log s → (e : MachineStep) → IsEnabled s e → len s.pledges ≤ TXNS_MAX
+pub log_goes_on : (base : ℕ) (cells : Cells) (log : List RecordValue) (s : State) → IsWellFormed s → IsLogOf s.pages base cells log s → (e : MachineStep)
+    → IsEnabled s e → len s.pledges ≤ TXNS_MAX
     → IsLogOf s.pages base cells (log ++ one_record (base + length log) (action_of s e)) (after s e)
 log_goes_on base cells log s w h e a few = by_action (action_of s e) refl (step_follows s e (cells_after cells log) w a h.set)
   where
-    by_action : (o : Option Action) → action_of s e ≡ o → HasCells (after s e) (set_by_any (cells_after cells log) o) → IsLogOf s.pages base cells (log ++ one_record (base + length log) o) (after s e)
+    by_action : (o : Option Action) → action_of s e ≡ o → HasCells (after s e) (set_by_any (cells_after cells log) o)
+        → IsLogOf s.pages base cells (log ++ one_record (base + length log) o) (after s e)
     by_action None is k = subst (λ rs. IsLogOf s.pages base cells rs (after s e)) (sym (append-nil log)) (record { set = k; in_order = h.in_order })
     by_action (Some action) is k = record {
       set = subst (HasCells (after s e)) (sym (cells_after_one_more cells log (record { number = base + length log + 1; action = action }))) k;
@@ -215,7 +227,8 @@ module _ (e : MachineStep) where
   writes_more [] writes = refl
   writes_more (f ∷ es) writes = writes_more es (writes_after writes f)
 
-  records_more : (s s' : State) (es : List MachineStep) → Runs s es s' → (last n : ℕ) → n ≡ last + length (records_from s last es) → records_from s last (es ++ e ∷ []) ≡ records_from s last es ++ one_record n (action_of s' e)
+  records_more : (s s' : State) (es : List MachineStep) → Runs s es s' → (last n : ℕ) → n ≡ last + length (records_from s last es)
+      → records_from s last (es ++ e ∷ []) ≡ records_from s last es ++ one_record n (action_of s' e)
   records_more s s' es no_step last n h = ap (λ m. one_record m (action_of s e) ++ []) (sym (h ∙ no_more)) ∙ append-nil _
     where
       no_more : last + 0 ≡ last
@@ -224,7 +237,8 @@ module _ (e : MachineStep) where
       ap (λ l. one_record last (action_of s f) ++ l) (records_more (after s f) s' rest r (next_number last (action_of s f)) n (shift (action_of s f) h))
       ∙ sym (append_assoc (one_record last (action_of s f)) (records_from (after s f) (next_number last (action_of s f)) rest) (one_record n (action_of s' e)))
     where
-      shift : (o : Option Action) → n ≡ last + length (one_record last o ++ records_from (after s f) (next_number last o) rest) → n ≡ next_number last o + length (records_from (after s f) (next_number last o) rest)
+      shift : (o : Option Action) → n ≡ last + length (one_record last o ++ records_from (after s f) (next_number last o) rest)
+          → n ≡ next_number last o + length (records_from (after s f) (next_number last o) rest)
       shift None h = h
       shift (Some action) h = omega (arith, h)
 
@@ -235,27 +249,34 @@ module _ (e : MachineStep) where
       no_more : last + 0 ≡ last
       no_more = omega arith
   items_more s s' es (one_step f rest b r) writes last n h =
-      ap (λ l. map (item_at last) (deeds_of writes f) ++ l) (items_more (after s f) s' rest r (writes_after writes f) (next_number last (action_of s f)) n (shift (action_of s f) h))
-      ∙ sym (append_assoc (map (item_at last) (deeds_of writes f)) (items_from (writes_after writes f) (after s f) (next_number last (action_of s f)) rest) (map (item_at n) (deeds_of (writes_over (writes_after writes f) rest) e)))
+      ap (λ l. map (item_at last) (deeds_of writes f) ++ l)
+      (items_more (after s f) s' rest r (writes_after writes f) (next_number last (action_of s f)) n (shift (action_of s f) h))
+      ∙ sym (append_assoc (map (item_at last) (deeds_of writes f)) (items_from (writes_after writes f) (after s f) (next_number last (action_of s f)) rest)
+      (map (item_at n) (deeds_of (writes_over (writes_after writes f) rest) e)))
     where
-      shift : (o : Option Action) → n ≡ last + length (one_record last o ++ records_from (after s f) (next_number last o) rest) → n ≡ next_number last o + length (records_from (after s f) (next_number last o) rest)
+      shift : (o : Option Action) → n ≡ last + length (one_record last o ++ records_from (after s f) (next_number last o) rest)
+          → n ≡ next_number last o + length (records_from (after s f) (next_number last o) rest)
       shift None h = h
       shift (Some action) h = omega (arith, h)
 
 pub made_nothing : (o : Opened) → HasMade o [] [] no_writes (opened o)
 made_nothing o = record { steps = []; run = no_step; records = refl; history = refl; asked = refl; in_order = tt }
 
-module _ (o : Opened) (can : CanOpen o) (made : List RecordValue) (items : List Item) (writes : ℕ → List Write) (s : State) (h : HasMade o made items writes s) where
+module _ (o : Opened) (can : CanOpen o) (made : List RecordValue) (items : List Item) (writes : ℕ
+    → List Write) (s : State) (h : HasMade o made items writes s) where
   pub made_holds : Invariant s
   made_holds = run_keeps _ s h.steps h.run (opened_holds o can)
 
   pub made_cells : HasCells s (cells_after (opening_cells o.given) made)
-  made_cells = subst (λ rs. HasCells s (cells_after (opening_cells o.given) rs)) (sym h.records) (run_cells (opened o) s h.steps h.run (opened_holds o can) o.given.last (opening_cells o.given) (opened_cells o))
+  made_cells = subst (λ rs. HasCells s (cells_after (opening_cells o.given) rs)) (sym h.records)
+      (run_cells (opened o) s h.steps h.run (opened_holds o can) o.given.last (opening_cells o.given) (opened_cells o))
 
-  pub made_recovers : (n : ℕ) → n ≤ length made → IsBeginning o.given items (o.given.last + n) (given_after o.given (take n made)) × CanOpen (record o { given = given_after o.given (take n made) })
+  pub made_recovers : (n : ℕ) → n ≤ length made → IsBeginning o.given items (o.given.last + n) (given_after o.given (take n made))
+      × CanOpen (record o { given = given_after o.given (take n made) })
   made_recovers n le =
       let r : RecoversPrefix o h.steps n = recovers o can h.steps s h.run n (subst (λ (rs : List RecordValue). n ≤ length rs) h.records le) in (
-        subst (λ (rs : List RecordValue). IsBeginning o.given items (o.given.last + n) (given_after o.given (take n rs))) (sym h.records) (subst (λ its. IsBeginning o.given its (o.given.last + n) (given_after o.given (take n (records_over o h.steps)))) (sym h.history) r.beginning),
+        subst (λ (rs : List RecordValue). IsBeginning o.given items (o.given.last + n) (given_after o.given (take n rs))) (sym h.records)
+            (subst (λ its. IsBeginning o.given its (o.given.last + n) (given_after o.given (take n (records_over o h.steps)))) (sym h.history) r.beginning),
         subst (λ (rs : List RecordValue). CanOpen (record o { given = given_after o.given (take n rs) })) (sym h.records) r.opens,
       )
 
@@ -270,15 +291,18 @@ module _ (o : Opened) (can : CanOpen o) (made : List RecordValue) (items : List 
     following None is = subst (AreFollowing o.pages o.given.last (opening_cells o.given)) (sym (append-nil made)) h.in_order
     following (Some action) is =
         following_push o.pages o.given.last (opening_cells o.given) made (record { number = last + 1; action = action }) h.in_order
-        (subst (λ pages. CanFollow pages last (cells_after (opening_cells o.given) made) (record { number = last + 1; action = action })) (same_store (opened o) s h.steps h.run).pages
+        (subst (λ pages. CanFollow pages last (cells_after (opening_cells o.given) made) (record { number = last + 1; action = action }))
+        (same_store (opened o) s h.steps h.run).pages
         (step_record s e (cells_after (opening_cells o.given) made) last action made_holds.fit a made_cells few is))
 
-    pub made_more : HasMade o (made ++ one_record (o.given.last + length made) (action_of s e)) (items ++ map (item_at (o.given.last + length made)) (deeds_of writes e)) (writes_after writes e) (after s e)
+    pub made_more : HasMade o (made ++ one_record (o.given.last + length made) (action_of s e))
+        (items ++ map (item_at (o.given.last + length made)) (deeds_of writes e)) (writes_after writes e) (after s e)
     made_more = record {
       steps = h.steps ++ e ∷ [];
       run = run_more e (opened o) s h.steps h.run a;
       records = ap (λ rs. rs ++ one_record last (action_of s e)) h.records ∙ sym (records_more e (opened o) s h.steps h.run o.given.last last last_is);
-      history = ap (λ its. its ++ map (item_at last) (deeds_of writes e)) h.history ∙ ap (λ w. items_over o h.steps ++ map (item_at last) (deeds_of w e)) h.asked
+      history = ap (λ its. its ++ map (item_at last) (deeds_of writes e)) h.history
+          ∙ ap (λ w. items_over o h.steps ++ map (item_at last) (deeds_of w e)) h.asked
           ∙ sym (items_more e (opened o) s h.steps h.run no_writes o.given.last last last_is);
       asked = ap (λ w. writes_after w e) h.asked ∙ sym (writes_more e h.steps no_writes);
       in_order = following (action_of s e) refl;

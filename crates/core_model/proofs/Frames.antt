@@ -12,7 +12,8 @@ use Rattle.model.specs.declared.life.Life.TheVariants.{Absent, Building}
 use Rattle.core_model.proofs.Latest.{holds_more, not_none, phase_same}
 use Rattle.core_model.proofs.Orders.{decided, update_apart, update_here}
 use Rattle.core_model.specs.Changes.{latest, pair_of}
-use Rattle.core_model.specs.Invariants.{IsBacked, IsBusyWith, IsChained, IsCoherent, IsHeld, IsHolderOf, IsPhaseOf, IsUnfinished, IsVisibleOrAhead, TxnHolds, made_of}
+use Rattle.core_model.specs.Invariants.{IsBacked, IsBusyWith, IsChained, IsCoherent, IsHeld, IsHolderOf, IsPhaseOf, IsUnfinished, IsVisibleOrAhead, TxnHolds}
+use Rattle.core_model.specs.Invariants.{made_of}
 use Rattle.core_model.specs.States.{Active, State}
 use Rattle.core_model.specs.Steps.{above, is_indexed, with_txn}
 
@@ -110,7 +111,8 @@ module _ (s : State) (rows' : Table) (entries' : Index) (holder' : Place → Opt
           record {
             names = holds_more s.holder holder' u (λ q k. f.holder q (not_here q u m k) ∙ k) y.changes h.names;
             chained = h.chained;
-            phase = phase_same (is_indexed s.life) s.holder u s.entries entries' (λ p k. f.entries p (not_here p.rid u m k)) y.changes y.phase y.rolling h.names h.phase;
+            phase = phase_same (is_indexed s.life) s.holder u s.entries entries' (λ p k.
+                f.entries p (not_here p.rid u m k)) y.changes y.phase y.rolling h.names h.phase;
           }
     ]
 

@@ -1,5 +1,6 @@
 -- Every run has the history of its steps.
-use Rattle.std.proofs.Common.{Bool, List, None, Option, Some, [], ap, arith, false, inl, inr, is_some, refl, subst, sym, true, true≢false, ℕ, ◌++◌, ◌<◌, ◌∙◌, ◌∷◌, ◌≡◌, ◌≢◌, ◌≤◌, ◌⊎◌}
+use Rattle.std.proofs.Common.{Bool, List, None, Option, Some, [], ap, arith, false, inl, inr, is_some, refl, subst, sym, true, true≢false, ℕ, ◌++◌, ◌<◌, ◌∙◌}
+use Rattle.std.proofs.Common.{◌∷◌, ◌≡◌, ◌≢◌, ◌≤◌, ◌⊎◌}
 use Rattle.std.specs.Cmp.{nat_cmp_total}
 use Rattle.std.specs.FinMap.{get, get-empty, len, nat_cmp-IsAntisymmetric}
 use Rattle.std.specs.Ordering.{nat_cmp}
@@ -23,10 +24,13 @@ use Rattle.core_model.proofs.Runs.{run_keeps}
 use Rattle.core_model.proofs.Sums.{none_reserved}
 use Rattle.core_model.proofs.Txns.{newest_last}
 use Rattle.core_model.specs.Changes.{Changes, Unchanged, as_list, new_pair, old_pair, pair_of, ◌▹◌}
-use Rattle.core_model.specs.Histories.{AreItemsOf, CanOpen, FitsStore, IsCovered, ShowsJustTheRows, Opened, deeds_of, highest_of, history, no_writes, opened, write_of, writes_after}
+use Rattle.core_model.specs.Histories.{AreItemsOf, CanOpen, FitsStore, IsCovered, ShowsJustTheRows, Opened, deeds_of, highest_of, history, no_writes, opened}
+use Rattle.core_model.specs.Histories.{write_of, writes_after}
 use Rattle.core_model.specs.Invariants.{Invariant, IsAhead, IsCoherent, IsUnfinished, IsWellFormed, Runs, no_step, one_step}
 use Rattle.core_model.specs.States.{Active, Made, NewMarked, OldMarked, OldSet, Phase, RowSet, State}
-use Rattle.core_model.specs.Steps.{Attempt, Begin, Checkpoint, Clean, Commit, Create, Drop, End, Finish, IsEnabled, Keep, Next, Start, MachineStep, Take, Undo, Wrap, above, after, carried_on, is_indexed, new_txn, row_made, row_undone, started, txn_at, undoing, undone, undone_first, update, with_change, with_phase, without_newest}
+use Rattle.core_model.specs.Steps.{Attempt, Begin, Checkpoint, Clean, Commit, Create, Drop, End, Finish, IsEnabled, Keep, Next, Start, MachineStep, Take, Undo}
+use Rattle.core_model.specs.Steps.{Wrap, above, after, carried_on, is_indexed, new_txn, row_made, row_undone, started, txn_at, undoing, undone, undone_first}
+use Rattle.core_model.specs.Steps.{update, with_change, with_phase, without_newest}
 
 -- the table and the life after these deeds
 abbrev pub table_over : Table → List Deed → Table
@@ -60,12 +64,19 @@ module _ (o : Opened) (fits : FitsStore o) where
           rw none_reserved (omega (arith, room));
       enough = λ t x e. absurd (not_none e refl);
     };
-    inside = record { entries = fits.entries; bound = λ p e. at_highest p o.given.life refl e; highest = fits.highest; given = λ p e. absurd (true≢false (sym e)) };
+    inside = record {
+      entries = fits.entries;
+      bound = λ p e. at_highest p o.given.life refl e;
+      highest = fits.highest;
+      given = λ p e.
+          absurd (true≢false (sym e));
+    };
     pledged = λ t. ap is_some (get-empty nat_cmp t);
   }
 
 module _ (o : Opened) (can : CanOpen o) where
-  ahead_by : (p : Pair) (life : Life) (m : Option Mark) (b : Bool) → get o.given.entries p ≡ m → m ≢ Some Marked → (IsCovered life (highest_of life) p → get o.given.entries p ≡ Some Live) → above (highest_of life) p ≡ b
+  ahead_by : (p : Pair) (life : Life) (m : Option Mark) (b : Bool) → get o.given.entries p ≡ m → m ≢ Some Marked
+      → (IsCovered life (highest_of life) p → get o.given.entries p ≡ Some Live) → above (highest_of life) p ≡ b
       → (life ≡ Absent → get o.given.entries p ≡ None)
       → (get o.given.entries p ≡ Some Live) ⊎ (get o.given.entries p ≡ None) × IsAhead life (highest_of life) (λ q. false) p
   ahead_by p life (Some Live) b e u c k a = inl e
@@ -82,7 +93,8 @@ module _ (o : Opened) (can : CanOpen o) where
     inside = can.fits.rows;
     txns = λ t x e. absurd (not_none e refl);
     sound = can.sound;
-    visible = λ r row e idle. ahead_by (pair_of r row) o.given.life _ _ refl (can.unmarked r row e) (can.complete r row e) refl (λ a. can.empty a (pair_of r row));
+    visible = λ r row e idle. ahead_by (pair_of r row) o.given.life _ _ refl (can.unmarked r row e) (can.complete r row e) refl (λ a.
+        can.empty a (pair_of r row));
     empty = can.empty;
     backed = λ h e p g a. absurd (true≢false (sym g));
     behind = λ h e p a. subst (λ l. above (highest_of l) p ≡ true) e a;
@@ -96,15 +108,18 @@ complete_by Absent bound missed p a c = c
 complete_by (Building h) bound missed p a c = true≢false (sym a.0 ∙ c)
 complete_by Complete bound missed p a c = a
 
-pub live_by : (s : State) → Invariant s → (r : Place) (row : Row) → get s.rows r ≡ Some row → (IsUnfinished s r → ⊥) → IsCovered s.life s.bound (pair_of r row) → get s.entries (pair_of r row) ≡ Some Live
-live_by s i r row e idle c = elim (i.coherent.visible r row e idle) [ inl live ↦ live | inr w ↦ absurd (complete_by s.life s.bound s.missed (pair_of r row) w.1 c) ]
+pub live_by : (s : State) → Invariant s → (r : Place) (row : Row) → get s.rows r ≡ Some row → (IsUnfinished s r → ⊥) → IsCovered s.life s.bound (pair_of r row)
+    → get s.entries (pair_of r row) ≡ Some Live
+live_by s i r row e idle c = elim (i.coherent.visible r row e idle)
+    [ inl live ↦ live | inr w ↦ absurd (complete_by s.life s.bound s.missed (pair_of r row) w.1 c) ]
 
 pub whole : (s : State) → Invariant s → s.life ≡ Complete → ((t : ℕ) → s.txns t ≡ None) → ShowsJustTheRows s
 whole s i complete quiet p = (
   i.coherent.sound p,
   λ is.
       subst (λ (q : Pair). get s.entries q ≡ Some Live) (λ j. record { key = is.has_key j; rid = p.rid })
-      (live_by s i p.rid is.row is.is_there (λ h. not_none h.active (quiet h.transaction)) (subst (λ life. IsCovered life s.bound (pair_of p.rid is.row)) (sym complete) tt)),
+      (live_by s i p.rid is.row is.is_there (λ h. not_none h.active (quiet h.transaction))
+      (subst (λ life. IsCovered life s.bound (pair_of p.rid is.row)) (sym complete) tt)),
 )
 
 -- ---- the history
@@ -113,7 +128,8 @@ module _ (txns : ℕ → Option Active) (writes writes' : ℕ → List Write) (t
   other_idle : (o : Option Active) (u : ℕ) → u ≢ t → update nat_cmp txns t o u ≡ None → writes' u ≡ []
   other_idle o u n e = same u n ∙ told.idle u (sym (update_apart nat_cmp-IsAntisymmetric txns t o u n) ∙ e)
 
-  other_active : (o : Option Active) (u : ℕ) (x : Active) → u ≢ t → update nat_cmp txns t o u ≡ Some x → x.rolling ≡ false → writes' u ≡ writes_of (as_list x.changes)
+  other_active : (o : Option Active) (u : ℕ) (x : Active) → u ≢ t → update nat_cmp txns t o u ≡ Some x → x.rolling ≡ false
+      → writes' u ≡ writes_of (as_list x.changes)
   other_active o u x n e f = same u n ∙ told.active u x (sym (update_apart nat_cmp-IsAntisymmetric txns t o u n) ∙ e) f
 
   at_txn : (o : Option Active) (u : ℕ) → u ≡ t → update nat_cmp txns t o u ≡ o
@@ -137,25 +153,31 @@ module _ (txns : ℕ → Option Active) (writes writes' : ℕ → List Write) (t
   }
 
 -- the same writes, where the transaction goes on with its changes or rolls back
-told_on : (txns : ℕ → Option Active) (writes : ℕ → List Write) → IsTold txns writes → (t : ℕ) (x x' : Active) → txns t ≡ Some x → (x'.rolling ≡ false → (x.rolling ≡ false) × (x'.changes ≡ x.changes)) → IsTold (update nat_cmp txns t (Some x')) writes
+told_on : (txns : ℕ → Option Active) (writes : ℕ → List Write) → IsTold txns writes → (t : ℕ) (x x' : Active) → txns t ≡ Some x
+    → (x'.rolling ≡ false → (x.rolling ≡ false) × (x'.changes ≡ x.changes)) → IsTold (update nat_cmp txns t (Some x')) writes
 told_on txns writes told t x x' active on =
     told_now txns writes writes told t (λ u n. refl) x' (λ f. told.active t x active (on f).0 ∙ ap (λ cs. writes_of (as_list cs)) (sym (on f).1))
 
 rolls : (x x' : Active) → x'.rolling ≡ true → x'.rolling ≡ false → (x.rolling ≡ false) × (x'.changes ≡ x.changes)
 rolls x x' e f = absurd (true≢false (sym e ∙ f))
 
-told_started : (s : State) (writes : ℕ → List Write) → IsTold s.txns writes → (t : ℕ) (x : Active) (c : ChangeValue) → s.txns t ≡ Some x → x.rolling ≡ false → (o : Option Pair)
+told_started : (s : State) (writes : ℕ → List Write) → IsTold s.txns writes → (t : ℕ) (x : Active) (c : ChangeValue) → s.txns t ≡ Some x → x.rolling ≡ false
+    → (o : Option Pair)
     → IsTold (started s t x c o).txns (update nat_cmp writes t (writes t ++ write_of c ∷ []))
 told_started s writes told t x c active forward (Some p) =
-    told_now s.txns writes (update nat_cmp writes t (writes t ++ write_of c ∷ [])) told t (λ u n. update_apart nat_cmp-IsAntisymmetric writes t _ u n) (with_change x c OldMarked)
+    told_now s.txns writes (update nat_cmp writes t (writes t ++ write_of c ∷ [])) told t (λ u n. update_apart nat_cmp-IsAntisymmetric writes t _ u n)
+    (with_change x c OldMarked)
     (λ f. update_here nat_cmp_total writes t _ ∙ ap (λ w. w ++ write_of c ∷ []) (told.active t x active forward) ∙ sym (newest_last c x.changes))
 told_started s writes told t x c active forward None =
-    told_now s.txns writes (update nat_cmp writes t (writes t ++ write_of c ∷ [])) told t (λ u n. update_apart nat_cmp-IsAntisymmetric writes t _ u n) (with_change x c (row_made (new_pair (is_indexed s.life) c)))
+    told_now s.txns writes (update nat_cmp writes t (writes t ++ write_of c ∷ [])) told t (λ u n. update_apart nat_cmp-IsAntisymmetric writes t _ u n)
+    (with_change x c (row_made (new_pair (is_indexed s.life) c)))
     (λ f. update_here nat_cmp_total writes t _ ∙ ap (λ w. w ++ write_of c ∷ []) (told.active t x active forward) ∙ sym (newest_last c x.changes))
 
-told_carried : (s : State) (writes : ℕ → List Write) → IsTold s.txns writes → (t : ℕ) (x : Active) → s.txns t ≡ Some x → (cs : Changes) (phase : Phase) → IsTold (carried_on s t x cs phase).txns writes
+told_carried : (s : State) (writes : ℕ → List Write) → IsTold s.txns writes → (t : ℕ) (x : Active) → s.txns t ≡ Some x → (cs : Changes) (phase : Phase)
+    → IsTold (carried_on s t x cs phase).txns writes
 told_carried s writes told t x active Unchanged phase = told
-told_carried s writes told t x active (older ▹ c) OldMarked = told_on s.txns writes told t x (with_phase x (row_made (new_pair (is_indexed s.life) c))) active (λ f. (f, refl))
+told_carried s writes told t x active (older ▹ c) OldMarked =
+    told_on s.txns writes told t x (with_phase x (row_made (new_pair (is_indexed s.life) c))) active (λ f. (f, refl))
 told_carried s writes told t x active (older ▹ c) RowSet = told_on s.txns writes told t x (with_phase x Made) active (λ f. (f, refl))
 told_carried s writes told t x active (older ▹ c) Made = told
 told_carried s writes told t x active (older ▹ c) (NewMarked b) = told
@@ -165,16 +187,23 @@ undone_rolls : (x : Active) (older : Changes) (o : Option Pair) → (row_undone 
 undone_rolls x older None = refl
 undone_rolls x older (Some p) = refl
 
-told_first : (s : State) (writes : ℕ → List Write) → IsTold s.txns writes → (t : ℕ) (x : Active) → s.txns t ≡ Some x → (c : ChangeValue) (older : Changes) (b : Bool) (o : Option Pair) → IsTold (undone_first s t x c older b o).txns writes
-told_first s writes told t x active c older b (Some p) = told_on s.txns writes told t x (undoing x (NewMarked b)) active (rolls x (undoing x (NewMarked b)) refl)
-told_first s writes told t x active c older b None = told_on s.txns writes told t x (row_undone x older (old_pair (is_indexed s.life) c)) active (rolls x (row_undone x older (old_pair (is_indexed s.life) c)) (undone_rolls x older (old_pair (is_indexed s.life) c)))
+told_first : (s : State) (writes : ℕ → List Write) → IsTold s.txns writes → (t : ℕ) (x : Active) → s.txns t ≡ Some x
+    → (c : ChangeValue) (older : Changes) (b : Bool) (o : Option Pair) → IsTold (undone_first s t x c older b o).txns writes
+told_first s writes told t x active c older b (Some p) =
+    told_on s.txns writes told t x (undoing x (NewMarked b)) active (rolls x (undoing x (NewMarked b)) refl)
+told_first s writes told t x active c older b None =
+    told_on s.txns writes told t x (row_undone x older (old_pair (is_indexed s.life) c)) active
+    (rolls x (row_undone x older (old_pair (is_indexed s.life) c)) (undone_rolls x older (old_pair (is_indexed s.life) c)))
 
-told_undone : (s : State) (writes : ℕ → List Write) → IsTold s.txns writes → (t : ℕ) (x : Active) → s.txns t ≡ Some x → (cs : Changes) (phase : Phase) → IsTold (undone s t x cs phase).txns writes
+told_undone : (s : State) (writes : ℕ → List Write) → IsTold s.txns writes → (t : ℕ) (x : Active) → s.txns t ≡ Some x → (cs : Changes) (phase : Phase)
+    → IsTold (undone s t x cs phase).txns writes
 told_undone s writes told t x active Unchanged phase = told_on s.txns writes told t x (undoing x phase) active (rolls x (undoing x phase) refl)
 told_undone s writes told t x active (older ▹ c) OldMarked = told_first s writes told t x active c older false (new_pair (is_indexed s.life) c)
 told_undone s writes told t x active (older ▹ c) RowSet = told_first s writes told t x active c older true (new_pair (is_indexed s.life) c)
 told_undone s writes told t x active (older ▹ c) Made = told_first s writes told t x active c older true (new_pair (is_indexed s.life) c)
-told_undone s writes told t x active (older ▹ c) (NewMarked b) = told_on s.txns writes told t x (row_undone x older (old_pair (is_indexed s.life) c)) active (rolls x (row_undone x older (old_pair (is_indexed s.life) c)) (undone_rolls x older (old_pair (is_indexed s.life) c)))
+told_undone s writes told t x active (older ▹ c) (NewMarked b) =
+    told_on s.txns writes told t x (row_undone x older (old_pair (is_indexed s.life) c)) active
+    (rolls x (row_undone x older (old_pair (is_indexed s.life) c)) (undone_rolls x older (old_pair (is_indexed s.life) c)))
 told_undone s writes told t x active (older ▹ c) OldSet = told_on s.txns writes told t x (without_newest older) active (rolls x (without_newest older) refl)
 
 emptied : (writes : ℕ → List Write) (t u : ℕ) → u ≢ t → update nat_cmp writes t [] u ≡ writes u
@@ -195,7 +224,8 @@ same_carried s t x (older ▹ c) Made = refl
 same_carried s t x (older ▹ c) (NewMarked b) = refl
 same_carried s t x (older ▹ c) OldSet = refl
 
-same_first : (s : State) (t : ℕ) (x : Active) (c : ChangeValue) (older : Changes) (b : Bool) (o : Option Pair) → (undone_first s t x c older b o).committed ≡ s.committed
+same_first : (s : State) (t : ℕ) (x : Active) (c : ChangeValue) (older : Changes) (b : Bool) (o : Option Pair)
+    → (undone_first s t x c older b o).committed ≡ s.committed
 same_first s t x c older b None = refl
 same_first s t x c older b (Some p) = refl
 
@@ -208,7 +238,8 @@ same_undone s t x (older ▹ c) (NewMarked b) = refl
 same_undone s t x (older ▹ c) OldSet = refl
 
 -- a commit adds just what its transaction set
-pub table_step : (s : State) (writes : ℕ → List Write) → IsTold s.txns writes → (e : MachineStep) → IsEnabled s e → (after s e).committed ≡ table_over s.committed (deeds_of writes e)
+pub table_step : (s : State) (writes : ℕ → List Write) → IsTold s.txns writes → (e : MachineStep) → IsEnabled s e
+    → (after s e).committed ≡ table_over s.committed (deeds_of writes e)
 table_step s writes told (Begin t) a = refl
 table_step s writes told (Start t c) a = same_started s t (txn_at s t) c (old_pair (is_indexed s.life) c)
 table_step s writes told (Next t) a = same_carried s t (txn_at s t) (txn_at s t).changes (txn_at s t).phase
@@ -225,7 +256,8 @@ table_step s writes told (Keep p) a = refl
 table_step s writes told Wrap a = refl
 table_step s writes told Drop a = refl
 
-pub told_step : (s : State) (writes : ℕ → List Write) → IsTold s.txns writes → (e : MachineStep) → IsEnabled s e → IsTold (after s e).txns (writes_after writes e)
+pub told_step : (s : State) (writes : ℕ → List Write) → IsTold s.txns writes → (e : MachineStep) → IsEnabled s e
+    → IsTold (after s e).txns (writes_after writes e)
 told_step s writes told (Begin t) a = told_now s.txns writes writes told t (λ u n. refl) new_txn (λ f. told.idle t a)
 told_step s writes told (Start t c) a = told_started s writes told t (txn_at s t) c a.active a.ready.1 (old_pair (is_indexed s.life) c)
 told_step s writes told (Next t) a = told_carried s writes told t (txn_at s t) a.0 (txn_at s t).changes (txn_at s t).phase
@@ -300,7 +332,8 @@ tells_life s s' es (one_step e rest a r) writes =
     ∙ sym (life_over-append s.life (deeds_of writes e) (history (writes_after writes e) rest))
 
 -- the committed table is that of the history
-pub tells_table : (s s' : State) (es : List MachineStep) → Runs s es s' → (writes : ℕ → List Write) → IsTold s.txns writes → s'.committed ≡ table_over s.committed (history writes es)
+pub tells_table : (s s' : State) (es : List MachineStep) → Runs s es s' → (writes : ℕ → List Write) → IsTold s.txns writes
+    → s'.committed ≡ table_over s.committed (history writes es)
 tells_table s s' es no_step writes told = refl
 tells_table s s' es (one_step e rest a r) writes told =
     tells_table (after s e) s' rest r (writes_after writes e) (told_step s writes told e a)
@@ -318,11 +351,14 @@ pub items_life : (life : Life) (items : List Item) → life_over life (map (λ (
 items_life life [] = refl
 items_life life (item ∷ items) = items_life (life_with life item.deed) items
 
-pub told_table : (o : Opened) (es : List MachineStep) (s : State) → Runs (opened o) es s → (items : List Item) → AreItemsOf items es → s.committed ≡ table_after o.given.table items
+pub told_table : (o : Opened) (es : List MachineStep) (s : State) → Runs (opened o) es s → (items : List Item) → AreItemsOf items es
+    → s.committed ≡ table_after o.given.table items
 told_table o es s r items h = tells_table (opened o) s es r no_writes nothing_told ∙ ap (table_over o.given.table) (sym h) ∙ items_table o.given.table items
 
-pub told_life : (o : Opened) (es : List MachineStep) (s : State) → Runs (opened o) es s → (items : List Item) → AreItemsOf items es → s.life ≡ life_after o.given.life items
+pub told_life : (o : Opened) (es : List MachineStep) (s : State) → Runs (opened o) es s → (items : List Item) → AreItemsOf items es
+    → s.life ≡ life_after o.given.life items
 told_life o es s r items h = tells_life (opened o) s es r no_writes ∙ ap (life_over o.given.life) (sym h) ∙ items_life o.given.life items
 
-pub interleaved_whole : (o : Opened) → CanOpen o → (es : List MachineStep) (s : State) → Runs (opened o) es s → s.life ≡ Complete → ((t : ℕ) → s.txns t ≡ None) → ShowsJustTheRows s
+pub interleaved_whole : (o : Opened) → CanOpen o → (es : List MachineStep) (s : State) → Runs (opened o) es s → s.life ≡ Complete → ((t : ℕ) → s.txns t ≡ None)
+    → ShowsJustTheRows s
 interleaved_whole o can es s r complete quiet = whole s (run_keeps _ s es r (opened_holds o can)) complete quiet

@@ -52,7 +52,8 @@ stays rid row None e = absurd (not_none refl e)
 stays rid row (Some other) e = stays_by rid row other _ refl e
 
 -- changes that name other rows leave this one
-pub latest_unnamed : (holder : Place → Option ℕ) (t : ℕ) (cs : Changes) (r : Place) (v : Option Row) → IsHolderOf holder t cs → holder r ≢ Some t → latest cs r v ≡ v
+pub latest_unnamed : (holder : Place → Option ℕ) (t : ℕ) (cs : Changes) (r : Place) (v : Option Row) → IsHolderOf holder t cs → holder r ≢ Some t
+    → latest cs r v ≡ v
 latest_unnamed holder t Unchanged r v h n = refl
 latest_unnamed holder t (older ▹ c) r v h n =
     rw (apart rid_cmp-IsAntisymmetric r c.rid (λ e. n (ap holder e ∙ h.0))) (latest_unnamed holder t older r v h.1 n)
@@ -69,23 +70,32 @@ chained_same holder t committed other same Unchanged h k = tt
 chained_same holder t committed other same (older ▹ c) h k =
     (k.0 ∙ ap (latest older c.rid) (sym (same c.rid h.0)), chained_same holder t committed other same older h.1 k.1)
 
-pub holds_more : (holder other : Place → Option ℕ) (t : ℕ) → ((r : Place) → holder r ≡ Some t → other r ≡ Some t) → (cs : Changes) → IsHolderOf holder t cs → IsHolderOf other t cs
+pub holds_more : (holder other : Place → Option ℕ) (t : ℕ) → ((r : Place) → holder r ≡ Some t → other r ≡ Some t) → (cs : Changes) → IsHolderOf holder t cs
+    → IsHolderOf other t cs
 holds_more holder other t same Unchanged h = tt
 holds_more holder other t same (older ▹ c) h = (same c.rid h.0, holds_more holder other t same older h.1)
 
 -- what a phase says of an entry stays, where no entry of its row changes
 phase_by : (indexed : Bool) (c : ChangeValue) (entries other : Index) → ((p : Pair) → p.rid ≡ c.rid → get other p ≡ get entries p)
-    → (older : Changes) (phase : Phase) (rolling : Bool) → IsPhaseOf indexed entries (older ▹ c) phase rolling → IsPhaseOf indexed other (older ▹ c) phase rolling
+    → (older : Changes) (phase : Phase) (rolling : Bool) → IsPhaseOf indexed entries (older ▹ c) phase rolling
+    → IsPhaseOf indexed other (older ▹ c) phase rolling
 phase_by indexed c entries other same older OldMarked rolling h =
-    record { it = h.it; is = h.is; holds = λ e. same h.it (ap (λ p. p.rid) (gone_is indexed c.rid (old_row c.rows) (new_row c.rows) h.it h.is).pair) ∙ h.holds e }
+    record {
+      it = h.it;
+      is = h.is;
+      holds = λ e. same h.it (ap (λ p. p.rid) (gone_is indexed c.rid (old_row c.rows) (new_row c.rows) h.it h.is).pair)
+          ∙ h.holds e;
+    }
 phase_by indexed c entries other same older RowSet rolling h = record { it = h.it; is = h.is; holds = tt }
 phase_by indexed c entries other same older Made rolling h = tt
 phase_by indexed c entries other same older (NewMarked b) rolling h =
     record { it = h.it; is = h.is; holds = same h.it (ap (λ p. p.rid) (gone_is indexed c.rid (new_row c.rows) (old_row c.rows) h.it h.is).pair) ∙ h.holds }
 phase_by indexed c entries other same older OldSet rolling h = record { it = h.it; is = h.is; holds = tt }
 
-pub phase_same : (indexed : Bool) (holder : Place → Option ℕ) (t : ℕ) (entries other : Index) → ((p : Pair) → holder p.rid ≡ Some t → get other p ≡ get entries p)
-    → (cs : Changes) (phase : Phase) (rolling : Bool) → IsHolderOf holder t cs → IsPhaseOf indexed entries cs phase rolling → IsPhaseOf indexed other cs phase rolling
+pub phase_same : (indexed : Bool) (holder : Place → Option ℕ) (t : ℕ) (entries other : Index)
+    → ((p : Pair) → holder p.rid ≡ Some t → get other p ≡ get entries p)
+    → (cs : Changes) (phase : Phase) (rolling : Bool) → IsHolderOf holder t cs → IsPhaseOf indexed entries cs phase rolling
+    → IsPhaseOf indexed other cs phase rolling
 phase_same indexed holder t entries other same Unchanged phase rolling n h = h
 phase_same indexed holder t entries other same (older ▹ c) phase rolling n h =
     phase_by indexed c entries other (λ p e. same p (ap holder e ∙ n.0)) older phase rolling h

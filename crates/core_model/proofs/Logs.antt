@@ -1,5 +1,6 @@
 -- What is recovered of the records of a run, wherever they stop.
-use Rattle.std.proofs.Common.{Bool, List, None, Option, Some, [], ap, arith, cond, false, inl, inr, length, refl, subst, suc, sym, take, true, zero, ℕ, ◌&&◌, ◌++◌, ◌+◌, ◌<◌, ◌∙◌, ◌∷◌, ◌≡◌, ◌≢◌, ◌≤◌}
+use Rattle.std.proofs.Common.{Bool, List, None, Option, Some, [], ap, arith, cond, false, inl, inr, length, refl, subst, suc, sym, take, true, zero, ℕ, ◌&&◌}
+use Rattle.std.proofs.Common.{◌++◌, ◌+◌, ◌<◌, ◌∙◌, ◌∷◌, ◌≡◌, ◌≢◌, ◌≤◌}
 use Rattle.std.proofs.lemmas.Bool.{le-leb, lt-leb}
 use Rattle.std.proofs.lemmas.List.{map-append}
 use Rattle.std.specs.Cmp.{nat_cmp_total, tied_itself}
@@ -33,7 +34,8 @@ use Rattle.core_model.specs.Logs.{RecoversPrefix, item_at, items_from, items_ove
 use Rattle.core_model.specs.Records.{HasCells, IsListOf, action_of, set_by_any}
 use Rattle.core_model.proofs.Undone.{IsListing, entries_back, entries_undone, restarted, rows_back, rows_undone}
 use Rattle.core_model.specs.States.{Active, Made, NewMarked, OldMarked, OldSet, Phase, RowSet, State}
-use Rattle.core_model.specs.Steps.{Attempt, Begin, Checkpoint, Clean, Commit, Create, Drop, End, Finish, IsEnabled, Keep, Next, Start, MachineStep, Take, Undo, Wrap, after, carried_on, is_indexed, started, txn_at, undone, undone_first, update}
+use Rattle.core_model.specs.Steps.{Attempt, Begin, Checkpoint, Clean, Commit, Create, Drop, End, Finish, IsEnabled, Keep, Next, Start, MachineStep, Take, Undo}
+use Rattle.core_model.specs.Steps.{Wrap, after, carried_on, is_indexed, started, txn_at, undone, undone_first, update}
 
 -- ---- a list of changes, as a transaction has it
 abbrev behind : Changes → List ChangeValue → Changes
@@ -56,7 +58,8 @@ rows_same : (cs : Changes) (ds : List ChangeValue) (rows : Table) → rows_undon
 rows_same cs [] rows = refl
 rows_same cs (d ∷ ds) rows = rows_same (cs ▹ d) ds rows
 
-entries_same : (indexed : Bool) (cs : Changes) (ds : List ChangeValue) (entries : Index) → entries_undone indexed (behind cs ds) entries ≡ entries_undone indexed cs (entries_reverted indexed entries ds)
+entries_same : (indexed : Bool) (cs : Changes) (ds : List ChangeValue) (entries : Index)
+    → entries_undone indexed (behind cs ds) entries ≡ entries_undone indexed cs (entries_reverted indexed entries ds)
 entries_same indexed cs [] entries = refl
 entries_same indexed cs (d ∷ ds) entries = entries_same indexed (cs ▹ d) ds entries
 
@@ -73,7 +76,8 @@ rows_all (l ∷ ls) rows = rows_all ls (rows_undone (changes_of l.1) rows) ∙ a
 
 entries_all : (indexed : Bool) (ls : Lists) (entries : Index) → entries_back indexed (as_changes ls) entries ≡ all_entries_reverted indexed entries ls
 entries_all indexed [] entries = refl
-entries_all indexed (l ∷ ls) entries = entries_all indexed ls (entries_undone indexed (changes_of l.1) entries) ∙ ap (λ m. all_entries_reverted indexed m ls) (entries_same indexed Unchanged l.1 entries)
+entries_all indexed (l ∷ ls) entries = entries_all indexed ls (entries_undone indexed (changes_of l.1) entries)
+    ∙ ap (λ m. all_entries_reverted indexed m ls) (entries_same indexed Unchanged l.1 entries)
 
 -- ---- the lists of the cells are those of the active transactions
 pub left : (a b : Bool) → T (a && b) → T a
@@ -89,7 +93,8 @@ below_apart k x h is = subst (λ r. T (is_lt r)) (ap (nat_cmp k) (sym is) ∙ ti
 
 pub none_below : {X : Type 0} (k : ℕ) (ls : List (ℕ × X)) → T (below_all nat_cmp k ls) → find nat_cmp k ls ≡ None
 none_below k [] h = refl
-none_below k (l ∷ ls) h = ap (λ b. cond b (Some l.1) (find nat_cmp k ls)) (other_key nat_exact k l.0 (below_apart k l.0 (left _ _ h))) ∙ none_below k ls (right _ _ h)
+none_below k (l ∷ ls) h = ap (λ b. cond b (Some l.1) (find nat_cmp k ls)) (other_key nat_exact k l.0 (below_apart k l.0 (left _ _ h)))
+    ∙ none_below k ls (right _ _ h)
 
 pub found_here : {X : Type 0} (l : ℕ × X) (ls : List (ℕ × X)) → find nat_cmp l.0 (l ∷ ls) ≡ Some l.1
 found_here l ls = ap (λ b. cond b (Some l.1) (find nat_cmp l.0 ls)) (same_key nat_exact l.0)
@@ -120,14 +125,17 @@ module _ (s : State) (cells : Cells) (k : HasCells s cells) where
   listing = as_changes (entries cells.pending)
 
   pub is_listing : IsListing s.txns listing
-  is_listing = lists (entries cells.pending) s.txns (entries_sorted cells.pending) (λ t. subst (λ f. IsListOf f (s.txns t)) (get-entries cells.pending t) (k.pending t))
+  is_listing = lists (entries cells.pending) s.txns (entries_sorted cells.pending) (λ t.
+      subst (λ f. IsListOf f (s.txns t)) (get-entries cells.pending t) (k.pending t))
 
   -- what is recovered of the cells is what a restart gives
   pub recovered_is : (last : ℕ) → recovered cells last ≡ (restarted s listing last).given
   recovered_is last =
-      let rows : all_reverted cells.rows (entries cells.pending) ≡ rows_back listing s.rows = ap (λ m. all_reverted m (entries cells.pending)) k.rows ∙ sym (rows_all (entries cells.pending) s.rows) in
+      let rows : all_reverted cells.rows (entries cells.pending) ≡ rows_back listing s.rows = ap (λ m. all_reverted m (entries cells.pending)) k.rows
+      ∙ sym (rows_all (entries cells.pending) s.rows) in
       let index : all_entries_reverted (is_indexed cells.life) cells.entries (entries cells.pending) ≡ entries_back (is_indexed s.life) listing s.entries =
-      ap (λ life. all_entries_reverted (is_indexed life) cells.entries (entries cells.pending)) k.life ∙ ap (λ m. all_entries_reverted (is_indexed s.life) m (entries cells.pending)) k.entries
+      ap (λ life. all_entries_reverted (is_indexed life) cells.entries (entries cells.pending)) k.life
+      ∙ ap (λ m. all_entries_reverted (is_indexed s.life) m (entries cells.pending)) k.entries
       ∙ sym (entries_all (is_indexed s.life) (entries cells.pending) s.entries) in
       λ i. record { table = rows i; entries = index i; life = k.life i; last = last }
 
@@ -193,9 +201,12 @@ store_undone s t x (older ▹ c) OldSet = record { pages = refl; places = refl }
 
 store_step : (s : State) (e : MachineStep) → SameStore s (after s e)
 store_step s (Begin t) = record { pages = refl; places = refl }
-store_step s (Start t c) = let v : SameStore s _ = store_started s t (txn_at s t) c (old_pair (is_indexed s.life) c) in record { pages = v.pages; places = v.places }
-store_step s (Next t) = let v : SameStore s _ = store_carried s t (txn_at s t) (txn_at s t).changes (txn_at s t).phase in record { pages = v.pages; places = v.places }
-store_step s (Undo t) = let v : SameStore s _ = store_undone s t (txn_at s t) (txn_at s t).changes (txn_at s t).phase in record { pages = v.pages; places = v.places }
+store_step s (Start t c) = let v : SameStore s _ = store_started s t (txn_at s t) c (old_pair (is_indexed s.life) c) in
+    record { pages = v.pages; places = v.places }
+store_step s (Next t) = let v : SameStore s _ = store_carried s t (txn_at s t) (txn_at s t).changes (txn_at s t).phase in
+    record { pages = v.pages; places = v.places }
+store_step s (Undo t) = let v : SameStore s _ = store_undone s t (txn_at s t) (txn_at s t).changes (txn_at s t).phase in
+    record { pages = v.pages; places = v.places }
 store_step s (End t) = record { pages = refl; places = refl }
 store_step s (Commit t) = record { pages = refl; places = refl }
 store_step s Create = record { pages = refl; places = refl }
@@ -216,15 +227,18 @@ same_store s s' es (one_step e rest a r) =
     record { pages = all.pages ∙ one.pages; places = all.places ∙ one.places }
 
 -- ---- the records of a run set its cells
-after-append : (cells : Cells) (last : ℕ) (o : Option Action) (records : List RecordValue) → cells_after cells (one_record last o ++ records) ≡ cells_after (set_by_any cells o) records
+after-append : (cells : Cells) (last : ℕ) (o : Option Action) (records : List RecordValue)
+    → cells_after cells (one_record last o ++ records) ≡ cells_after (set_by_any cells o) records
 after-append cells last None records = refl
 after-append cells last (Some action) records = refl
 
-pub run_cells : (s s' : State) (es : List MachineStep) → Runs s es s' → Invariant s → (last : ℕ) (cells : Cells) → HasCells s cells → HasCells s' (cells_after cells (records_from s last es))
+pub run_cells : (s s' : State) (es : List MachineStep) → Runs s es s' → Invariant s → (last : ℕ) (cells : Cells) → HasCells s cells
+    → HasCells s' (cells_after cells (records_from s last es))
 run_cells s s' es no_step i last cells k = k
 run_cells s s' es (one_step e rest a r) i last cells k =
     subst (HasCells s') (sym (after-append cells last (action_of s e) (records_from (after s e) (next_number last (action_of s e)) rest)))
-    (run_cells (after s e) s' rest r (step_keeps s e i a) (next_number last (action_of s e)) (set_by_any cells (action_of s e)) (step_follows s e cells i.fit a k))
+    (run_cells (after s e) s' rest r (step_keeps s e i a) (next_number last (action_of s e)) (set_by_any cells (action_of s e))
+    (step_follows s e cells i.fit a k))
 
 pub opened_cells : (o : Opened) → HasCells (opened o) (opening_cells o.given)
 opened_cells o = record { rows = refl; entries = refl; pending = λ t. subst (λ f. IsListOf f None) (sym (get-empty nat_cmp t)) tt; life = refl }
@@ -240,7 +254,8 @@ one_deeds last (d ∷ ds) = ap (λ l. d ∷ l) (one_deeds last ds)
 pub items_deeds : (writes : ℕ → List Write) (s : State) (last : ℕ) (es : List MachineStep) → deeds (items_from writes s last es) ≡ history writes es
 items_deeds writes s last [] = refl
 items_deeds writes s last (e ∷ es) =
-    map-append (λ (item : Item). item.deed) (map (item_at last) (deeds_of writes e)) (items_from (writes_after writes e) (after s e) (next_number last (action_of s e)) es)
+    map-append (λ (item : Item). item.deed) (map (item_at last) (deeds_of writes e))
+    (items_from (writes_after writes e) (after s e) (next_number last (action_of s e)) es)
     ∙ ap (λ l. l ++ deeds (items_from (writes_after writes e) (after s e) (next_number last (action_of s e)) es)) (one_deeds last (deeds_of writes e))
     ∙ ap (λ l. deeds_of writes e ++ l) (items_deeds (writes_after writes e) (after s e) (next_number last (action_of s e)) es)
 
@@ -335,12 +350,14 @@ module _ (s : State) (e : MachineStep) (rest : List MachineStep) (a : IsEnabled 
             ∙ ap (λ l. map (item_at last) ds ++ l) (ap (λ n. up_to n (items_from (writes_after writes e) (after s e) (last + 1) rest)) number ∙ p.items);
       }
 
-pub up_to_record : (s s' : State) (es : List MachineStep) → Runs s es s' → (writes : ℕ → List Write) (last n : ℕ) → n ≤ length (records_from s last es) → UpTo writes s last es n
+pub up_to_record : (s s' : State) (es : List MachineStep) → Runs s es s' → (writes : ℕ → List Write) (last n : ℕ) → n ≤ length (records_from s last es)
+    → UpTo writes s last es n
 up_to_record s s' es r writes last zero le = nothing_yet writes s last es
 up_to_record s s' es no_step writes last (suc k) le = absurd (omega (arith, le))
 up_to_record s s' es (one_step e rest a r) writes last (suc k) le =
     let p : Part s e rest a writes last k (action_of s e) (deeds_of writes e) =
-    part_by s e rest a writes last k (action_of s e) (deeds_of writes e) (no_deeds s writes e) le (λ m l. up_to_record (after s e) s' rest r (writes_after writes e) (next_number last (action_of s e)) m l) in
+    part_by s e rest a writes last k (action_of s e) (deeds_of writes e) (no_deeds s writes e) le (λ m l.
+    up_to_record (after s e) s' rest r (writes_after writes e) (next_number last (action_of s e)) m l) in
     record { steps = e ∷ p.steps; end = p.end; run = one_step e p.steps a p.run; records = p.records; items = p.items }
 
 -- ---- all of it
@@ -381,8 +398,10 @@ module _ (o : Opened) (can : CanOpen o) (es : List MachineStep) (s : State) (run
   }
 
 -- of the cells of a state, wherever the run stops
-pub stopped : (o : Opened) → CanOpen o → (es : List MachineStep) (s : State) → Runs (opened o) es s → (items : List Item) → AreItemsOf items es → (cells : Cells) → HasCells s cells → (last : ℕ)
-    → ((recovered cells last).table ≡ table_after o.given.table items) × ((recovered cells last).life ≡ life_after o.given.life items) × CanOpen (record o { given = recovered cells last })
+pub stopped : (o : Opened) → CanOpen o → (es : List MachineStep) (s : State) → Runs (opened o) es s → (items : List Item) → AreItemsOf items es
+    → (cells : Cells) → HasCells s cells → (last : ℕ)
+    → ((recovered cells last).table ≡ table_after o.given.table items) × ((recovered cells last).life ≡ life_after o.given.life items)
+    × CanOpen (record o { given = recovered cells last })
 stopped o can es s run items h cells k last =
     let r : IsRecovered s (recovered cells last) = recovers_state s (run_keeps _ s es run (opened_holds o can)) cells k last in
     let v : SameStore (opened o) s = same_store (opened o) s es run in (
@@ -396,13 +415,15 @@ length_taken zero records le = refl
 length_taken (suc n) [] le = absurd (omega (arith, le))
 length_taken (suc n) (r ∷ records) le = let rest : length (take n records) ≡ n = length_taken n records (omega (arith, le)) in omega (arith, rest)
 
-pub recovers : (o : Opened) → CanOpen o → (es : List MachineStep) (s : State) → Runs (opened o) es s → (n : ℕ) → n ≤ length (records_over o es) → RecoversPrefix o es n
+pub recovers : (o : Opened) → CanOpen o → (es : List MachineStep) (s : State) → Runs (opened o) es s → (n : ℕ) → n ≤ length (records_over o es)
+    → RecoversPrefix o es n
 recovers o can es s run n le =
     let p : UpTo no_writes (opened o) o.given.last es n = up_to_record (opened o) s es run no_writes o.given.last n le in
     let count : length (records_over o p.steps) ≡ n = ap length (sym p.records) ∙ length_taken n (records_over o es) le in
     let last : o.given.last + length (records_over o p.steps) ≡ o.given.last + n = ap (λ m. o.given.last + m) count in
     record {
       beginning = subst (λ (rs : List RecordValue). IsBeginning o.given (items_over o es) (o.given.last + n) (given_after o.given rs)) (sym p.records)
-          (now_begins o can p.steps p.end p.run (items_over o es) (o.given.last + n) (omega (arith, last)) (ap (λ m. up_to m (items_over o es)) last ∙ p.items));
+          (now_begins o can p.steps p.end p.run (items_over o es) (o.given.last + n) (omega (arith, last)) (ap (λ m. up_to m (items_over o es)) last
+          ∙ p.items));
       opens = subst (λ (rs : List RecordValue). CanOpen (record o { given = given_after o.given rs })) (sym p.records) (now_opens o can p.steps p.end p.run);
     }

@@ -1,5 +1,6 @@
 -- Entries and reserved places stay within the geometry.
-use Rattle.std.proofs.Common.{Bool, None, Option, Some, ap, arith, cond, false, inl, inr, is_some, refl, subst, sym, true, ℕ, ◌+◌, ◌-◌, ◌<◌, ◌∙◌, ◌≡◌, ◌≢◌, ◌≤◌, ◌⊎◌}
+use Rattle.std.proofs.Common.{Bool, None, Option, Some, ap, arith, cond, false, inl, inr, is_some, refl, subst, sym, true, ℕ, ◌+◌, ◌-◌, ◌<◌, ◌∙◌, ◌≡◌, ◌≢◌, ◌≤◌}
+use Rattle.std.proofs.Common.{◌⊎◌}
 use Rattle.std.specs.Cmp.{nat_cmp_total}
 use Rattle.std.specs.FinMap.{entries, get, insert, len, len-empty, len-insert, len-remove, nat_cmp-IsAntisymmetric, remove}
 use Rattle.std.specs.Ordering.{nat_cmp}
@@ -23,7 +24,10 @@ use Rattle.core_model.proofs.Sums.{left_apart, reserved_apart, reserved_insert, 
 use Rattle.core_model.specs.Changes.{Changes, Unchanged, gone, new_pair, old_pair, ◌▹◌}
 use Rattle.core_model.specs.Invariants.{HasPlaces, IsHolderOf, lacking, lacks}
 use Rattle.core_model.specs.States.{Active, Made, NewMarked, OldMarked, OldSet, Phase, RowSet, State}
-use Rattle.core_model.specs.Steps.{Attempt, Begin, CanAttempt, CanClean, Checkpoint, Clean, Commit, Create, Drop, End, Finish, HasFreePlaces, IsEnabled, Keep, Next, Start, MachineStep, Take, Undo, Wrap, after, all_reserved, attempted, carried_on, is_indexed, left, new_txn, places_of, reserved, row_made, row_undone, started, txn_at, undoing, undone, undone_first, update, with_change, with_entry, with_phase, with_places, with_txn, without_newest}
+use Rattle.core_model.specs.Steps.{Attempt, Begin, CanAttempt, CanClean, Checkpoint, Clean, Commit, Create, Drop, End, Finish, HasFreePlaces, IsEnabled, Keep}
+use Rattle.core_model.specs.Steps.{Next, Start, MachineStep, Take, Undo, Wrap, after, all_reserved, attempted, carried_on, is_indexed, left, new_txn, places_of}
+use Rattle.core_model.specs.Steps.{reserved, row_made, row_undone, started, txn_at, undoing, undone, undone_first, update, with_change, with_entry, with_phase}
+use Rattle.core_model.specs.Steps.{with_places, with_txn, without_newest}
 
 -- ---- an entry is set
 
@@ -63,7 +67,8 @@ module _ (entries : Index) (mark : Mark) where
   fewer_lacking (Some p) None = omega arith
   fewer_lacking (Some p) (Some q) = same_lacks p q (pair_decided q p)
 
-pub lacking_less : (indexed : Bool) (entries other : Index) → ((q : Option Pair) → lacks other q ≤ lacks entries q) → (cs : Changes) → lacking indexed other cs ≤ lacking indexed entries cs
+pub lacking_less : (indexed : Bool) (entries other : Index) → ((q : Option Pair) → lacks other q ≤ lacks entries q) → (cs : Changes)
+    → lacking indexed other cs ≤ lacking indexed entries cs
 lacking_less indexed entries other less Unchanged = omega arith
 lacking_less indexed entries other less (older ▹ c) =
     let old : lacks other (old_pair indexed c) ≤ lacks entries (old_pair indexed c) = less (old_pair indexed c) in
@@ -73,26 +78,31 @@ lacking_less indexed entries other less (older ▹ c) =
 
 module _ (indexed : Bool) (entries : Index) (mark : Mark) (c : ChangeValue) (older : Changes) where
   -- the pair of a change is set
-  pub set_old : lacking indexed (with_entry entries (old_pair indexed c) mark) (older ▹ c) + lacks entries (old_pair indexed c) ≤ lacking indexed entries (older ▹ c)
+  pub set_old : lacking indexed (with_entry entries (old_pair indexed c) mark) (older ▹ c) + lacks entries (old_pair indexed c) ≤ lacking indexed entries
+      (older ▹ c)
   set_old =
       let e' = with_entry entries (old_pair indexed c) mark in
       let old : lacks e' (old_pair indexed c) ≡ 0 = none_lacking entries mark (old_pair indexed c) in
       let new : lacks e' (new_pair indexed c) ≤ lacks entries (new_pair indexed c) = fewer_lacking entries mark (old_pair indexed c) (new_pair indexed c) in
-      let rest : lacking indexed e' older ≤ lacking indexed entries older = lacking_less indexed entries e' (fewer_lacking entries mark (old_pair indexed c)) older in
+      let rest : lacking indexed e' older ≤ lacking indexed entries older =
+      lacking_less indexed entries e' (fewer_lacking entries mark (old_pair indexed c)) older in
       omega (arith, old, new, rest)
 
-  pub set_new : lacking indexed (with_entry entries (new_pair indexed c) mark) (older ▹ c) + lacks entries (new_pair indexed c) ≤ lacking indexed entries (older ▹ c)
+  pub set_new : lacking indexed (with_entry entries (new_pair indexed c) mark) (older ▹ c) + lacks entries (new_pair indexed c) ≤ lacking indexed entries
+      (older ▹ c)
   set_new =
       let e' = with_entry entries (new_pair indexed c) mark in
       let old : lacks e' (old_pair indexed c) ≤ lacks entries (old_pair indexed c) = fewer_lacking entries mark (new_pair indexed c) (old_pair indexed c) in
       let new : lacks e' (new_pair indexed c) ≡ 0 = none_lacking entries mark (new_pair indexed c) in
-      let rest : lacking indexed e' older ≤ lacking indexed entries older = lacking_less indexed entries e' (fewer_lacking entries mark (new_pair indexed c)) older in
+      let rest : lacking indexed e' older ≤ lacking indexed entries older =
+      lacking_less indexed entries e' (fewer_lacking entries mark (new_pair indexed c)) older in
       omega (arith, old, new, rest)
 
   pub set_last : lacking indexed (with_entry entries (old_pair indexed c) mark) older + lacks entries (old_pair indexed c) ≤ lacking indexed entries (older ▹ c)
   set_last =
       let e' = with_entry entries (old_pair indexed c) mark in
-      let rest : lacking indexed e' older ≤ lacking indexed entries older = lacking_less indexed entries e' (fewer_lacking entries mark (old_pair indexed c)) older in
+      let rest : lacking indexed e' older ≤ lacking indexed entries older =
+      lacking_less indexed entries e' (fewer_lacking entries mark (old_pair indexed c)) older in
       omega (arith, rest)
 
 -- the places that a change reserves are enough for its pairs
@@ -107,7 +117,8 @@ enough_for true entries c =
 record IsOneTxn (s s' : State) (t : ℕ) (cs : Changes) : Type 0 where
   pub here : (u : ℕ) (y : Active) → s'.txns u ≡ Some y → ((u ≡ t) × (y.changes ≡ cs)) ⊎ ((u ≢ t) × (s.txns u ≡ Some y))
 
-one_txn : (s : State) (t : ℕ) (x : Active) (u : ℕ) (y : Active) → with_txn s t x u ≡ Some y → ((u ≡ t) × (y.changes ≡ x.changes)) ⊎ ((u ≢ t) × (s.txns u ≡ Some y))
+one_txn : (s : State) (t : ℕ) (x : Active) (u : ℕ) (y : Active) → with_txn s t x u ≡ Some y → ((u ≡ t) × (y.changes ≡ x.changes))
+    ⊎ ((u ≢ t) × (s.txns u ≡ Some y))
 one_txn s t x u y e = elim (nat_decided u t) [
   | inl same ↦ inl (same, ap (λ (z : Active). z.changes) (same_some e (ap (with_txn s t x) same ∙ txn_here s t x)))
   | inr n ↦ inr (n, sym (txn_apart s t x u n) ∙ e)
@@ -127,11 +138,13 @@ module _ (s : State) (p : HasPlaces s) (t : ℕ) (cs : Changes) (more : ℕ) (en
   here_enough : lacking (is_indexed s.life) entries' cs ≤ now
   here_enough = omega (arith, grown, paid)
 
-  uses_enough : (u : ℕ) (y : Active) → ((u ≡ t) × (y.changes ≡ cs)) ⊎ ((u ≢ t) × (s.txns u ≡ Some y)) → lacking (is_indexed s.life) entries' y.changes ≤ reserved (with_places s t more entries') u
+  uses_enough : (u : ℕ) (y : Active) → ((u ≡ t) × (y.changes ≡ cs)) ⊎ ((u ≢ t) × (s.txns u ≡ Some y))
+      → lacking (is_indexed s.life) entries' y.changes ≤ reserved (with_places s t more entries') u
   uses_enough u y (inl mine) = rw (mine.1, reserved_now s.pledges t now u mine.0) here_enough
   uses_enough u y (inr other) =
       let before : lacking (is_indexed s.life) s.entries y.changes ≤ reserved s.pledges u = p.enough u y other.1 in
-      let after : lacking (is_indexed s.life) entries' y.changes ≤ lacking (is_indexed s.life) s.entries y.changes = lacking_less (is_indexed s.life) s.entries entries' less y.changes in
+      let after : lacking (is_indexed s.life) entries' y.changes ≤ lacking (is_indexed s.life) s.entries y.changes =
+      lacking_less (is_indexed s.life) s.entries entries' less y.changes in
       rw (reserved_apart s.pledges t now u other.0) (omega (arith, before, after))
 
 -- the state after such a step
@@ -144,7 +157,8 @@ record Uses (s s' : State) (t : ℕ) (cs : Changes) (more n : ℕ) : Type 0 wher
   pub less : (q : Option Pair) → lacks s'.entries q ≤ lacks s.entries q
   pub paid : lacking (is_indexed s.life) s'.entries cs + n ≤ reserved s.pledges t + more
 
-uses_places : (s s' : State) (t : ℕ) (cs : Changes) (more n : ℕ) → HasPlaces s → Uses s s' t cs more n → len s.entries + all_reserved s.pledges + more ≤ s.places → HasPlaces s'
+uses_places : (s s' : State) (t : ℕ) (cs : Changes) (more n : ℕ) → HasPlaces s → Uses s s' t cs more n
+    → len s.entries + all_reserved s.pledges + more ≤ s.places → HasPlaces s'
 uses_places s s' t cs more n p u room = record {
   fits = rw (u.pledges, u.places) (uses_fits s p t cs more s'.entries n u.grown u.less u.paid room);
   enough = λ w y e. rw (u.pledges, u.life) (uses_enough s p t cs more s'.entries n u.grown u.less u.paid room w y (u.txns w y e));
@@ -167,7 +181,8 @@ module _ (s : State) (p : HasPlaces s) (t : ℕ) (x : Active) (c : ChangeValue) 
 
   start_paid : lacking (is_indexed s.life) s.entries (x.changes ▹ c) ≤ reserved s.pledges t + places_of (is_indexed s.life)
   start_paid =
-      let pairs : lacks s.entries (old_pair (is_indexed s.life) c) + lacks s.entries (new_pair (is_indexed s.life) c) ≤ places_of (is_indexed s.life) = enough_for (is_indexed s.life) s.entries c in
+      let pairs : lacks s.entries (old_pair (is_indexed s.life) c) + lacks s.entries (new_pair (is_indexed s.life) c) ≤ places_of (is_indexed s.life) =
+      enough_for (is_indexed s.life) s.entries c in
       let rest : lacking (is_indexed s.life) s.entries x.changes ≤ reserved s.pledges t = p.enough t x active in
       omega (arith, pairs, rest)
 
@@ -183,8 +198,10 @@ module _ (s : State) (p : HasPlaces s) (t : ℕ) (x : Active) (c : ChangeValue) 
     grown = grown_by s.entries Marked (Some q);
     less = fewer_lacking s.entries Marked (Some q);
     paid =
-        let set : lacking (is_indexed s.life) (with_entry s.entries (Some q) Marked) (x.changes ▹ c) + lacks s.entries (Some q) ≤ lacking (is_indexed s.life) s.entries (x.changes ▹ c) =
-        subst (λ (o : Option Pair). lacking (is_indexed s.life) (with_entry s.entries o Marked) (x.changes ▹ c) + lacks s.entries o ≤ lacking (is_indexed s.life) s.entries (x.changes ▹ c)) e (set_old (is_indexed s.life) s.entries Marked c x.changes) in
+        let set : lacking (is_indexed s.life) (with_entry s.entries (Some q) Marked) (x.changes ▹ c) + lacks s.entries (Some q) ≤ lacking
+        (is_indexed s.life) s.entries (x.changes ▹ c) =
+        subst (λ (o : Option Pair). lacking (is_indexed s.life) (with_entry s.entries o Marked) (x.changes ▹ c) + lacks s.entries o ≤ lacking
+        (is_indexed s.life) s.entries (x.changes ▹ c)) e (set_old (is_indexed s.life) s.entries Marked c x.changes) in
         let paid : lacking (is_indexed s.life) s.entries (x.changes ▹ c) ≤ reserved s.pledges t + places_of (is_indexed s.life) = start_paid in
         omega (arith, set, paid);
   }
@@ -195,7 +212,8 @@ module _ (s : State) (p : HasPlaces s) (t : ℕ) (x : Active) (c : ChangeValue) 
     txns = one_txn s t (with_change x c (row_made (new_pair (is_indexed s.life) c)));
     grown = no_more (len s.entries);
     less = λ q. omega arith;
-    paid = let paid : lacking (is_indexed s.life) s.entries (x.changes ▹ c) ≤ reserved s.pledges t + places_of (is_indexed s.life) = start_paid in omega (arith, paid);
+    paid = let paid : lacking (is_indexed s.life) s.entries (x.changes ▹ c) ≤ reserved s.pledges t + places_of (is_indexed s.life) = start_paid in
+        omega (arith, paid);
   }
 
   start_places : (o : Option Pair) → old_pair (is_indexed s.life) c ≡ o → HasPlaces (begun o)
@@ -211,11 +229,13 @@ module _ (s : State) (p : HasPlaces s) (t : ℕ) (x : Active) (active : s.txns t
 
   paid_before : (cs : Changes) → x.changes ≡ cs → lacking (is_indexed s.life) s.entries cs + 0 ≤ reserved s.pledges t + 0
   paid_before cs e =
-      let enough : lacking (is_indexed s.life) s.entries cs ≤ reserved s.pledges t = subst (λ cs. lacking (is_indexed s.life) s.entries cs ≤ reserved s.pledges t) e (p.enough t x active) in
+      let enough : lacking (is_indexed s.life) s.entries cs ≤ reserved s.pledges t =
+      subst (λ cs. lacking (is_indexed s.life) s.entries cs ≤ reserved s.pledges t) e (p.enough t x active) in
       omega (arith, enough)
 
   -- a step that sets no entry
-  row_places : (rows : Table) (x' : Active) (cs : Changes) → x.changes ≡ cs → x'.changes ≡ cs → HasPlaces (used (record s { rows = rows; txns = with_txn s t x' }))
+  row_places : (rows : Table) (x' : Active) (cs : Changes) → x.changes ≡ cs → x'.changes ≡ cs
+      → HasPlaces (used (record s { rows = rows; txns = with_txn s t x' }))
   row_places rows x' cs e e' = uses_places s _ t cs 0 0 p (record {
     life = refl;
     places = refl;
@@ -227,9 +247,11 @@ module _ (s : State) (p : HasPlaces s) (t : ℕ) (x : Active) (active : s.txns t
   }) later_room
 
   older_paid : (c : ChangeValue) (older : Changes) → x.changes ≡ older ▹ c → lacking (is_indexed s.life) s.entries older + 0 ≤ reserved s.pledges t + 0
-  older_paid c older e = let all : lacking (is_indexed s.life) s.entries (older ▹ c) + 0 ≤ reserved s.pledges t + 0 = paid_before (older ▹ c) e in omega (arith, all)
+  older_paid c older e = let all : lacking (is_indexed s.life) s.entries (older ▹ c) + 0 ≤ reserved s.pledges t + 0 = paid_before (older ▹ c) e in
+      omega (arith, all)
 
-  popped_places : (rows : Table) (c : ChangeValue) (older : Changes) → x.changes ≡ older ▹ c → HasPlaces (used (record s { rows = rows; txns = with_txn s t (without_newest older) }))
+  popped_places : (rows : Table) (c : ChangeValue) (older : Changes) → x.changes ≡ older ▹ c
+      → HasPlaces (used (record s { rows = rows; txns = with_txn s t (without_newest older) }))
   popped_places rows c older e = uses_places s _ t older 0 0 p (record {
     life = refl;
     places = refl;
@@ -255,7 +277,8 @@ module _ (s : State) (p : HasPlaces s) (t : ℕ) (x : Active) (active : s.txns t
   }) later_room
 
   -- a step that sets the entry of this pair
-  entry_places : (o : Option Pair) (mark : Mark) (x' : Active) (cs : Changes) → x'.changes ≡ cs → lacking (is_indexed s.life) (with_entry s.entries o mark) cs + lacks s.entries o ≤ reserved s.pledges t
+  entry_places : (o : Option Pair) (mark : Mark) (x' : Active) (cs : Changes) → x'.changes ≡ cs
+      → lacking (is_indexed s.life) (with_entry s.entries o mark) cs + lacks s.entries o ≤ reserved s.pledges t
       → HasPlaces (used (record s { entries = with_entry s.entries o mark; txns = with_txn s t x' }))
   entry_places o mark x' cs e' paid = uses_places s _ t cs 0 (lacks s.entries o) p (record {
     life = refl;
@@ -271,17 +294,24 @@ module _ (s : State) (p : HasPlaces s) (t : ℕ) (x : Active) (active : s.txns t
     all_paid : lacking (is_indexed s.life) s.entries (older ▹ c) ≤ reserved s.pledges t
     all_paid = subst (λ cs. lacking (is_indexed s.life) s.entries cs ≤ reserved s.pledges t) e (p.enough t x active)
 
-    new_places : (o : Option Pair) → new_pair (is_indexed s.life) c ≡ o → (mark : Mark) (x' : Active) → x'.changes ≡ older ▹ c → HasPlaces (used (record s { entries = with_entry s.entries o mark; txns = with_txn s t x' }))
+    new_places : (o : Option Pair) → new_pair (is_indexed s.life) c ≡ o → (mark : Mark) (x' : Active) → x'.changes ≡ older ▹ c
+        → HasPlaces (used (record s { entries = with_entry s.entries o mark; txns = with_txn s t x' }))
     new_places o k mark x' e' = entry_places o mark x' (older ▹ c) e' (
-        let set : lacking (is_indexed s.life) (with_entry s.entries o mark) (older ▹ c) + lacks s.entries o ≤ lacking (is_indexed s.life) s.entries (older ▹ c) =
-        subst (λ (o : Option Pair). lacking (is_indexed s.life) (with_entry s.entries o mark) (older ▹ c) + lacks s.entries o ≤ lacking (is_indexed s.life) s.entries (older ▹ c)) k (set_new (is_indexed s.life) s.entries mark c older) in
+        let set : lacking (is_indexed s.life) (with_entry s.entries o mark) (older ▹ c) + lacks s.entries o ≤ lacking (is_indexed s.life) s.entries
+        (older ▹ c) =
+        subst (λ (o : Option Pair). lacking (is_indexed s.life) (with_entry s.entries o mark) (older ▹ c) + lacks s.entries o ≤ lacking
+        (is_indexed s.life) s.entries (older ▹ c)) k (set_new (is_indexed s.life) s.entries mark c older) in
         let all : lacking (is_indexed s.life) s.entries (older ▹ c) ≤ reserved s.pledges t = all_paid in
         omega (arith, set, all)
         )
 
-    old_places : HasPlaces (used (record s { entries = with_entry s.entries (old_pair (is_indexed s.life) c) Live; txns = with_txn s t (without_newest older) }))
+    old_places : HasPlaces (used (record s {
+      entries = with_entry s.entries (old_pair (is_indexed s.life) c) Live;
+      txns = with_txn s t (without_newest older);
+    }))
     old_places = entry_places (old_pair (is_indexed s.life) c) Live (without_newest older) older refl (
-        let set : lacking (is_indexed s.life) (with_entry s.entries (old_pair (is_indexed s.life) c) Live) older + lacks s.entries (old_pair (is_indexed s.life) c) ≤ lacking (is_indexed s.life) s.entries (older ▹ c) =
+        let set : lacking (is_indexed s.life) (with_entry s.entries (old_pair (is_indexed s.life) c) Live) older + lacks s.entries
+        (old_pair (is_indexed s.life) c) ≤ lacking (is_indexed s.life) s.entries (older ▹ c) =
         set_last (is_indexed s.life) s.entries Live c older in
         let all : lacking (is_indexed s.life) s.entries (older ▹ c) ≤ reserved s.pledges t = all_paid in
         omega (arith, set, all)
@@ -297,7 +327,8 @@ module _ (s : State) (p : HasPlaces s) (t : ℕ) (x : Active) (active : s.txns t
 
   next_places : (cs : Changes) → x.changes ≡ cs → (phase : Phase) → HasPlaces (used (carried_on s t x cs phase))
   next_places Unchanged e phase = nothing_places
-  next_places (older ▹ c) e OldMarked = row_places (set_at s.rows c.rid (new_row c.rows)) (with_phase x (row_made (new_pair (is_indexed s.life) c))) (older ▹ c) e e
+  next_places (older ▹ c) e OldMarked = row_places (set_at s.rows c.rid (new_row c.rows)) (with_phase x (row_made (new_pair (is_indexed s.life) c)))
+      (older ▹ c) e e
   next_places (older ▹ c) e RowSet = new_places c older e (new_pair (is_indexed s.life) c) refl Live (with_phase x Made) e
   next_places (older ▹ c) e Made = nothing_places
   next_places (older ▹ c) e (NewMarked b) = nothing_places
@@ -333,13 +364,15 @@ gone_places s p t committed = record {
   enough = λ u y e. elim (nat_decided u t) [
     | inl same ↦ absurd (not_none e (ap (update nat_cmp s.txns t None) same ∙ update_here nat_cmp_total s.txns t None))
     | inr n ↦
-        let before : lacking (is_indexed s.life) s.entries y.changes ≤ reserved s.pledges u = p.enough u y (sym (update_apart nat_cmp-IsAntisymmetric s.txns t None u n) ∙ e) in
+        let before : lacking (is_indexed s.life) s.entries y.changes ≤ reserved s.pledges u =
+        p.enough u y (sym (update_apart nat_cmp-IsAntisymmetric s.txns t None u n) ∙ e) in
         rw (left_apart s.pledges t u n) before
   ];
 }
 
 -- ---- the builder and the cleaner
-same_places : (s s' : State) → HasPlaces s → s'.entries ≡ s.entries → s'.pledges ≡ s.pledges → s'.places ≡ s.places → ((t : ℕ) (x : Active) → s'.txns t ≡ Some x → (s.txns t ≡ Some x) × (is_indexed s'.life ≡ is_indexed s.life)) → HasPlaces s'
+same_places : (s s' : State) → HasPlaces s → s'.entries ≡ s.entries → s'.pledges ≡ s.pledges → s'.places ≡ s.places
+    → ((t : ℕ) (x : Active) → s'.txns t ≡ Some x → (s.txns t ≡ Some x) × (is_indexed s'.life ≡ is_indexed s.life)) → HasPlaces s'
 same_places s s' p e k l h = record {
   fits = rw (e, k, l) p.fits;
   enough = λ t x a. rw (e, k, (h t x a).1) (p.enough t x (h t x a).0);
@@ -361,7 +394,8 @@ attempt_places s h p can =
     subst (λ o. HasPlaces (record s { entries = set_at s.entries p o; bound = Some p })) (sym is) (record {
       fits =
           let grown : len (with_entry s.entries (Some p) mark) ≡ len s.entries + lacks s.entries (Some p) = grown_by s.entries mark (Some p) in
-          let room : len s.entries + all_reserved s.pledges + lacks s.entries (Some p) ≤ s.places = room_for (get s.entries p) (len s.entries + all_reserved s.pledges) s.places can.room h.fits in
+          let room : len s.entries + all_reserved s.pledges + lacks s.entries (Some p) ≤ s.places =
+          room_for (get s.entries p) (len s.entries + all_reserved s.pledges) s.places can.room h.fits in
           omega (arith, grown, room);
       enough = λ t x a.
           let before : lacking (is_indexed s.life) s.entries x.changes ≤ reserved s.pledges t = h.enough t x a in
@@ -372,11 +406,13 @@ attempt_places s h p can =
 
 -- entries of other rows go
 module _ (indexed : Bool) (holder : Place → Option ℕ) (t : ℕ) (entries : Index) (p : Pair) (free : holder p.rid ≡ None) where
-  other_lacks : (r : Place) (row other : Option Row) (o : Option Pair) → gone indexed r row other ≡ o → holder r ≡ Some t → lacks (remove entries p) o ≡ lacks entries o
+  other_lacks : (r : Place) (row other : Option Row) (o : Option Pair) → gone indexed r row other ≡ o → holder r ≡ Some t
+      → lacks (remove entries p) o ≡ lacks entries o
   other_lacks r row other None e h = refl
   other_lacks r row other (Some q) e h =
       let g : Gone indexed r row q = gone_is indexed r row other q e in
-      ap none_there (get-set_at_other pair_exact entries p None q (λ same. not_none h (ap holder (sym (ap (λ (w : Pair). w.rid) g.pair)) ∙ ap (λ (w : Pair). holder w.rid) same ∙ free)))
+      ap none_there (get-set_at_other pair_exact entries p None q (λ same.
+      not_none h (ap holder (sym (ap (λ (w : Pair). w.rid) g.pair)) ∙ ap (λ (w : Pair). holder w.rid) same ∙ free)))
 
   other_lacking : (cs : Changes) → IsHolderOf holder t cs → lacking indexed (remove entries p) cs ≡ lacking indexed entries cs
   other_lacking Unchanged h = refl
@@ -390,18 +426,21 @@ fewer_entries : (b : Bool) (n m : ℕ) → cond b (n - 1) n + m ≤ n + m
 fewer_entries true n m = omega arith
 fewer_entries false n m = omega arith
 
-clean_places : (s : State) → ((t : ℕ) (x : Active) → s.txns t ≡ Some x → IsHolderOf s.holder t x.changes) → HasPlaces s → (p : Pair) → CanClean s p → HasPlaces (record s { entries = set_at s.entries p None; cleaned = Some p })
+clean_places : (s : State) → ((t : ℕ) (x : Active) → s.txns t ≡ Some x → IsHolderOf s.holder t x.changes) → HasPlaces s → (p : Pair) → CanClean s p
+    → HasPlaces (record s { entries = set_at s.entries p None; cleaned = Some p })
 clean_places s i h p can = record {
   fits =
       let shrunk : len (remove s.entries p) ≡ cond (is_some (get s.entries p)) (len s.entries - 1) (len s.entries) = len-remove pair_cmp_total s.entries p in
-      let less : cond (is_some (get s.entries p)) (len s.entries - 1) (len s.entries) + all_reserved s.pledges ≤ len s.entries + all_reserved s.pledges = fewer_entries (is_some (get s.entries p)) (len s.entries) (all_reserved s.pledges) in
+      let less : cond (is_some (get s.entries p)) (len s.entries - 1) (len s.entries) + all_reserved s.pledges ≤ len s.entries + all_reserved s.pledges =
+      fewer_entries (is_some (get s.entries p)) (len s.entries) (all_reserved s.pledges) in
       let fits : len s.entries + all_reserved s.pledges ≤ s.places = h.fits in
       rw shrunk (omega (arith, less, fits));
   enough = λ t x a. rw (other_lacking (is_indexed s.life) s.holder t s.entries p can.free x.changes (i t x a)) (h.enough t x a);
 }
 
 -- ---- all steps
-pub places_step : (s : State) (e : MachineStep) → ((t : ℕ) (x : Active) → s.txns t ≡ Some x → IsHolderOf s.holder t x.changes) → HasPlaces s → IsEnabled s e → HasPlaces (after s e)
+pub places_step : (s : State) (e : MachineStep) → ((t : ℕ) (x : Active) → s.txns t ≡ Some x → IsHolderOf s.holder t x.changes) → HasPlaces s → IsEnabled s e
+    → HasPlaces (after s e)
 places_step s (Begin t) i p a = begin_places s p t
 places_step s (Start t c) i p a = start_places s p t (txn_at s t) c a.active a.room _ refl
 places_step s (Next t) i p a = next_places s p t (txn_at s t) a.0 (txn_at s t).changes refl (txn_at s t).phase

@@ -1,5 +1,6 @@
 -- Each step sets the cell that its record names, and no other.
-use Rattle.std.proofs.Common.{Bool, IsTrue, List, None, Option, Some, [], ap, arith, false, inl, inr, length, refl, subst, sym, take, true, unwrap_or, ℕ, ◌++◌, ◌+◌, ◌-◌, ◌∙◌, ◌∷◌, ◌≡◌}
+use Rattle.std.proofs.Common.{Bool, IsTrue, List, None, Option, Some, [], ap, arith, false, inl, inr, length, refl, subst, sym, take, true, unwrap_or, ℕ, ◌++◌}
+use Rattle.std.proofs.Common.{◌+◌, ◌-◌, ◌∙◌, ◌∷◌, ◌≡◌}
 use Rattle.std.proofs.Math.Seq.{take-append_seam, take-length}
 use Rattle.std.proofs.lemmas.List.{length-append}
 use Rattle.std.specs.Cmp.{nat_cmp_total}
@@ -23,7 +24,8 @@ use Rattle.model.specs.Cells.{Cells, Pending, list_of, noted, set_by, taken_off,
 use Rattle.model.specs.KeyActions.{after_action}
 use Rattle.model.specs.Table.{Index, Table}
 use Rattle.model.specs.declared.key_action.KeyAction.TheVariants.{BuildPut}
-use Rattle.core_model.specs.Records.{HasCells, IsListOf, action_of, begun_action, first_action, is_last, next_action, place_action, set_by_any, undo, undo_action}
+use Rattle.core_model.specs.Records.{HasCells, IsListOf, action_of, begun_action, first_action, is_last, next_action, place_action, set_by_any, undo}
+use Rattle.core_model.specs.Records.{undo_action}
 use Rattle.core_model.proofs.Builds.{build_put_some}
 use Rattle.core_model.proofs.Frames.{nat_decided}
 use Rattle.core_model.proofs.Latest.{Gone, gone_is, not_none}
@@ -31,7 +33,9 @@ use Rattle.core_model.proofs.Orders.{update_apart, update_here}
 use Rattle.core_model.specs.Changes.{Changes, Unchanged, gone, as_list, new_pair, old_pair, pair_at, ◌▹◌}
 use Rattle.core_model.specs.Invariants.{HasPair, IsShaped, IsWellFormed}
 use Rattle.core_model.specs.States.{Active, Made, NewMarked, OldMarked, OldSet, Phase, RowSet, State}
-use Rattle.core_model.specs.Steps.{Attempt, Begin, Checkpoint, Clean, Commit, Create, Drop, End, Finish, IsEnabled, Keep, Next, Start, MachineStep, Take, Undo, Wrap, after, carried_on, is_indexed, left, moved_by, new_txn, row_made, row_undone, started, txn_at, undoing, undone, undone_first, update, with_change, with_entry, with_txn, without_newest}
+use Rattle.core_model.specs.Steps.{Attempt, Begin, Checkpoint, Clean, Commit, Create, Drop, End, Finish, IsEnabled, Keep, Next, Start, MachineStep, Take, Undo}
+use Rattle.core_model.specs.Steps.{Wrap, after, carried_on, is_indexed, left, moved_by, new_txn, row_made, row_undone, started, txn_at, undoing, undone}
+use Rattle.core_model.specs.Steps.{undone_first, update, with_change, with_entry, with_txn, without_newest}
 
 -- ---- the lists of the log
 module _ (older : Changes) (c : ChangeValue) (k : c.position ≡ length (as_list older)) where
@@ -75,12 +79,14 @@ module _ (s : State) (pending : Pending) (h : (u : ℕ) → IsListOf (get pendin
   -- or stays
   list_stays : IsListOf (get pending t) o → (u : ℕ) → IsListOf (get pending u) (update nat_cmp s.txns t o u)
   list_stays e u = elim (nat_decided u t) [
-    | inl same ↦ subst (λ w. IsListOf (get pending w) (update nat_cmp s.txns t o w)) (sym same) (subst (IsListOf (get pending t)) (sym (update_here nat_cmp_total s.txns t o)) e)
+    | inl same ↦ subst (λ w. IsListOf (get pending w) (update nat_cmp s.txns t o w)) (sym same)
+        (subst (IsListOf (get pending t)) (sym (update_here nat_cmp_total s.txns t o)) e)
     | inr n ↦ subst (IsListOf (get pending u)) (sym (update_apart nat_cmp-IsAntisymmetric s.txns t o u n)) (h u)
   ]
 
 -- the pair of a record is that of its row
-marked_is : (indexed : Bool) (r : Place) (row other : Option Row) (entries : Index) (mark : Mark) (o : Option Pair) → HasPair o (λ p. Unit {0}) → gone indexed r row other ≡ o → with_entry entries (pair_at r row) mark ≡ with_entry entries o mark
+marked_is : (indexed : Bool) (r : Place) (row other : Option Row) (entries : Index) (mark : Mark) (o : Option Pair) → HasPair o (λ p. Unit {0})
+    → gone indexed r row other ≡ o → with_entry entries (pair_at r row) mark ≡ with_entry entries o mark
 marked_is indexed r row other entries mark None h e = absurd (not_none h.is refl)
 marked_is indexed r row other entries mark (Some p) h e =
     let g : Gone indexed r row p = gone_is indexed r row other p e in
@@ -96,7 +102,8 @@ module _ (s : State) (cells : Cells) (k : HasCells s cells) (t : ℕ) where
 
   -- a record that sets the row
   row_cells : (rid : Place) (row : Option Row) (x' : Active) (cs : List ChangeValue) → cs ≡ as_list x'.changes
-      → HasCells (record s { rows = set_at s.rows rid row; txns = with_txn s t x' }) (record { rows = set_at cells.rows rid row; entries = cells.entries; pending = with_list cells.pending t (Some cs); life = cells.life })
+      → HasCells (record s { rows = set_at s.rows rid row; txns = with_txn s t x' })
+      (record { rows = set_at cells.rows rid row; entries = cells.entries; pending = with_list cells.pending t (Some cs); life = cells.life })
   row_cells rid row x' cs e = record {
     rows = ap (λ m. set_at m rid row) k.rows;
     entries = k.entries;
@@ -105,8 +112,15 @@ module _ (s : State) (cells : Cells) (k : HasCells s cells) (t : ℕ) where
   }
 
   -- a record that sets an entry
-  entry_cells : (rid : Place) (row other : Option Row) (mark : Mark) (o : Option Pair) → gone (is_indexed s.life) rid row other ≡ o → HasPair o (λ p. Unit {0}) → (x' : Active) (cs : List ChangeValue) → cs ≡ as_list x'.changes
-      → HasCells (record s { entries = with_entry s.entries o mark; txns = with_txn s t x' }) (record { rows = cells.rows; entries = with_entry cells.entries (pair_at rid row) mark; pending = with_list cells.pending t (Some cs); life = cells.life })
+  entry_cells : (rid : Place) (row other : Option Row) (mark : Mark) (o : Option Pair) → gone (is_indexed s.life) rid row other ≡ o → HasPair o (λ p. Unit {0})
+      → (x' : Active) (cs : List ChangeValue) → cs ≡ as_list x'.changes
+      → HasCells (record s { entries = with_entry s.entries o mark; txns = with_txn s t x' })
+      (record {
+        rows = cells.rows;
+        entries = with_entry cells.entries (pair_at rid row) mark;
+        pending = with_list cells.pending t (Some cs);
+        life = cells.life;
+      })
   entry_cells rid row other mark o g is x' cs e = record {
     rows = k.rows;
     entries = ap (λ m. with_entry m (pair_at rid row) mark) k.entries ∙ marked_is (is_indexed s.life) rid row other s.entries mark o is g;
@@ -115,7 +129,8 @@ module _ (s : State) (cells : Cells) (k : HasCells s cells) (t : ℕ) where
   }
 
   -- a record that ends the transaction
-  gone_cells : (committed : Table) → HasCells (left s t committed) (record { rows = cells.rows; entries = cells.entries; pending = with_list cells.pending t None; life = cells.life })
+  gone_cells : (committed : Table)
+      → HasCells (left s t committed) (record { rows = cells.rows; entries = cells.entries; pending = with_list cells.pending t None; life = cells.life })
   gone_cells committed = record { rows = k.rows; entries = k.entries; pending = list_set s cells.pending pending_is t None None tt; life = k.life }
 
   -- no record
@@ -129,11 +144,15 @@ module _ (s : State) (cells : Cells) (k : HasCells s cells) (t : ℕ) where
     first_list : (c : ChangeValue) → c.position ≡ length (as_list x.changes) → noted (list_of cells.pending t) c ≡ as_list (x.changes ▹ c)
     first_list c e = ap (λ cs. noted cs c) mine ∙ noted_first x.changes c e
 
-    start_cells : (c : ChangeValue) → c.position ≡ length (as_list x.changes) → (o : Option Pair) → old_pair (is_indexed s.life) c ≡ o → HasCells (started s t x c o) (set_by cells (first_action t c o))
+    start_cells : (c : ChangeValue) → c.position ≡ length (as_list x.changes) → (o : Option Pair) → old_pair (is_indexed s.life) c ≡ o
+        → HasCells (started s t x c o) (set_by cells (first_action t c o))
     start_cells c e None g =
-        other_holder _ _ (update rid_cmp s.holder c.rid (Some t)) (row_cells c.rid (new_row c.rows) (with_change x c (row_made (new_pair (is_indexed s.life) c))) _ (first_list c e))
+        other_holder _ _ (update rid_cmp s.holder c.rid (Some t))
+        (row_cells c.rid (new_row c.rows) (with_change x c (row_made (new_pair (is_indexed s.life) c))) _ (first_list c e))
     start_cells c e (Some p) g =
-        other_holder _ _ (update rid_cmp s.holder c.rid (Some t)) (entry_cells c.rid (old_row c.rows) (new_row c.rows) Marked (Some p) g (record { it = p; is = refl; holds = tt }) (with_change x c OldMarked) _ (first_list c e))
+        other_holder _ _ (update rid_cmp s.holder c.rid (Some t))
+        (entry_cells c.rid (old_row c.rows) (new_row c.rows) Marked (Some p) g (record { it = p; is = refl; holds = tt }) (with_change x c OldMarked) _
+        (first_list c e))
 
     module _ (c : ChangeValue) (older : Changes) (e : x.changes ≡ older ▹ c) where
       whole_list : list_of cells.pending t ≡ as_list (older ▹ c)
@@ -145,21 +164,27 @@ module _ (s : State) (cells : Cells) (k : HasCells s cells) (t : ℕ) where
       off_list : taken_off (list_of cells.pending t) true ≡ as_list older
       off_list = ap (λ cs. taken_off cs true) whole_list ∙ off_newest older c
 
-      row_left : (o : Option Pair) → HasCells (record s { rows = set_at s.rows c.rid (old_row c.rows); txns = with_txn s t (row_undone x older o) }) (set_by cells (undo t Slot c (is_last o)))
+      row_left : (o : Option Pair) → HasCells (record s { rows = set_at s.rows c.rid (old_row c.rows); txns = with_txn s t (row_undone x older o) })
+          (set_by cells (undo t Slot c (is_last o)))
       row_left None = row_cells c.rid (old_row c.rows) (without_newest older) _ off_list
       row_left (Some p) = row_cells c.rid (old_row c.rows) (undoing x OldSet) _ mine
 
-      first_cells : (b : Bool) (o : Option Pair) → new_pair (is_indexed s.life) c ≡ o → HasCells (undone_first s t x c older b o) (set_by cells (begun_action t c (old_pair (is_indexed s.life) c) o))
+      first_cells : (b : Bool) (o : Option Pair) → new_pair (is_indexed s.life) c ≡ o
+          → HasCells (undone_first s t x c older b o) (set_by cells (begun_action t c (old_pair (is_indexed s.life) c) o))
       first_cells b None g = row_left (old_pair (is_indexed s.life) c)
-      first_cells b (Some p) g = entry_cells c.rid (new_row c.rows) (old_row c.rows) Marked (Some p) g (record { it = p; is = refl; holds = tt }) (undoing x (NewMarked b)) _ mine
+      first_cells b (Some p) g = entry_cells c.rid (new_row c.rows) (old_row c.rows) Marked (Some p) g (record { it = p; is = refl; holds = tt })
+          (undoing x (NewMarked b)) _ mine
 
-next_cells : (s : State) (i : IsWellFormed s) (cells : Cells) → HasCells s cells → (t : ℕ) (cs : Changes) (phase : Phase) (rolling : Bool) → s.txns t ≡ Some (record { changes = cs; phase = phase; rolling = rolling })
+next_cells : (s : State) (i : IsWellFormed s) (cells : Cells) → HasCells s cells → (t : ℕ) (cs : Changes) (phase : Phase) (rolling : Bool)
+    → s.txns t ≡ Some (record { changes = cs; phase = phase; rolling = rolling })
     → HasCells (carried_on s t (record { changes = cs; phase = phase; rolling = rolling }) cs phase) (set_by_any cells (next_action t cs phase))
 next_cells s i cells k t Unchanged phase rolling active = k
 next_cells s i cells k t (older ▹ c) OldMarked rolling active =
-    row_cells s cells k t c.rid (new_row c.rows) (record { changes = older ▹ c; phase = row_made (new_pair (is_indexed s.life) c); rolling = rolling }) _ (again_list s cells k t _ active c older refl (i.txns t _ active).numbered.0)
+    row_cells s cells k t c.rid (new_row c.rows) (record { changes = older ▹ c; phase = row_made (new_pair (is_indexed s.life) c); rolling = rolling }) _
+    (again_list s cells k t _ active c older refl (i.txns t _ active).numbered.0)
 next_cells s i cells k t (older ▹ c) RowSet rolling active =
-    entry_cells s cells k t c.rid (new_row c.rows) (old_row c.rows) Live (new_pair (is_indexed s.life) c) refl (i.txns t _ active).shaped (record { changes = older ▹ c; phase = Made; rolling = rolling }) _
+    entry_cells s cells k t c.rid (new_row c.rows) (old_row c.rows) Live (new_pair (is_indexed s.life) c) refl (i.txns t _ active).shaped
+    (record { changes = older ▹ c; phase = Made; rolling = rolling }) _
     (again_list s cells k t _ active c older refl (i.txns t _ active).numbered.0)
 next_cells s i cells k t (older ▹ c) Made rolling active = k
 next_cells s i cells k t (older ▹ c) (NewMarked b) rolling active = k
@@ -169,18 +194,24 @@ none_changed : (x x' : Active) → x.changes ≡ x'.changes → (list : Option (
 none_changed x x' e None h = sym e ∙ h
 none_changed x x' e (Some list) h = h ∙ ap as_list e
 
-undo_cells : (s : State) (i : IsWellFormed s) (cells : Cells) → HasCells s cells → (t : ℕ) (cs : Changes) (phase : Phase) (rolling : Bool) → s.txns t ≡ Some (record { changes = cs; phase = phase; rolling = rolling })
+undo_cells : (s : State) (i : IsWellFormed s) (cells : Cells) → HasCells s cells → (t : ℕ) (cs : Changes) (phase : Phase) (rolling : Bool)
+    → s.txns t ≡ Some (record { changes = cs; phase = phase; rolling = rolling })
     → HasCells (undone s t (record { changes = cs; phase = phase; rolling = rolling }) cs phase) (set_by_any cells (undo_action (is_indexed s.life) t cs phase))
-undo_cells s i cells k t Unchanged phase rolling active = same_cells s cells k t (record { changes = Unchanged; phase = phase; rolling = true }) (none_changed (record { changes = Unchanged; phase = phase; rolling = rolling }) (record { changes = Unchanged; phase = phase; rolling = true }) refl (get cells.pending t) (subst (IsListOf (get cells.pending t)) active (k.pending t)))
+undo_cells s i cells k t Unchanged phase rolling active =
+    same_cells s cells k t (record { changes = Unchanged; phase = phase; rolling = true })
+    (none_changed (record { changes = Unchanged; phase = phase; rolling = rolling }) (record { changes = Unchanged; phase = phase; rolling = true }) refl
+    (get cells.pending t) (subst (IsListOf (get cells.pending t)) active (k.pending t)))
 undo_cells s i cells k t (older ▹ c) OldMarked rolling active = first_cells s cells k t _ active c older refl false _ refl
 undo_cells s i cells k t (older ▹ c) RowSet rolling active = first_cells s cells k t _ active c older refl true _ refl
 undo_cells s i cells k t (older ▹ c) Made rolling active = first_cells s cells k t _ active c older refl true _ refl
 undo_cells s i cells k t (older ▹ c) (NewMarked b) rolling active = row_left s cells k t _ active c older refl (old_pair (is_indexed s.life) c)
 undo_cells s i cells k t (older ▹ c) OldSet rolling active =
-    entry_cells s cells k t c.rid (old_row c.rows) (new_row c.rows) Live (old_pair (is_indexed s.life) c) refl (i.txns t _ active).shaped (record { changes = older; phase = Made; rolling = true }) _
+    entry_cells s cells k t c.rid (old_row c.rows) (new_row c.rows) Live (old_pair (is_indexed s.life) c) refl (i.txns t _ active).shaped
+    (record { changes = older; phase = Made; rolling = true }) _
     (off_list s cells k t _ active c older refl)
 
-attempt_cells : (s : State) (cells : Cells) → HasCells s cells → (p : Pair) (o : Option Mark) → get s.entries p ≡ o → HasCells (record s { entries = set_at s.entries p (after_action BuildPut o); bound = Some p }) (set_by_any cells (place_action p o))
+attempt_cells : (s : State) (cells : Cells) → HasCells s cells → (p : Pair) (o : Option Mark) → get s.entries p ≡ o
+    → HasCells (record s { entries = set_at s.entries p (after_action BuildPut o); bound = Some p }) (set_by_any cells (place_action p o))
 attempt_cells s cells k p None e = record { rows = k.rows; entries = ap (λ m. set_at m p (Some Live)) k.entries; pending = k.pending; life = k.life }
 attempt_cells s cells k p (Some mark) e = record {
   rows = k.rows;
@@ -189,8 +220,10 @@ attempt_cells s cells k p (Some mark) e = record {
   life = k.life;
 }
 
-moved_cells : (s : State) (e : MachineStep) (cells : Cells) → IsWellFormed s → IsEnabled s e → HasCells s cells → HasCells (moved_by s e) (set_by_any cells (action_of s e))
-moved_cells s (Begin t) cells i a k = same_cells s cells k t new_txn (subst (λ l. IsListOf l (Some new_txn)) (sym (no_list (get cells.pending t) (subst (IsListOf (get cells.pending t)) a (k.pending t)))) refl)
+moved_cells : (s : State) (e : MachineStep) (cells : Cells) → IsWellFormed s → IsEnabled s e → HasCells s cells
+    → HasCells (moved_by s e) (set_by_any cells (action_of s e))
+moved_cells s (Begin t) cells i a k = same_cells s cells k t new_txn
+    (subst (λ l. IsListOf l (Some new_txn)) (sym (no_list (get cells.pending t) (subst (IsListOf (get cells.pending t)) a (k.pending t)))) refl)
 moved_cells s (Start t c) cells i a k = start_cells s cells k t (txn_at s t) a.active c a.position _ refl
 moved_cells s (Next t) cells i a k = next_cells s i cells k t (txn_at s t).changes (txn_at s t).phase (txn_at s t).rolling a.0
 moved_cells s (Undo t) cells i a k = undo_cells s i cells k t (txn_at s t).changes (txn_at s t).phase (txn_at s t).rolling a
@@ -206,7 +239,8 @@ moved_cells s (Keep p) cells i a k = record { rows = k.rows; entries = k.entries
 moved_cells s Wrap cells i a k = record { rows = k.rows; entries = k.entries; pending = k.pending; life = k.life }
 moved_cells s Drop cells i a k = record { rows = k.rows; entries = refl; pending = k.pending; life = refl }
 
-pub step_follows : (s : State) (e : MachineStep) (cells : Cells) → IsWellFormed s → IsEnabled s e → HasCells s cells → HasCells (after s e) (set_by_any cells (action_of s e))
+pub step_follows : (s : State) (e : MachineStep) (cells : Cells) → IsWellFormed s → IsEnabled s e → HasCells s cells
+    → HasCells (after s e) (set_by_any cells (action_of s e))
 step_follows s e cells i a k =
     let h : HasCells (moved_by s e) (set_by_any cells (action_of s e)) = moved_cells s e cells i a k in
     record { rows = h.rows; entries = h.entries; pending = h.pending; life = h.life }

@@ -1,5 +1,6 @@
 -- A core with no transaction can be opened again from its cells.
-use Rattle.std.proofs.Common.{Bool, List, None, Option, Some, [], ap, arith, false, inl, inr, refl, subst, sym, true, true≢false, ℕ, ◌+◌, ◌<◌, ◌∙◌, ◌∷◌, ◌≡◌, ◌≢◌, ◌≤◌}
+use Rattle.std.proofs.Common.{Bool, List, None, Option, Some, [], ap, arith, false, inl, inr, refl, subst, sym, true, true≢false, ℕ, ◌+◌, ◌<◌, ◌∙◌, ◌∷◌, ◌≡◌}
+use Rattle.std.proofs.Common.{◌≢◌, ◌≤◌}
 use Rattle.std.specs.Cmp.{nat_cmp_total}
 use Rattle.std.specs.FinMap.{entries, get, len, nat_cmp-IsAntisymmetric, remove}
 use Rattle.std.specs.Ordering.{nat_cmp}
@@ -21,7 +22,8 @@ use Rattle.core_model.proofs.Sums.{left_apart, reserved_left}
 use Rattle.core_model.proofs.Txns.{end_keeps, taken_off_whole, undo_whole}
 use Rattle.core_model.specs.Changes.{Changes, Unchanged, latest, new_pair, old_pair, pair_of, ◌▹◌}
 use Rattle.core_model.specs.Histories.{CanOpen, IsCovered, highest_of}
-use Rattle.core_model.specs.Invariants.{HasPlaces, IsBusyWith, IsCoherent, IsHeld, IsHolderOf, IsStateInside, IsUnfinished, applied_of, IsVisibleOrAhead, lacking, lacks}
+use Rattle.core_model.specs.Invariants.{HasPlaces, IsBusyWith, IsCoherent, IsHeld, IsHolderOf, IsStateInside, IsUnfinished, applied_of, IsVisibleOrAhead}
+use Rattle.core_model.specs.Invariants.{lacking, lacks}
 use Rattle.core_model.proofs.Undone.{IsListing, entries_undone, restarted, rows_back, rows_undone}
 use Rattle.core_model.specs.States.{Active, Phase, State}
 use Rattle.core_model.specs.Steps.{above, all_reserved, freed, is_applied, is_indexed, reserved, update, with_entry, without_newest}
@@ -57,7 +59,8 @@ module _ (s : State) (i : IsCoherent s) (n : IsStateInside s) (quiet : (t : ℕ)
       below false a = a
   covered_by Complete e p c = c
 
-  opens_complete : (r : Place) (row : Row) → get s.rows r ≡ Some row → IsCovered s.life (highest_of s.life) (pair_of r row) → get s.entries (pair_of r row) ≡ Some Live
+  opens_complete : (r : Place) (row : Row) → get s.rows r ≡ Some row → IsCovered s.life (highest_of s.life) (pair_of r row)
+      → get s.entries (pair_of r row) ≡ Some Live
   opens_complete r row e c = elim (i.visible r row e (not_unfinished r)) [
     | inl live ↦ live
     | inr w ↦ absurd (complete_by s.life s.bound s.missed (pair_of r row) w.1 (covered_by s.life refl (pair_of r row) c))
@@ -85,7 +88,8 @@ rolled s t cs = record s {
   holder = λ r. freed t (s.holder r);
 }
 
-rolled_keeps : (t : ℕ) (cs : Changes) (s : State) → IsCoherent s → (phase : Phase) (rolling : Bool) → s.txns t ≡ Some (record { changes = cs; phase = phase; rolling = rolling }) → IsCoherent (rolled s t cs)
+rolled_keeps : (t : ℕ) (cs : Changes) (s : State) → IsCoherent s → (phase : Phase) (rolling : Bool)
+    → s.txns t ≡ Some (record { changes = cs; phase = phase; rolling = rolling }) → IsCoherent (rolled s t cs)
 rolled_keeps t Unchanged s i phase rolling active = end_keeps s i t (record { changes = Unchanged; phase = phase; rolling = rolling }) active refl
 rolled_keeps t (older ▹ c) s i phase rolling active =
     let s' : State = taken_off_whole s t c older (new_pair (is_indexed s.life) c) (old_pair (is_indexed s.life) c) in
@@ -105,9 +109,12 @@ module _ (indexed : Bool) where
       let put : Index = with_entry marked (old_pair indexed c) Live in
       let first : len marked ≡ len entries + lacks entries (new_pair indexed c) = grown_by entries Marked (new_pair indexed c) in
       let second : len put ≡ len marked + lacks marked (old_pair indexed c) = grown_by marked Live (old_pair indexed c) in
-      let fewer : lacks marked (old_pair indexed c) ≤ lacks entries (old_pair indexed c) = fewer_lacking entries Marked (new_pair indexed c) (old_pair indexed c) in
-      let one : lacking indexed marked older ≤ lacking indexed entries older = lacking_less indexed entries marked (fewer_lacking entries Marked (new_pair indexed c)) older in
-      let two : lacking indexed put older ≤ lacking indexed marked older = lacking_less indexed marked put (fewer_lacking marked Live (old_pair indexed c)) older in
+      let fewer : lacks marked (old_pair indexed c) ≤ lacks entries (old_pair indexed c) =
+      fewer_lacking entries Marked (new_pair indexed c) (old_pair indexed c) in
+      let one : lacking indexed marked older ≤ lacking indexed entries older =
+      lacking_less indexed entries marked (fewer_lacking entries Marked (new_pair indexed c)) older in
+      let two : lacking indexed put older ≤ lacking indexed marked older =
+      lacking_less indexed marked put (fewer_lacking marked Live (old_pair indexed c)) older in
       let rest : len (entries_undone indexed older put) ≤ len put + lacking indexed put older = undone_grown older put in
       omega (arith, first, second, fewer, one, two, rest)
 
@@ -121,26 +128,32 @@ module _ (indexed : Bool) where
       let rest : lacks (entries_undone indexed older put) q ≤ lacks put q = undone_fewer older put q in
       omega (arith, one, two, rest)
 
-rolled_places : (s : State) (t : ℕ) (x : Active) (cs : Changes) → HasPlaces s → s.txns t ≡ Some x → x.changes ≡ cs → HasPlaces (record (rolled s t cs) { pledges = remove s.pledges t })
+rolled_places : (s : State) (t : ℕ) (x : Active) (cs : Changes) → HasPlaces s → s.txns t ≡ Some x → x.changes ≡ cs
+    → HasPlaces (record (rolled s t cs) { pledges = remove s.pledges t })
 rolled_places s t x cs p active e = record {
   fits =
       let sums : all_reserved (remove s.pledges t) + reserved s.pledges t ≡ all_reserved s.pledges = reserved_left s.pledges t in
       let fits : len s.entries + all_reserved s.pledges ≤ s.places = p.fits in
-      let enough : lacking (is_indexed s.life) s.entries cs ≤ reserved s.pledges t = subst (λ l. lacking (is_indexed s.life) s.entries l ≤ reserved s.pledges t) e (p.enough t x active) in
-      let grown : len (entries_undone (is_indexed s.life) cs s.entries) ≤ len s.entries + lacking (is_indexed s.life) s.entries cs = undone_grown (is_indexed s.life) cs s.entries in
+      let enough : lacking (is_indexed s.life) s.entries cs ≤ reserved s.pledges t =
+      subst (λ l. lacking (is_indexed s.life) s.entries l ≤ reserved s.pledges t) e (p.enough t x active) in
+      let grown : len (entries_undone (is_indexed s.life) cs s.entries) ≤ len s.entries + lacking (is_indexed s.life) s.entries cs =
+      undone_grown (is_indexed s.life) cs s.entries in
       omega (arith, sums, fits, enough, grown);
   enough = λ u y a. elim (nat_decided u t) [
     | inl same ↦ absurd (not_none a (ap (update nat_cmp s.txns t None) same ∙ update_here nat_cmp_total s.txns t None))
     | inr n ↦
-        let before : lacking (is_indexed s.life) s.entries y.changes ≤ reserved s.pledges u = p.enough u y (sym (update_apart nat_cmp-IsAntisymmetric s.txns t None u n) ∙ a) in
+        let before : lacking (is_indexed s.life) s.entries y.changes ≤ reserved s.pledges u =
+        p.enough u y (sym (update_apart nat_cmp-IsAntisymmetric s.txns t None u n) ∙ a) in
         let fewer : lacking (is_indexed s.life) (entries_undone (is_indexed s.life) cs s.entries) y.changes ≤ lacking (is_indexed s.life) s.entries y.changes =
-        lacking_less (is_indexed s.life) s.entries (entries_undone (is_indexed s.life) cs s.entries) (undone_fewer (is_indexed s.life) cs s.entries) y.changes in
+        lacking_less (is_indexed s.life) s.entries (entries_undone (is_indexed s.life) cs s.entries)
+        (undone_fewer (is_indexed s.life) cs s.entries) y.changes in
         rw (left_apart s.pledges t u n) (omega (arith, before, fewer))
   ];
 }
 
 -- ---- they stay in the store's pages
-undone_inside : (pages : ℕ) (indexed : Bool) (holder : Place → Option ℕ) (t : ℕ) → ((r : Place) → holder r ≡ Some t → r.page < pages) → (cs : Changes) → IsHolderOf holder t cs → (entries : Index)
+undone_inside : (pages : ℕ) (indexed : Bool) (holder : Place → Option ℕ) (t : ℕ) → ((r : Place) → holder r ≡ Some t → r.page < pages) → (cs : Changes)
+    → IsHolderOf holder t cs → (entries : Index)
     → ((p : Pair) → get entries p ≢ None → p.rid.page < pages) → (p : Pair) → get (entries_undone indexed cs entries) p ≢ None → p.rid.page < pages
 undone_inside pages indexed holder t held Unchanged names entries h = h
 undone_inside pages indexed holder t held (older ▹ c) names entries h =
@@ -149,9 +162,11 @@ undone_inside pages indexed holder t held (older ▹ c) names entries h =
     (with_inside pages (with_entry entries (new_pair indexed c) Marked) (old_pair indexed c) Live (old_inside pages indexed c l)
     (with_inside pages entries (new_pair indexed c) Marked (new_inside pages indexed c l) h))
 
-rolled_inside : (s : State) (t : ℕ) (x : Active) (cs : Changes) → IsCoherent s → IsStateInside s → s.txns t ≡ Some x → x.changes ≡ cs → IsStateInside (record (rolled s t cs) { pledges = remove s.pledges t })
+rolled_inside : (s : State) (t : ℕ) (x : Active) (cs : Changes) → IsCoherent s → IsStateInside s → s.txns t ≡ Some x → x.changes ≡ cs
+    → IsStateInside (record (rolled s t cs) { pledges = remove s.pledges t })
 rolled_inside s t x cs i h active e = record {
-  entries = undone_inside s.pages (is_indexed s.life) s.holder t (λ r k. (i.held r t k).inside) cs (subst (λ l. IsHolderOf s.holder t l) e (i.txns t x active).names) s.entries h.entries;
+  entries = undone_inside s.pages (is_indexed s.life) s.holder t (λ r k. (i.held r t k).inside) cs
+      (subst (λ l. IsHolderOf s.holder t l) e (i.txns t x active).names) s.entries h.entries;
   bound = h.bound;
   highest = h.highest;
   given = h.given;
@@ -162,10 +177,14 @@ pub record CanRestart (s : State) (ls : List (ℕ × Changes)) (last : ℕ) : Ty
   pub opens : CanOpen (restarted s ls last)
 
 pub can_restart : (ls : List (ℕ × Changes)) (last : ℕ) (s : State) → IsCoherent s → IsStateInside s → HasPlaces s → IsListing s.txns ls → CanRestart s ls last
-can_restart [] last s i n p quiet = record { table = only_committed s i n quiet; opens = opens s i n quiet last (let fits : len s.entries + all_reserved s.pledges ≤ s.places = p.fits in omega (arith, fits)) }
+can_restart [] last s i n p quiet = record {
+  table = only_committed s i n quiet;
+  opens = opens s i n quiet last (let fits : len s.entries + all_reserved s.pledges ≤ s.places = p.fits in omega (arith, fits));
+}
 can_restart (l ∷ ls) last s i n p listing =
     let s' : State = record (rolled s l.0 l.1) { pledges = remove s.pledges l.0 } in
     let after : CanRestart s' ls last =
-    can_restart ls last s' (other_pledges (rolled s l.0 l.1) (remove s.pledges l.0) (rolled_by l.0 listing.0.0 l.1 s i listing.0.1 listing.0.2)) (rolled_inside s l.0 listing.0.0 l.1 i n listing.0.1 listing.0.2)
+    can_restart ls last s' (other_pledges (rolled s l.0 l.1) (remove s.pledges l.0) (rolled_by l.0 listing.0.0 l.1 s i listing.0.1 listing.0.2))
+    (rolled_inside s l.0 listing.0.0 l.1 i n listing.0.1 listing.0.2)
     (rolled_places s l.0 listing.0.0 l.1 p listing.0.1 listing.0.2) listing.1 in
     record { table = after.table; opens = after.opens }

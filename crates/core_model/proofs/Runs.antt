@@ -6,7 +6,8 @@ use Rattle.core_model.proofs.Fits.{fit_step}
 use Rattle.core_model.proofs.Txns.{begin_keeps, commit_keeps, end_keeps, next_keeps, start_keeps, undo_keeps}
 use Rattle.core_model.specs.Invariants.{Invariant, IsCoherent, IsHeld, Runs, TxnHolds, no_step, one_step}
 use Rattle.core_model.specs.States.{Pledges, State}
-use Rattle.core_model.specs.Steps.{Attempt, Begin, Checkpoint, Clean, Commit, Create, Drop, End, Finish, IsEnabled, Keep, Next, Start, MachineStep, Take, Undo, Wrap, after, moved_by, pledges_after, txn_at}
+use Rattle.core_model.specs.Steps.{Attempt, Begin, Checkpoint, Clean, Commit, Create, Drop, End, Finish, IsEnabled, Keep, Next, Start, MachineStep, Take, Undo}
+use Rattle.core_model.specs.Steps.{Wrap, after, moved_by, pledges_after, txn_at}
 
 -- the reserved places have no part in the rest
 pub other_pledges : (s : State) (k : Pledges) → IsCoherent s → IsCoherent (record s { pledges = k })

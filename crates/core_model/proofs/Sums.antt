@@ -88,14 +88,16 @@ left_here m t = ap (λ o. unwrap_or o 0) (get-set_at_same nat_exact m t None)
 
 left_by : (m : Pledges) (t : ℕ) (o : Option ℕ) → get m t ≡ o → all_reserved (remove m t) + reserved m t ≡ all_reserved m
 left_by m t None e =
-    ap (λ k. all_reserved k + reserved m t) (ap (λ o. set_at m t o) (sym e) ∙ set_at-get nat_exact m t) ∙ ap (λ o. all_reserved m + unwrap_or o 0) e ∙ no_more (all_reserved m)
+    ap (λ k. all_reserved k + reserved m t) (ap (λ o. set_at m t o) (sym e) ∙ set_at-get nat_exact m t) ∙ ap (λ o. all_reserved m + unwrap_or o 0) e
+    ∙ no_more (all_reserved m)
   where
     no_more : (n : ℕ) → n + 0 ≡ n
     no_more n = omega arith
 left_by m t (Some v) e =
     let back : insert (remove m t) t v ≡ m = set_at-again nat_exact m t None (Some v) ∙ ap (λ o. set_at m t o) (sym e) ∙ set_at-get nat_exact m t in
     let sums : all_reserved (insert (remove m t) t v) + reserved (remove m t) t ≡ all_reserved (remove m t) + v = reserved_insert (remove m t) t v in
-    ap (λ o. all_reserved (remove m t) + unwrap_or o 0) e ∙ sym sums ∙ ap (λ n. all_reserved (insert (remove m t) t v) + n) (left_here m t) ∙ no_more _ ∙ ap all_reserved back
+    ap (λ o. all_reserved (remove m t) + unwrap_or o 0) e ∙ sym sums ∙ ap (λ n. all_reserved (insert (remove m t) t v) + n) (left_here m t) ∙ no_more _
+    ∙ ap all_reserved back
   where
     no_more : (n : ℕ) → n + 0 ≡ n
     no_more n = omega arith

@@ -18,7 +18,8 @@ rows_undone (older ▹ c) rows = rows_undone older (set_at rows c.rid (old_row c
 
 abbrev pub entries_undone : Bool → Changes → Index → Index
 entries_undone indexed Unchanged entries = entries
-entries_undone indexed (older ▹ c) entries = entries_undone indexed older (with_entry (with_entry entries (new_pair indexed c) Marked) (old_pair indexed c) Live)
+entries_undone indexed (older ▹ c) entries = entries_undone indexed older
+    (with_entry (with_entry entries (new_pair indexed c) Marked) (old_pair indexed c) Live)
 
 -- the transactions that are left, each with its changes
 abbrev pub rows_back : List (ℕ × Changes) → Table → Table

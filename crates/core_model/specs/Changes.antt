@@ -1,4 +1,5 @@
--- The changes of a transaction, the oldest first, what they make of a row, and the pairs of the index that a change moves.
+-- The changes of a transaction, the oldest first, what they make of a row, and the pairs of the index that a change
+-- moves.
 use Rattle.std.specs.Ordering.{eq_by_cmp}
 use Rattle.std.specs.Prelude.{List, Option, [], cond, ◌++◌, ◌∷◌}
 use Rattle.records.specs.ChangeValue.{ChangeValue}

@@ -20,9 +20,10 @@ use Rattle.core_model.specs.Changes.{pair_of}
 use Rattle.core_model.specs.Invariants.{IsUnfinished}
 use Rattle.core_model.specs.Records.{HasCells}
 use Rattle.core_model.specs.States.{State}
-use Rattle.core_model.specs.Steps.{Attempt, Begin, Checkpoint, Clean, Commit, Create, Drop, End, Finish, Keep, Next, Start, MachineStep, Take, Undo, Wrap, above, all_reserved, update}
+use Rattle.core_model.specs.Steps.{Attempt, Begin, Checkpoint, Clean, Commit, Create, Drop, End, Finish, Keep, Next}
+use Rattle.core_model.specs.Steps.{Start, MachineStep, Take, Undo, Wrap, above, all_reserved, update}
 
--- ---- the history of a run, read off the changes that were asked for, the commits, the creation, the end of the build and the dropping
+-- ---- the history of a run, read off the changes that were asked for, the commits, and what became of the index
 
 -- before the first step no transaction was asked for anything
 abbrev pub no_writes : ℕ → List Write
@@ -128,19 +129,23 @@ pub record FitsStore (o : Opened) : Type 0 where
 pub record CanOpen (o : Opened) : Type 0 where
   pub fits : FitsStore o
   pub sound : (p : Pair) → get o.given.entries p ≡ Some Live → IsPairOf o.given.table p
-  pub complete : (r : Place) (row : Row) → get o.given.table r ≡ Some row → IsCovered o.given.life (highest_of o.given.life) (pair_of r row) → get o.given.entries (pair_of r row) ≡ Some Live
-  pub unmarked : (r : Place) (row : Row) → get o.given.table r ≡ Some row → get o.given.entries (pair_of r row) ≢ Some Marked
+  pub complete : (r : Place) (row : Row) → get o.given.table r ≡ Some row
+      → IsCovered o.given.life (highest_of o.given.life) (pair_of r row)
+      → get o.given.entries (pair_of r row) ≡ Some Live
+  pub unmarked : (r : Place) (row : Row) → get o.given.table r ≡ Some row
+      → get o.given.entries (pair_of r row) ≢ Some Marked
   pub empty : o.given.life ≡ Absent → (p : Pair) → get o.given.entries p ≡ None
 
 -- ---- what holds after any steps
 
--- the rows with the changes of every active transaction taken back are the committed table, each live entry names a live row with its key,
--- each live row without an unfinished change has its entry live as far as the index is built, without an index there is no
--- entry, and the entries with the reserved places fit the geometry
+-- the rows with the changes of every active transaction taken back are the committed table, each live entry names a
+-- live row with its key, each live row without an unfinished change has its entry live as far as the index is built,
+-- without an index there is no entry, and the entries with the reserved places fit the geometry
 pub record IsFaithful (s : State) (committed : Table) : Type 0 where
   pub back : (cells : Cells) → HasCells s cells → recovered_rows cells ≡ committed
   pub sound : (p : Pair) → get s.entries p ≡ Some Live → IsPairOf s.rows p
-  pub complete : (r : Place) (row : Row) → get s.rows r ≡ Some row → (IsUnfinished s r → ⊥) → IsCovered s.life s.bound (pair_of r row) → get s.entries (pair_of r row) ≡ Some Live
+  pub complete : (r : Place) (row : Row) → get s.rows r ≡ Some row → (IsUnfinished s r → ⊥)
+      → IsCovered s.life s.bound (pair_of r row) → get s.entries (pair_of r row) ≡ Some Live
   pub empty : s.life ≡ Absent → (p : Pair) → get s.entries p ≡ None
   pub fits : len s.entries + all_reserved s.pledges ≤ s.places
 

@@ -1,6 +1,7 @@
 -- What every step keeps.
 use Rattle.std.specs.FinMap.{entries, get, len}
-use Rattle.std.specs.Prelude.{Bool, List, None, Option, Some, [], cond, false, is_some, length, true, ℕ, ◌+◌, ◌<◌, ◌∷◌, ◌≡◌, ◌≢◌, ◌≤◌, ◌⊎◌}
+use Rattle.std.specs.Prelude.{Bool, List, None, Option, Some, [], cond, false, is_some, length, true, ℕ, ◌+◌, ◌<◌, ◌∷◌}
+use Rattle.std.specs.Prelude.{◌≡◌, ◌≢◌, ◌≤◌, ◌⊎◌}
 use Rattle.records.specs.ChangeValue.{ChangeValue}
 use Rattle.records.specs.Spelling.{old_row}
 use Rattle.records.specs.Values.{Place}
@@ -12,7 +13,8 @@ use Rattle.model.specs.declared.life.Life.{Life}
 use Rattle.model.specs.declared.life.Life.TheVariants.{Absent, Building, Complete}
 use Rattle.core_model.specs.Changes.{Changes, Unchanged, latest, as_list, new_pair, old_pair, pair_of, ◌▹◌}
 use Rattle.core_model.specs.States.{Active, Made, NewMarked, OldMarked, OldSet, Phase, RowSet, State}
-use Rattle.core_model.specs.Steps.{Drop, IsEnabled, MachineStep, above, after, all_reserved, is_applied, is_indexed, reserved}
+use Rattle.core_model.specs.Steps.{Drop, IsEnabled, MachineStep, above, after, all_reserved, is_applied, is_indexed}
+use Rattle.core_model.specs.Steps.{reserved}
 
 -- ---- rows, entries, builder
 
@@ -46,7 +48,8 @@ IsHolderOf holder t (older ▹ c) = (holder c.rid ≡ Some t) × IsHolderOf hold
 -- each change began from what the older ones made of the committed table
 abbrev pub IsChained : Table → Changes → Type 0
 IsChained committed Unchanged = Unit {0}
-IsChained committed (older ▹ c) = (old_row c.rows ≡ latest older c.rid (get committed c.rid)) × IsChained committed older
+IsChained committed (older ▹ c) = (old_row c.rows ≡ latest older c.rid (get committed c.rid))
+    × IsChained committed older
 
 -- there is this pair, and it is so
 pub record HasPair (pair : Option Pair) (P : Pair → Type 0) : Type 0 where
@@ -54,12 +57,15 @@ pub record HasPair (pair : Option Pair) (P : Pair → Type 0) : Type 0 where
   pub is : pair ≡ Some it
   pub holds : P it
 
--- the newest change has the pair that its phase speaks of; a pair that its steps or its undo have marked, with the row owed, is marked
+-- the newest change has the pair that its phase speaks of; a pair that its steps or its undo have marked, with the row
+-- owed, is marked
 abbrev pub IsInPhase : Bool → Index → ChangeValue → Phase → Bool → Type 0
-IsInPhase indexed entries c OldMarked rolling = HasPair (old_pair indexed c) (λ p. rolling ≡ false → get entries p ≡ Some Marked)
+IsInPhase indexed entries c OldMarked rolling = HasPair (old_pair indexed c) (λ p. rolling ≡ false
+    → get entries p ≡ Some Marked)
 IsInPhase indexed entries c RowSet rolling = HasPair (new_pair indexed c) (λ p. Unit {0})
 IsInPhase indexed entries c Made rolling = Unit {0}
-IsInPhase indexed entries c (NewMarked applied) rolling = HasPair (new_pair indexed c) (λ p. get entries p ≡ Some Marked)
+IsInPhase indexed entries c (NewMarked applied) rolling =
+    HasPair (new_pair indexed c) (λ p. get entries p ≡ Some Marked)
 IsInPhase indexed entries c OldSet rolling = HasPair (old_pair indexed c) (λ p. Unit {0})
 
 -- so is the newest change of the transaction; with none, nothing is owed
@@ -101,10 +107,13 @@ pub record IsCoherent (s : State) : Type 0 where
   pub inside : (r : Place) (row : Row) → get s.rows r ≡ Some row → r.page < s.pages
   pub txns : (t : ℕ) (x : Active) → s.txns t ≡ Some x → TxnHolds s t x
   pub sound : (p : Pair) → get s.entries p ≡ Some Live → IsPairOf s.rows p
-  pub visible : (r : Place) (row : Row) → get s.rows r ≡ Some row → (IsUnfinished s r → ⊥) → IsVisibleOrAhead s (pair_of r row)
+  pub visible : (r : Place) (row : Row) → get s.rows r ≡ Some row → (IsUnfinished s r → ⊥)
+      → IsVisibleOrAhead s (pair_of r row)
   pub empty : s.life ≡ Absent → (p : Pair) → get s.entries p ≡ None
-  pub backed : (highest : Option Pair) → s.life ≡ Building highest → (p : Pair) → s.given p ≡ true → above s.bound p ≡ true → IsBacked s p
-  pub behind : (highest : Option Pair) → s.life ≡ Building highest → (p : Pair) → above s.bound p ≡ true → above highest p ≡ true
+  pub backed : (highest : Option Pair) → s.life ≡ Building highest → (p : Pair) → s.given p ≡ true
+      → above s.bound p ≡ true → IsBacked s p
+  pub behind : (highest : Option Pair) → s.life ≡ Building highest → (p : Pair) → above s.bound p ≡ true
+      → above highest p ≡ true
 
 -- ---- places of entries
 
@@ -116,12 +125,15 @@ lacks entries (Some p) = cond (is_some (get entries p)) 0 1
 -- how many of the pairs of these changes have no entry
 abbrev pub lacking : Bool → Index → Changes → ℕ
 lacking indexed entries Unchanged = 0
-lacking indexed entries (older ▹ c) = lacks entries (old_pair indexed c) + lacks entries (new_pair indexed c) + lacking indexed entries older
+lacking indexed entries (older ▹ c) = lacks entries (old_pair indexed c) + lacks entries
+    (new_pair indexed c) + lacking indexed entries older
 
--- entries and reserved places fit the geometry, and each transaction has reserved a place for each entry that its steps and their undo may add
+-- entries and reserved places fit the geometry, and each transaction has reserved a place for each entry that its steps
+-- and their undo may add
 pub record HasPlaces (s : State) : Type 0 where
   pub fits : len s.entries + all_reserved s.pledges ≤ s.places
-  pub enough : (t : ℕ) (x : Active) → s.txns t ≡ Some x → lacking (is_indexed s.life) s.entries x.changes ≤ reserved s.pledges t
+  pub enough : (t : ℕ) (x : Active) → s.txns t ≡ Some x
+      → lacking (is_indexed s.life) s.entries x.changes ≤ reserved s.pledges t
 
 -- the transactions that have a number of reserved places, be it none, are the active ones
 abbrev pub IsPledged : State → Type 0
@@ -188,4 +200,5 @@ IsOneBuild (e ∷ es) = (e ≢ Drop) × IsOneBuild es
 -- a run of the core
 pub data Runs : State → List MachineStep → State → Type 0 where
   no_step : {s : State} → Runs s [] s
-  one_step : {s s' : State} (e : MachineStep) (es : List MachineStep) → IsEnabled s e → Runs (after s e) es s' → Runs s (e ∷ es) s'
+  one_step : {s s' : State} (e : MachineStep) (es : List MachineStep) → IsEnabled s e → Runs (after s e) es s'
+      → Runs s (e ∷ es) s'

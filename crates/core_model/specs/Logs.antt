@@ -26,7 +26,8 @@ one_record last (Some action) = record { number = last + 1; action = action } �
 -- the records of these steps
 abbrev pub records_from : State → ℕ → List MachineStep → List RecordValue
 records_from s last [] = []
-records_from s last (e ∷ es) = one_record last (action_of s e) ++ records_from (after s e) (next_number last (action_of s e)) es
+records_from s last (e ∷ es) = one_record last (action_of s e)
+    ++ records_from (after s e) (next_number last (action_of s e)) es
 
 -- a deed as an item, with the number of the next record
 abbrev pub item_at : ℕ → Deed → Item
@@ -35,7 +36,8 @@ item_at last deed = record { number = last + 1; deed = deed }
 -- the history of these steps, each item with the number of its record
 abbrev pub items_from : (ℕ → List Write) → State → ℕ → List MachineStep → List Item
 items_from writes s last [] = []
-items_from writes s last (e ∷ es) = map (item_at last) (deeds_of writes e) ++ items_from (writes_after writes e) (after s e) (next_number last (action_of s e)) es
+items_from writes s last (e ∷ es) = map (item_at last) (deeds_of writes e)
+    ++ items_from (writes_after writes e) (after s e) (next_number last (action_of s e)) es
 
 -- of a run over what was opened
 abbrev pub records_over : Opened → List MachineStep → List RecordValue
@@ -49,14 +51,17 @@ items_over o steps = items_from no_writes (opened o) o.given.last steps
 abbrev pub reopened : Opened → List RecordValue → ℕ → Opened
 reopened o records n = record o { given = given_after o.given (take n records) }
 
--- What is recovered of the first n of the records is the history's prefix up to the last of them, and a core may begin with it.
+-- What is recovered of the first n of the records is the history's prefix up to the last of them, and a core may begin
+-- with it.
 pub record RecoversPrefix (o : Opened) (steps : List MachineStep) (n : ℕ) : Type 0 where
-  pub beginning : IsBeginning o.given (items_over o steps) (o.given.last + n) (given_after o.given (take n (records_over o steps)))
+  pub beginning : IsBeginning o.given (items_over o steps) (o.given.last + n)
+      (given_after o.given (take n (records_over o steps)))
   pub opens : CanOpen (reopened o (records_over o steps) n)
 
--- The core has made these records since it was opened, each of which could follow the one before; they tell these items;
--- and this was asked of its transactions.
-pub record HasMade (o : Opened) (made : List RecordValue) (items : List Item) (writes : ℕ → List Write) (s : State) : Type 0 where
+-- The core has made these records since it was opened, each of which could follow the one before; they tell these
+-- items; and this was asked of its transactions.
+pub record HasMade (o : Opened) (made : List RecordValue) (items : List Item) (writes : ℕ
+    → List Write) (s : State) : Type 0 where
   pub steps : List MachineStep
   pub run : Runs (opened o) steps s
   pub records : made ≡ records_over o steps
@@ -64,7 +69,8 @@ pub record HasMade (o : Opened) (made : List RecordValue) (items : List Item) (w
   pub asked : writes ≡ writes_over no_writes steps
   pub in_order : AreFollowing o.pages o.given.last (opening_cells o.given) made
 
--- The records behind the record `base`, made over these cells, each of which could follow the one before, set what the state has.
+-- The records behind the record `base`, made over these cells, each of which could follow the one before, set what the
+-- state has.
 pub record IsLogOf (pages base : ℕ) (cells : Cells) (log : List RecordValue) (s : State) : Type 0 where
   pub set : HasCells s (cells_after cells log)
   pub in_order : AreFollowing pages base cells log

@@ -15,7 +15,8 @@ use Rattle.model.specs.Cells.{Cells, set_by}
 use Rattle.model.specs.Table.{applied}
 use Rattle.core_model.specs.Changes.{Changes, Unchanged, as_list, new_pair, old_pair, ◌▹◌}
 use Rattle.core_model.specs.States.{Active, Made, NewMarked, OldMarked, OldSet, Phase, RowSet, State}
-use Rattle.core_model.specs.Steps.{Attempt, Begin, Checkpoint, Clean, Commit, Create, Drop, End, Finish, Keep, Next, Start, MachineStep, Take, Undo, Wrap, is_indexed, txn_at}
+use Rattle.core_model.specs.Steps.{Attempt, Begin, Checkpoint, Clean, Commit, Create, Drop, End, Finish, Keep, Next}
+use Rattle.core_model.specs.Steps.{Start, MachineStep, Take, Undo, Wrap, is_indexed, txn_at}
 
 -- The list that a log has of a transaction: its changes. One that has no change may have no list.
 abbrev pub IsListOf : Option (List ChangeValue) → Option Active → Type 0

@@ -13,7 +13,8 @@ pub data Phase : Type 0 where
   OldMarked : Phase  -- the old pair is marked, and the row is owed
   RowSet : Phase  -- the row is set, and the new pair is owed
   Made : Phase  -- nothing is owed, or there is no change
-  NewMarked : (applied : Bool) → Phase  -- being undone: the new pair is marked, and the row is still as the forward steps left it
+  -- being undone: the new pair is marked, and the row is still as the forward steps left it
+  NewMarked : (applied : Bool) → Phase
   OldSet : Phase  -- being undone: the old row is back, and the old pair is owed
 
 -- an active transaction

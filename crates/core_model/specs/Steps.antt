@@ -2,7 +2,8 @@
 use Rattle.std.specs.Cmp.Lexicographic.{slice_cmp}
 use Rattle.std.specs.FinMap.{empty, entries, get, insert, len, remove, values}
 use Rattle.std.specs.Ordering.{eq_by_cmp, is_lt, nat_cmp}
-use Rattle.std.specs.Prelude.{Bool, None, Option, Some, cond, false, length, nat_eq, not, sum, true, unwrap_or, ℕ, ◌&&◌, ◌+◌, ◌-◌, ◌<◌, ◌||◌, ◌≡◌, ◌≢◌, ◌≤◌, ◌⊎◌}
+use Rattle.std.specs.Prelude.{Bool, None, Option, Some, cond, false, length, nat_eq, not, sum, true, unwrap_or, ℕ, ◌&&◌}
+use Rattle.std.specs.Prelude.{◌+◌, ◌-◌, ◌<◌, ◌||◌, ◌≡◌, ◌≢◌, ◌≤◌, ◌⊎◌}
 use Rattle.std.specs.declared.cmp.Ordering.{Ordering}
 use Rattle.records.specs.ChangeValue.{ChangeValue}
 use Rattle.records.specs.Maps.{set_at}
@@ -144,7 +145,11 @@ freed t (Some u) = cond (eq_by_cmp nat_cmp u t) None (Some u)
 
 -- a transaction leaves: its rows are free, and this is the committed table
 abbrev pub left : State → ℕ → Table → State
-left s t committed = record s { txns = update nat_cmp s.txns t None; holder = λ r. freed t (s.holder r); committed = committed }
+left s t committed = record s {
+  txns = update nat_cmp s.txns t None;
+  holder = λ r. freed t (s.holder r);
+  committed = committed;
+}
 
 -- ---- the builder and the cleaner
 
@@ -154,7 +159,15 @@ created s = record s { life = Building None; bound = None; given = λ p. false; 
 
 -- no entry is left, and nothing of the builder and the cleaner
 abbrev pub dropped : State → State
-dropped s = record s { entries = empty; life = Absent; bound = None; given = λ p. false; missed = λ p. false; taken = λ n. false; cleaned = None }
+dropped s = record s {
+  entries = empty;
+  life = Absent;
+  bound = None;
+  given = λ p. false;
+  missed = λ p. false;
+  taken = λ n. false;
+  cleaned = None;
+}
 
 -- the builder has taken this page: each pair counts as given or as missed by it
 abbrev pub page_taken : State → ℕ → State
@@ -267,13 +280,15 @@ pub record CanStart (s : State) (t : ℕ) (c : ChangeValue) : Type 0 where
   pub inside : c.rid.page < s.pages
   pub room : HasFreePlaces s
 
--- every page was taken, and of the pairs that every taking of their page gave, none above the last one attempted is left below this one
+-- every page was taken, and of the pairs that every taking of their page gave, none above the last one attempted is
+-- left below this one
 pub record CanAttempt (s : State) (p : Pair) : Type 0 where
   pub building : IsBuilding s.life
   pub given : s.given p ≡ true
   pub rising : above s.bound p ≡ true
   pub all_taken : (n : ℕ) → n < s.pages → s.taken n ≡ true
-  pub none_left : (q : Pair) → above s.bound q ≡ true → above (Some q) p ≡ true → s.taken q.rid.page ≡ true → s.missed q ≡ true
+  pub none_left : (q : Pair) → above s.bound q ≡ true → above (Some q) p ≡ true → s.taken q.rid.page ≡ true
+      → s.missed q ≡ true
   pub room : get s.entries p ≡ None → len s.entries + all_reserved s.pledges < s.places
 
 -- when a build may end: every page was taken, and no pair above the bound is left that each taking gave

@@ -10,8 +10,10 @@ use Rattle.flip_image.specs.declared.half.Half.{Half}
 use Rattle.flip_image.specs.Store.{Names, IsSuperblock, AreZeros, IsFormatted, AreGatesClosed, AreLogGatesZero, IsFormatSector}
 
 -- zeros that are there stay
-zeros_stay : (S : ℕ → Type 0) (old new : Image) (first count : ℕ) → SameOutside S old new → ((n : ℕ) → first ≤ n → n < first + count → ¬ S n) → AreZeros old first count → AreZeros new first count
-zeros_stay S old new first count same apart zeros i below = subst (All (λ b. b ≡ 0)) (sym (same.same (first + i) (apart (first + i) (omega arith) (omega arith)))) (zeros i below)
+zeros_stay : (S : ℕ → Type 0) (old new : Image) (first count : ℕ) → SameOutside S old new → ((n : ℕ) → first ≤ n → n < first + count → ¬ S n)
+    → AreZeros old first count → AreZeros new first count
+zeros_stay S old new first count same apart zeros i below =
+    subst (All (λ b. b ≡ 0)) (sym (same.same (first + i) (apart (first + i) (omega arith) (omega arith)))) (zeros i below)
 
 -- zeros from a later sector on
 zeros_within : (image : Image) (first count low n : ℕ) → first ≤ low → low + n ≤ first + count → AreZeros image first count → AreZeros image low n
@@ -29,7 +31,8 @@ row_zeros image first count zeros i below =
 pub gates_closed : (g : GeometryValue) (half : Half) (image : Image) → AreLogGatesZero g half image → AreGatesClosed g half image
 gates_closed g half image zeros slot below is_open = zero_not_marked (subst IsMarked (zeros slot below) is_open)
 
-module _ (g : GeometryValue) (header first pages log slots : ℕ) (is_header : header ≡ 2) (is_first : first ≡ pages_first g A) (is_pages : pages ≡ g.pages) (is_log : log ≡ log_first g A) (is_slots : slots ≡ g.slots)
+module _ (g : GeometryValue) (header first pages log slots : ℕ) (is_header : header ≡ 2) (is_first : first ≡ pages_first g A) (is_pages : pages ≡ g.pages)
+    (is_log : log ≡ log_first g A) (is_slots : slots ≡ g.slots)
     (c0 c1 c2 c3 c4 c5 : Image) (one : SameOutside (λ n. n ≡ 0) c0 c1) (two : SameOutside (λ n. n ≡ 1) c1 c2) (three : SameOutside (InRow header 1 2) c2 c3)
     (four : SameOutside (InRow first 1 (16 * pages)) c3 c4) (five : SameOutside (InRow log 8 slots) c4 c5) where
   -- the sectors that are written
@@ -59,7 +62,8 @@ module _ (g : GeometryValue) (header first pages log slots : ℕ) (is_header : h
   gates_there zeros slot below = ap (λ n. sector c5 (n + 8 * slot)) (sym is_log) ∙ zeros slot (omega (arith, below, is_slots))
 
   -- the store is there
-  pub all_formatted : IsGeometry g → sectors_of g ≤ length c0 → IsSuperblock g (sector c1 0) → sector c2 1 ≡ zero_sector → AreZeroSectors c3 header 1 2 → AreZeroSectors c4 first 1 (16 * pages) → IsFormatted g c5
+  pub all_formatted : IsGeometry g → sectors_of g ≤ length c0 → IsSuperblock g (sector c1 0) → sector c2 1 ≡ zero_sector → AreZeroSectors c3 header 1 2
+      → AreZeroSectors c4 first 1 (16 * pages) → IsFormatted g c5
   all_formatted limits room superblock flip heads rows = record {
     store = record {
       limits = limits;
@@ -70,12 +74,15 @@ module _ (g : GeometryValue) (header first pages log slots : ℕ) (is_header : h
     fresh = record {
       header = zeros_within c5 header 2 2 1 (omega (arith, is_header)) (omega (arith, is_header)) heads_there;
       heads = zeros_within c5 header 2 3 1 (omega (arith, is_header)) (omega (arith, is_header)) heads_there;
-      pages = λ page below. zeros_within c5 first (16 * pages) (pages_first g A + 16 * page) 16 (omega (arith, is_first)) (omega (arith, is_first, is_pages, below)) rows_there;
+      pages = λ page below. zeros_within c5 first (16 * pages) (pages_first g A + 16 * page) 16 (omega (arith, is_first))
+          (omega (arith, is_first, is_pages, below)) rows_there;
     };
   }
     where
       heads_there : AreZeros c5 header 2
-      heads_there = zeros_stay _ c4 c5 header 2 five (λ n from to is. omega (arith, to, is.2, is_log, is_header)) (zeros_stay _ c3 c4 header 2 four (λ n from to is. omega (arith, to, is.2, is_first, is_header)) (row_zeros c3 header 2 heads))
+      heads_there = zeros_stay _ c4 c5 header 2 five (λ n from to is. omega (arith, to, is.2, is_log, is_header))
+          (zeros_stay _ c3 c4 header 2 four (λ n from to is. omega (arith, to, is.2, is_first, is_header)) (row_zeros c3 header 2 heads))
 
       rows_there : AreZeros c5 first (16 * pages)
-      rows_there = zeros_stay _ c4 c5 first (16 * pages) five (λ n from to is. omega (arith, to, is.2, is_log, is_first, is_pages)) (row_zeros c4 first (16 * pages) rows)
+      rows_there = zeros_stay _ c4 c5 first (16 * pages) five (λ n from to is. omega (arith, to, is.2, is_log, is_first, is_pages))
+          (row_zeros c4 first (16 * pages) rows)

@@ -18,17 +18,21 @@ failed_later : (a b c : ℕ) (e : Error) → b ≡ a → IsDeviceFailure b c e �
 failed_later a b c e same failed = (failed.0, subst (λ (n : ℕ). Rises n c) same failed.1)
 
 module _ (g : GeometryValue) (half : Half) (image : Image) where
-  pub heads_refused : (header heads a b c : ℕ) (now : Image) (e : Error) → header ≡ header_sector g half → heads ≡ heads_sector g half → now ≡ image → AreZeros image header 1 → b ≡ a
+  pub heads_refused : (header heads a b c : ℕ) (now : Image) (e : Error) → header ≡ header_sector g half → heads ≡ heads_sector g half → now ≡ image
+      → AreZeros image header 1 → b ≡ a
       → IsDeviceFailure b c e ⊎ ((e ≡ Damaged heads) × (¬ AreZeros now heads 1)) → Refusal g half image a c e
   heads_refused header heads a b c now e is_header is_heads same first quiet (inl failed) = inl (failed_later a b c e quiet failed)
   heads_refused header heads a b c now e is_header is_heads same first quiet (inr used) =
       inr (heads, used.0, inr (inl (is_heads, subst (λ (x : Image). ¬ AreZeros x heads 1) same used.1, subst (λ (n : ℕ). AreZeros image n 1) is_header first)))
 
-  pub pages_refused : (header heads first pages a b c : ℕ) (now : Image) (e : Error) → header ≡ header_sector g half → heads ≡ heads_sector g half → first ≡ pages_first g half → pages ≡ g.pages → now ≡ image
+  pub pages_refused : (header heads first pages a b c : ℕ) (now : Image) (e : Error) → header ≡ header_sector g half → heads ≡ heads_sector g half
+      → first ≡ pages_first g half → pages ≡ g.pages → now ≡ image
       → AreZeros image header 1 → AreZeros image heads 1 → b ≡ a
-      → IsDeviceFailure b c e ⊎ ((page : ℕ) × (page < pages) × (e ≡ Damaged (first + 16 * page)) × (¬ AreZeros now (first + 16 * page) 16) × ((earlier : ℕ) → earlier < page → AreZeros now (first + 16 * earlier) 16))
+      → IsDeviceFailure b c e ⊎ ((page : ℕ) × (page < pages) × (e ≡ Damaged (first + 16 * page)) × (¬ AreZeros now (first + 16 * page) 16)
+      × ((earlier : ℕ) → earlier < page → AreZeros now (first + 16 * earlier) 16))
       → Refusal g half image a c e
-  pages_refused header heads first pages a b c now e is_header is_heads is_first is_pages same one two quiet (inl failed) = inl (failed_later a b c e quiet failed)
+  pages_refused header heads first pages a b c now e is_header is_heads is_first is_pages same one two quiet (inl failed) =
+      inl (failed_later a b c e quiet failed)
   pages_refused header heads first pages a b c now e is_header is_heads is_first is_pages same one two quiet (inr (page, below, is, used, before)) = inr (
     first + 16 * page,
     is,
@@ -39,7 +43,8 @@ module _ (g : GeometryValue) (half : Half) (image : Image) where
       subst (λ (x : Image). ¬ AreZeros x (first + 16 * page) 16) same used,
       subst (λ (n : ℕ). AreZeros image n 1) is_header one,
       subst (λ (n : ℕ). AreZeros image n 1) is_heads two,
-      (λ earlier less. subst (λ (n : ℕ). AreZeros image (n + 16 * earlier) 16) is_first (subst (λ (x : Image). AreZeros x (first + 16 * earlier) 16) same (before earlier less))),
+      (λ earlier less. subst (λ (n : ℕ). AreZeros image (n + 16 * earlier) 16) is_first
+          (subst (λ (x : Image). AreZeros x (first + 16 * earlier) 16) same (before earlier less))),
     )),
   )
 
@@ -52,7 +57,8 @@ if_err_weaker P Q (Err e) told is = told e is
 pub not_used : (g : GeometryValue) (half : Half) (image : Image) (n : ℕ) → IsFresh g half image → ¬ IsFirstUsed g half image n
 not_used g half image n fresh (inl (is, used)) = used (subst (λ (k : ℕ). AreZeros image k 1) (sym is) fresh.header)
 not_used g half image n fresh (inr (inl (is, used, before))) = used (subst (λ (k : ℕ). AreZeros image k 1) (sym is) fresh.heads)
-not_used g half image n fresh (inr (inr (page, below, is, used, header, heads, before))) = used (subst (λ (k : ℕ). AreZeros image k 16) (sym is) (fresh.pages page below))
+not_used g half image n fresh (inr (inr (page, below, is, used, header, heads, before))) =
+    used (subst (λ (k : ℕ). AreZeros image k 16) (sym is) (fresh.pages page below))
 
 -- there is one such part at most
 pub one_part : (g : GeometryValue) (half : Half) (image : Image) (m n : ℕ) → IsFirstUsed g half image m → IsFirstUsed g half image n → m ≡ n

@@ -1,5 +1,6 @@
 -- A fresh half holds the image of nothing, and where a half holds that it is fresh.
-use Rattle.std.proofs.Common.{◌≡◌, ⊎_elim, ℕ, ◌+◌, ◌-◌, ◌*◌, ◌/◌, ◌%◌, ◌<◌, ◌≤◌, List, [], ◌∷◌, length, take, drop, slice_range, map, replicate, All, Some, None, get_or, refl, sym, ap, ◌∙◌, subst, arith, length-take, length-drop}
+use Rattle.std.proofs.Common.{◌≡◌, ⊎_elim, ℕ, ◌+◌, ◌-◌, ◌*◌, ◌/◌, ◌%◌, ◌<◌, ◌≤◌, List, [], ◌∷◌, length, take, drop, slice_range, map, replicate, All, Some}
+use Rattle.std.proofs.Common.{None, get_or, refl, sym, ap, ◌∙◌, subst, arith, length-take, length-drop}
 use Rattle.std.specs.FinMap.{empty, entries, get-empty, len-empty, len-entries}
 use Rattle.std.specs.Ordering.{nat_cmp}
 use Rattle.std.specs.declared.cmp.Ordering.{Ordering}
@@ -29,7 +30,8 @@ use Rattle.flip_image.specs.Store.{IsFresh, HoldsImage}
 -- ---- bytes that are zero
 
 zero_list : (n : ℕ) (xs : List ℕ) → All (λ b. b ≡ 0) xs → length xs ≡ n → xs ≡ replicate n 0
-zero_list n xs are long = ext_get_or 0 xs (replicate n 0) (long ∙ sym (length-replicate n 0)) (λ k below. are k 0 below ∙ sym (get_or-replicate n k 0 0 (omega (arith, below, long))))
+zero_list n xs are long = ext_get_or 0 xs (replicate n 0) (long ∙ sym (length-replicate n 0)) (λ k below. are k 0 below
+    ∙ sym (get_or-replicate n k 0 0 (omega (arith, below, long))))
 
 zero_cut : (bytes : List ℕ) (size j : ℕ) → All (λ b. b ≡ 0) bytes → length bytes ≡ 512 → size * j + size ≤ 512 → cut bytes size j ≡ replicate size 0
 zero_cut bytes size j are long room = zero_list size (cut bytes size j)
@@ -90,7 +92,9 @@ module _ (g : GeometryValue) (half : Half) (image : Image) (whole : IsDiskWhole 
   module _ (fresh : IsFresh g half image) where
     header_there : IsHeader g (sector image (header_sector g half)) (header_of 0 no_cells)
     header_there = record {
-      spelled = zero_list 512 (sector image (header_sector g half)) (subst (λ n. All (λ b. b ≡ 0) (sector image n)) (let e : header_sector g half + 0 ≡ header_sector g half = omega arith in e) (fresh.header 0 (omega arith))) (size (header_sector g half) (omega arith)) ∙ sym header_zeros;
+      spelled = zero_list 512 (sector image (header_sector g half))
+          (subst (λ n. All (λ b. b ≡ 0) (sector image n)) (let e : header_sector g half + 0 ≡ header_sector g half = omega arith in e)
+          (fresh.header 0 (omega arith))) (size (header_sector g half) (omega arith)) ∙ sym header_zeros;
       fits = record { life = tt; base = omega arith; entries = omega (arith, none Mark pair_cmp) };
       room = omega (arith, none Mark pair_cmp);
       inside = λ p is. absurd (not_building p is);
@@ -101,7 +105,8 @@ module _ (g : GeometryValue) (half : Half) (image : Image) (whole : IsDiskWhole 
     heads_there = record {
       count = omega arith;
       spelled = λ k below. zero_cut (sector image (heads_sector g half)) 32 k
-          (subst (λ n. All (λ b. b ≡ 0) (sector image n)) (let e : heads_sector g half + 0 ≡ heads_sector g half = omega arith in e) (fresh.heads 0 (omega arith))) (size (heads_sector g half) (omega arith)) (omega (arith, below));
+          (subst (λ n. All (λ b. b ≡ 0) (sector image n)) (let e : heads_sector g half + 0 ≡ heads_sector g half = omega arith in e)
+          (fresh.heads 0 (omega arith))) (size (heads_sector g half) (omega arith)) (omega (arith, below));
       fits = λ k h is. absurd (none-some h is);
       rising = λ k a b is later. absurd (none-some a is);
     }
@@ -114,14 +119,17 @@ module _ (g : GeometryValue) (half : Half) (image : Image) (whole : IsDiskWhole 
     edges_there page below =
         let bytes = page_bytes image (header_sector g half) page in
         record {
-          front = zero_list 64 (take 64 bytes) (All-take (λ b. b ≡ 0) 64 bytes (page_zeros page below)) (omega (arith, length-take 64 bytes, page_long page below));
-          behind = zero_list 64 (drop 8128 bytes) (All-drop (λ b. b ≡ 0) 8128 bytes (page_zeros page below)) (omega (arith, length-drop 8128 bytes, page_long page below));
+          front = zero_list 64 (take 64 bytes) (All-take (λ b. b ≡ 0) 64 bytes (page_zeros page below))
+              (omega (arith, length-take 64 bytes, page_long page below));
+          behind = zero_list 64 (drop 8128 bytes) (All-drop (λ b. b ≡ 0) 8128 bytes (page_zeros page below))
+              (omega (arith, length-drop 8128 bytes, page_long page below));
         }
 
     row_there : (page slot : ℕ) → page < g.pages → slot < 63 → IsRow (row_bytes image (header_sector g half) page slot) None
     unfolding zeros
     row_there page slot below low = record {
-      spelled = zero_slice (page_bytes image (header_sector g half) page) (64 + 128 * slot) (64 + 128 * (slot + 1)) (page_zeros page below) (omega arith) (omega (arith, low, page_long page below))
+      spelled = zero_slice (page_bytes image (header_sector g half) page) (64 + 128 * slot) (64 + 128 * (slot + 1)) (page_zeros page below) (omega arith)
+          (omega (arith, low, page_long page below))
           ∙ ap (λ n. replicate n 0) (let e : 64 + 128 * (slot + 1) - (64 + 128 * slot) ≡ 128 = omega arith in e);
       fits = tt;
     }
@@ -130,9 +138,11 @@ module _ (g : GeometryValue) (half : Half) (image : Image) (whole : IsDiskWhole 
     fresh_image = record {
       header-is = header_there;
       heads-are = subst (AreHeads (sector image (heads_sector g half))) (sym no_heads) heads_there;
-      lists = λ h list is. absurd (let below : h < length (entries no_cells.pending) = slice_get_within _ h list is in omega (arith, below, none (List ChangeValue) nat_cmp));
+      lists = λ h list is. absurd (let below : h < length (entries no_cells.pending) = slice_get_within _ h list is in
+          omega (arith, below, none (List ChangeValue) nat_cmp));
       edges = edges_there;
-      rows = λ q page slot. subst (λ o. IsRow (row_bytes image (header_sector g half) q.page q.slot) o) (sym (get-empty rid_cmp q)) (row_there q.page q.slot page slot);
+      rows = λ q page slot. subst (λ o. IsRow (row_bytes image (header_sector g half) q.page q.slot) o) (sym (get-empty rid_cmp q))
+          (row_there q.page q.slot page slot);
       within = λ q r is. absurd (none-some r (sym (get-empty rid_cmp q) ∙ is));
       entries = λ i e is. absurd (let below : i < length (entries no_cells.entries) = slice_get_within _ i e is in omega (arith, below, none Mark pair_cmp));
     }
@@ -145,7 +155,8 @@ module _ (g : GeometryValue) (half : Half) (image : Image) (whole : IsDiskWhole 
     image_fresh = record {
       header = λ i below. subst (λ n. All (λ b. b ≡ 0) (sector image n)) (let e : header_sector g half ≡ header_sector g half + i = omega (arith, below) in e)
           (subst (All (λ b. b ≡ 0)) (sym (is.header-is.spelled ∙ header_zeros)) (All-replicate (λ (b : ℕ). b ≡ 0) 512 0 refl));
-      heads = λ i below. subst (λ n. All (λ b. b ≡ 0) (sector image n)) (let e : heads_sector g half ≡ heads_sector g half + i = omega (arith, below) in e) all_heads;
+      heads = λ i below. subst (λ n. All (λ b. b ≡ 0) (sector image n)) (let e : heads_sector g half ≡ heads_sector g half + i = omega (arith, below) in
+          e) all_heads;
       pages = λ page below i low. all_rows page i below low;
     }
       where
@@ -159,13 +170,16 @@ module _ (g : GeometryValue) (half : Half) (image : Image) (whole : IsDiskWhole 
 
         first_zero : (page k d : ℕ) → page < g.pages → k < 64 → get_or (page_bytes image (header_sector g half) page) k d ≡ 0
         first_zero page k d below low =
-            sym (get_or-take 64 (page_bytes image (header_sector g half) page) k d low) ∙ ap (λ (xs : List ℕ). get_or xs k d) (is.edges page below).front ∙ get_or-replicate 64 k 0 d low
+            sym (get_or-take 64 (page_bytes image (header_sector g half) page) k d low) ∙ ap (λ (xs : List ℕ). get_or xs k d) (is.edges page below).front
+            ∙ get_or-replicate 64 k 0 d low
 
         last_zero : (page j d : ℕ) → page < g.pages → j < 64 → get_or (page_bytes image (header_sector g half) page) (8128 + j) d ≡ 0
         last_zero page j d below low =
-            sym (get_or-drop 8128 (page_bytes image (header_sector g half) page) j d) ∙ ap (λ (xs : List ℕ). get_or xs j d) (is.edges page below).behind ∙ get_or-replicate 64 j 0 d low
+            sym (get_or-drop 8128 (page_bytes image (header_sector g half) page) j d) ∙ ap (λ (xs : List ℕ). get_or xs j d) (is.edges page below).behind
+            ∙ get_or-replicate 64 j 0 d low
 
-        row_zero : (page slot j d : ℕ) → page < g.pages → slot < 63 → j < 128 → get_or (page_bytes image (header_sector g half) page) (64 + 128 * slot + j) d ≡ 0
+        row_zero : (page slot j d : ℕ) → page < g.pages → slot < 63 → j < 128
+            → get_or (page_bytes image (header_sector g half) page) (64 + 128 * slot + j) d ≡ 0
         row_zero page slot j d below low within =
             let bytes = page_bytes image (header_sector g half) page in
             let q : Place = record { page = page; slot = slot } in
@@ -179,8 +193,10 @@ module _ (g : GeometryValue) (half : Half) (image : Image) (whole : IsDiskWhole 
             ⊎_elim
             (λ early. first_zero page k d below early)
             (λ behind. ⊎_elim
-            (λ mid. ap (λ n. get_or bytes n d) (let e : k ≡ 64 + 128 * ((k - 64) / 128) + (k - 64) % 128 = omega (arith, behind) in e) ∙ row_zero page ((k - 64) / 128) ((k - 64) % 128) d below (omega (arith, mid, behind)) (omega arith))
-            (λ late. ap (λ n. get_or bytes n d) (let e : k ≡ 8128 + (k - 8128) = omega (arith, late) in e) ∙ last_zero page (k - 8128) d below (omega (arith, late, within)))
+            (λ mid. ap (λ n. get_or bytes n d) (let e : k ≡ 64 + 128 * ((k - 64) / 128) + (k - 64) % 128 = omega (arith, behind) in e)
+            ∙ row_zero page ((k - 64) / 128) ((k - 64) % 128) d below (omega (arith, mid, behind)) (omega arith))
+            (λ late. ap (λ n. get_or bytes n d) (let e : k ≡ 8128 + (k - 8128) = omega (arith, late) in e)
+            ∙ last_zero page (k - 8128) d below (omega (arith, late, within)))
             (cases_lt k 8128))
             (cases_lt k 64)
 

@@ -1,5 +1,6 @@
 -- The two halves of a store, and the sectors in front of them, for proofs in the crates above.
-use Rattle.std.proofs.Common.{Result, OnOk, OnErr, ◌≡◌, ◌⊎◌, inl, inr, ⊎_elim, ℕ, ◌<◌, ◌≤◌, Bool, true, false, List, length, slice_index, refl, sym, ap, subst, ◌∙◌, arith}
+use Rattle.std.proofs.Common.{Result, OnOk, OnErr, ◌≡◌, ◌⊎◌, inl, inr, ⊎_elim, ℕ, ◌<◌, ◌≤◌, Bool, true, false, List, length, slice_index, refl, sym, ap, subst}
+use Rattle.std.proofs.Common.{◌∙◌, arith}
 use Rattle.std.proofs.lemmas.Bool.{cases_eq}
 use Rattle.sector_device.specs.declared.device.Failed.{Failed}
 use Rattle.sector_device.specs.Disk.{Image, Disk, sector, after_write, after_sync, IsFailedWrite, IsSynced, IsCrashImage, SameOutside}
@@ -33,7 +34,8 @@ parts_apart g half n image log = omega (arith, image.1, log.0)
 
 -- ---- stores
 
-pub store_in_front : (g : GeometryValue) (half : Half) (image changed : Image) → length changed ≡ length image → ((n : ℕ) → n < 2 → sector changed n ≡ sector image n) → IsStore g half image → IsStore g half changed
+pub store_in_front : (g : GeometryValue) (half : Half) (image changed : Image) → length changed ≡ length image
+    → ((n : ℕ) → n < 2 → sector changed n ≡ sector image n) → IsStore g half image → IsStore g half changed
 store_in_front g half image changed long same store = record {
   limits = store.limits;
   room = omega (arith, store.room, long);
@@ -46,7 +48,8 @@ names_one : (bytes : List ℕ) (half : Half) → Names bytes half ⊎ Names byte
 names_one bytes A = ⊎_elim (λ is. inr is) (λ no. inl no) (cases_eq (slice_index bytes 0) 165)
 names_one bytes B = ⊎_elim (λ is. inl is) (λ no. inr no) (cases_eq (slice_index bytes 0) 165)
 
-pub either_store : (g : GeometryValue) (half : Half) (image changed : Image) → SameOutside (λ n. n ≡ 1) image changed → IsStore g half image → IsStore g half changed ⊎ IsStore g (other half) changed
+pub either_store : (g : GeometryValue) (half : Half) (image changed : Image) → SameOutside (λ n. n ≡ 1) image changed → IsStore g half image
+    → IsStore g half changed ⊎ IsStore g (other half) changed
 either_store g half image changed same store = ⊎_elim (λ named. inl (of half named)) (λ named. inr (of (other half) named)) (names_one (sector changed 1) half)
   where
     of : (h : Half) → Names (sector changed 1) h → IsStore g h changed
@@ -67,7 +70,8 @@ module _ (h0 h1 h2 h3 : History) where
   here : (c : Image) → IsCrashImage h0.disk c → IsFlipping h0.disk c
   here c crash = inl (record { sectors = crash.sectors; same = λ k out. crash.kept k (not_true (h0.disk.unsynced k) out) })
 
-  pub flipping_end : (r1 r2 r3 : Result Unit Failed) (bytes : List ℕ) → h1.disk ≡ after_sync h0.disk → Elapses h0 h1 → OnOk r2 (h2.disk ≡ after_write h1.disk 1 bytes) → OnErr r2 (IsFailedWrite h1.disk 1 h2.disk) → Elapses h1 h2
+  pub flipping_end : (r1 r2 r3 : Result Unit Failed) (bytes : List ℕ) → h1.disk ≡ after_sync h0.disk → Elapses h0 h1
+      → OnOk r2 (h2.disk ≡ after_write h1.disk 1 bytes) → OnErr r2 (IsFailedWrite h1.disk 1 h2.disk) → Elapses h1 h2
       → OnOk r3 (h3.disk ≡ after_sync h2.disk) → OnErr r3 (h3.disk ≡ h2.disk) → Elapses h2 h3 → LeavesOnly h0 h3 (IsFlipping h0.disk)
   flipping_end r1 r2 r3 bytes synced time1 ok2 err2 time2 ok3 err3 time3 = sync_goes_on h0 h2 h3 (IsFlipping h0.disk) second time3 r3 ok3 err3
     where
@@ -85,4 +89,5 @@ module _ (h0 h1 h2 h3 : History) where
       second : LeavesOnly h0 h2 (IsFlipping h0.disk)
       second = write_goes_on h0 h1 h2 (IsFlipping h0.disk) first time2 r2 1 bytes ok2 err2 (λ b c crash.
           inr (subst (λ (i : Image). SameOutside (λ n. n ≡ 1) i c) same
-          (crash_outside (λ n. n ≡ 1) h1.disk.content (after_write h1.disk 1 b) c (written_outside (λ n. n ≡ 1) h1.disk.content h1.disk 1 b refl (outside_synced (λ n. n ≡ 1) h1.disk all)) crash)))
+          (crash_outside (λ n. n ≡ 1) h1.disk.content (after_write h1.disk 1 b) c
+          (written_outside (λ n. n ≡ 1) h1.disk.content h1.disk 1 b refl (outside_synced (λ n. n ≡ 1) h1.disk all)) crash)))

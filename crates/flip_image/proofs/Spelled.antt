@@ -1,5 +1,6 @@
 -- Superblocks: how they are written and read, and that one is of one geometry.
-use Rattle.std.proofs.Common.{◌≡◌, ℕ, ◌+◌, ◌-◌, ◌^◌, ◌<◌, ◌≤◌, List, [], ◌++◌, length, take, drop, All, refl, sym, ap, subst, ◌∙◌, arith, append_assoc, length-append}
+use Rattle.std.proofs.Common.{◌≡◌, ℕ, ◌+◌, ◌-◌, ◌^◌, ◌<◌, ◌≤◌, List, [], ◌++◌, length, take, drop, All, refl, sym, ap, subst, ◌∙◌, arith, append_assoc}
+use Rattle.std.proofs.Common.{length-append}
 use Rattle.std.proofs.lemmas.List.{take_at, drop_at, drop-drop, length-drop, append-nil, nil_from_length, take_all}
 use borrow.Rule.Slice.PartMut.{put_mid}
 use Rattle.byteorder.specs.Endian.{big_number}
@@ -18,7 +19,8 @@ unfolding u64 title
 title-is = refl
 
 -- a superblock, and some bytes, as numbers
-pub superblock-is : (v : Version) (g : GeometryValue) (rest : List ℕ) → superblock_in v g ++ rest ≡ u64 TITLE ++ (u32 (number_of v) ++ (u32 g.pages ++ (u32 g.entries ++ (u32 g.slots ++ rest))))
+pub superblock-is : (v : Version) (g : GeometryValue) (rest : List ℕ)
+    → superblock_in v g ++ rest ≡ u64 TITLE ++ (u32 (number_of v) ++ (u32 g.pages ++ (u32 g.entries ++ (u32 g.slots ++ rest))))
 unfolding superblock_in
 superblock-is v g rest =
     append_assoc title (u32 (number_of v) ++ (u32 g.pages ++ (u32 g.entries ++ u32 g.slots))) rest
@@ -46,19 +48,22 @@ length-superblock v g = omega (
 )
 
 -- bytes that begin with a superblock, with zeros behind it
-pub superblock_filled : (v : Version) (g : GeometryValue) (bytes rest : List ℕ) → bytes ≡ superblock_in v g ++ rest → All (λ b. b ≡ 0) rest → IsSuperblockIn v g bytes
+pub superblock_filled : (v : Version) (g : GeometryValue) (bytes rest : List ℕ) → bytes ≡ superblock_in v g ++ rest → All (λ b. b ≡ 0) rest
+    → IsSuperblockIn v g bytes
 superblock_filled v g bytes rest is zeros =
     let behind : drop 24 bytes ≡ rest = ap (drop 24) is ∙ drop_at (superblock_in v g) rest 24 (length-superblock v g) in
     record { spelled = is ∙ ap (λ (t : List ℕ). superblock_in v g ++ t) (sym behind); rest = subst (All (λ b. b ≡ 0)) (sym behind) zeros }
 
-four : (bytes behind : List ℕ) (k n : ℕ) → IsBytes bytes → k + 4 ≤ length bytes → behind ≡ drop k bytes → n ≡ big_number 4 behind → drop k bytes ≡ u32 n ++ drop (k + 4) bytes
+four : (bytes behind : List ℕ) (k n : ℕ) → IsBytes bytes → k + 4 ≤ length bytes → behind ≡ drop k bytes → n ≡ big_number 4 behind
+    → drop k bytes ≡ u32 n ++ drop (k + 4) bytes
 four bytes behind k n fits long is num =
     u32_front (drop k bytes) (IsBytes-drop k bytes fits) (omega (arith, long, length-drop k bytes))
     ∙ ap (λ (m : ℕ). u32 m ++ drop 4 (drop k bytes)) (sym (num ∙ ap (big_number 4) is))
     ∙ ap (λ (t : List ℕ). u32 n ++ t) (drop-drop 4 k bytes)
 
 -- what is read in front
-pub front_is : (bytes one two three more : List ℕ) (t v p e s : ℕ) → IsBytes bytes → 24 ≤ length bytes → one ≡ drop 8 bytes → two ≡ drop 4 one → three ≡ drop 4 two → more ≡ drop 4 three
+pub front_is : (bytes one two three more : List ℕ) (t v p e s : ℕ) → IsBytes bytes → 24 ≤ length bytes → one ≡ drop 8 bytes → two ≡ drop 4 one
+    → three ≡ drop 4 two → more ≡ drop 4 three
     → t ≡ big_number 8 bytes → v ≡ big_number 4 one → p ≡ big_number 4 two → e ≡ big_number 4 three → s ≡ big_number 4 more
     → bytes ≡ u64 t ++ (u32 v ++ (u32 p ++ (u32 e ++ (u32 s ++ drop 24 bytes))))
 front_is bytes one two three more t v p e s fits long is_one is_two is_three is_more is_t is_v is_p is_e is_s =
@@ -109,7 +114,8 @@ numbers_told v g bytes rest t n p e s ft fn fp fe fs is limits spelled =
     let fifth = u32_once s g.slots _ _ fs (omega (arith, limits.most_slots)) fourth.1 in
     record { version = second.0; pages = third.0; entries = fourth.0; slots = fifth.0 }
 
-pub same_limits : (v : Version) (g : GeometryValue) (n p e s : ℕ) → AreNumbers v g n p e s → IsGeometry g → IsGeometry (record { pages = p; entries = e; slots = s })
+pub same_limits : (v : Version) (g : GeometryValue) (n p e s : ℕ) → AreNumbers v g n p e s → IsGeometry g
+    → IsGeometry (record { pages = p; entries = e; slots = s })
 same_limits v g n p e s are limits = record {
   some_page = omega (arith, are.pages, limits.some_page);
   most_pages = omega (arith, are.pages, limits.most_pages);
@@ -120,17 +126,22 @@ same_limits v g n p e s are limits = record {
 }
 
 -- bytes are a superblock of one geometry at most
-pub one_geometry : (v : Version) (g h : GeometryValue) (bytes : List ℕ) → IsGeometry g → IsGeometry h → IsSuperblockIn v g bytes → IsSuperblockIn v h bytes → g ≡ h
+pub one_geometry : (v : Version) (g h : GeometryValue) (bytes : List ℕ) → IsGeometry g → IsGeometry h → IsSuperblockIn v g bytes → IsSuperblockIn v h bytes
+    → g ≡ h
 one_geometry v g h bytes lg lh is_g is_h =
-    let are = numbers_told v h bytes (drop 24 bytes) TITLE (number_of v) g.pages g.entries g.slots (omega arith) (number_fits v) (omega (arith, lg.most_pages)) (omega (arith, lg.most_entries)) (omega (arith, lg.most_slots))
+    let are = numbers_told v h bytes (drop 24 bytes) TITLE (number_of v) g.pages g.entries g.slots (omega arith) (number_fits v) (omega (arith, lg.most_pages))
+    (omega (arith, lg.most_entries)) (omega (arith, lg.most_slots))
     (is_g.spelled ∙ superblock-is v g (drop 24 bytes)) lh is_h in
     same are.pages are.entries are.slots
   where
     same : g.pages ≡ h.pages → g.entries ≡ h.entries → g.slots ≡ h.slots → g ≡ h
-    same p e s = ap (λ (n : ℕ). record { pages = n; entries = g.entries; slots = g.slots }) p ∙ ap (λ (n : ℕ). record { pages = h.pages; entries = n; slots = g.slots }) e ∙ ap (λ (n : ℕ). record { pages = h.pages; entries = h.entries; slots = n }) s
+    same p e s = ap (λ (n : ℕ). record { pages = n; entries = g.entries; slots = g.slots }) p
+        ∙ ap (λ (n : ℕ). record { pages = h.pages; entries = n; slots = g.slots }) e
+        ∙ ap (λ (n : ℕ). record { pages = h.pages; entries = h.entries; slots = n }) s
 
 -- numbers that were read, with zeros behind them, are a superblock
-pub superblock_read : (v : Version) (bytes : List ℕ) (t n p e s : ℕ) (g : GeometryValue) → bytes ≡ u64 t ++ (u32 n ++ (u32 p ++ (u32 e ++ (u32 s ++ drop 24 bytes)))) → t ≡ TITLE → n ≡ number_of v
+pub superblock_read : (v : Version) (bytes : List ℕ) (t n p e s : ℕ) (g : GeometryValue)
+    → bytes ≡ u64 t ++ (u32 n ++ (u32 p ++ (u32 e ++ (u32 s ++ drop 24 bytes)))) → t ≡ TITLE → n ≡ number_of v
     → g ≡ record { pages = p; entries = e; slots = s } → All (λ b. b ≡ 0) (drop 24 bytes) → IsSuperblockIn v g bytes
 superblock_read v bytes t n p e s g is same one geometry zeros = superblock_filled v g bytes (drop 24 bytes) (
     is
@@ -143,7 +154,8 @@ superblock_read v bytes t n p e s g is same one geometry zeros = superblock_fill
 
 -- the number behind the title
 number_there : (bytes rest : List ℕ) (t n : ℕ) → bytes ≡ u64 t ++ (u32 n ++ rest) → take 4 (drop 8 bytes) ≡ u32 n
-number_there bytes rest t n is = ap (λ (x : List ℕ). take 4 (drop 8 x)) is ∙ ap (take 4) (drop_at (u64 t) (u32 n ++ rest) 8 (length-u64 t)) ∙ take_at (u32 n) rest 4 (length-u32 n)
+number_there bytes rest t n is = ap (λ (x : List ℕ). take 4 (drop 8 x)) is ∙ ap (take 4) (drop_at (u64 t) (u32 n ++ rest) 8 (length-u64 t))
+    ∙ take_at (u32 n) rest 4 (length-u32 n)
 
 -- the number that is read is that of an older version just where that stands behind the title
 pub older_there : (v : Version) (bytes rest : List ℕ) (t n : ℕ) → bytes ≡ u64 t ++ (u32 n ++ rest) → IsOlderNumber v n → HasOlderNumber v bytes
@@ -152,13 +164,15 @@ older_there Two bytes rest t n is older = number_there bytes rest t n is ∙ ap 
 
 pub older_told : (v : Version) (bytes rest : List ℕ) (t n : ℕ) → n < 2 ^ 32 → bytes ≡ u64 t ++ (u32 n ++ rest) → HasOlderNumber v bytes → IsOlderNumber v n
 older_told One bytes rest t n fits is older = older
-older_told Two bytes rest t n fits is older = (u32_once n 1 [] [] fits (omega arith) (ap (λ (x : List ℕ). x ++ []) (sym (number_there bytes rest t n is) ∙ older))).0
+older_told Two bytes rest t n fits is older =
+    (u32_once n 1 [] [] fits (omega arith) (ap (λ (x : List ℕ). x ++ []) (sym (number_there bytes rest t n is) ∙ older))).0
 
 -- a superblock is of no older version
 pub not_older : (v : Version) (g : GeometryValue) (bytes : List ℕ) → IsSuperblockIn v g bytes → ¬ HasOlderNumber v bytes
 not_older One g bytes is older = older
 not_older Two g bytes is older =
-    let same : 2 ≡ 1 = older_told Two bytes (u32 g.pages ++ (u32 g.entries ++ (u32 g.slots ++ drop 24 bytes))) TITLE 2 (omega arith) (is.spelled ∙ superblock-is Two g (drop 24 bytes)) older in
+    let same : 2 ≡ 1 = older_told Two bytes (u32 g.pages ++ (u32 g.entries ++ (u32 g.slots ++ drop 24 bytes))) TITLE 2 (omega arith) (is.spelled
+    ∙ superblock-is Two g (drop 24 bytes)) older in
     omega (arith, same)
 
 -- one of version 1 is older than version 2
@@ -174,23 +188,29 @@ behind_changed a k xs ys front old is long room =
     ∙ ap (λ (t : List ℕ). front ++ t) (append-nil ys)
 
 -- the version and the geometry, as two pairs of numbers
-pub numbers_written : (p e s k : ℕ) (old one two : List ℕ) → one ≡ u32 2 ++ (u32 p ++ drop 8 old) → two ≡ u32 e ++ (u32 s ++ drop 8 (take k (drop 8 one))) → k ≡ length one - 8
+pub numbers_written : (p e s k : ℕ) (old one two : List ℕ) → one ≡ u32 2 ++ (u32 p ++ drop 8 old) → two ≡ u32 e ++ (u32 s ++ drop 8 (take k (drop 8 one)))
+    → k ≡ length one - 8
     → put_mid 8 k one two ≡ u32 2 ++ (u32 p ++ (u32 e ++ (u32 s ++ drop 16 old)))
 numbers_written p e s k old one two is_one is_two room =
     let front : List ℕ = u32 2 ++ u32 p in
     let long : length front ≡ 8 = omega (arith, length-append {A = ℕ} (u32 2) (u32 p), length-u32 2, length-u32 p) in
     let one-is : one ≡ front ++ drop 8 old = is_one ∙ sym (append_assoc (u32 2) (u32 p) (drop 8 old)) in
-    let rest : drop 8 (take k (drop 8 one)) ≡ drop 16 old = ap (drop 8) (take_all k (drop 8 one) (omega (arith, length-drop 8 one, room)) ∙ ap (drop 8) one-is ∙ drop_at front (drop 8 old) 8 long) ∙ drop-drop 8 8 old in
+    let rest : drop 8 (take k (drop 8 one)) ≡ drop 16 old =
+    ap (drop 8) (take_all k (drop 8 one) (omega (arith, length-drop 8 one, room)) ∙ ap (drop 8) one-is ∙ drop_at front (drop 8 old) 8 long)
+    ∙ drop-drop 8 8 old in
     behind_changed 8 k one two front (drop 8 old) one-is long room
     ∙ append_assoc (u32 2) (u32 p) two
     ∙ ap (λ (t : List ℕ). u32 2 ++ (u32 p ++ t)) (is_two ∙ ap (λ (t : List ℕ). u32 e ++ (u32 s ++ t)) rest)
 
 -- the title in front of them
-pub front_written : (g : GeometryValue) (k : ℕ) (old one two : List ℕ) → one ≡ u64 TITLE ++ drop 8 old → two ≡ u32 2 ++ (u32 g.pages ++ (u32 g.entries ++ (u32 g.slots ++ drop 16 (take k (drop 8 one))))) → k ≡ length one - 8
+pub front_written : (g : GeometryValue) (k : ℕ) (old one two : List ℕ) → one ≡ u64 TITLE ++ drop 8 old
+    → two ≡ u32 2 ++ (u32 g.pages ++ (u32 g.entries ++ (u32 g.slots ++ drop 16 (take k (drop 8 one))))) → k ≡ length one - 8
     → put_mid 8 k one two ≡ superblock_in Two g ++ drop 24 old
 front_written g k old one two is_one is_two room =
     let long : length (u64 TITLE) ≡ 8 = length-u64 TITLE in
-    let rest : drop 16 (take k (drop 8 one)) ≡ drop 24 old = ap (drop 16) (take_all k (drop 8 one) (omega (arith, length-drop 8 one, room)) ∙ ap (drop 8) is_one ∙ drop_at (u64 TITLE) (drop 8 old) 8 long) ∙ drop-drop 16 8 old in
+    let rest : drop 16 (take k (drop 8 one)) ≡ drop 24 old =
+    ap (drop 16) (take_all k (drop 8 one) (omega (arith, length-drop 8 one, room)) ∙ ap (drop 8) is_one ∙ drop_at (u64 TITLE) (drop 8 old) 8 long)
+    ∙ drop-drop 16 8 old in
     behind_changed 8 k one two (u64 TITLE) (drop 8 old) is_one long room
     ∙ ap (λ (t : List ℕ). u64 TITLE ++ t) (is_two ∙ ap (λ (t : List ℕ). u32 2 ++ (u32 g.pages ++ (u32 g.entries ++ (u32 g.slots ++ t)))) rest)
     ∙ sym (superblock-is Two g (drop 24 old))

@@ -9,7 +9,8 @@ use Rattle.records.specs.GeometryValue.{GeometryValue, sectors_in}
 use Rattle.flip_image.specs.declared.half.Half.{Half}
 use Rattle.flip_image.specs.declared.half.Half.TheVariants.{A, B}
 use Rattle.flip_image.specs.Layout.{HalvesValue, header_sector, heads_sector, page_sector, log_first, InLog}
-use Rattle.flip_image.specs.Store.{Names, IsSuperblock, IsStore, IsStoreIn, AreZeros, IsFresh, IsFormatted, IsTooSmallIn, IsUntitled, IsOlder, IsSuperblockDamagedIn, IsSuperblockRefused, IsRefusedIn, IsDeviceFailure}
+use Rattle.flip_image.specs.Store.{Names, IsSuperblock, IsStore, IsStoreIn, AreZeros, IsFresh, IsFormatted, IsTooSmallIn, IsUntitled, IsOlder}
+use Rattle.flip_image.specs.Store.{IsSuperblockDamagedIn, IsSuperblockRefused, IsRefusedIn, IsDeviceFailure}
 use Rattle.flip_image.proofs.Spelled as spelled
 
 front_room : (v : Version) (g : GeometryValue) → 2 ≤ sectors_in v g
@@ -85,7 +86,8 @@ one_half v g h B A image first second = absurd (second.current first.current)
 one_half v g h B B image first second = refl
 
 -- so a reader gives one value
-pub one_value : (v : Version) (g : GeometryValue) (half : Half) (halves : HalvesValue) (image : Image) → IsStoreIn v halves.geometry halves.current image → IsStoreIn v g half image → halves ≡ record { geometry = g; current = half }
+pub one_value : (v : Version) (g : GeometryValue) (half : Half) (halves : HalvesValue) (image : Image) → IsStoreIn v halves.geometry halves.current image
+    → IsStoreIn v g half image → halves ≡ record { geometry = g; current = half }
 one_value v g half halves image first second =
     ap (λ (x : GeometryValue). record { geometry = x; current = halves.current }) (one_geometry v halves.geometry g halves.current half image first second)
     ∙ ap (λ (x : Half). record { geometry = g; current = x }) (one_half v halves.geometry g halves.current half image first second)
@@ -127,4 +129,7 @@ fresh_apart g half image other same fresh = record {
 
 -- so what `format` leaves stays while only the log is written
 pub formatted_apart : (g : GeometryValue) (image other : Image) → SameOutside (InLog g A) image other → IsFormatted g image → IsFormatted g other
-formatted_apart g image other same formatted = record { store = store_apart g A image other same formatted.store; fresh = fresh_apart g A image other same formatted.fresh }
+formatted_apart g image other same formatted = record {
+  store = store_apart g A image other same formatted.store;
+  fresh = fresh_apart g A image other same formatted.fresh;
+}

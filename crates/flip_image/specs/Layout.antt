@@ -1,6 +1,7 @@
 -- Where the parts of a half lie: header, transaction heads, undo items, pages, entries, log.
 use Rattle.std.specs.Prelude.{◌≡◌, ℕ, ◌+◌, ◌*◌, ◌<◌, ◌≤◌}
-use Rattle.records.specs.declared.geometry.TheConstants.{FRONT_SECTORS, HEADER_SECTORS, HEADS_SECTORS, UNDO_SECTORS, PAGE_SECTORS, SLOT_SECTORS}
+use Rattle.records.specs.declared.geometry.TheConstants.{FRONT_SECTORS, HEADER_SECTORS, HEADS_SECTORS, UNDO_SECTORS}
+use Rattle.records.specs.declared.geometry.TheConstants.{PAGE_SECTORS, SLOT_SECTORS}
 use Rattle.records.specs.declared.version.Version.{Version}
 use Rattle.records.specs.declared.version.Version.TheVariants.{Two}
 use Rattle.records.specs.GeometryValue.{GeometryValue, half_sectors_in, half_sectors_of}

@@ -5,7 +5,8 @@ use Rattle.sector_device.specs.History.{Rises}
 use Rattle.sector_device.specs.Values.{zero_sector, marked_sector, IsMarked}
 use Rattle.records.specs.declared.geometry.TheConstants.{FRONT_SECTORS, HEADER_SECTORS, HEADS_SECTORS, PAGE_SECTORS}
 use Rattle.records.specs.declared.error.Error.{Error}
-use Rattle.records.specs.declared.error.Error.TheVariants.{DeviceFailed, NotFormatted, Damaged, DeviceTooSmall, OldVersion}
+use Rattle.records.specs.declared.error.Error.TheVariants.{DeviceFailed, NotFormatted, Damaged, DeviceTooSmall}
+use Rattle.records.specs.declared.error.Error.TheVariants.{OldVersion}
 use Rattle.records.specs.GeometryValue.{GeometryValue, IsGeometry, sectors_in}
 use Rattle.records.specs.declared.version.Version.{Version}
 use Rattle.records.specs.declared.version.Version.TheVariants.{One, Two}
@@ -15,8 +16,10 @@ use Rattle.image_half.specs.Image.{IsImageIn}
 use Rattle.flip_image.specs.declared.half.Half.{Half}
 use Rattle.flip_image.specs.declared.half.Half.TheVariants.{A, B}
 use Rattle.flip_image.specs.declared.half.TheConstants.{FLIP_SECTOR}
-use Rattle.flip_image.specs.declared.superblock.TheConstants.{SUPERBLOCK_SECTOR, SUPERBLOCK_SIZE, TITLE_SIZE, VERSION, OLD_VERSION}
-use Rattle.flip_image.specs.Layout.{header_sector_in, header_sector, heads_sector, pages_first, entries_first, undo_first, page_sector, gate_sector, IsLogGate}
+use Rattle.flip_image.specs.declared.superblock.TheConstants.{SUPERBLOCK_SECTOR, SUPERBLOCK_SIZE, TITLE_SIZE, VERSION}
+use Rattle.flip_image.specs.declared.superblock.TheConstants.{OLD_VERSION}
+use Rattle.flip_image.specs.Layout.{header_sector_in, header_sector, heads_sector, pages_first, entries_first}
+use Rattle.flip_image.specs.Layout.{undo_first, page_sector, gate_sector, IsLogGate}
 
 -- ---- the sectors in front of the halves
 
@@ -74,10 +77,11 @@ IsStore g half image = IsStoreIn Two g half image
 abbrev pub HoldsImage : GeometryValue → Half → Image → ℕ → Cells → Type 0
 HoldsImage g half image base cells = HoldsImageIn Two g half image base cells
 
--- What a crash leaves while another half is named current: what it might leave before, or, once all is synced, that with
--- any bytes in the flip sector.
+-- What a crash leaves while another half is named current: what it might leave before, or, once all is synced, that
+-- with any bytes in the flip sector.
 abbrev pub IsFlipping : Disk → Image → Type 0
-IsFlipping old image = SameOutside (λ n. old.unsynced n ≡ true) old.content image ⊎ SameOutside (λ n. n ≡ FLIP_SECTOR) old.content image
+IsFlipping old image = SameOutside (λ n. old.unsynced n ≡ true) old.content image
+    ⊎ SameOutside (λ n. n ≡ FLIP_SECTOR) old.content image
 
 -- ---- a half as `format` leaves it
 
@@ -114,7 +118,8 @@ IsFormatSector g n = (n < undo_first g A) ⊎ (((pages_first g A ≤ n) × (n < 
 abbrev pub IsTooSmallIn : Version → Image → Type 0
 IsTooSmallIn v image =
     (length image < FRONT_SECTORS)
-    ⊎ ((g : GeometryValue) × IsGeometry g × IsSuperblockIn v g (sector image SUPERBLOCK_SECTOR) × (length image < sectors_in v g))
+    ⊎ ((g : GeometryValue) × IsGeometry g × IsSuperblockIn v g (sector image SUPERBLOCK_SECTOR)
+    × (length image < sectors_in v g))
 
 -- it has other bytes where the title should be
 pub record IsUntitled (image : Image) : Type 0 where
@@ -152,12 +157,13 @@ IsRefused image e = IsRefusedIn Two image e
 abbrev pub IsDeviceFailure : ℕ → ℕ → Error → Type 0
 IsDeviceFailure before now e = (e ≡ DeviceFailed) × Rises before now
 
--- The first part of a half that is not as `format` leaves it: its header, its transaction heads, or a page, named by its
--- first sector.
+-- The first part of a half that is not as `format` leaves it: its header, its transaction heads, or a page, named by
+-- its first sector.
 abbrev pub IsFirstUsed : GeometryValue → Half → Image → ℕ → Type 0
 IsFirstUsed g half image n =
     ((n ≡ header_sector g half) × (¬ AreZeros image n HEADER_SECTORS))
-    ⊎ (((n ≡ heads_sector g half) × (¬ AreZeros image n HEADS_SECTORS) × AreZeros image (header_sector g half) HEADER_SECTORS)
+    ⊎ (((n ≡ heads_sector g half) × (¬ AreZeros image n HEADS_SECTORS)
+    × AreZeros image (header_sector g half) HEADER_SECTORS)
     ⊎ ((page : ℕ) × (page < g.pages) × (n ≡ page_sector g half page) × (¬ AreZeros image n PAGE_SECTORS)
     × AreZeros image (header_sector g half) HEADER_SECTORS × AreZeros image (heads_sector g half) HEADS_SECTORS
     × ((earlier : ℕ) → earlier < page → AreZeros image (page_sector g half earlier) PAGE_SECTORS)))

@@ -14,8 +14,10 @@ pub(crate) fn write_flip_sector<D: Device>(device: &mut D, to: Half) -> Result<(
     ensures sector { OnOk result (sector (D.history device.new).disk.content FLIP_SECTOR ≡ flip_sector to) }
     ensures named { OnOk result (Names (sector (D.history device.new).disk.content FLIP_SECTOR) to) }
     ensures synced { OnOk result (IsSynced (D.history device.new).disk) }
-    ensures outside { SameOutside (λ n. n ≡ FLIP_SECTOR) (D.history device.old).disk.content (D.history device.new).disk.content }
-    ensures any_moment { LeavesOnly (D.history device.old) (D.history device.new) (IsFlipping (D.history device.old).disk) }
+    ensures outside { SameOutside (λ n. n ≡ FLIP_SECTOR) (D.history device.old).disk.content
+        (D.history device.new).disk.content }
+    ensures any_moment { LeavesOnly (D.history device.old) (D.history device.new)
+        (IsFlipping (D.history device.old).disk) }
     ensures counts { CountsFailure (D.failures device.old) (D.failures device.new) result }
 {
     let bytes = flip_sector(to);

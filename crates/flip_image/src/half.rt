@@ -1,7 +1,8 @@
 //! The halves of a store, and where their parts lie.
 ghost use Rattle.std.specs.Prelude.{◌≡◌, ◌+◌, ◌*◌, ◌^◌, ◌<◌, ◌≤◌};
 ghost use Rattle.records.specs.GeometryValue.{sectors_in, sectors_of};
-ghost use Rattle.flip_image.specs.Layout.{other, header_sector_in, header_sector, heads_sector, pages_first, log_first_in, log_first};
+ghost use Rattle.flip_image.specs.Layout.{other, header_sector_in, header_sector, heads_sector, pages_first};
+ghost use Rattle.flip_image.specs.Layout.{log_first_in, log_first};
 ghost use Rattle.image_half.specs.Layout.{image_end_in};
 
 use records::{

@@ -8,7 +8,10 @@ ghost use Rattle.image_half.specs.Image.{no_cells};
 ghost use Rattle.image_half.specs.Layout.{image_end, image_end_in};
 ghost use Rattle.image_half.specs.Damage.{IsSoundIn, TheHeader, IsUnreadIn};
 ghost use Rattle.flip_image.specs.Layout.{other, header_sector_in, header_sector, log_first_in, log_first};
-ghost use Rattle.flip_image.specs.Store.{Names, flip_sector, IsFlipping, IsSuperblockIn, IsStore, IsStoreIn, IsFresh, HoldsImageIn, IsFormatted, AreGatesClosed, AreLogGatesZero, IsFormatSector, IsRefused, IsRefusedIn, IsSuperblockRefused, IsFirstUsed, AreZeros, IsDeviceFailure};
+ghost use Rattle.flip_image.specs.Store.{Names, flip_sector, IsFlipping, IsSuperblockIn, IsStore, IsStoreIn, IsFresh};
+ghost use Rattle.flip_image.specs.Store.{HoldsImageIn, IsFormatted, AreGatesClosed, AreLogGatesZero, IsFormatSector};
+ghost use Rattle.flip_image.specs.Store.{IsRefused, IsRefusedIn, IsSuperblockRefused, IsFirstUsed, AreZeros};
+ghost use Rattle.flip_image.specs.Store.{IsDeviceFailure};
 
 use crate::flip::write_flip_sector;
 use crate::half::{FLIP_SECTOR, Half};
@@ -42,8 +45,8 @@ impl Model for Halves {
 
 impl Halves {
     /// Makes the device a store of this geometry with no row, no index and no record: half A is current, its image is
-    /// fresh, its log is empty, and all of it is synced. The flip sector and the gates of half A are zeros. Half B stays as
-    /// it is.
+    /// fresh, its log is empty, and all of it is synced. The flip sector and the gates of half A are zeros. Half B
+    /// stays as it is.
     ///
     /// `DeviceTooSmall` means that nothing was written. After `DeviceFailed`, and after a crash within the call, the
     /// device must be formatted again.
@@ -53,10 +56,13 @@ impl Halves {
         ensures flip { OnOk result (sector (D.history device.new).disk.content FLIP_SECTOR ≡ zero_sector) }
         ensures gates { OnOk result (AreLogGatesZero geometry Half.A (D.history device.new).disk.content) }
         ensures synced { OnOk result (IsSynced (D.history device.new).disk) }
-        ensures outside { SameOutside (IsFormatSector geometry) (D.history device.old).disk.content (D.history device.new).disk.content }
-        ensures too_small { (result ≡ Err Error.DeviceTooSmall) ↔ (length (D.history device.old).disk.content < sectors_of geometry) }
+        ensures outside { SameOutside (IsFormatSector geometry) (D.history device.old).disk.content
+            (D.history device.new).disk.content }
+        ensures too_small { (result ≡ Err Error.DeviceTooSmall)
+            ↔ (length (D.history device.old).disk.content < sectors_of geometry) }
         ensures unchanged { result ≡ Err Error.DeviceTooSmall → device.new ≡ device.old }
-        ensures refused { IfErr result (λ e. (e ≡ Error.DeviceTooSmall) ⊎ IsDeviceFailure (D.failures device.old) (D.failures device.new) e) }
+        ensures refused { IfErr result (λ e. (e ≡ Error.DeviceTooSmall)
+            ⊎ IsDeviceFailure (D.failures device.old) (D.failures device.new) e) }
         ensures quiet { OnOk result (D.failures device.new ≡ D.failures device.old) }
         ensures later { D.failures device.old ≤ D.failures device.new }
     {
@@ -73,14 +79,16 @@ impl Halves {
     /// The halves of the store of a version on the device, by its superblock and its flip sector. Nothing is written.
     ///
     /// `DeviceTooSmall` where the device has fewer sectors than a superblock and a flip sector take; else
-    /// `NotFormatted` where the title is another; else `OldVersion` where an older version stands behind it, whatever follows;
-    /// else `Damaged` with the superblock's sector where that is none; else `DeviceTooSmall` where the device has fewer sectors
-    /// than the geometry needs. `DeviceFailed` where the device failed in the call, and only then.
+    /// `NotFormatted` where the title is another; else `OldVersion` where an older version stands behind it, whatever
+    /// follows; else `Damaged` with the superblock's sector where that is none; else `DeviceTooSmall` where the device
+    /// has fewer sectors than the geometry needs. `DeviceFailed` where the device failed in the call, and only then.
     pub fn open_in<D: Device>(version: Version, device: &mut D) -> Result<Self, Error>
-        ensures opened { IfOk result (λ halves. IsStoreIn version halves.geometry halves.current (D.history device.old).disk.content) }
+        ensures opened { IfOk result (λ halves. IsStoreIn version halves.geometry halves.current
+            (D.history device.old).disk.content) }
         ensures store { (g : GeometryValue) (half : Half) → IsStoreIn version g half (D.history device.old).disk.content
             → IfOk result (λ halves. halves ≡ record { geometry = g; current = half }) }
-        ensures accepted { (g : GeometryValue) (half : Half) → IsStoreIn version g half (D.history device.old).disk.content
+        ensures accepted { (g : GeometryValue) (half : Half)
+            → IsStoreIn version g half (D.history device.old).disk.content
             → IfErr result (IsDeviceFailure (D.failures device.old) (D.failures device.new)) }
         ensures refused { IfErr result (λ e. IsRefusedIn version (D.history device.old).disk.content e
             ⊎ IsDeviceFailure (D.failures device.old) (D.failures device.new) e) }
@@ -102,7 +110,8 @@ impl Halves {
 
     /// The halves of the store of version 2 on the device, as `open_in` answers them.
     pub fn open<D: Device>(device: &mut D) -> Result<Self, Error>
-        ensures opened { IfOk result (λ halves. IsStore halves.geometry halves.current (D.history device.old).disk.content) }
+        ensures opened { IfOk result (λ halves. IsStore halves.geometry halves.current
+            (D.history device.old).disk.content) }
         ensures store { (g : GeometryValue) (half : Half) → IsStore g half (D.history device.old).disk.content
             → IfOk result (λ halves. halves ≡ record { geometry = g; current = half }) }
         ensures accepted { (g : GeometryValue) (half : Half) → IsStore g half (D.history device.old).disk.content
@@ -127,7 +136,8 @@ impl Halves {
         ensures accepted { IsFresh self.now.geometry self.now.current (D.history device.old).disk.content
             → IfErr result (IsDeviceFailure (D.failures device.old) (D.failures device.new)) }
         ensures refused { IfErr result (λ e. IsDeviceFailure (D.failures device.old) (D.failures device.new) e
-            ⊎ ((sector : ℕ) × (e ≡ Error.Damaged sector) × IsFirstUsed self.now.geometry self.now.current (D.history device.old).disk.content sector)) }
+            ⊎ ((sector : ℕ) × (e ≡ Error.Damaged sector)
+            × IsFirstUsed self.now.geometry self.now.current (D.history device.old).disk.content sector)) }
         ensures reads { OnlyReads (D.history device.old) (D.history device.new) }
         ensures quiet { OnOk result (D.failures device.new ≡ D.failures device.old) }
         ensures told { IfErr result (λ e. e ≢ Error.DeviceFailed → D.failures device.new ≡ D.failures device.old) }
@@ -136,12 +146,12 @@ impl Halves {
         check_half(device, self.geometry, self.current)
     }
 
-    /// Reads the image of the current half of a store of a version into an empty sink. The answer is the image's base, the number of the last record
-    /// made as it began. Nothing is written.
+    /// Reads the image of the current half of a store of a version into an empty sink. The answer is the image's base,
+    /// the number of the last record made as it began. Nothing is written.
     ///
-    /// `Damaged` names the first sector with a part that says nothing: the header, the transaction heads, an undo item, the
-    /// first sector of a page, or an entry. `DeviceFailed` where the device failed in the call, and only then. `NoMemory` where
-    /// there is no memory for the cells; a damaged header is told before any is wanted (`memory`).
+    /// `Damaged` names the first sector with a part that says nothing: the header, the transaction heads, an undo item,
+    /// the first sector of a page, or an entry. `DeviceFailed` where the device failed in the call, and only then.
+    /// `NoMemory` where there is no memory for the cells; a damaged header is told before any is wanted (`memory`).
     pub fn read_image<D: Device, S: CellSink, A: Allocator + Copy>(
         &self,
         alloc: A,
@@ -151,32 +161,43 @@ impl Halves {
     ) -> Result<u64, Error>
         requires empty { S.cells sink.old ≡ no_cells }
         requires inside { sectors_in version self.now.geometry ≤ length (D.history device.old).disk.content }
-        ensures read { IfOk result (λ base. HoldsImageIn version self.now.geometry self.now.current (D.history device.old).disk.content base (S.cells sink.new)) }
-        ensures refused { IfErr result (IsUnreadIn version self.now.geometry (header_sector_in version self.now.geometry self.now.current) (D.history device.old).disk.content (D.failures device.old) (D.failures device.new)) }
+        ensures read { IfOk result (λ base. HoldsImageIn version self.now.geometry self.now.current
+            (D.history device.old).disk.content base (S.cells sink.new)) }
+        ensures refused { IfErr result (IsUnreadIn version self.now.geometry
+            (header_sector_in version self.now.geometry self.now.current) (D.history device.old).disk.content
+            (D.failures device.old) (D.failures device.new)) }
         ensures reads { OnlyReads (D.history device.old) (D.history device.new) }
         ensures quiet { OnOk result (D.failures device.new ≡ D.failures device.old) }
         ensures told { IfErr result (λ e. e ≢ Error.DeviceFailed → D.failures device.new ≡ D.failures device.old) }
-        ensures memory { IfErr result (λ e. e ≡ Error.NoMemory → IsSoundIn version self.now.geometry (header_sector_in version self.now.geometry self.now.current) (D.history device.old).disk.content TheHeader) }
+        ensures memory { IfErr result (λ e. e ≡ Error.NoMemory
+            → IsSoundIn version self.now.geometry (header_sector_in version self.now.geometry self.now.current)
+            (D.history device.old).disk.content TheHeader) }
         ensures later { D.failures device.old ≤ D.failures device.new }
     {
         let first = self.header_sector_in(version);
         read_image(alloc, version, device, self.geometry, first, sink)
     }
 
-    /// Makes the other half current, whose image and log must be whole: syncs, writes the flip sector, and syncs. The flip
-    /// sector is then 512 zeros for half A, and for half B `a5` and 511 zeros (`sector`).
+    /// Makes the other half current, whose image and log must be whole: syncs, writes the flip sector, and syncs. The
+    /// flip sector is then 512 zeros for half A, and for half B `a5` and 511 zeros (`sector`).
     ///
     /// A crash leaves what it might leave before, until all is synced, and from then on that with any bytes in the flip
     /// sector, so with one of the halves current. After `DeviceFailed` either may be, and may change at a crash until
     /// the device is synced and opened again.
     pub fn flip<D: Device>(&mut self, device: &mut D) -> Result<(), Error>
         requires inside { FRONT_SECTORS ≤ length (D.history device.old).disk.content }
-        ensures flipped { OnOk result (self.new ≡ record { geometry = self.old.geometry; current = other self.old.current }) }
-        ensures sector { OnOk result (sector (D.history device.new).disk.content FLIP_SECTOR ≡ flip_sector self.new.current) }
+        ensures flipped { OnOk result (self.new ≡ record {
+          geometry = self.old.geometry;
+          current = other self.old.current;
+        }) }
+        ensures sector { OnOk result (sector (D.history device.new).disk.content FLIP_SECTOR
+            ≡ flip_sector self.new.current) }
         ensures named { OnOk result (Names (sector (D.history device.new).disk.content FLIP_SECTOR) self.new.current) }
         ensures synced { OnOk result (IsSynced (D.history device.new).disk) }
-        ensures outside { SameOutside (λ n. n ≡ FLIP_SECTOR) (D.history device.old).disk.content (D.history device.new).disk.content }
-        ensures any_moment { LeavesOnly (D.history device.old) (D.history device.new) (IsFlipping (D.history device.old).disk) }
+        ensures outside { SameOutside (λ n. n ≡ FLIP_SECTOR) (D.history device.old).disk.content
+            (D.history device.new).disk.content }
+        ensures any_moment { LeavesOnly (D.history device.old) (D.history device.new)
+            (IsFlipping (D.history device.old).disk) }
         ensures err { OnErr result (self.new ≡ self.old) }
         ensures refused { IfErr result (IsDeviceFailure (D.failures device.old) (D.failures device.new)) }
         ensures quiet { OnOk result (D.failures device.new ≡ D.failures device.old) }
@@ -229,7 +250,8 @@ impl Halves {
         self.current.other().header_sector(self.geometry())
     }
 
-    /// The first sector of the current half's log in a version, which has the geometry's slots and ends within the store.
+    /// The first sector of the current half's log in a version, which has the geometry's slots and ends within the
+    /// store.
     pub fn log_first_in(&self, version: Version) -> u64
         ensures value { result ≡ log_first_in version self.now.geometry self.now.current }
         ensures inside { result + SLOT_SECTORS * self.now.geometry.slots ≤ sectors_in version self.now.geometry }
@@ -254,7 +276,8 @@ fn write_store<D: Device>(device: &mut D, geometry: Geometry) -> Result<(), Fail
     ensures flip { OnOk result (sector (D.history device.new).disk.content FLIP_SECTOR ≡ zero_sector) }
     ensures gates { OnOk result (AreLogGatesZero geometry Half.A (D.history device.new).disk.content) }
     ensures synced { OnOk result (IsSynced (D.history device.new).disk) }
-    ensures outside { SameOutside (IsFormatSector geometry) (D.history device.old).disk.content (D.history device.new).disk.content }
+    ensures outside { SameOutside (IsFormatSector geometry) (D.history device.old).disk.content
+        (D.history device.new).disk.content }
     ensures counts { CountsFailure (D.failures device.old) (D.failures device.new) result }
 {
     let zeros = zero_sector();
@@ -273,7 +296,8 @@ fn write_store<D: Device>(device: &mut D, geometry: Geometry) -> Result<(), Fail
 fn read_superblock<D: Device>(version: Version, device: &mut D) -> Result<Geometry, Error>
     requires { FRONT_SECTORS ≤ length (D.history device.old).disk.content }
     ensures limits { IfOk result IsGeometry }
-    ensures found { IfOk result (λ geometry. IsSuperblockIn version geometry (sector (D.history device.old).disk.content SUPERBLOCK_SECTOR)) }
+    ensures found { IfOk result (λ geometry. IsSuperblockIn version geometry
+        (sector (D.history device.old).disk.content SUPERBLOCK_SECTOR)) }
     ensures refused { IfErr result (λ e. IsDeviceFailure (D.failures device.old) (D.failures device.new) e
         ⊎ IsSuperblockRefused version (D.history device.old).disk.content e) }
     ensures reads { OnlyReads (D.history device.old) (D.history device.new) }
@@ -332,11 +356,13 @@ fn check_zeros<D: Device>(device: &mut D, first: u64, count: u64) -> Result<(), 
 fn check_pages<D: Device>(device: &mut D, first: u64, pages: u64) -> Result<(), Error>
     requires inside { first + PAGE_SECTORS * pages ≤ length (D.history device.old).disk.content }
     requires number { first + PAGE_SECTORS * pages < 2 ^ 64 }
-    ensures zeros { OnOk result ((page : ℕ) → page < pages → AreZeros (D.history device.old).disk.content (first + PAGE_SECTORS * page) PAGE_SECTORS) }
+    ensures zeros { OnOk result ((page : ℕ) → page < pages
+        → AreZeros (D.history device.old).disk.content (first + PAGE_SECTORS * page) PAGE_SECTORS) }
     ensures refused { IfErr result (λ e. IsDeviceFailure (D.failures device.old) (D.failures device.new) e
         ⊎ ((page : ℕ) × (page < pages) × (e ≡ Error.Damaged (first + PAGE_SECTORS * page))
         × (¬ AreZeros (D.history device.old).disk.content (first + PAGE_SECTORS * page) PAGE_SECTORS)
-        × ((earlier : ℕ) → earlier < page → AreZeros (D.history device.old).disk.content (first + PAGE_SECTORS * earlier) PAGE_SECTORS))) }
+        × ((earlier : ℕ) → earlier < page
+        → AreZeros (D.history device.old).disk.content (first + PAGE_SECTORS * earlier) PAGE_SECTORS))) }
     ensures reads { OnlyReads (D.history device.old) (D.history device.new) }
     ensures quiet { OnOk result (D.failures device.new ≡ D.failures device.old) }
     ensures told { IfErr result (λ e. e ≢ Error.DeviceFailed → D.failures device.new ≡ D.failures device.old) }
@@ -353,7 +379,8 @@ fn check_half<D: Device>(device: &mut D, geometry: Geometry, half: Half) -> Resu
     requires inside { sectors_of geometry ≤ length (D.history device.old).disk.content }
     ensures fresh { OnOk result (IsFresh geometry half (D.history device.old).disk.content) }
     ensures refused { IfErr result (λ e. IsDeviceFailure (D.failures device.old) (D.failures device.new) e
-        ⊎ ((sector : ℕ) × (e ≡ Error.Damaged sector) × IsFirstUsed geometry half (D.history device.old).disk.content sector)) }
+        ⊎ ((sector : ℕ) × (e ≡ Error.Damaged sector)
+        × IsFirstUsed geometry half (D.history device.old).disk.content sector)) }
     ensures reads { OnlyReads (D.history device.old) (D.history device.new) }
     ensures quiet { OnOk result (D.failures device.new ≡ D.failures device.old) }
     ensures told { IfErr result (λ e. e ≢ Error.DeviceFailed → D.failures device.new ≡ D.failures device.old) }

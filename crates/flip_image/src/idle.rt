@@ -1,6 +1,6 @@
 //! The half that isn't current is written, part by part or as a whole, without a sync. Until a sync, a sector that was
-//! written may hold anything after a crash; the current half and the sectors in front of the halves stay as they are. Each
-//! call wants a value whose current half is the one that the device names (`current`), so none from before a flip.
+//! written may hold anything after a crash; the current half and the sectors in front of the halves stay as they are.
+//! Each call wants a value whose current half is the one that the device names (`current`), so none from before a flip.
 ghost use Rattle.std.specs.Prelude.{◌≡◌, ◌⊎◌, ℕ, ◌+◌, ◌%◌, ◌<◌, ◌≤◌, List, Option, true, length, slice_get, Some, OnOk};
 ghost use Rattle.std.specs.FinMap.{empty, entries};
 ghost use Rattle.sector_device.specs.Disk.{sector, SameOutside};
@@ -20,7 +20,8 @@ ghost use Rattle.model.specs.declared.life.Life.TheVariants.{Building};
 ghost use Rattle.image_parts.specs.declared.head.Head.{Head as HeadValue};
 ghost use Rattle.image_parts.specs.Spelling.{HeadFits};
 ghost use Rattle.image_half.specs.Layout.{page_bytes, InPage, InEntries, InList};
-ghost use Rattle.image_half.specs.Image.{IsHeader, AreHeads, HoldsList, HasEdges, IsRow, IsEntry, row_bytes, entry_bytes, ZerosBehindEntries, InStart, InImageOf};
+ghost use Rattle.image_half.specs.Image.{IsHeader, AreHeads, HoldsList, HasEdges, IsRow, IsEntry, row_bytes};
+ghost use Rattle.image_half.specs.Image.{entry_bytes, ZerosBehindEntries, InStart, InImageOf};
 ghost use Rattle.image_half.specs.Part.{IsImagePart, HasPage};
 ghost use Rattle.image_half.specs.Source.{FitsImage};
 ghost use Rattle.flip_image.specs.Layout.{other, header_sector, heads_sector, InHalfImage};
@@ -44,9 +45,14 @@ impl Halves {
         requires base { header.now.base ≤ LAST_NUMBER }
         requires room { header.now.entries ≤ self.now.geometry.entries }
         requires pages { (p : PairValue) → header.now.life ≡ Building (Some p) → p.rid.page < self.now.geometry.pages }
-        ensures written { OnOk result (IsHeader self.now.geometry (sector (D.history device.new).disk.content (header_sector self.now.geometry (other self.now.current))) header.now) }
-        ensures outside { SameOutside (λ n. n ≡ header_sector self.now.geometry (other self.now.current)) (D.history device.old).disk.content (D.history device.new).disk.content }
-        ensures within { RunsWithin (λ n. InHalfImage self.now.geometry (other self.now.current) n ⊎ ((D.history device.old).disk.unsynced n ≡ true)) (D.history device.old).disk.content (D.history device.old) (D.history device.new) }
+        ensures written { OnOk result (IsHeader self.now.geometry
+            (sector (D.history device.new).disk.content (header_sector self.now.geometry (other self.now.current)))
+            header.now) }
+        ensures outside { SameOutside (λ n. n ≡ header_sector self.now.geometry (other self.now.current))
+            (D.history device.old).disk.content (D.history device.new).disk.content }
+        ensures within { RunsWithin (λ n. InHalfImage self.now.geometry (other self.now.current) n
+            ⊎ ((D.history device.old).disk.unsynced n ≡ true)) (D.history device.old).disk.content
+            (D.history device.old) (D.history device.new) }
         ensures counts { CountsFailure (D.failures device.old) (D.failures device.new) result }
     {
         let first = self.idle_first();
@@ -59,18 +65,23 @@ impl Halves {
         requires current { Names (sector (D.history device.old).disk.content FLIP_SECTOR) self.now.current }
         requires count { length heads.now ≤ TXNS_MAX }
         requires fits { (k : ℕ) (h : HeadValue) → slice_get heads.now k ≡ Some h → HeadFits h }
-        requires rising { (k : ℕ) (a b : HeadValue) → slice_get heads.now k ≡ Some a → slice_get heads.now (k + 1) ≡ Some b → a.txn < b.txn }
-        ensures written { OnOk result (AreHeads (sector (D.history device.new).disk.content (heads_sector self.now.geometry (other self.now.current))) heads.now) }
-        ensures outside { SameOutside (λ n. n ≡ heads_sector self.now.geometry (other self.now.current)) (D.history device.old).disk.content (D.history device.new).disk.content }
-        ensures within { RunsWithin (λ n. InHalfImage self.now.geometry (other self.now.current) n ⊎ ((D.history device.old).disk.unsynced n ≡ true)) (D.history device.old).disk.content (D.history device.old) (D.history device.new) }
+        requires rising { (k : ℕ) (a b : HeadValue) → slice_get heads.now k ≡ Some a
+            → slice_get heads.now (k + 1) ≡ Some b → a.txn < b.txn }
+        ensures written { OnOk result (AreHeads (sector (D.history device.new).disk.content
+            (heads_sector self.now.geometry (other self.now.current))) heads.now) }
+        ensures outside { SameOutside (λ n. n ≡ heads_sector self.now.geometry (other self.now.current))
+            (D.history device.old).disk.content (D.history device.new).disk.content }
+        ensures within { RunsWithin (λ n. InHalfImage self.now.geometry (other self.now.current) n
+            ⊎ ((D.history device.old).disk.unsynced n ≡ true)) (D.history device.old).disk.content
+            (D.history device.old) (D.history device.new) }
         ensures counts { CountsFailure (D.failures device.old) (D.failures device.new) result }
     {
         let first = self.idle_first();
         write_heads(device, first, heads)
     }
 
-    /// Writes the changes of a head, numbered from 0, as undo items of the image, each in a sector of its own. That each sector
-    /// is written once is only tested.
+    /// Writes the changes of a head, numbered from 0, as undo items of the image, each in a sector of its own. That
+    /// each sector is written once is only tested.
     pub fn write_list<D: Device>(
         &self,
         device: &mut D,
@@ -82,18 +93,24 @@ impl Halves {
         requires head { h < TXNS_MAX }
         requires count { length changes.now ≤ CHANGES_MAX }
         requires positions { (p : ℕ) (c : ChangeValue) → slice_get changes.now p ≡ Some c → c.position ≡ p }
-        requires pages { (p : ℕ) (c : ChangeValue) → slice_get changes.now p ≡ Some c → c.rid.page < self.now.geometry.pages }
-        ensures written { OnOk result (HoldsList self.now.geometry (header_sector self.now.geometry (other self.now.current)) (D.history device.new).disk.content h changes.now) }
-        ensures outside { SameOutside (InList (header_sector self.now.geometry (other self.now.current)) h (length changes.now)) (D.history device.old).disk.content (D.history device.new).disk.content }
-        ensures within { RunsWithin (λ n. InHalfImage self.now.geometry (other self.now.current) n ⊎ ((D.history device.old).disk.unsynced n ≡ true)) (D.history device.old).disk.content (D.history device.old) (D.history device.new) }
+        requires pages { (p : ℕ) (c : ChangeValue) → slice_get changes.now p ≡ Some c
+            → c.rid.page < self.now.geometry.pages }
+        ensures written { OnOk result (HoldsList self.now.geometry
+            (header_sector self.now.geometry (other self.now.current))
+            (D.history device.new).disk.content h changes.now) }
+        ensures outside { SameOutside (InList (header_sector self.now.geometry (other self.now.current)) h
+            (length changes.now)) (D.history device.old).disk.content (D.history device.new).disk.content }
+        ensures within { RunsWithin (λ n. InHalfImage self.now.geometry (other self.now.current) n
+            ⊎ ((D.history device.old).disk.unsynced n ≡ true)) (D.history device.old).disk.content
+            (D.history device.old) (D.history device.new) }
         ensures counts { CountsFailure (D.failures device.old) (D.failures device.new) result }
     {
         let first = self.idle_first();
         write_list(device, self.geometry(), first, h, changes)
     }
 
-    /// Writes a page of the image, with the rows of its slots in order, or none. That each of its sixteen sectors is written
-    /// once is only tested.
+    /// Writes a page of the image, with the rows of its slots in order, or none. That each of its sixteen sectors is
+    /// written once is only tested.
     pub fn write_page<D: Device>(
         &self,
         device: &mut D,
@@ -104,18 +121,24 @@ impl Halves {
         requires current { Names (sector (D.history device.old).disk.content FLIP_SECTOR) self.now.current }
         requires rows { length rows.now ≡ SLOTS_PER_PAGE }
         requires page { page < self.now.geometry.pages }
-        ensures edges { OnOk result (HasEdges Two (page_bytes (D.history device.new).disk.content (header_sector self.now.geometry (other self.now.current)) page)) }
-        ensures written { OnOk result ((slot : ℕ) (o : Option RowValue) → slice_get rows.now slot ≡ Some o → IsRow (row_bytes (D.history device.new).disk.content (header_sector self.now.geometry (other self.now.current)) page slot) o) }
-        ensures outside { SameOutside (InPage (header_sector self.now.geometry (other self.now.current)) page) (D.history device.old).disk.content (D.history device.new).disk.content }
-        ensures within { RunsWithin (λ n. InHalfImage self.now.geometry (other self.now.current) n ⊎ ((D.history device.old).disk.unsynced n ≡ true)) (D.history device.old).disk.content (D.history device.old) (D.history device.new) }
+        ensures edges { OnOk result (HasEdges Two (page_bytes (D.history device.new).disk.content
+            (header_sector self.now.geometry (other self.now.current)) page)) }
+        ensures written { OnOk result ((slot : ℕ) (o : Option RowValue) → slice_get rows.now slot ≡ Some o
+            → IsRow (row_bytes (D.history device.new).disk.content
+            (header_sector self.now.geometry (other self.now.current)) page slot) o) }
+        ensures outside { SameOutside (InPage (header_sector self.now.geometry (other self.now.current)) page)
+            (D.history device.old).disk.content (D.history device.new).disk.content }
+        ensures within { RunsWithin (λ n. InHalfImage self.now.geometry (other self.now.current) n
+            ⊎ ((D.history device.old).disk.unsynced n ≡ true)) (D.history device.old).disk.content
+            (D.history device.old) (D.history device.new) }
         ensures counts { CountsFailure (D.failures device.old) (D.failures device.new) result }
     {
         let first = self.idle_first();
         write_page(device, self.geometry(), first, page, rows)
     }
 
-    /// Writes these entries of the image, from the entry number `start` on, which begins a sector. What is left of the last
-    /// sector behind them is zeros then (`rest`). That each sector is written once is only tested.
+    /// Writes these entries of the image, from the entry number `start` on, which begins a sector. What is left of the
+    /// last sector behind them is zeros then (`rest`). That each sector is written once is only tested.
     pub fn write_entries<D: Device>(
         &self,
         device: &mut D,
@@ -126,19 +149,28 @@ impl Halves {
         requires current { Names (sector (D.history device.old).disk.content FLIP_SECTOR) self.now.current }
         requires start { start % ENTRIES_PER_SECTOR ≡ 0 }
         requires room { start + length entries.now ≤ self.now.geometry.entries }
-        requires pages { (i : ℕ) (e : PairValue × MarkValue) → slice_get entries.now i ≡ Some e → e.0.rid.page < self.now.geometry.pages }
-        ensures written { OnOk result ((i : ℕ) (e : PairValue × MarkValue) → slice_get entries.now i ≡ Some e → IsEntry self.now.geometry (entry_bytes self.now.geometry (D.history device.new).disk.content (header_sector self.now.geometry (other self.now.current)) (start + i)) e) }
-        ensures rest { OnOk result (ZerosBehindEntries self.now.geometry (header_sector self.now.geometry (other self.now.current)) (D.history device.new).disk.content (start + length entries.now)) }
-        ensures outside { SameOutside (InEntries self.now.geometry (header_sector self.now.geometry (other self.now.current)) start (length entries.now)) (D.history device.old).disk.content (D.history device.new).disk.content }
-        ensures within { RunsWithin (λ n. InHalfImage self.now.geometry (other self.now.current) n ⊎ ((D.history device.old).disk.unsynced n ≡ true)) (D.history device.old).disk.content (D.history device.old) (D.history device.new) }
+        requires pages { (i : ℕ) (e : PairValue × MarkValue) → slice_get entries.now i ≡ Some e
+            → e.0.rid.page < self.now.geometry.pages }
+        ensures written { OnOk result ((i : ℕ) (e : PairValue × MarkValue) → slice_get entries.now i ≡ Some e
+            → IsEntry self.now.geometry (entry_bytes self.now.geometry (D.history device.new).disk.content
+            (header_sector self.now.geometry (other self.now.current)) (start + i)) e) }
+        ensures rest { OnOk result (ZerosBehindEntries self.now.geometry
+            (header_sector self.now.geometry (other self.now.current)) (D.history device.new).disk.content
+            (start + length entries.now)) }
+        ensures outside { SameOutside (InEntries self.now.geometry
+            (header_sector self.now.geometry (other self.now.current)) start (length entries.now))
+            (D.history device.old).disk.content (D.history device.new).disk.content }
+        ensures within { RunsWithin (λ n. InHalfImage self.now.geometry (other self.now.current) n
+            ⊎ ((D.history device.old).disk.unsynced n ≡ true)) (D.history device.old).disk.content
+            (D.history device.old) (D.history device.new) }
         ensures counts { CountsFailure (D.failures device.old) (D.failures device.new) result }
     {
         let first = self.idle_first();
         write_entries(device, self.geometry(), first, start, entries)
     }
 
-    /// Begins an image of these cells that is written part by part: writes undo items and transaction heads. That no sector is
-    /// written twice is only tested.
+    /// Begins an image of these cells that is written part by part: writes undo items and transaction heads. That no
+    /// sector is written twice is only tested.
     pub fn write_start<D: Device, S: CellSource>(
         &self,
         device: &mut D,
@@ -147,17 +179,22 @@ impl Halves {
         requires inside { sectors_of self.now.geometry ≤ length (D.history device.old).disk.content }
         requires current { Names (sector (D.history device.old).disk.content FLIP_SECTOR) self.now.current }
         requires fits { FitsImage self.now.geometry (S.cells source.now) }
-        ensures written { OnOk result (IsImagePart self.now.geometry (header_sector self.now.geometry (other self.now.current)) (D.history device.new).disk.content 0 (record (S.cells source.now) { rows = empty; entries = empty })) }
-        ensures outside { SameOutside (InStart (header_sector self.now.geometry (other self.now.current)) (S.cells source.now)) (D.history device.old).disk.content (D.history device.new).disk.content }
-        ensures within { RunsWithin (λ n. InHalfImage self.now.geometry (other self.now.current) n ⊎ ((D.history device.old).disk.unsynced n ≡ true)) (D.history device.old).disk.content (D.history device.old) (D.history device.new) }
+        ensures written { OnOk result (IsImagePart self.now.geometry
+            (header_sector self.now.geometry (other self.now.current)) (D.history device.new).disk.content 0
+            (record (S.cells source.now) { rows = empty; entries = empty })) }
+        ensures outside { SameOutside (InStart (header_sector self.now.geometry (other self.now.current))
+            (S.cells source.now)) (D.history device.old).disk.content (D.history device.new).disk.content }
+        ensures within { RunsWithin (λ n. InHalfImage self.now.geometry (other self.now.current) n
+            ⊎ ((D.history device.old).disk.unsynced n ≡ true)) (D.history device.old).disk.content
+            (D.history device.old) (D.history device.new) }
         ensures counts { CountsFailure (D.failures device.old) (D.failures device.new) result }
     {
         let first = self.idle_first();
         write_start(device, self.geometry(), first, source)
     }
 
-    /// Writes a page of the image, with the rows that these cells have there. That each of its sixteen sectors is written once
-    /// is only tested.
+    /// Writes a page of the image, with the rows that these cells have there. That each of its sixteen sectors is
+    /// written once is only tested.
     pub fn write_rows<D: Device, S: CellSource>(
         &self,
         device: &mut D,
@@ -167,18 +204,23 @@ impl Halves {
         requires inside { sectors_of self.now.geometry ≤ length (D.history device.old).disk.content }
         requires current { Names (sector (D.history device.old).disk.content FLIP_SECTOR) self.now.current }
         requires page { page < self.now.geometry.pages }
-        ensures written { OnOk result (HasPage (header_sector self.now.geometry (other self.now.current)) (D.history device.new).disk.content page (S.cells source.now).rows) }
-        ensures outside { SameOutside (InPage (header_sector self.now.geometry (other self.now.current)) page) (D.history device.old).disk.content (D.history device.new).disk.content }
-        ensures within { RunsWithin (λ n. InHalfImage self.now.geometry (other self.now.current) n ⊎ ((D.history device.old).disk.unsynced n ≡ true)) (D.history device.old).disk.content (D.history device.old) (D.history device.new) }
+        ensures written { OnOk result (HasPage (header_sector self.now.geometry (other self.now.current))
+            (D.history device.new).disk.content page (S.cells source.now).rows) }
+        ensures outside { SameOutside (InPage (header_sector self.now.geometry (other self.now.current)) page)
+            (D.history device.old).disk.content (D.history device.new).disk.content }
+        ensures within { RunsWithin (λ n. InHalfImage self.now.geometry (other self.now.current) n
+            ⊎ ((D.history device.old).disk.unsynced n ≡ true)) (D.history device.old).disk.content
+            (D.history device.old) (D.history device.new) }
         ensures counts { CountsFailure (D.failures device.old) (D.failures device.new) result }
     {
         let first = self.idle_first();
         write_rows(device, self.geometry(), first, page, source)
     }
 
-    /// Writes the image of these cells, which record `base` left: undo items, transaction heads, every page, the entries, and
-    /// the header behind them. What is left of the sector of the last entry is zeros then (`rest`); sectors of undo items and of
-    /// entries behind the last ones stay as they are (`outside`). That no sector is written twice is only tested.
+    /// Writes the image of these cells, which record `base` left: undo items, transaction heads, every page, the
+    /// entries, and the header behind them. What is left of the sector of the last entry is zeros then (`rest`);
+    /// sectors of undo items and of entries behind the last ones stay as they are (`outside`). That no sector is
+    /// written twice is only tested.
     pub fn write_image<D: Device, S: CellSource>(
         &self,
         device: &mut D,
@@ -189,10 +231,17 @@ impl Halves {
         requires current { Names (sector (D.history device.old).disk.content FLIP_SECTOR) self.now.current }
         requires fits { FitsImage self.now.geometry (S.cells source.now) }
         requires base { base ≤ LAST_NUMBER }
-        ensures written { OnOk result (HoldsImage self.now.geometry (other self.now.current) (D.history device.new).disk.content base (S.cells source.now)) }
-        ensures rest { OnOk result (ZerosBehindEntries self.now.geometry (header_sector self.now.geometry (other self.now.current)) (D.history device.new).disk.content (length (entries (S.cells source.now).entries))) }
-        ensures outside { SameOutside (InImageOf self.now.geometry (header_sector self.now.geometry (other self.now.current)) (S.cells source.now)) (D.history device.old).disk.content (D.history device.new).disk.content }
-        ensures within { RunsWithin (λ n. InHalfImage self.now.geometry (other self.now.current) n ⊎ ((D.history device.old).disk.unsynced n ≡ true)) (D.history device.old).disk.content (D.history device.old) (D.history device.new) }
+        ensures written { OnOk result (HoldsImage self.now.geometry (other self.now.current)
+            (D.history device.new).disk.content base (S.cells source.now)) }
+        ensures rest { OnOk result (ZerosBehindEntries self.now.geometry
+            (header_sector self.now.geometry (other self.now.current)) (D.history device.new).disk.content
+            (length (entries (S.cells source.now).entries))) }
+        ensures outside { SameOutside (InImageOf self.now.geometry
+            (header_sector self.now.geometry (other self.now.current)) (S.cells source.now))
+            (D.history device.old).disk.content (D.history device.new).disk.content }
+        ensures within { RunsWithin (λ n. InHalfImage self.now.geometry (other self.now.current) n
+            ⊎ ((D.history device.old).disk.unsynced n ≡ true)) (D.history device.old).disk.content
+            (D.history device.old) (D.history device.new) }
         ensures counts { CountsFailure (D.failures device.old) (D.failures device.new) result }
     {
         let first = self.idle_first();

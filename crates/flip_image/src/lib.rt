@@ -1,10 +1,10 @@
 //! The two halves of a store on a device: where their parts lie, how a device is
 //! formatted and opened, and how the half that is not current is written and made current.
 //!
-//! Proved: what `Halves::format`, `open`, `flip`, `read_image` and the writes of an image leave, and which sectors they change
-//! (`outside`). Of a flip and of the writes, what a crash leaves at any moment (`any_moment`, `within`). A value that was kept from
-//! before a flip writes nothing (`current`).
-//! Only tested: the superblock byte by byte. Neither: a crash within `format`, after which the device must be formatted again.
+//! Proved: what `Halves::format`, `open`, `flip`, `read_image` and the writes of an image leave, and which sectors they
+//! change (`outside`). Of a flip and of the writes, what a crash leaves at any moment (`any_moment`, `within`). A value
+//! that was kept from before a flip writes nothing (`current`). Only tested: the superblock byte by byte. Neither: a
+//! crash within `format`, after which the device must be formatted again.
 #![tactic(auto)]
 
 mod flip;

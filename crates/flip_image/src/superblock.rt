@@ -41,7 +41,8 @@ fn write_pair(bytes: &mut [u8], first: u32, second: u32)
 // Writes the version and the geometry at the front.
 fn write_numbers(bytes: &mut [u8], geometry: Geometry)
     requires { 16 ≤ length bytes.old }
-    ensures { bytes.new ≡ u32 VERSION ++ (u32 geometry.pages ++ (u32 geometry.entries ++ (u32 geometry.slots ++ drop 16 bytes.old))) }
+    ensures { bytes.new ≡ u32 VERSION ++ (u32 geometry.pages
+        ++ (u32 geometry.entries ++ (u32 geometry.slots ++ drop 16 bytes.old))) }
 {
     write_pair(bytes, VERSION, geometry.pages);
     write_pair(&mut bytes[8..], geometry.entries, geometry.slots);
@@ -69,7 +70,8 @@ pub(crate) fn superblock(geometry: Geometry) -> [u8; SECTOR_SIZE]
 // The title, and four numbers, at the front.
 fn read_front(bytes: &[u8]) -> (u64, u32, u32, u32, u32)
     requires { SUPERBLOCK_SIZE ≤ length bytes.now }
-    ensures { bytes.now ≡ u64 result.0 ++ (u32 result.1 ++ (u32 result.2 ++ (u32 result.3 ++ (u32 result.4 ++ drop SUPERBLOCK_SIZE bytes.now)))) }
+    ensures { bytes.now ≡ u64 result.0 ++ (u32 result.1
+        ++ (u32 result.2 ++ (u32 result.3 ++ (u32 result.4 ++ drop SUPERBLOCK_SIZE bytes.now)))) }
 {
     let (_, behind) = bytes.split_at(TITLE_SIZE);
     let (_, second) = behind.split_at(4);
@@ -111,14 +113,16 @@ fn is_older(version: Version, number: u32) -> bool
     }
 }
 
-/// The geometry of the store of a version with this superblock. `NotFormatted` where the bytes have another title, `OldVersion`
-/// where an older version stands behind it, whatever follows, and `Damaged` where they have the title but are no superblock.
+/// The geometry of the store of a version with this superblock. `NotFormatted` where the bytes have another title,
+/// `OldVersion` where an older version stands behind it, whatever follows, and `Damaged` where they have the title but
+/// are no superblock.
 pub(crate) fn geometry_of(version: Version, bytes: &[u8]) -> Result<Geometry, Error>
     requires { length bytes.now ≡ SECTOR_SIZE }
     ensures ok { IfOk result (λ geometry. IsSuperblockIn version geometry bytes.now) }
     ensures err { IfErr result (λ e. ((e ≡ Error.NotFormatted) × (¬ (take TITLE_SIZE bytes.now ≡ title)))
         ⊎ (((e ≡ Error.OldVersion) × (take TITLE_SIZE bytes.now ≡ title) × HasOlderNumber version bytes.now)
-        ⊎ ((e ≡ Error.Damaged SUPERBLOCK_SECTOR) × (take TITLE_SIZE bytes.now ≡ title) × (¬ HasOlderNumber version bytes.now)
+        ⊎ ((e ≡ Error.Damaged SUPERBLOCK_SECTOR) × (take TITLE_SIZE bytes.now ≡ title)
+        × (¬ HasOlderNumber version bytes.now)
         × ((g : GeometryValue) → IsGeometry g → ¬ IsSuperblockIn version g bytes.now)))) }
 {
     let (title, number, pages, entries, slots) = read_front(bytes);

@@ -1,5 +1,6 @@
 -- The bytes of sectors one behind the other, and of a piece that was read.
-use Rattle.std.proofs.Common.{◌≡◌, ⊎_elim, ℕ, zero, suc, ◌+◌, ◌-◌, ◌*◌, ◌<◌, ◌≤◌, List, [], ◌++◌, length, take, drop, get_or, slice_range, All, sym, ap, ◌∙◌, subst, arith, length-drop, length-append}
+use Rattle.std.proofs.Common.{◌≡◌, ⊎_elim, ℕ, zero, suc, ◌+◌, ◌-◌, ◌*◌, ◌<◌, ◌≤◌, List, [], ◌++◌, length, take, drop, get_or, slice_range, All, sym, ap, ◌∙◌}
+use Rattle.std.proofs.Common.{subst, arith, length-drop, length-append}
 use Rattle.std.specs.List.{concat}
 use Rattle.std.specs.Simd.{first_chunks}
 use Rattle.std.proofs.lemmas.Bool.{cases_lt}
@@ -12,7 +13,8 @@ use Rattle.image_half.specs.Layout.{cut, bytes_of}
 -- ---- a piece
 
 -- the buffer holds the sector of a disk that only was read since, and the piece is cut out of it
-pub cut_at : (old now : Disk) (bytes buffer : List ℕ) (size long n i m j : ℕ) → now ≡ old → bytes ≡ cut buffer size i → buffer ≡ sector now.content n → size ≡ long → n ≡ m → i ≡ j → bytes ≡ cut (sector old.content m) long j
+pub cut_at : (old now : Disk) (bytes buffer : List ℕ) (size long n i m j : ℕ) → now ≡ old → bytes ≡ cut buffer size i → buffer ≡ sector now.content n
+    → size ≡ long → n ≡ m → i ≡ j → bytes ≡ cut (sector old.content m) long j
 cut_at old now bytes buffer size long n i m j same is loaded sized there which =
     is ∙ ap (λ (b : List ℕ). cut b size i) (loaded ∙ ap (λ (d : Disk). sector d.content n) same) ∙ ap (λ k. cut (sector old.content n) k i) sized
     ∙ ap (λ k. cut (sector old.content k) long i) there ∙ ap (λ k. cut (sector old.content m) long k) which
@@ -31,12 +33,15 @@ pub bytes_more : (image : Image) (at k : ℕ) → bytes_of image at (k + 1) ≡ 
 bytes_more image at k = ⊎_elim
     (λ inside. part_more image at k (at + (k + 1)) inside (omega arith))
     (λ past.
-    let whole : (n : ℕ) → k ≤ n → slice_range image at (at + n) ≡ drop at image = (λ n le. take_all (at + n - at) (drop at image) (omega (arith, le, past, length-drop at image))) in
-    ap concat (whole (k + 1) (omega arith) ∙ sym (whole k (omega arith))) ∙ sym (append-nil (bytes_of image at k)) ∙ ap (λ (t : List ℕ). bytes_of image at k ++ t) (sym (get_or_past image (at + k) [] past)))
+    let whole : (n : ℕ) → k ≤ n → slice_range image at (at + n) ≡ drop at image =
+    (λ n le. take_all (at + n - at) (drop at image) (omega (arith, le, past, length-drop at image))) in
+    ap concat (whole (k + 1) (omega arith) ∙ sym (whole k (omega arith))) ∙ sym (append-nil (bytes_of image at k))
+    ∙ ap (λ (t : List ℕ). bytes_of image at k ++ t) (sym (get_or_past image (at + k) [] past)))
     (cases_lt (at + k) (length image))
 
 -- two contents with the same sectors have the same bytes there
-pub bytes_same : (image other : Image) (at k : ℕ) → ((j : ℕ) → j < k → sector other (at + j) ≡ sector image (at + j)) → bytes_of other at k ≡ bytes_of image at k
+pub bytes_same : (image other : Image) (at k : ℕ) → ((j : ℕ) → j < k → sector other (at + j) ≡ sector image (at + j))
+    → bytes_of other at k ≡ bytes_of image at k
 bytes_same image other at zero same = no_bytes other at ∙ sym (no_bytes image at)
 bytes_same image other at (suc k) same =
     let next : suc k ≡ k + 1 = omega arith in
@@ -55,14 +60,16 @@ length_bytes image at (suc k) long =
     omega (arith, size, length-append {A = ℕ} (bytes_of image at k) (sector image (at + k)), before, long k (omega arith))
 
 -- and so each byte lies in its sector
-pub byte_at : (image : Image) (at k i j d : ℕ) → ((n : ℕ) → n < k → length (sector image (at + n)) ≡ 512) → i < k → j < 512 → get_or (bytes_of image at k) (512 * i + j) d ≡ get_or (sector image (at + i)) j d
+pub byte_at : (image : Image) (at k i j d : ℕ) → ((n : ℕ) → n < k → length (sector image (at + n)) ≡ 512) → i < k → j < 512
+    → get_or (bytes_of image at k) (512 * i + j) d ≡ get_or (sector image (at + i)) j d
 byte_at image at zero i j d long low within = absurd (omega (arith, low))
 byte_at image at (suc k) i j d long low within =
     let next : suc k ≡ k + 1 = omega arith in
     let earlier : (n : ℕ) → n < k → length (sector image (at + n)) ≡ 512 = (λ n less. long n (omega (arith, less))) in
     let size = length_bytes image at k earlier in
     ap (λ (t : List ℕ). get_or t (512 * i + j) d) (ap (bytes_of image at) next ∙ bytes_more image at k) ∙ ⊎_elim
-    (λ less. get_or_append_left (bytes_of image at k) (sector image (at + k)) d (512 * i + j) (omega (arith, less, within, size)) ∙ byte_at image at k i j d earlier less within)
+    (λ less. get_or_append_left (bytes_of image at k) (sector image (at + k)) d (512 * i + j) (omega (arith, less, within, size))
+    ∙ byte_at image at k i j d earlier less within)
     (λ past.
     let same : i ≡ k = omega (arith, low, past) in
     get_or-append_right (bytes_of image at k) (sector image (at + k)) (512 * k) (512 * i + j) d size (omega (arith, same))
@@ -85,7 +92,8 @@ first_chunks-all (suc k) xs long =
     ap (λ (t : List ℕ). take 512 xs ++ t) (first_chunks-all k (drop 512 xs) (omega (arith, length-drop 512 xs))) ∙ take-append-drop 512 xs
 
 -- sectors that were written hold the bytes
-pub bytes_written : (image rows : Image) (bytes : List ℕ) (n at k : ℕ) → at + k ≤ length image → length bytes ≡ 512 * k → n ≡ k → rows ≡ first_chunks 512 n bytes → length rows ≡ k
+pub bytes_written : (image rows : Image) (bytes : List ℕ) (n at k : ℕ) → at + k ≤ length image → length bytes ≡ 512 * k → n ≡ k
+    → rows ≡ first_chunks 512 n bytes → length rows ≡ k
     → ((j : ℕ) → j < k → sector image (at + j) ≡ sector rows j) → bytes_of image at k ≡ bytes
 bytes_written image rows bytes n at k room long all rows-is size each =
     ap concat (part_is image rows at (at + k) room (omega (arith, size)) (λ j lt. each j (omega (arith, lt, size))))

@@ -25,7 +25,8 @@ cut_is n at xs = ap (λ m. take m (drop at xs)) (let e : n ≡ at + n - at = ome
 
 module _ (n j len : ℕ) (xs ys bytes : List ℕ) (same : ys ≡ bytes) (size : length bytes ≡ n) (is_len : len ≡ n) (room : n * j + n ≤ length xs) where
   pub put_there : slice_range (put_mid (n * j) len xs ys) (n * j) (n * j + n) ≡ bytes
-  put_there = between-put_mid (n * j) len xs ys (n * j + n) (omega (arith, room)) (let e : length ys ≡ n * j + n - n * j = omega (arith, ap length same, size) in e) ∙ same
+  put_there = between-put_mid (n * j) len xs ys (n * j + n) (omega (arith, room))
+      (let e : length ys ≡ n * j + n - n * j = omega (arith, ap length same, size) in e) ∙ same
 
   pub put_before : (k : ℕ) → k < j → slice_range (put_mid (n * j) len xs ys) (n * k) (n * k + n) ≡ slice_range xs (n * k) (n * k + n)
   put_before k less =

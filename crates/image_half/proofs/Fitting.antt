@@ -1,5 +1,6 @@
 -- An image has room for no cells, and for one more as long as there is a place left.
-use Rattle.std.proofs.Common.{◌≡◌, inl, inr, ℕ, ◌+◌, ◌<◌, ◌≤◌, Bool, true, false, cond, List, [], ◌∷◌, length, Option, Some, None, is_some, unwrap_or, refl, sym, ap, ◌∙◌, subst, arith}
+use Rattle.std.proofs.Common.{◌≡◌, inl, inr, ℕ, ◌+◌, ◌<◌, ◌≤◌, Bool, true, false, cond, List, [], ◌∷◌, length, Option, Some, None, is_some, unwrap_or, refl}
+use Rattle.std.proofs.Common.{sym, ap, ◌∙◌, subst, arith}
 use Rattle.std.specs.declared.cmp.Ordering.{Ordering}
 use Rattle.std.specs.Ordering.{eq_by_cmp, nat_cmp}
 use Rattle.std.specs.FinMap.{FinMap, empty, entries, get, insert, get-empty, len, len-empty, len-entries, len-insert}
@@ -61,34 +62,55 @@ slot_set rows k x slot is q r found = by_key (eq_by_cmp rid_cmp q k) refl
     by_key true same = subst (λ (p : Place). p.slot < SLOTS_PER_PAGE) (sym (key_is rid_exact q k same)) slot
     by_key false other = is q r (sym (get-set_at rid_exact rows k (Some x) q ∙ ap (λ b. cond b (Some x) (get rows q)) other) ∙ found)
 
-pub row_fits : (g : GeometryValue) (cells : Cells) (q : Place) (r : Row) → FitsImage g cells → q.page < g.pages → q.slot < SLOTS_PER_PAGE → FitsImage g (record cells { rows = set_at cells.rows q (Some r) })
-row_fits g cells q r fits page slot = record { inside = row_inside g.pages cells q (Some r) page fits.inside; slots = slot_set cells.rows q r slot fits.slots; room = fits.room; txns = fits.txns; changes = fits.changes; placed = fits.placed }
+pub row_fits : (g : GeometryValue) (cells : Cells) (q : Place) (r : Row) → FitsImage g cells → q.page < g.pages → q.slot < SLOTS_PER_PAGE
+    → FitsImage g (record cells { rows = set_at cells.rows q (Some r) })
+row_fits g cells q r fits page slot = record {
+  inside = row_inside g.pages cells q (Some r) page fits.inside;
+  slots = slot_set cells.rows q r slot fits.slots;
+  room = fits.room;
+  txns = fits.txns;
+  changes = fits.changes;
+  placed = fits.placed;
+}
 
 -- ---- an entry
 
-pub entry_fits : (g : GeometryValue) (cells : Cells) (p : Pair) (m : Mark) → FitsImage g cells → p.rid.page < g.pages → length (entries cells.entries) < g.entries → FitsImage g (record cells { entries = set_at cells.entries p (Some m) })
-entry_fits g cells p m fits page room = record { inside = entry_inside g.pages cells p (Some m) page fits.inside; slots = fits.slots; room = length_set pair_exact cells.entries p m g.entries room; txns = fits.txns; changes = fits.changes; placed = fits.placed }
+pub entry_fits : (g : GeometryValue) (cells : Cells) (p : Pair) (m : Mark) → FitsImage g cells → p.rid.page < g.pages
+    → length (entries cells.entries) < g.entries → FitsImage g (record cells { entries = set_at cells.entries p (Some m) })
+entry_fits g cells p m fits page room = record {
+  inside = entry_inside g.pages cells p (Some m) page fits.inside;
+  slots = fits.slots;
+  room = length_set pair_exact cells.entries p m g.entries room;
+  txns = fits.txns;
+  changes = fits.changes;
+  placed = fits.placed;
+}
 
 -- ---- a list
 
 placed_within : (pages n : ℕ) (changes : List ChangeValue) → ArePlaced pages n changes → AreChangesWithin pages changes
 placed_within pages n [] placed = All-nil (λ (c : ChangeValue). c.rid.page < pages)
-placed_within pages n (c ∷ changes) placed = All-cons (λ (c : ChangeValue). c.rid.page < pages) c changes placed.1 (placed_within pages (n + 1) changes placed.2)
+placed_within pages n (c ∷ changes) placed = All-cons (λ (c : ChangeValue). c.rid.page < pages) c changes placed.1
+    (placed_within pages (n + 1) changes placed.2)
 
 -- what holds of this list and of the others holds of each
-each_list : (P : List ChangeValue → Type 0) (pending : Pending) (txn : ℕ) (changes : List ChangeValue) → P changes → ((other : ℕ) → P (list_of pending other)) → (other : ℕ) → P (list_of (with_list pending txn (Some changes)) other)
+each_list : (P : List ChangeValue → Type 0) (pending : Pending) (txn : ℕ) (changes : List ChangeValue) → P changes → ((other : ℕ) → P (list_of pending other))
+    → (other : ℕ) → P (list_of (with_list pending txn (Some changes)) other)
 each_list P pending txn changes this others other =
-    subst P (sym (ap (λ (o : Option (List ChangeValue)). unwrap_or o []) (get-set_at nat_exact pending txn (Some changes) other))) (by_key (eq_by_cmp nat_cmp other txn))
+    subst P (sym (ap (λ (o : Option (List ChangeValue)). unwrap_or o []) (get-set_at nat_exact pending txn (Some changes) other)))
+    (by_key (eq_by_cmp nat_cmp other txn))
   where
     by_key : (b : Bool) → P (unwrap_or (cond b (Some changes) (get pending other)) [])
     by_key true = this
     by_key false = others other
 
-txns_with : (pending : Pending) (txn : ℕ) (changes : List ChangeValue) → IsAdmitted pending txn → length (entries pending) ≤ TXNS_MAX → length (entries (with_list pending txn (Some changes))) ≤ TXNS_MAX
+txns_with : (pending : Pending) (txn : ℕ) (changes : List ChangeValue) → IsAdmitted pending txn → length (entries pending) ≤ TXNS_MAX
+    → length (entries (with_list pending txn (Some changes))) ≤ TXNS_MAX
 txns_with pending txn changes (inl had) few = length_again nat_exact pending txn changes TXNS_MAX had few
 txns_with pending txn changes (inr less) few = length_set nat_exact pending txn changes TXNS_MAX less
 
-pub list_fits : (g : GeometryValue) (cells : Cells) (txn : ℕ) (changes : List ChangeValue) → FitsImage g cells → IsAdmitted cells.pending txn → ArePlaced g.pages 0 changes → length changes ≤ CHANGES_MAX
+pub list_fits : (g : GeometryValue) (cells : Cells) (txn : ℕ) (changes : List ChangeValue) → FitsImage g cells → IsAdmitted cells.pending txn
+    → ArePlaced g.pages 0 changes → length changes ≤ CHANGES_MAX
     → FitsImage g (record cells { pending = with_list cells.pending txn (Some changes) })
 list_fits g cells txn changes fits admitted placed few = record {
   slots = fits.slots;
@@ -102,7 +124,14 @@ list_fits g cells txn changes fits admitted placed few = record {
 -- ---- life, and no cells
 
 pub life_fits : (g : GeometryValue) (cells : Cells) (life : Life) → FitsImage g cells → IsLifeWithin g.pages life → FitsImage g (record cells { life = life })
-life_fits g cells life fits within = record { inside = life_inside g.pages cells life within fits.inside; slots = fits.slots; room = fits.room; txns = fits.txns; changes = fits.changes; placed = fits.placed }
+life_fits g cells life fits within = record {
+  inside = life_inside g.pages cells life within fits.inside;
+  slots = fits.slots;
+  room = fits.room;
+  txns = fits.txns;
+  changes = fits.changes;
+  placed = fits.placed;
+}
 
 no_list : (txn : ℕ) → list_of no_cells.pending txn ≡ []
 no_list txn = ap (λ (o : Option (List ChangeValue)). unwrap_or o []) (get-empty nat_cmp txn)

@@ -17,7 +17,8 @@ module _ (S P : ℕ → Type 0) (image : Image) (old mid new : History) (inside 
   run_then : RunsWithin S image old mid → RunsWithin (λ n. P n ⊎ (mid.disk.unsynced n ≡ true)) mid.disk.content mid new → RunsWithin S image old new
   run_then so_far part = record {
     now = record { content = outside_then new.disk.content part.now.content; synced = λ k out. part.now.synced k (apart k out) };
-    run = joined old mid new (SameOutside S image) so_far.run (weaker mid new (SameOutside (λ n. P n ⊎ (mid.disk.unsynced n ≡ true)) mid.disk.content) (SameOutside S image) outside_then part.run);
+    run = joined old mid new (SameOutside S image) so_far.run
+        (weaker mid new (SameOutside (λ n. P n ⊎ (mid.disk.unsynced n ≡ true)) mid.disk.content) (SameOutside S image) outside_then part.run);
   }
     where
       apart : (k : ℕ) → ¬ S k → ¬ (P k ⊎ (mid.disk.unsynced k ≡ true))
@@ -25,12 +26,17 @@ module _ (S P : ℕ → Type 0) (image : Image) (old mid new : History) (inside 
       apart k out (inr is) = false≢true (sym (so_far.now.synced k out) ∙ is)
 
       outside_then : (c : Image) → SameOutside (λ n. P n ⊎ (mid.disk.unsynced n ≡ true)) mid.disk.content c → SameOutside S image c
-      outside_then c same = record { sectors = same.sectors ∙ so_far.now.content.sectors; same = λ k out. same.same k (apart k out) ∙ so_far.now.content.same k out }
+      outside_then c same = record {
+        sectors = same.sectors ∙ so_far.now.content.sectors;
+        same = λ k out. same.same k (apart k out)
+            ∙ so_far.now.content.same k out;
+      }
 
 -- one part more, of sectors in S
 pub writes_then : (S P : ℕ → Type 0) (old mid new : History) → ((n : ℕ) → P n → S n) → WritesIn S old mid → WritesIn P mid new → WritesIn S old new
 writes_then S P old mid new inside so_far part = record {
-  outside = same_outside_then S old.disk.content mid.disk.content new.disk.content so_far.outside (same_outside_wider P S mid.disk.content new.disk.content inside part.outside);
+  outside = same_outside_then S old.disk.content mid.disk.content new.disk.content so_far.outside
+      (same_outside_wider P S mid.disk.content new.disk.content inside part.outside);
   within = run_then (λ n. S n ⊎ (old.disk.unsynced n ≡ true)) P old.disk.content old mid new (λ n is. inl (inside n is)) so_far.within part.within;
 }
 

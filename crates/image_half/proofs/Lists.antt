@@ -17,7 +17,8 @@ same_by_slice_get (x ∷ xs) (y ∷ ys) same =
     λ i. head i ∷ tail i
 
 -- an element of a list with one more behind it
-pub slice_get_push : {A : Type 0} (xs : List A) (y e : A) (i : ℕ) → slice_get (xs ++ y ∷ []) i ≡ Some e → (slice_get xs i ≡ Some e) ⊎ ((i ≡ length xs) × (y ≡ e))
+pub slice_get_push : {A : Type 0} (xs : List A) (y e : A) (i : ℕ) → slice_get (xs ++ y ∷ []) i ≡ Some e → (slice_get xs i ≡ Some e)
+    ⊎ ((i ≡ length xs) × (y ≡ e))
 slice_get_push [] y e zero is = inr (refl, same_Some y e is)
 slice_get_push [] y e (suc i) is = absurd (none-some e is)
 slice_get_push (x ∷ xs) y e zero is = inl is
@@ -31,7 +32,8 @@ slice_get_last [] y = refl
 slice_get_last (x ∷ xs) y = slice_get_last xs y
 
 -- lists of one length whose elements are the same
-pub same_elements : {A : Type 0} (xs ys : List A) → length xs ≡ length ys → ((i : ℕ) (x y : A) → slice_get xs i ≡ Some x → slice_get ys i ≡ Some y → x ≡ y) → xs ≡ ys
+pub same_elements : {A : Type 0} (xs ys : List A) → length xs ≡ length ys → ((i : ℕ) (x y : A) → slice_get xs i ≡ Some x → slice_get ys i ≡ Some y → x ≡ y)
+    → xs ≡ ys
 same_elements [] [] long same = refl
 same_elements [] (y ∷ ys) long same = absurd (omega (arith, long))
 same_elements (x ∷ xs) [] long same = absurd (omega (arith, long))

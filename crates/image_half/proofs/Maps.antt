@@ -1,5 +1,6 @@
 -- Maps that grow at their end, what they have at the key of an entry, and what comes behind it.
-use Rattle.std.proofs.Common.{◌≡◌, ℕ, zero, suc, ◌+◌, Bool, true, false, cond, ◌&&◌, List, [], ◌∷◌, ◌++◌, length, drop, Bor, Option, Some, None, refl, sym, ap, ◌∙◌, subst, arith}
+use Rattle.std.proofs.Common.{◌≡◌, ℕ, zero, suc, ◌+◌, Bool, true, false, cond, ◌&&◌, List, [], ◌∷◌, ◌++◌, length, drop, Bor, Option, Some, None, refl, sym, ap}
+use Rattle.std.proofs.Common.{◌∙◌, subst, arith}
 use Rattle.std.specs.Prelude.{slice_get, T}
 use Rattle.std.specs.declared.cmp.Ordering.{Ordering}
 use Rattle.std.specs.declared.cmp.Ordering.TheVariants.{Less, Equal, Greater}
@@ -37,7 +38,8 @@ behind {A} (suc n) [] j = none_at A j ∙ sym (none_at A (suc n + j))
 behind (suc n) (x ∷ xs) j = behind n xs j ∙ ap (slice_get (x ∷ xs)) (let e : suc (n + j) ≡ suc n + j = omega arith in e)
 
 -- the first of what is left of a list, and the rest of it
-pub first_left : {K X : Type 0} (all rest new : List (K × X)) (n : ℕ) (next : Option (Bor K × Bor X)) → rest ≡ drop n all → MatchOption next ((rest ≡ []) × (new ≡ [])) (λ e. rest ≡ (e.0.now, e.1.now) ∷ new)
+pub first_left : {K X : Type 0} (all rest new : List (K × X)) (n : ℕ) (next : Option (Bor K × Bor X)) → rest ≡ drop n all
+    → MatchOption next ((rest ≡ []) × (new ≡ [])) (λ e. rest ≡ (e.0.now, e.1.now) ∷ new)
     → (option_map (λ e. (e.0.now, e.1.now)) next ≡ slice_get all n) × (new ≡ drop (n + 1) all)
 first_left all rest new n None is taken = (
   ap (λ (es : List _). slice_get es 0) (sym taken.0 ∙ is) ∙ behind n all 0 ∙ ap (slice_get all) (omega arith),
@@ -61,7 +63,8 @@ module _ {K X : Type 0} {R : K → K → Ordering} (o : IsTotalOrder R) where
       ∙ ap (λ (t : List (K × X)). e ∷ t) (put_last k v es h.1)
 
   -- what is above the last key of a list in order is above each
-  above_last : (k : K) (es : List (K × X)) (m : ℕ) (e : K × X) → T (is_sorted R es) → length es ≡ m + 1 → slice_get es m ≡ Some e → R e.0 k ≡ Less → AreBelow k es
+  above_last : (k : K) (es : List (K × X)) (m : ℕ) (e : K × X) → T (is_sorted R es) → length es ≡ m + 1 → slice_get es m ≡ Some e → R e.0 k ≡ Less
+      → AreBelow k es
   above_last k [] m e sorted long is above = tt
   above_last k (x ∷ []) zero e sorted long is above = (subst (λ (y : K × X). R y.0 k ≡ Less) (sym (same_Some x e is)) above, tt)
   above_last k (x ∷ []) (suc m) e sorted long is above = absurd (none-some e is)
@@ -81,7 +84,8 @@ module _ {K X : Type 0} {R : K → K → Ordering} (o : IsTotalOrder R) where
       none_below [] e = tt
       none_below (x ∷ es) e = absurd (omega (arith, e))
 
-  pub below_next : (m : FinMap R X) (k : K) (n : ℕ) (e : K × X) → length (entries m) ≡ n + 1 → slice_get (entries m) n ≡ Some e → R e.0 k ≡ Less → AreBelow k (entries m)
+  pub below_next : (m : FinMap R X) (k : K) (n : ℕ) (e : K × X) → length (entries m) ≡ n + 1 → slice_get (entries m) n ≡ Some e → R e.0 k ≡ Less
+      → AreBelow k (entries m)
   below_next m k n e long is above = above_last k (entries m) n e (entries_sorted m) long is above
 
   -- ---- the value of an entry is what the map has at its key
@@ -93,7 +97,8 @@ module _ {K X : Type 0} {R : K → K → Ordering} (o : IsTotalOrder R) where
 
   find_at : (es : List (K × X)) (i : ℕ) (e : K × X) → T (is_sorted R es) → slice_get es i ≡ Some e → find R e.0 es ≡ Some e.1
   find_at [] i e sorted is = absurd (none-some e is)
-  find_at (x ∷ es) zero e sorted is = subst (λ (z : K × X). find R z.0 (x ∷ es) ≡ Some z.1) (same_Some x e is) (ap (λ r. cond (is_eq r) (Some x.1) (find R x.0 es)) (tied_itself o x.0))
+  find_at (x ∷ es) zero e sorted is = subst (λ (z : K × X). find R z.0 (x ∷ es) ≡ Some z.1) (same_Some x e is)
+      (ap (λ r. cond (is_eq r) (Some x.1) (find R x.0 es)) (tied_itself o x.0))
   find_at (x ∷ es) (suc i) e sorted is =
       ap (λ r. cond (is_eq r) (Some x.1) (find R e.0 es)) (o.antisymm e.0 x.0 ∙ ap ordering_reverse (below_at x.0 es i e (first _ _ sorted) is))
       ∙ find_at es i e (second _ _ sorted) is
@@ -120,13 +125,15 @@ module _ {K X : Type 0} {R : K → K → Ordering} (o : IsTotalOrder R) where
       ap (λ r. slice_get (cond (is_lt r) (e ∷ above k es) (above k es)) 0) (ap (R k) key ∙ tied_itself o k)
       ∙ above_each k es (subst (λ x. T (below_all R x es)) key (first _ _ sorted))
   above_at k v (e ∷ es) (suc i) sorted is =
-      ap (λ r. slice_get (cond (is_lt r) (e ∷ above k es) (above k es)) 0) (o.antisymm k e.0 ∙ ap ordering_reverse (below_at e.0 es i (k, v) (first _ _ sorted) is))
+      ap (λ r. slice_get (cond (is_lt r) (e ∷ above k es) (above k es)) 0) (o.antisymm k e.0
+      ∙ ap ordering_reverse (below_at e.0 es i (k, v) (first _ _ sorted) is))
       ∙ above_at k v es i (second _ _ sorted) is
 
   above_whole : (k : K) (es : List (K × X)) → T (below_all R k es) → above k es ≡ es
   unfolding above
   above_whole k [] h = refl
-  above_whole k (e ∷ es) h = ap (λ r. cond (is_lt r) (e ∷ above k es) (above k es)) (less _ (first _ _ h)) ∙ ap (λ (t : List (K × X)). e ∷ t) (above_whole k es (second _ _ h))
+  above_whole k (e ∷ es) h = ap (λ r. cond (is_lt r) (e ∷ above k es) (above k es)) (less _ (first _ _ h))
+      ∙ ap (λ (t : List (K × X)). e ∷ t) (above_whole k es (second _ _ h))
 
   above_behind : (k : K) (v : X) (es : List (K × X)) (i : ℕ) → T (is_sorted R es) → slice_get es i ≡ Some (k, v) → above k es ≡ drop (suc i) es
   unfolding above
@@ -140,7 +147,8 @@ module _ {K X : Type 0} {R : K → K → Ordering} (o : IsTotalOrder R) where
       ∙ above_behind k v es i (second _ _ sorted) is
 
   -- what is above a key that so many entries have passed are the entries behind them
-  pub passed_above : (m : FinMap R X) (key : Option K) (n j : ℕ) → IsPassed (entries m) n key → slice_get (entries_above m key) j ≡ slice_get (entries m) (n + j)
+  pub passed_above : (m : FinMap R X) (key : Option K) (n j : ℕ) → IsPassed (entries m) n key
+      → slice_get (entries_above m key) j ≡ slice_get (entries m) (n + j)
   unfolding above
   passed_above m None n j is = ap (slice_get (entries m)) (omega (arith, is))
   passed_above m (Some k) n j (i, v, count, at) =

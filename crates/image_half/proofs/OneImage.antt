@@ -39,19 +39,22 @@ one_heads bytes xs ys p q = same_by_slice_get xs ys (λ k. ⊎_elim
     (λ past. slice_get_past xs k (omega (arith, past, p.count)) ∙ sym (slice_get_past ys k (omega (arith, past, q.count))))
     (cases_lt k 16))
 
-one_change : (v : Version) (g : GeometryValue) (bytes : List ℕ) (p : ℕ) (c d : ChangeValue) → c.position ≡ p → d.position ≡ p → IsItemIn v g bytes (item_of c) → IsItemIn v g bytes (item_of d) → c ≡ d
+one_change : (v : Version) (g : GeometryValue) (bytes : List ℕ) (p : ℕ) (c d : ChangeValue) → c.position ≡ p → d.position ≡ p → IsItemIn v g bytes (item_of c)
+    → IsItemIn v g bytes (item_of d) → c ≡ d
 one_change v g bytes p c d at_c at_d is_c is_d =
     let same : item_of c ≡ item_of d = one_item v (item_of c) (item_of d) is_c.fits is_d.fits (sym is_c.spelled ∙ is_d.spelled) in
     let position : c.position ≡ d.position = at_c ∙ sym at_d in
     λ i. record { position = position i; rid = (same i).rid; rows = (same i).rows }
 
-pub one_list : (v : Version) (g : GeometryValue) (first : ℕ) (image : Image) (h : ℕ) (xs ys : List ChangeValue) → HoldsListIn v g first image h xs → HoldsListIn v g first image h ys → length xs ≡ length ys → xs ≡ ys
+pub one_list : (v : Version) (g : GeometryValue) (first : ℕ) (image : Image) (h : ℕ) (xs ys : List ChangeValue) → HoldsListIn v g first image h xs
+    → HoldsListIn v g first image h ys → length xs ≡ length ys → xs ≡ ys
 one_list v g first image h xs ys p q long =
     same_elements xs ys long (λ i c d at_c at_d. one_change v g _ i c d (p.positions i c at_c) (q.positions i d at_d) (p.items i c at_c) (q.items i d at_d))
 
 -- ---- the whole
 
-module _ (v : Version) (g : GeometryValue) (first : ℕ) (image : Image) (m n : ℕ) (x y : Cells) (p : IsImageIn v g first image m x) (q : IsImageIn v g first image n y) where
+module _ (v : Version) (g : GeometryValue) (first : ℕ) (image : Image) (m n : ℕ) (x y : Cells) (p : IsImageIn v g first image m x)
+    (q : IsImageIn v g first image n y) where
   same_header : header_of m x ≡ header_of n y
   same_header = one_header_at v g (sector image first) (header_of m x) (header_of n y) p.header-is q.header-is
 
@@ -69,7 +72,8 @@ module _ (v : Version) (g : GeometryValue) (first : ℕ) (image : Image) (m n : 
       (sym (length-map (entries x.pending) head_of) ∙ ap length same_heads ∙ length-map (entries y.pending) head_of)
       (λ h a b at_a at_b.
       let head : head_of a ≡ head_of b = same_Some (head_of a) (head_of b) (
-      sym (slice_get-map head_of (entries x.pending) h ∙ ap (option_map head_of) at_a) ∙ ap (λ (hs : List Head). slice_get hs h) same_heads ∙ slice_get-map head_of (entries y.pending) h ∙ ap (option_map head_of) at_b) in
+      sym (slice_get-map head_of (entries x.pending) h ∙ ap (option_map head_of) at_a) ∙ ap (λ (hs : List Head). slice_get hs h) same_heads
+      ∙ slice_get-map head_of (entries y.pending) h ∙ ap (option_map head_of) at_b) in
       let txn : a.0 ≡ b.0 = ap (λ (k : Head). k.txn) head in
       let list : a.1 ≡ b.1 = one_list v g first image h a.1 b.1 (p.lists h a at_a) (q.lists h b at_b) (ap (λ (k : Head). k.changes) head) in
       λ i. (txn i, list i)))

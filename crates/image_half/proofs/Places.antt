@@ -53,11 +53,13 @@ module _ (g : GeometryValue) (first : ℕ) where
   item_inside One h p head position = omega (arith, head, position)
   item_inside Two h p head position = omega (arith, head, position)
 
-  pub items_rise : (v : Version) (h p k q : ℕ) → q < 64 → sector_of_piece (undo_at first) (items_per_sector v) (64 * k + q) < sector_of_piece (undo_at first) (items_per_sector v) (64 * h + p) → p < 64 → k ≤ h
+  pub items_rise : (v : Version) (h p k q : ℕ) → q < 64
+      → sector_of_piece (undo_at first) (items_per_sector v) (64 * k + q) < sector_of_piece (undo_at first) (items_per_sector v) (64 * h + p) → p < 64 → k ≤ h
   items_rise One h p k q low less high = omega (arith, low, less, high)
   items_rise Two h p k q low less high = omega (arith, low, less, high)
 
-  pub positions_rise : (v : Version) (h p q : ℕ) → sector_of_piece (undo_at first) (items_per_sector v) (64 * h + q) < sector_of_piece (undo_at first) (items_per_sector v) (64 * h + p) → q < p
+  pub positions_rise : (v : Version) (h p q : ℕ)
+      → sector_of_piece (undo_at first) (items_per_sector v) (64 * h + q) < sector_of_piece (undo_at first) (items_per_sector v) (64 * h + p) → q < p
   positions_rise One h p q less = omega (arith, less)
   positions_rise Two h p q less = omega (arith, less)
 
@@ -66,7 +68,8 @@ module _ (g : GeometryValue) (first : ℕ) where
   entry_inside One i below = omega (arith, below)
   entry_inside Two i below = omega (arith, below)
 
-  pub entries_rise : (v : Version) (i j : ℕ) → sector_of_piece (entries_at_in v g first) (entries_per_sector v) j < sector_of_piece (entries_at_in v g first) (entries_per_sector v) i → j < i
+  pub entries_rise : (v : Version) (i j : ℕ)
+      → sector_of_piece (entries_at_in v g first) (entries_per_sector v) j < sector_of_piece (entries_at_in v g first) (entries_per_sector v) i → j < i
   entries_rise One i j less = omega (arith, less)
   entries_rise Two i j less = omega (arith, less)
 

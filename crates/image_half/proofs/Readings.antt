@@ -12,18 +12,24 @@ use Rattle.image_half.proofs.OneImage as one
 use Rattle.image_half.proofs.Sound as sound
 use Rattle.image_half.proofs.Told as told
 
-pub one_base : (v : Version) (g : GeometryValue) (first : ℕ) (image : Image) (m n : ℕ) (x y : Cells) → IsImageIn v g first image m x → IsImageIn v g first image n y → m ≡ n
+pub one_base : (v : Version) (g : GeometryValue) (first : ℕ) (image : Image) (m n : ℕ) (x y : Cells) → IsImageIn v g first image m x
+    → IsImageIn v g first image n y → m ≡ n
 one_base = one.same_base
 
-pub one_image : (v : Version) (g : GeometryValue) (first : ℕ) (image : Image) (m n : ℕ) (x y : Cells) → IsImageIn v g first image m x → IsImageIn v g first image n y → x ≡ y
+pub one_image : (v : Version) (g : GeometryValue) (first : ℕ) (image : Image) (m n : ℕ) (x y : Cells) → IsImageIn v g first image m x
+    → IsImageIn v g first image n y → x ≡ y
 one_image = one.same_cells
 
-pub told_by_its_sectors : (v : Version) (g : GeometryValue) (first : ℕ) (image other : Image) → ((n : ℕ) → InImageIn v g first n → sector other n ≡ sector image n) → (base : ℕ) (cells : Cells) → IsImageIn v g first image base cells → IsImageIn v g first other base cells
+pub told_by_its_sectors : (v : Version) (g : GeometryValue) (first : ℕ) (image other : Image)
+    → ((n : ℕ) → InImageIn v g first n → sector other n ≡ sector image n) → (base : ℕ) (cells : Cells) → IsImageIn v g first image base cells
+    → IsImageIn v g first other base cells
 told_by_its_sectors = told.stays
 
 -- an image that lies there is damaged nowhere
-pub not_damaged : (v : Version) (g : GeometryValue) (first : ℕ) (image : Image) (base : ℕ) (cells : Cells) (n : ℕ) → IsFirstDamagedIn v g first image n → ¬ IsImageIn v g first image base cells
+pub not_damaged : (v : Version) (g : GeometryValue) (first : ℕ) (image : Image) (base : ℕ) (cells : Cells) (n : ℕ) → IsFirstDamagedIn v g first image n
+    → ¬ IsImageIn v g first image base cells
 not_damaged v g first image base cells n damaged is = sound.not_damaged v g first image base cells n is damaged.damaged
 
-pub one_damage : (v : Version) (g : GeometryValue) (first : ℕ) (image : Image) (m n : ℕ) → IsFirstDamagedIn v g first image m → IsFirstDamagedIn v g first image n → m ≡ n
+pub one_damage : (v : Version) (g : GeometryValue) (first : ℕ) (image : Image) (m n : ℕ) → IsFirstDamagedIn v g first image m
+    → IsFirstDamagedIn v g first image n → m ≡ n
 one_damage = sound.one_first

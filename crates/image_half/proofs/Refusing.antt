@@ -24,7 +24,8 @@ refuses_later a b c e same (inl memory) = inl memory
 refuses_later a b c e same (inr failed) = inr (failed.0, subst (λ (n : ℕ). Rises n c) same failed.1)
 
 module _ (v : Version) (g : GeometryValue) (first : ℕ) (image now : Image) (a b c : ℕ) (e : Error) (same : now ≡ image) (quiet : b ≡ a) where
-  pub list_refused : (heads : List Head) (pending : Pending) (h : ℕ) (head : Head) → slice_get heads h ≡ Some head → HoldsLists v g first image (take h heads) pending → IsItemRefused v g first now h head.changes b c e → AreListsRefused v g first image heads a c e
+  pub list_refused : (heads : List Head) (pending : Pending) (h : ℕ) (head : Head) → slice_get heads h ≡ Some head
+      → HoldsLists v g first image (take h heads) pending → IsItemRefused v g first now h head.changes b c e → AreListsRefused v g first image heads a c e
   list_refused heads pending h head at_h held (inl refused) = inl (refuses_later a b c e quiet refused)
   list_refused heads pending h head at_h held (inr (p, below, is, unsound, before)) = inr (
     h,
@@ -38,7 +39,8 @@ module _ (v : Version) (g : GeometryValue) (first : ℕ) (image now : Image) (a 
     (λ k q y less at_y lower. items_sound v g first image (take h heads) pending held k q y (slice_get-take h k heads less ∙ at_y) lower),
   )
 
-  pub page_refused : (page : ℕ) (rows : Table) → page < g.pages → HoldsPages v g first image page rows → IsPageRefused v g first now page b c e → ArePagesRefused v g first image a c e
+  pub page_refused : (page : ℕ) (rows : Table) → page < g.pages → HoldsPages v g first image page rows → IsPageRefused v g first now page b c e
+      → ArePagesRefused v g first image a c e
   page_refused page rows below held (inl refused) = inl (refuses_later a b c e quiet refused)
   page_refused page rows below held (inr (is, unsound)) = inr (
     page,
@@ -52,12 +54,20 @@ module _ (v : Version) (g : GeometryValue) (first : ℕ) (image now : Image) (a 
 
   pub header_unread : IsHindered b c e ⊎ ((e ≡ Damaged first) × (¬ IsSoundIn v g first now TheHeader)) → IsUnreadIn v g first image a c e
   header_unread (inl refused) = inl (refuses_later a b c e quiet refused)
-  header_unread (inr (is, unsound)) = inr (first, is, header_first v g first image (λ sound. unsound (subst (λ (x : Image). IsSoundIn v g first x TheHeader) (sym same) sound)))
+  header_unread (inr (is, unsound)) = inr (
+    first,
+    is,
+    header_first v g first image (λ sound. unsound (subst (λ (x : Image). IsSoundIn v g first x TheHeader) (sym same) sound)),
+  )
 
   module _ (header : Header) (is_header : IsHeaderIn v g (sector image first) header) where
     pub heads_unread : IsHindered b c e ⊎ ((e ≡ Damaged (heads_at first)) × (¬ IsSoundIn v g first now TheHeads)) → IsUnreadIn v g first image a c e
     heads_unread (inl refused) = inl (refuses_later a b c e quiet refused)
-    heads_unread (inr (is, unsound)) = inr (heads_at first, is, heads_first v g first image header is_header (λ sound. unsound (subst (λ (x : Image). IsSoundIn v g first x TheHeads) (sym same) sound)))
+    heads_unread (inr (is, unsound)) = inr (
+      heads_at first,
+      is,
+      heads_first v g first image header is_header (λ sound. unsound (subst (λ (x : Image). IsSoundIn v g first x TheHeads) (sym same) sound)),
+    )
 
     module _ (heads : List Head) (are_heads : AreHeads (sector image (heads_at first)) heads) where
       pub lists_unread : AreListsRefused v g first now heads b c e → IsUnreadIn v g first image a c e
@@ -82,7 +92,8 @@ module _ (v : Version) (g : GeometryValue) (first : ℕ) (image now : Image) (a 
               (λ earlier less. subst (λ (y : Image). IsSoundIn v g first y (APage earlier)) same (before earlier less)),
         )
 
-        pub entries_unread : (rows : Table) → HoldsPages v g first image g.pages rows → AreEntriesRefused v g first now header.entries b c e → IsUnreadIn v g first image a c e
+        pub entries_unread : (rows : Table) → HoldsPages v g first image g.pages rows → AreEntriesRefused v g first now header.entries b c e
+            → IsUnreadIn v g first image a c e
         entries_unread rows held (inl refused) = inl (refuses_later a b c e quiet refused)
         entries_unread rows held (inr (i, below, is, unsound, before)) = inr (
           sector_of v g first (AnEntry i),
@@ -94,7 +105,8 @@ module _ (v : Version) (g : GeometryValue) (first : ℕ) (image now : Image) (a 
 
 -- ---- what the sink has
 
-pub only_lists : (start old new : Cells) (p : Pending) → new ≡ record old { pending = p } → old ≡ record start { pending = old.pending } → new ≡ record start { pending = new.pending }
+pub only_lists : (start old new : Cells) (p : Pending) → new ≡ record old { pending = p } → old ≡ record start { pending = old.pending }
+    → new ≡ record start { pending = new.pending }
 only_lists start old new p set rest = λ i. record {
   rows = (ap (λ (x : Cells). x.rows) set ∙ ap (λ (x : Cells). x.rows) rest) i;
   entries = (ap (λ (x : Cells). x.entries) set ∙ ap (λ (x : Cells). x.entries) rest) i;
@@ -102,7 +114,8 @@ only_lists start old new p set rest = λ i. record {
   life = (ap (λ (x : Cells). x.life) set ∙ ap (λ (x : Cells). x.life) rest) i;
 }
 
-pub only_rows : (start old new : Cells) (t : Table) → new ≡ record old { rows = t } → old ≡ record start { rows = old.rows } → new ≡ record start { rows = new.rows }
+pub only_rows : (start old new : Cells) (t : Table) → new ≡ record old { rows = t } → old ≡ record start { rows = old.rows }
+    → new ≡ record start { rows = new.rows }
 only_rows start old new t set rest = λ i. record {
   rows = new.rows;
   entries = (ap (λ (x : Cells). x.entries) set ∙ ap (λ (x : Cells). x.entries) rest) i;
@@ -110,7 +123,8 @@ only_rows start old new t set rest = λ i. record {
   life = (ap (λ (x : Cells). x.life) set ∙ ap (λ (x : Cells). x.life) rest) i;
 }
 
-pub only_entries : (start old new : Cells) (m : Index) → new ≡ record old { entries = m } → old ≡ record start { entries = old.entries } → new ≡ record start { entries = new.entries }
+pub only_entries : (start old new : Cells) (m : Index) → new ≡ record old { entries = m } → old ≡ record start { entries = old.entries }
+    → new ≡ record start { entries = new.entries }
 only_entries start old new m set rest = λ i. record {
   rows = (ap (λ (x : Cells). x.rows) set ∙ ap (λ (x : Cells). x.rows) rest) i;
   entries = new.entries;
@@ -120,10 +134,14 @@ only_entries start old new m set rest = λ i. record {
 
 -- ---- the image that was read
 
-pub whole_image : (v : Version) (g : GeometryValue) (first : ℕ) (image : Image) (header : Header) (heads : List Head) (cells : Cells) → IsHeaderIn v g (sector image first) header → AreHeads (sector image (heads_at first)) heads
-    → HoldsLists v g first image heads cells.pending → HoldsPages v g first image g.pages cells.rows → HoldsEntries v g first image header.entries cells.entries → cells.life ≡ header.life → IsImageIn v g first image header.base cells
+pub whole_image : (v : Version) (g : GeometryValue) (first : ℕ) (image : Image) (header : Header) (heads : List Head) (cells : Cells)
+    → IsHeaderIn v g (sector image first) header → AreHeads (sector image (heads_at first)) heads
+    → HoldsLists v g first image heads cells.pending → HoldsPages v g first image g.pages cells.rows → HoldsEntries v g first image header.entries cells.entries
+    → cells.life ≡ header.life → IsImageIn v g first image header.base cells
 whole_image v g first image header heads cells is_header are_heads lists pages entries life = record {
-  header-is = subst (IsHeaderIn v g (sector image first)) (let same : header ≡ header_of header.base cells = (λ i. record { life = sym life i; base = header.base; entries = sym entries.count i }) in same) is_header;
+  header-is = subst (IsHeaderIn v g (sector image first))
+      (let same : header ≡ header_of header.base cells = (λ i. record { life = sym life i; base = header.base; entries = sym entries.count i }) in
+      same) is_header;
   heads-are = subst (AreHeads (sector image (heads_at first))) (sym lists.heads-are) are_heads;
   lists = lists.each;
   edges = pages.edges;

@@ -1,5 +1,6 @@
 -- Which sector is the first that is damaged.
-use Rattle.std.proofs.Common.{◌≡◌, inl, inr, ⊎_elim, ℕ, zero, suc, ◌+◌, ◌<◌, List, [], ◌∷◌, length, map, Option, Some, None, refl, sym, ap, ◌∙◌, subst, arith, Bool, true, false, ◌&&◌}
+use Rattle.std.proofs.Common.{◌≡◌, inl, inr, ⊎_elim, ℕ, zero, suc, ◌+◌, ◌<◌, List, [], ◌∷◌, length, map, Option, Some, None, refl, sym, ap, ◌∙◌, subst, arith}
+use Rattle.std.proofs.Common.{Bool, true, false, ◌&&◌}
 use Rattle.std.specs.Prelude.{slice_get, T}
 use Rattle.std.specs.Option.{option_map}
 use Rattle.std.specs.declared.cmp.Ordering.{Ordering}
@@ -40,11 +41,13 @@ less Less p = refl
 less Equal p = absurd p
 less Greater p = absurd p
 
-pub neighbours : {K X : Type 0} (R : K → K → Ordering) (es : List (K × X)) (j : ℕ) (d e : K × X) → T (is_sorted R es) → slice_get es j ≡ Some d → slice_get es (suc j) ≡ Some e → R d.0 e.0 ≡ Less
+pub neighbours : {K X : Type 0} (R : K → K → Ordering) (es : List (K × X)) (j : ℕ) (d e : K × X) → T (is_sorted R es) → slice_get es j ≡ Some d
+    → slice_get es (suc j) ≡ Some e → R d.0 e.0 ≡ Less
 neighbours R [] j d e sorted at_d at_e = absurd (none-some d at_d)
 neighbours R (x ∷ []) j d e sorted at_d at_e = absurd (none-some e at_e)
 neighbours {K} {X} R (x ∷ y ∷ es) zero d e sorted at_d at_e =
-    subst (λ (z : K × X). R z.0 e.0 ≡ Less) (same_Some x d at_d) (subst (λ (z : K × X). R x.0 z.0 ≡ Less) (same_Some y e at_e) (less _ (first_of _ _ (first_of _ _ sorted))))
+    subst (λ (z : K × X). R z.0 e.0 ≡ Less) (same_Some x d at_d)
+    (subst (λ (z : K × X). R x.0 z.0 ≡ Less) (same_Some y e at_e) (less _ (first_of _ _ (first_of _ _ sorted))))
 neighbours R (x ∷ y ∷ es) (suc j) d e sorted at_d at_e = neighbours R (y ∷ es) j d e (second_of _ _ sorted) at_d at_e
 
 pub mapped : {A B : Type 0} (f : A → B) (o : Option A) (y : B) → option_map f o ≡ Some y → (x : A) × (o ≡ Some x) × (f x ≡ y)
@@ -67,18 +70,25 @@ module _ (v : Version) (g : GeometryValue) (first : ℕ) (image : Image) where
   }
 
   pub one_first : (m n : ℕ) → IsFirstDamagedIn v g first image m → IsFirstDamagedIn v g first image n → m ≡ n
-  one_first m n p q = ⊎_elim (λ same. same) (λ apart. ⊎_elim (λ lt. absurd (q.before m lt p.damaged)) (λ gt. absurd (p.before n gt q.damaged)) apart) (cases_order m n)
+  one_first m n p q = ⊎_elim (λ same. same) (λ apart. ⊎_elim (λ lt. absurd (q.before m lt p.damaged)) (λ gt. absurd (p.before n gt q.damaged)) apart)
+      (cases_order m n)
 
   -- the items of lists that are those of the heads
-  pub items_sound : (heads : List Head) (pending : Pending) → HoldsLists v g first image heads pending → (h position : ℕ) (x : Head) → slice_get heads h ≡ Some x → position < x.changes → IsSoundIn v g first image (AnItem h position)
+  pub items_sound : (heads : List Head) (pending : Pending) → HoldsLists v g first image heads pending → (h position : ℕ) (x : Head)
+      → slice_get heads h ≡ Some x → position < x.changes → IsSoundIn v g first image (AnItem h position)
   items_sound heads pending held h position x at_x below =
-      let found = mapped head_of (slice_get (entries pending) h) x (sym (slice_get-map head_of (entries pending) h) ∙ ap (λ (hs : List Head). slice_get hs h) held.heads-are ∙ at_x) in
+      let found = mapped head_of (slice_get (entries pending) h) x (sym (slice_get-map head_of (entries pending) h)
+      ∙ ap (λ (hs : List Head). slice_get hs h) held.heads-are ∙ at_x) in
       let room : position < length found.0.1 = subst (λ (k : Head). position < k.changes) (sym found.2) below in
       let c = at_index found.0.1 position room in
       (item_of c.0, (held.each h found.0 found.1).items position c.0 c.1)
 
   pub pages_sound : (n : ℕ) (rows : Table) → HoldsPages v g first image n rows → (page : ℕ) → page < n → IsSoundIn v g first image (APage page)
-  pages_sound n rows held page below = (held.edges page below, λ slot lt. (get rows (record { page = page; slot = slot }), held.slots (record { page = page; slot = slot }) below lt))
+  pages_sound n rows held page below = (
+    held.edges page below,
+    λ slot lt.
+        (get rows (record { page = page; slot = slot }), held.slots (record { page = page; slot = slot }) below lt),
+  )
 
   pub entries_sound : (n : ℕ) (m : Index) → HoldsEntries v g first image n m → (i : ℕ) → i < n → IsSoundIn v g first image (AnEntry i)
   entries_sound n m held i below =
@@ -89,7 +99,9 @@ module _ (v : Version) (g : GeometryValue) (first : ℕ) (image : Image) where
             let f = at_index (entries m) j (omega (arith, held.count, below, next)) in
             let is_f = held.each j f.0 f.1 in
             let same : f.0 ≡ d = one_entry v f.0 d is_f.fits is_d.fits (sym is_f.spelled ∙ is_d.spelled) in
-            subst (λ (z : Pair × Mark). pair_cmp z.0 e.0.0 ≡ Less) same (neighbours pair_cmp (entries m) j f.0 e.0 (entries_sorted m) f.1 (subst (λ k. slice_get (entries m) k ≡ Some e.0) (let s : i ≡ suc j = omega (arith, next) in s) e.1)),
+            subst (λ (z : Pair × Mark). pair_cmp z.0 e.0.0 ≡ Less) same
+            (neighbours pair_cmp (entries m) j f.0 e.0 (entries_sorted m) f.1
+            (subst (λ k. slice_get (entries m) k ≡ Some e.0) (let s : i ≡ suc j = omega (arith, next) in s) e.1)),
       )
 
   -- ---- an image is nowhere damaged
@@ -98,11 +110,13 @@ module _ (v : Version) (g : GeometryValue) (first : ℕ) (image : Image) where
   held_by base cells is TheHeader looked = (header_of base cells, is.header-is)
   held_by base cells is TheHeads looked = (map head_of (entries cells.pending), is.heads-are)
   held_by base cells is (AnItem h position) (heads, x, are, at_x, below) =
-      items_sound heads cells.pending (record { heads-are = one_heads (sector image (heads_at first)) _ heads is.heads-are are; each = is.lists }) h position x at_x below
+      items_sound heads cells.pending (record { heads-are = one_heads (sector image (heads_at first)) _ heads is.heads-are are; each = is.lists }) h position x
+      at_x below
   held_by base cells is (APage page) looked = pages_sound g.pages cells.rows (record { edges = is.edges; slots = is.rows; within = is.within }) page looked
   held_by base cells is (AnEntry i) (h, is_h, below) =
       let same : h ≡ header_of base cells = one_header_at v g (sector image first) h (header_of base cells) is_h is.header-is in
-      entries_sound (length (entries cells.entries)) cells.entries (record { count = refl; each = is.entries }) i (subst (λ (k : Header). i < k.entries) same below)
+      entries_sound (length (entries cells.entries)) cells.entries (record { count = refl; each = is.entries }) i
+      (subst (λ (k : Header). i < k.entries) same below)
 
   pub not_damaged : (base : ℕ) (cells : Cells) (n : ℕ) → IsImageIn v g first image base cells → ¬ IsDamagedAtIn v g first image n
   not_damaged base cells n is damage = damage.unsound (held_by base cells is damage.part damage.looked)
@@ -152,14 +166,20 @@ module _ (v : Version) (g : GeometryValue) (first : ℕ) (image : Image) where
           p_below : position < 64
           p_below = omega (arith, (are_heads.fits h x at_x).changes, below)
 
-          sound : (earlier : Part) → IsLookedAt v g first image earlier → sector_of v g first earlier < sector_of v g first (AnItem h position) → IsSoundIn v g first image earlier
+          sound : (earlier : Part) → IsLookedAt v g first image earlier → sector_of v g first earlier < sector_of v g first (AnItem h position)
+              → IsSoundIn v g first image earlier
           sound TheHeader looked lt = (header, is_header)
           sound TheHeads looked lt = (heads, are_heads)
           sound (AnItem k q) (hs, y, are, at_y, less) lt =
-              let at_k : slice_get heads k ≡ Some y = ap (λ (l : List Head). slice_get l k) (one_heads (sector image (heads_at first)) heads hs are_heads are) ∙ at_y in
+              let at_k : slice_get heads k ≡ Some y = ap (λ (l : List Head). slice_get l k) (one_heads (sector image (heads_at first)) heads hs are_heads are)
+              ∙ at_y in
               ⊎_elim
-              (λ same. subst (λ j. IsSoundIn v g first image (AnItem j q)) (sym same) (before q (positions_rise g first v h position q (subst (λ j. sector_of v g first (AnItem j q) < sector_of v g first (AnItem h position)) same lt))))
-              (λ apart. ⊎_elim (λ lower. others k q y lower at_k less) (λ higher. absurd (omega (arith, higher, items_rise g first v h position k q (omega (arith, (are_heads.fits k y at_k).changes, less)) lt p_below))) apart)
+              (λ same. subst (λ j. IsSoundIn v g first image (AnItem j q)) (sym same)
+              (before q (positions_rise g first v h position q (subst (λ j.
+              sector_of v g first (AnItem j q) < sector_of v g first (AnItem h position)) same lt))))
+              (λ apart. ⊎_elim (λ lower. others k q y lower at_k less) (λ higher.
+              absurd (omega (arith, higher, items_rise g first v h position k q (omega (arith, (are_heads.fits k y at_k).changes, less)) lt p_below)))
+              apart)
               (cases_order k h)
           sound (APage page) looked lt = absurd (omega (arith, lt, item_inside g first v h position h_below p_below, pages_begin g first v page))
           sound (AnEntry i) looked lt = absurd (omega (arith, lt, item_inside g first v h position h_below p_below, pages_begin g first v g.pages))
@@ -167,22 +187,27 @@ module _ (v : Version) (g : GeometryValue) (first : ℕ) (image : Image) where
       module _ (pending : Pending) (lists : HoldsLists v g first image heads pending) where
         earlier_item : (k q : ℕ) → IsLookedAt v g first image (AnItem k q) → IsSoundIn v g first image (AnItem k q)
         earlier_item k q (hs, y, are, at_y, less) =
-            items_sound heads pending lists k q y (ap (λ (l : List Head). slice_get l k) (one_heads (sector image (heads_at first)) heads hs are_heads are) ∙ at_y) less
+            items_sound heads pending lists k q y (ap (λ (l : List Head). slice_get l k) (one_heads (sector image (heads_at first)) heads hs are_heads are)
+            ∙ at_y) less
 
-        pub pages_first : (page : ℕ) → page < g.pages → ¬ IsSoundIn v g first image (APage page) → ((earlier : ℕ) → earlier < page → IsSoundIn v g first image (APage earlier)) → IsFirstDamagedIn v g first image (sector_of v g first (APage page))
+        pub pages_first : (page : ℕ) → page < g.pages → ¬ IsSoundIn v g first image (APage page)
+            → ((earlier : ℕ) → earlier < page → IsSoundIn v g first image (APage earlier)) → IsFirstDamagedIn v g first image (sector_of v g first (APage page))
         pages_first page below unsound before = first_damaged (APage page) below unsound sound
           where
-            sound : (earlier : Part) → IsLookedAt v g first image earlier → sector_of v g first earlier < sector_of v g first (APage page) → IsSoundIn v g first image earlier
+            sound : (earlier : Part) → IsLookedAt v g first image earlier → sector_of v g first earlier < sector_of v g first (APage page)
+                → IsSoundIn v g first image earlier
             sound TheHeader looked lt = (header, is_header)
             sound TheHeads looked lt = (heads, are_heads)
             sound (AnItem k q) looked lt = earlier_item k q looked
             sound (APage other) looked lt = before other (pages_rise g first v other page lt)
             sound (AnEntry i) looked lt = absurd (omega (arith, lt, page_inside g first v page below))
 
-        pub entries_first : (rows : Table) → HoldsPages v g first image g.pages rows → (i : ℕ) → i < header.entries → ¬ IsSoundIn v g first image (AnEntry i) → ((j : ℕ) → j < i → IsSoundIn v g first image (AnEntry j)) → IsFirstDamagedIn v g first image (sector_of v g first (AnEntry i))
+        pub entries_first : (rows : Table) → HoldsPages v g first image g.pages rows → (i : ℕ) → i < header.entries → ¬ IsSoundIn v g first image (AnEntry i)
+            → ((j : ℕ) → j < i → IsSoundIn v g first image (AnEntry j)) → IsFirstDamagedIn v g first image (sector_of v g first (AnEntry i))
         entries_first rows held i below unsound before = first_damaged (AnEntry i) (header, is_header, below) unsound sound
           where
-            sound : (earlier : Part) → IsLookedAt v g first image earlier → sector_of v g first earlier < sector_of v g first (AnEntry i) → IsSoundIn v g first image earlier
+            sound : (earlier : Part) → IsLookedAt v g first image earlier → sector_of v g first earlier < sector_of v g first (AnEntry i)
+                → IsSoundIn v g first image earlier
             sound TheHeader looked lt = (header, is_header)
             sound TheHeads looked lt = (heads, are_heads)
             sound (AnItem k q) looked lt = earlier_item k q looked

@@ -17,26 +17,32 @@ use Rattle.image_half.specs.Image.{IsHeaderIn, AreHeads, IsItemIn, HasEdges, IsR
 use Rattle.image_half.proofs.Bytes.{bytes_same}
 use Rattle.image_half.proofs.Places.{item_inside, page_inside, pages_begin, entry_inside}
 
-module _ (v : Version) (g : GeometryValue) (first : ℕ) (image other : Image) (same : (n : ℕ) → InImageIn v g first n → sector other n ≡ sector image n) (base : ℕ) (cells : Cells) (is : IsImageIn v g first image base cells) where
-  piece_stays : (at size per i : ℕ) → InImageIn v g first (at + i / per) → cut (sector image (at + i / per)) size (i % per) ≡ cut (sector other (at + i / per)) size (i % per)
+module _ (v : Version) (g : GeometryValue) (first : ℕ) (image other : Image) (same : (n : ℕ) → InImageIn v g first n
+    → sector other n ≡ sector image n) (base : ℕ) (cells : Cells) (is : IsImageIn v g first image base cells) where
+  piece_stays : (at size per i : ℕ) → InImageIn v g first (at + i / per)
+      → cut (sector image (at + i / per)) size (i % per) ≡ cut (sector other (at + i / per)) size (i % per)
   piece_stays at size per i inside = ap (λ (s : List ℕ). cut s size (i % per)) (sym (same (at + i / per) inside))
 
   page_stays : (page : ℕ) → page < g.pages → page_bytes_in v image first page ≡ page_bytes_in v other first page
   page_stays page below =
       let room = page_inside g first v page below in
-      sym (bytes_same image other (page_at_in v first page) (page_sectors v) (λ k low. same (page_at_in v first page + k) (omega arith, omega (arith, low, room))))
+      sym (bytes_same image other (page_at_in v first page) (page_sectors v) (λ k low.
+      same (page_at_in v first page + k) (omega arith, omega (arith, low, room))))
 
   list_stays : (h : ℕ) (list : ℕ × List ChangeValue) → slice_get (entries cells.pending) h ≡ Some list → HoldsListIn v g first other h list.1
   list_stays h list at_h =
       let few : h < 16 = omega (arith, slice_get_within (entries cells.pending) h list at_h, length-map (entries cells.pending) head_of, is.heads-are.count) in
-      let short : length list.1 ≤ 64 = (is.heads-are.fits h (head_of list) (slice_get-map head_of (entries cells.pending) h ∙ ap (option_map head_of) at_h)).changes in
+      let short : length list.1 ≤ 64 =
+      (is.heads-are.fits h (head_of list) (slice_get-map head_of (entries cells.pending) h ∙ ap (option_map head_of) at_h)).changes in
       record {
         positions = (is.lists h list at_h).positions;
         items = λ p c at_p.
             let low : p < 64 = omega (arith, slice_get_within list.1 p c at_p, short) in
             let inside = item_inside g first v h p few low in
             let before = pages_begin g first v g.pages in
-            subst (λ (b : List ℕ). IsItemIn v g b (item_of c)) (piece_stays (undo_at first) (item_size v) (items_per_sector v) (64 * h + p) (omega arith, omega (arith, inside, before))) ((is.lists h list at_h).items p c at_p);
+            subst (λ (b : List ℕ). IsItemIn v g b (item_of c))
+            (piece_stays (undo_at first) (item_size v) (items_per_sector v) (64 * h + p) (omega arith, omega (arith, inside, before)))
+            ((is.lists h list at_h).items p c at_p);
       }
 
   pub stays : IsImageIn v g first other base cells
@@ -50,5 +56,6 @@ module _ (v : Version) (g : GeometryValue) (first : ℕ) (image other : Image) (
     entries = λ i e at_i.
         let low : i < g.entries = omega (arith, slice_get_within (entries cells.entries) i e at_i, is.header-is.room) in
         let inside = entry_inside g first v i low in
-        subst (λ (b : List ℕ). IsEntryIn v g b e) (piece_stays (entries_at_in v g first) (entry_size v) (entries_per_sector v) i (omega arith, inside)) (is.entries i e at_i);
+        subst (λ (b : List ℕ). IsEntryIn v g b e) (piece_stays (entries_at_in v g first) (entry_size v) (entries_per_sector v) i (omega arith, inside))
+        (is.entries i e at_i);
   }

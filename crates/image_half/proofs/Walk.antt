@@ -11,7 +11,8 @@ module _ {K X : Type 0} (es : List (K × X)) where
   pub reached_first : IsReached es 0 None
   reached_first next is = is
 
-  pub reached_next : (n : ℕ) (start : Option K) (found : Option (K × X)) (key : K) (value : X) → IsReached es n start → IsNextBehind es start found → found ≡ Some (key, value) → IsReached es (n + 1) (Some key)
+  pub reached_next : (n : ℕ) (start : Option K) (found : Option (K × X)) (key : K) (value : X) → IsReached es n start → IsNextBehind es start found
+      → found ≡ Some (key, value) → IsReached es (n + 1) (Some key)
   reached_next n start found key value reached next is later step = step n value (sym (reached found next) ∙ is)
 
   ended : (n : ℕ) → slice_get es n ≡ None → length es ≤ n
@@ -28,5 +29,6 @@ module _ {K X : Type 0} (es : List (K × X)) where
   pub reached_past : (n : ℕ) (start : Option K) → IsReached es n start → slice_get es n ≡ None → IsReached es (n + 1) start
   reached_past n start reached none later step = reached later step ∙ none ∙ sym (slice_get_past es (n + 1) (omega (arith, ended n none)))
 
-  pub reached_end : (n : ℕ) (start : Option K) (found : Option (K × X)) → IsReached es n start → IsNextBehind es start found → found ≡ None → IsReached es (n + 1) start
+  pub reached_end : (n : ℕ) (start : Option K) (found : Option (K × X)) → IsReached es n start → IsNextBehind es start found → found ≡ None
+      → IsReached es (n + 1) start
   reached_end n start found reached next is = reached_past n start reached (sym (reached found next) ∙ is)

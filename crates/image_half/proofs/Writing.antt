@@ -15,9 +15,11 @@ use Rattle.image_half.specs.Source.{FitsImage}
 use Rattle.image_half.proofs.Maps.{get_at}
 
 -- the change at a place of a list that is numbered
-pub change_at : (pages n p : ℕ) (changes : List ChangeValue) (c : ChangeValue) → ArePlaced pages n changes → slice_get changes p ≡ Some c → (c.position ≡ n + p) × (c.rid.page < pages)
+pub change_at : (pages n p : ℕ) (changes : List ChangeValue) (c : ChangeValue) → ArePlaced pages n changes → slice_get changes p ≡ Some c → (c.position ≡ n + p)
+    × (c.rid.page < pages)
 change_at pages n p [] c placed is = absurd (none-some c is)
-change_at pages n zero (x ∷ changes) c placed is = subst (λ (y : ChangeValue). (y.position ≡ n + 0) × (y.rid.page < pages)) (same_Some x c is) (omega (arith, placed.0), placed.1)
+change_at pages n zero (x ∷ changes) c placed is =
+    subst (λ (y : ChangeValue). (y.position ≡ n + 0) × (y.rid.page < pages)) (same_Some x c is) (omega (arith, placed.0), placed.1)
 change_at pages n (suc p) (x ∷ changes) c placed is = let rest = change_at pages (n + 1) p changes c placed.2 is in (omega (arith, rest.0), rest.1)
 
 module _ (g : GeometryValue) (cells : Cells) (fits : FitsImage g cells) where

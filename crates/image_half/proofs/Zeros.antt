@@ -6,7 +6,8 @@ use Rattle.image_parts.specs.Spelling.{zeros}
 
 pub zeros_found : (n : ℕ) (xs : List ℕ) → All (λ b. b ≡ 0) xs → length xs ≡ n → xs ≡ zeros n
 unfolding zeros
-zeros_found n xs are long = ext_get_or 0 xs (replicate n 0) (long ∙ sym (length-replicate n 0)) (λ k below. are k 0 below ∙ sym (get_or-replicate n k 0 0 (omega (arith, below, long))))
+zeros_found n xs are long = ext_get_or 0 xs (replicate n 0) (long ∙ sym (length-replicate n 0)) (λ k below. are k 0 below
+    ∙ sym (get_or-replicate n k 0 0 (omega (arith, below, long))))
 
 pub zeros_tested : (n : ℕ) (xs : List ℕ) → xs ≡ zeros n → All (λ b. b ≡ 0) xs
 unfolding zeros

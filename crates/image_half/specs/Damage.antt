@@ -18,8 +18,10 @@ use Rattle.records.specs.declared.error.Error.TheVariants.{NoMemory, DeviceFaile
 use Rattle.image_parts.specs.declared.head.Head.{Head}
 use Rattle.image_parts.specs.declared.header.Header.{Header}
 use Rattle.image_parts.specs.declared.item.UndoItem.{UndoItem}
-use Rattle.image_half.specs.Layout.{heads_at, undo_at, items_per_sector, page_at_in, entries_at_in, sector_of_piece, page_bytes_in}
-use Rattle.image_half.specs.Image.{IsHeaderIn, AreHeads, IsItemIn, HasEdges, IsRowIn, IsEntryIn, item_bytes_in, row_bytes_in, entry_bytes_in}
+use Rattle.image_half.specs.Layout.{heads_at, undo_at, items_per_sector, page_at_in, entries_at_in, sector_of_piece}
+use Rattle.image_half.specs.Layout.{page_bytes_in}
+use Rattle.image_half.specs.Image.{IsHeaderIn, AreHeads, IsItemIn, HasEdges, IsRowIn, IsEntryIn, item_bytes_in}
+use Rattle.image_half.specs.Image.{row_bytes_in, entry_bytes_in}
 
 -- the parts that a reader looks at
 pub data Part : Type 0 where
@@ -33,7 +35,8 @@ pub data Part : Type 0 where
 abbrev pub sector_of : Version → GeometryValue → ℕ → Part → ℕ
 sector_of v g first TheHeader = first
 sector_of v g first TheHeads = heads_at first
-sector_of v g first (AnItem h position) = sector_of_piece (undo_at first) (items_per_sector v) (CHANGES_MAX * h + position)
+sector_of v g first (AnItem h position) = sector_of_piece (undo_at first) (items_per_sector v)
+    (CHANGES_MAX * h + position)
 sector_of v g first (APage page) = page_at_in v first page
 sector_of v g first (AnEntry i) = sector_of_piece (entries_at_in v g first) (entries_per_sector v) i
 
@@ -42,22 +45,26 @@ sector_of v g first (AnEntry i) = sector_of_piece (entries_at_in v g first) (ent
 abbrev pub IsLookedAt : Version → GeometryValue → ℕ → Image → Part → Type 0
 IsLookedAt v g first image TheHeader = Unit {0}
 IsLookedAt v g first image TheHeads = Unit {0}
-IsLookedAt v g first image (AnItem h position) = (heads : List Head) × (x : Head) × AreHeads (sector image (heads_at first)) heads × (slice_get heads h ≡ Some x) × (position < x.changes)
+IsLookedAt v g first image (AnItem h position) = (heads : List Head) × (x : Head)
+    × AreHeads (sector image (heads_at first)) heads × (slice_get heads h ≡ Some x) × (position < x.changes)
 IsLookedAt v g first image (APage page) = page < g.pages
 IsLookedAt v g first image (AnEntry i) = (h : Header) × IsHeaderIn v g (sector image first) h × (i < h.entries)
 
 -- the entry is above the one before it
 abbrev pub IsAbove : Version → GeometryValue → ℕ → Image → ℕ → Pair × Mark → Type 0
-IsAbove v g first image i e = (j : ℕ) (d : Pair × Mark) → i ≡ j + 1 → IsEntryIn v g (entry_bytes_in v g image first j) d → pair_cmp d.0 e.0 ≡ Less
+IsAbove v g first image i e = (j : ℕ) (d : Pair × Mark) → i ≡ j + 1 → IsEntryIn v g (entry_bytes_in v g image first j) d
+    → pair_cmp d.0 e.0 ≡ Less
 
--- The part says something: a header, heads, a change, the rows of a page with zeros in front of them and behind, or an entry
--- that is above the one before it.
+-- The part says something: a header, heads, a change, the rows of a page with zeros in front of them and behind, or an
+-- entry that is above the one before it.
 abbrev pub IsSoundIn : Version → GeometryValue → ℕ → Image → Part → Type 0
 IsSoundIn v g first image TheHeader = (h : Header) × IsHeaderIn v g (sector image first) h
 IsSoundIn v g first image TheHeads = (heads : List Head) × AreHeads (sector image (heads_at first)) heads
 IsSoundIn v g first image (AnItem h position) = (i : UndoItem) × IsItemIn v g (item_bytes_in v image first h position) i
-IsSoundIn v g first image (APage page) = HasEdges v (page_bytes_in v image first page) × ((slot : ℕ) → slot < SLOTS_PER_PAGE → (o : Option Row) × IsRowIn v (row_bytes_in v image first page slot) o)
-IsSoundIn v g first image (AnEntry i) = (e : Pair × Mark) × IsEntryIn v g (entry_bytes_in v g image first i) e × IsAbove v g first image i e
+IsSoundIn v g first image (APage page) = HasEdges v (page_bytes_in v image first page)
+    × ((slot : ℕ) → slot < SLOTS_PER_PAGE → (o : Option Row) × IsRowIn v (row_bytes_in v image first page slot) o)
+IsSoundIn v g first image (AnEntry i) = (e : Pair × Mark) × IsEntryIn v g (entry_bytes_in v g image first i) e
+    × IsAbove v g first image i e
 
 -- a part that a reader looks at and that says nothing is named by this sector
 pub record IsDamagedAtIn (v : Version) (g : GeometryValue) (first : ℕ) (image : Image) (n : ℕ) : Type 0 where
@@ -77,7 +84,8 @@ IsHindered before now e = (e ≡ NoMemory) ⊎ ((e ≡ DeviceFailed) × Rises be
 
 -- why no image was read: the image is damaged, or there was no memory, or the device failed
 abbrev pub IsUnreadIn : Version → GeometryValue → ℕ → Image → ℕ → ℕ → Error → Type 0
-IsUnreadIn v g first image before now e = IsHindered before now e ⊎ ((n : ℕ) × (e ≡ Damaged n) × IsFirstDamagedIn v g first image n)
+IsUnreadIn v g first image before now e = IsHindered before now e
+    ⊎ ((n : ℕ) × (e ≡ Damaged n) × IsFirstDamagedIn v g first image n)
 
 -- ---- in version 2, which is written
 

@@ -1,5 +1,6 @@
 -- What an image says, each part by its bytes, and what it is to hold the image of some cells.
-use Rattle.std.specs.Prelude.{◌≡◌, ◌⊎◌, ℕ, ◌+◌, ◌-◌, ◌*◌, ◌<◌, ◌≤◌, List, length, map, Option, Some, slice_get, take, drop}
+use Rattle.std.specs.Prelude.{◌≡◌, ◌⊎◌, ℕ, ◌+◌, ◌-◌, ◌*◌, ◌<◌, ◌≤◌, List, length, map, Option, Some, slice_get, take}
+use Rattle.std.specs.Prelude.{drop}
 use Rattle.std.specs.FinMap as finite
 use Rattle.sector_device.specs.Disk.{Image, sector}
 use Rattle.sector_device.specs.declared.device.TheConstants.{SECTOR_SIZE}
@@ -24,14 +25,16 @@ use Rattle.image_parts.specs.declared.entry.TheConstants.{ENTRY_SIZE}
 use Rattle.image_parts.specs.declared.head.Head.{Head}
 use Rattle.image_parts.specs.declared.header.Header.{Header}
 use Rattle.image_parts.specs.declared.item.UndoItem.{UndoItem}
-use Rattle.image_parts.specs.Spelling.{zeros, head, item_size, entry_size, row_in, entry_in, item_in, header_in, RowFitsInIfSome, HeadFits, ItemFitsIn, HeaderFitsIn}
+use Rattle.image_parts.specs.Spelling.{zeros, head, item_size, entry_size, row_in, entry_in, item_in, header_in}
+use Rattle.image_parts.specs.Spelling.{RowFitsInIfSome, HeadFits, ItemFitsIn, HeaderFitsIn}
 use Rattle.image_half.specs.declared.parts.TheConstants.{EDGE_SIZE}
-use Rattle.image_half.specs.Layout.{heads_at, undo_at, items_per_sector, page_at_in, entries_at_in, cut, piece, page_bytes_in, row_start, row_of, InPages, InList, InEntries}
+use Rattle.image_half.specs.Layout.{heads_at, undo_at, items_per_sector, page_at_in, entries_at_in, cut, piece}
+use Rattle.image_half.specs.Layout.{page_bytes_in, row_start, row_of, InPages, InList, InEntries}
 
 -- ---- the parts, each by its bytes in a version of the format
 
--- The sector says this in a store of this geometry: no more entries than there is room for, and a highest pair that names
--- a row of the store's pages.
+-- The sector says this in a store of this geometry: no more entries than there is room for, and a highest pair that
+-- names a row of the store's pages.
 pub record IsHeaderIn (v : Version) (g : GeometryValue) (bytes : List ℕ) (h : Header) : Type 0 where
   pub spelled : bytes ≡ header_in v h
   pub fits : HeaderFitsIn v h
@@ -59,7 +62,8 @@ pub record IsRowIn (v : Version) (bytes : List ℕ) (o : Option Row) : Type 0 wh
 -- in the bytes of a page there are zeros in front of the rows and behind them
 pub record HasEdges (v : Version) (page : List ℕ) : Type 0 where
   pub front : take EDGE_SIZE page ≡ zeros EDGE_SIZE
-  pub behind : drop (row_start v SLOTS_PER_PAGE) page ≡ zeros (SECTOR_SIZE * page_sectors v - row_start v SLOTS_PER_PAGE)
+  pub behind : drop (row_start v SLOTS_PER_PAGE) page
+      ≡ zeros (SECTOR_SIZE * page_sectors v - row_start v SLOTS_PER_PAGE)
 
 -- an entry that names a row of the store's pages
 pub record IsEntryIn (v : Version) (g : GeometryValue) (bytes : List ℕ) (e : Pair × Mark) : Type 0 where
@@ -71,7 +75,8 @@ pub record IsEntryIn (v : Version) (g : GeometryValue) (bytes : List ℕ) (e : P
 
 -- the undo item of a head at a position
 abbrev pub item_bytes_in : Version → Image → (first h position : ℕ) → List ℕ
-item_bytes_in v image first h position = piece image (undo_at first) (item_size v) (items_per_sector v) (CHANGES_MAX * h + position)
+item_bytes_in v image first h position = piece image (undo_at first) (item_size v) (items_per_sector v)
+    (CHANGES_MAX * h + position)
 
 -- the row of a slot of a page
 abbrev pub row_bytes_in : Version → Image → (first page slot : ℕ) → List ℕ
@@ -95,21 +100,28 @@ head_of list = record { txn = list.0; changes = length list.1 }
 abbrev pub item_of : ChangeValue → UndoItem
 item_of c = record { rid = c.rid; rows = c.rows }
 
--- These changes are the first undo items of a head, each a change of a row of the store's pages. They are numbered from 0.
-pub record HoldsListIn (v : Version) (g : GeometryValue) (first : ℕ) (image : Image) (h : ℕ) (changes : List ChangeValue) : Type 0 where
+-- These changes are the first undo items of a head, each a change of a row of the store's pages. They are numbered from
+-- 0.
+pub record HoldsListIn (v : Version) (g : GeometryValue) (first : ℕ) (image : Image) (h : ℕ)
+    (changes : List ChangeValue) : Type 0 where
   pub positions : (p : ℕ) (c : ChangeValue) → slice_get changes p ≡ Some c → c.position ≡ p
-  pub items : (p : ℕ) (c : ChangeValue) → slice_get changes p ≡ Some c → IsItemIn v g (item_bytes_in v image first h p) (item_of c)
+  pub items : (p : ℕ) (c : ChangeValue) → slice_get changes p ≡ Some c
+      → IsItemIn v g (item_bytes_in v image first h p) (item_of c)
 
--- From sector `first` on lies the image of these cells, which record `base` left: life, lists, rows and entries, each in its
--- place, and each of the store's pages.
-pub record IsImageIn (v : Version) (g : GeometryValue) (first : ℕ) (image : Image) (base : ℕ) (cells : Cells) : Type 0 where
+-- From sector `first` on lies the image of these cells, which record `base` left: life, lists, rows and entries, each
+-- in its place, and each of the store's pages.
+pub record IsImageIn (v : Version) (g : GeometryValue) (first : ℕ) (image : Image) (base : ℕ)
+    (cells : Cells) : Type 0 where
   pub header-is : IsHeaderIn v g (sector image first) (header_of base cells)
   pub heads-are : AreHeads (sector image (heads_at first)) (map head_of (finite.entries cells.pending))
-  pub lists : (h : ℕ) (list : ℕ × List ChangeValue) → slice_get (finite.entries cells.pending) h ≡ Some list → HoldsListIn v g first image h list.1
+  pub lists : (h : ℕ) (list : ℕ × List ChangeValue) → slice_get (finite.entries cells.pending) h ≡ Some list
+      → HoldsListIn v g first image h list.1
   pub edges : (page : ℕ) → page < g.pages → HasEdges v (page_bytes_in v image first page)
-  pub rows : (q : Place) → q.page < g.pages → q.slot < SLOTS_PER_PAGE → IsRowIn v (row_bytes_in v image first q.page q.slot) (finite.get cells.rows q)
+  pub rows : (q : Place) → q.page < g.pages → q.slot < SLOTS_PER_PAGE
+      → IsRowIn v (row_bytes_in v image first q.page q.slot) (finite.get cells.rows q)
   pub within : (q : Place) (r : Row) → finite.get cells.rows q ≡ Some r → (q.page < g.pages) × (q.slot < SLOTS_PER_PAGE)
-  pub entries : (i : ℕ) (e : Pair × Mark) → slice_get (finite.entries cells.entries) i ≡ Some e → IsEntryIn v g (entry_bytes_in v g image first i) e
+  pub entries : (i : ℕ) (e : Pair × Mark) → slice_get (finite.entries cells.entries) i ≡ Some e
+      → IsEntryIn v g (entry_bytes_in v g image first i) e
 
 -- ---- in version 2, which is written
 
@@ -144,21 +156,25 @@ IsImage g first image base cells = IsImageIn Two g first image base cells
 
 -- behind the first n entries, what is left of the sector of the last one is zeros
 abbrev pub ZerosBehindEntries : GeometryValue → (first : ℕ) → Image → (n : ℕ) → Type 0
-ZerosBehindEntries g first image n = (i : ℕ) → n ≤ i → i < ENTRIES_PER_SECTOR * sectors_for n ENTRIES_PER_SECTOR → entry_bytes g image first i ≡ zeros ENTRY_SIZE
+ZerosBehindEntries g first image n = (i : ℕ) → n ≤ i → i < ENTRIES_PER_SECTOR * sectors_for n ENTRIES_PER_SECTOR
+    → entry_bytes g image first i ≡ zeros ENTRY_SIZE
 
 -- ---- the sectors that an image takes
 
 -- a sector of the undo items that these cells have
 abbrev pub InLists : ℕ → Cells → ℕ → Type 0
-InLists first cells n = (h : ℕ) × (list : ℕ × List ChangeValue) × (slice_get (finite.entries cells.pending) h ≡ Some list) × InList first h (length list.1) n
+InLists first cells n = (h : ℕ) × (list : ℕ × List ChangeValue)
+    × (slice_get (finite.entries cells.pending) h ≡ Some list) × InList first h (length list.1) n
 
 -- a sector of the heads, or of the undo items that these cells have
 abbrev pub InStart : ℕ → Cells → ℕ → Type 0
 InStart first cells n = (n ≡ heads_at first) ⊎ InLists first cells n
 
--- a sector of the image of these cells: header, heads, a page, or one of the undo items and of the entries that there are
+-- a sector of the image of these cells: header, heads, a page, or one of the undo items and of the entries that there
+-- are
 abbrev pub InImageOf : GeometryValue → ℕ → Cells → ℕ → Type 0
-InImageOf g first cells n = (n ≡ first) ⊎ ((n ≡ heads_at first) ⊎ (InPages g first n ⊎ (InLists first cells n ⊎ InEntries g first 0 (length (finite.entries cells.entries)) n)))
+InImageOf g first cells n = (n ≡ first) ⊎ ((n ≡ heads_at first)
+    ⊎ (InPages g first n ⊎ (InLists first cells n ⊎ InEntries g first 0 (length (finite.entries cells.entries)) n)))
 
 -- no row, no entry, no transaction and no index
 abbrev pub no_cells : Cells

@@ -3,7 +3,8 @@ use Rattle.std.specs.Prelude.{ℕ, ◌+◌, ◌*◌, ◌/◌, ◌%◌, ◌<◌, 
 use Rattle.std.specs.List.{concat}
 use Rattle.sector_device.specs.Disk.{Image, sector}
 use Rattle.records.specs.declared.change.TheConstants.{CHANGES_MAX}
-use Rattle.records.specs.declared.geometry.TheConstants.{HEADER_SECTORS, HEADS_SECTORS, PAGE_SECTORS, ENTRIES_PER_SECTOR}
+use Rattle.records.specs.declared.geometry.TheConstants.{HEADER_SECTORS, HEADS_SECTORS, PAGE_SECTORS}
+use Rattle.records.specs.declared.geometry.TheConstants.{ENTRIES_PER_SECTOR}
 use Rattle.records.specs.declared.version.Version.{Version}
 use Rattle.records.specs.declared.version.Version.TheVariants.{One, Two}
 use Rattle.records.specs.Version.{undo_sectors, page_sectors, entries_per_sector}
@@ -105,4 +106,5 @@ InList first h count n = (undo_at first + CHANGES_MAX * h ≤ n) × (n < undo_at
 
 -- a sector of this many entries from the entry number `start` on, which begins a sector
 abbrev pub InEntries : GeometryValue → ℕ → (start count n : ℕ) → Type 0
-InEntries g first start count n = (entries_at g first + start / ENTRIES_PER_SECTOR ≤ n) × (n < entries_at g first + sectors_for (start + count) ENTRIES_PER_SECTOR)
+InEntries g first start count n = (entries_at g first + start / ENTRIES_PER_SECTOR ≤ n)
+    × (n < entries_at g first + sectors_for (start + count) ENTRIES_PER_SECTOR)

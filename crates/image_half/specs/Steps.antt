@@ -23,7 +23,8 @@ use Rattle.image_parts.specs.declared.entry.TheConstants.{ENTRY_SIZE}
 use Rattle.records.specs.Spelling.{PairFits}
 use Rattle.image_parts.specs.Spelling.{zeros, entry, head, HeadFits}
 use Rattle.image_half.specs.Layout.{undo_at, page_at, cut, page_bytes_in, row_of}
-use Rattle.image_half.specs.Image.{HoldsListIn, HasEdges, IsRow, IsRowIn, IsEntryIn, row_bytes_in, entry_bytes_in, head_of}
+use Rattle.image_half.specs.Image.{HoldsListIn, HasEdges, IsRow, IsRowIn, IsEntryIn, row_bytes_in, entry_bytes_in}
+use Rattle.image_half.specs.Image.{head_of}
 use Rattle.image_half.specs.Damage.{AnItem, APage, AnEntry, sector_of, IsSoundIn, IsHindered}
 use Rattle.image_half.specs.Source.{IsNextBehind}
 
@@ -40,9 +41,11 @@ pub record AreFirstHeads (bytes : List ℕ) (k : ℕ) (heads : List Head) : Type
   pub rising : (j : ℕ) (a b : Head) → slice_get heads j ≡ Some a → slice_get heads (j + 1) ≡ Some b → a.txn < b.txn
 
 -- these lists are those of the heads
-pub record HoldsLists (v : Version) (g : GeometryValue) (first : ℕ) (image : Image) (heads : List Head) (pending : Pending) : Type 0 where
+pub record HoldsLists (v : Version) (g : GeometryValue) (first : ℕ) (image : Image) (heads : List Head)
+    (pending : Pending) : Type 0 where
   pub heads-are : map head_of (finite.entries pending) ≡ heads
-  pub each : (h : ℕ) (list : ℕ × List ChangeValue) → slice_get (finite.entries pending) h ≡ Some list → HoldsListIn v g first image h list.1
+  pub each : (h : ℕ) (list : ℕ × List ChangeValue) → slice_get (finite.entries pending) h ≡ Some list
+      → HoldsListIn v g first image h list.1
 
 -- the table of these rows, and the index of these entries
 abbrev pub table_of : List (Place × Row) → Table
@@ -57,14 +60,17 @@ abbrev pub AreRowsNone : List ℕ → Type 0
 AreRowsNone page = (slot : ℕ) → slot < SLOTS_PER_PAGE → IsRow (row_of Two page slot) None
 
 -- these rows are those of the first n pages
-pub record HoldsPages (v : Version) (g : GeometryValue) (first : ℕ) (image : Image) (n : ℕ) (rows : Table) : Type 0 where
+pub record HoldsPages (v : Version) (g : GeometryValue) (first : ℕ) (image : Image) (n : ℕ)
+    (rows : Table) : Type 0 where
   pub edges : (page : ℕ) → page < n → HasEdges v (page_bytes_in v image first page)
-  pub slots : (q : Place) → q.page < n → q.slot < SLOTS_PER_PAGE → IsRowIn v (row_bytes_in v image first q.page q.slot) (finite.get rows q)
+  pub slots : (q : Place) → q.page < n → q.slot < SLOTS_PER_PAGE
+      → IsRowIn v (row_bytes_in v image first q.page q.slot) (finite.get rows q)
   pub within : (q : Place) (r : Row) → finite.get rows q ≡ Some r → (q.page < n) × (q.slot < SLOTS_PER_PAGE)
 
 -- these rows are those of the slots before this one of page n, and those of earlier pages
 pub record HoldsSlots (v : Version) (first : ℕ) (image : Image) (n slot : ℕ) (before rows : Table) : Type 0 where
-  pub slots : (q : Place) → q.page ≡ n → q.slot < slot → IsRowIn v (row_bytes_in v image first n q.slot) (finite.get rows q)
+  pub slots : (q : Place) → q.page ≡ n → q.slot < slot
+      → IsRowIn v (row_bytes_in v image first n q.slot) (finite.get rows q)
   pub behind : (q : Place) → q.page ≡ n → ¬ (q.slot < slot) → finite.get rows q ≡ None
   pub others : (q : Place) → ¬ (q.page ≡ n) → finite.get rows q ≡ finite.get before q
 
@@ -79,26 +85,33 @@ IsEntryPlace bytes None = bytes ≡ zeros ENTRY_SIZE
 IsEntryPlace bytes (Some e) = IsEntryPiece bytes e
 
 -- these are the first n entries
-pub record HoldsEntries (v : Version) (g : GeometryValue) (first : ℕ) (image : Image) (n : ℕ) (entries : Index) : Type 0 where
+pub record HoldsEntries (v : Version) (g : GeometryValue) (first : ℕ) (image : Image) (n : ℕ)
+    (entries : Index) : Type 0 where
   pub count : length (finite.entries entries) ≡ n
-  pub each : (i : ℕ) (e : Pair × Mark) → slice_get (finite.entries entries) i ≡ Some e → IsEntryIn v g (entry_bytes_in v g image first i) e
+  pub each : (i : ℕ) (e : Pair × Mark) → slice_get (finite.entries entries) i ≡ Some e
+      → IsEntryIn v g (entry_bytes_in v g image first i) e
 
 -- the pair of the last of the first n entries
 abbrev pub IsLastPair : Index → ℕ → Option Pair → Type 0
 IsLastPair entries n None = n ≡ 0
-IsLastPair entries n (Some pair) = (m : ℕ) × (e : Pair × Mark) × (n ≡ m + 1) × (slice_get (finite.entries entries) m ≡ Some e) × (e.0 ≡ pair)
+IsLastPair entries n (Some pair) = (m : ℕ) × (e : Pair × Mark) × (n ≡ m + 1)
+    × (slice_get (finite.entries entries) m ≡ Some e) × (e.0 ≡ pair)
 
--- Why a step of reading was refused: there was no memory, or the device failed, or the part is the first of its kind that
--- says nothing.
+-- Why a step of reading was refused: there was no memory, or the device failed, or the part is the first of its kind
+-- that says nothing.
 abbrev pub IsItemRefused : Version → GeometryValue → ℕ → Image → (h count before now : ℕ) → Error → Type 0
 IsItemRefused v g first image h count before now e = IsHindered before now e
-    ⊎ ((p : ℕ) × (p < count) × (e ≡ Damaged (sector_of v g first (AnItem h p))) × (¬ IsSoundIn v g first image (AnItem h p)) × ((q : ℕ) → q < p → IsSoundIn v g first image (AnItem h q)))
+    ⊎ ((p : ℕ) × (p < count) × (e ≡ Damaged (sector_of v g first (AnItem h p)))
+    × (¬ IsSoundIn v g first image (AnItem h p)) × ((q : ℕ) → q < p → IsSoundIn v g first image (AnItem h q)))
 
 -- why lists are not read: the first undo item, by head and position, that says nothing
 abbrev pub AreListsRefused : Version → GeometryValue → ℕ → Image → List Head → (before now : ℕ) → Error → Type 0
 AreListsRefused v g first image heads before now e = IsHindered before now e
-    ⊎ ((h : ℕ) × (p : ℕ) × (x : Head) × (slice_get heads h ≡ Some x) × (p < x.changes) × (e ≡ Damaged (sector_of v g first (AnItem h p))) × (¬ IsSoundIn v g first image (AnItem h p))
-    × ((q : ℕ) → q < p → IsSoundIn v g first image (AnItem h q)) × ((k q : ℕ) (y : Head) → k < h → slice_get heads k ≡ Some y → q < y.changes → IsSoundIn v g first image (AnItem k q)))
+    ⊎ ((h : ℕ) × (p : ℕ) × (x : Head) × (slice_get heads h ≡ Some x) × (p < x.changes)
+    × (e ≡ Damaged (sector_of v g first (AnItem h p))) × (¬ IsSoundIn v g first image (AnItem h p))
+    × ((q : ℕ) → q < p → IsSoundIn v g first image (AnItem h q))
+    × ((k q : ℕ) (y : Head) → k < h → slice_get heads k ≡ Some y → q < y.changes
+    → IsSoundIn v g first image (AnItem k q)))
 
 -- why a page is not read: it says nothing
 abbrev pub IsPageRefused : Version → GeometryValue → ℕ → Image → (page before now : ℕ) → Error → Type 0
@@ -108,12 +121,15 @@ IsPageRefused v g first image page before now e = IsHindered before now e
 -- why pages are not read: the first that says nothing
 abbrev pub ArePagesRefused : Version → GeometryValue → ℕ → Image → (before now : ℕ) → Error → Type 0
 ArePagesRefused v g first image before now e = IsHindered before now e
-    ⊎ ((page : ℕ) × (page < g.pages) × (e ≡ Damaged (sector_of v g first (APage page))) × (¬ IsSoundIn v g first image (APage page)) × ((earlier : ℕ) → earlier < page → IsSoundIn v g first image (APage earlier)))
+    ⊎ ((page : ℕ) × (page < g.pages) × (e ≡ Damaged (sector_of v g first (APage page)))
+    × (¬ IsSoundIn v g first image (APage page)) × ((earlier : ℕ) → earlier < page
+    → IsSoundIn v g first image (APage earlier)))
 
 -- why entries are not read: the first that says nothing
 abbrev pub AreEntriesRefused : Version → GeometryValue → ℕ → Image → (count before now : ℕ) → Error → Type 0
 AreEntriesRefused v g first image count before now e = IsHindered before now e
-    ⊎ ((i : ℕ) × (i < count) × (e ≡ Damaged (sector_of v g first (AnEntry i))) × (¬ IsSoundIn v g first image (AnEntry i)) × ((j : ℕ) → j < i → IsSoundIn v g first image (AnEntry j)))
+    ⊎ ((i : ℕ) × (i < count) × (e ≡ Damaged (sector_of v g first (AnEntry i)))
+    × (¬ IsSoundIn v g first image (AnEntry i)) × ((j : ℕ) → j < i → IsSoundIn v g first image (AnEntry j)))
 
 -- ---- writing
 

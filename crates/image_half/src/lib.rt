@@ -1,11 +1,11 @@
-//! The image of a store in the sectors of a half: life, lists of changes, rows and entries, each in its place. It is read
-//! part by part, and refused at the first sector that says nothing; and written part by part, or as a whole.
+//! The image of a store in the sectors of a half: life, lists of changes, rows and entries, each in its place. It is
+//! read part by part, and refused at the first sector that says nothing; and written part by part, or as a whole.
 //!
-//! Proved: `read_image` answers just the image that lies there (`read`). But for want of memory and a device that fails, it refuses
-//! by `Damaged` with the first sector that is (`refused`). Each write of a part leaves it (`written`), changes its own sectors
-//! alone (`outside`), and says what a crash leaves (`within`). By the law `image_in_parts` the parts make an image. None of them
-//! syncs.
-//! Only tested, through a store: parts byte by byte. Neither: which calls the device gets, and time.
+//! Proved: `read_image` answers just the image that lies there (`read`). But for want of memory and a device that
+//! fails, it refuses by `Damaged` with the first sector that is (`refused`). Each write of a part leaves it
+//! (`written`), changes its own sectors alone (`outside`), and says what a crash leaves (`within`). By the law
+//! `image_in_parts` the parts make an image. None of them syncs. Only tested, through a store: parts byte by byte.
+//! Neither: which calls the device gets, and time.
 #![tactic(auto)]
 
 mod laws;

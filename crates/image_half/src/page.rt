@@ -1,5 +1,6 @@
 //! The bytes of a page: how they are read, and how they are made of its rows.
-ghost use Rattle.std.specs.Prelude.{◌≡◌, ◌≢◌, ℕ, ◌+◌, ◌*◌, ◌^◌, ◌<◌, ◌≤◌, Option, Some, length, slice_get, OnOk, IfOk, IfErr};
+ghost use Rattle.std.specs.Prelude.{◌≡◌, ◌≢◌, ℕ, ◌+◌, ◌*◌, ◌^◌, ◌<◌, ◌≤◌, Option, Some, length, slice_get, OnOk, IfOk};
+ghost use Rattle.std.specs.Prelude.{IfErr};
 ghost use Rattle.sector_device.specs.History.{OnlyReads};
 ghost use Rattle.records.specs.declared.version.Version.TheVariants.{Two};
 ghost use Rattle.records.specs.declared.row.Row.{Row};

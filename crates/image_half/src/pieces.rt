@@ -4,7 +4,8 @@ ghost use Rattle.sector_device.specs.Disk.{sector};
 ghost use Rattle.sector_device.specs.History.{OnlyReads};
 ghost use Rattle.records.specs.Version.{entries_per_sector};
 ghost use Rattle.image_parts.specs.Spelling.{item_size, entry_size};
-ghost use Rattle.image_half.specs.Layout.{cut, sector_of_piece, undo_at, items_per_sector, page_at_in, entries_at_in, image_end_in};
+ghost use Rattle.image_half.specs.Layout.{cut, sector_of_piece, undo_at, items_per_sector, page_at_in, entries_at_in};
+ghost use Rattle.image_half.specs.Layout.{image_end_in};
 ghost use Rattle.image_half.specs.Damage.{IsHindered};
 
 use crate::page::page_at;
@@ -26,7 +27,8 @@ pub(crate) fn item_place(version: Version, first: u64, h: u64, position: u8) -> 
     requires head { h < TXNS_MAX }
     requires position { position < CHANGES_MAX }
     requires number { page_at_in version first 0 < 2 ^ 64 }
-    ensures sector { result.sector ≡ sector_of_piece (undo_at first) (items_per_sector version) (CHANGES_MAX * h + position) }
+    ensures sector { result.sector ≡ sector_of_piece (undo_at first) (items_per_sector version)
+        (CHANGES_MAX * h + position) }
     ensures index { result.index ≡ (CHANGES_MAX * h + position) % items_per_sector version }
     ensures inside { result.sector < page_at_in version first 0 }
     ensures room { item_size version * result.index + item_size version ≤ SECTOR_SIZE }
@@ -49,7 +51,8 @@ pub(crate) fn item_place(version: Version, first: u64, h: u64, position: u8) -> 
 pub(crate) fn entry_place(version: Version, geometry: Geometry, first: u64, i: u32) -> PiecePlace
     requires entry { i < geometry.entries }
     requires number { image_end_in version geometry first < 2 ^ 64 }
-    ensures sector { result.sector ≡ sector_of_piece (entries_at_in version geometry first) (entries_per_sector version) i }
+    ensures sector { result.sector ≡ sector_of_piece (entries_at_in version geometry first)
+        (entries_per_sector version) i }
     ensures index { result.index ≡ i % entries_per_sector version }
     ensures inside { result.sector < image_end_in version geometry first }
     ensures room { entry_size version * result.index + entry_size version ≤ SECTOR_SIZE }

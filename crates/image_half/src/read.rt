@@ -1,5 +1,6 @@
 //! An image is read.
-ghost use Rattle.std.specs.Prelude.{◌≡◌, ◌≢◌, ◌⊎◌, ◌+◌, ◌*◌, ◌^◌, ◌≤◌, ◌<◌, ℕ, List, length, slice_get, Some, None, OnOk, IfOk, IfErr};
+ghost use Rattle.std.specs.Prelude.{◌≡◌, ◌≢◌, ◌⊎◌, ◌+◌, ◌*◌, ◌^◌, ◌≤◌, ◌<◌, ℕ, List, length, slice_get, Some, None};
+ghost use Rattle.std.specs.Prelude.{OnOk, IfOk, IfErr};
 ghost use Rattle.std.specs.FinMap as finite;
 ghost use Rattle.sector_device.specs.Disk.{sector};
 ghost use Rattle.sector_device.specs.History.{OnlyReads};
@@ -9,7 +10,8 @@ ghost use Rattle.records.specs.declared.change.TheConstants.{CHANGES_MAX};
 ghost use Rattle.image_half.specs.Layout.{heads_at, page_at_in, entries_at_in, image_end_in};
 ghost use Rattle.image_half.specs.Image.{IsHeaderIn, AreHeads, IsImageIn, HoldsListIn, no_cells};
 ghost use Rattle.image_half.specs.Damage.{IsSoundIn, TheHeader, TheHeads, IsHindered, IsUnreadIn};
-ghost use Rattle.image_half.specs.Steps.{HoldsLists, HoldsPages, HoldsEntries, IsItemRefused, AreListsRefused, IsPageRefused, ArePagesRefused, AreEntriesRefused, table_of};
+ghost use Rattle.image_half.specs.Steps.{HoldsLists, HoldsPages, HoldsEntries, IsItemRefused, AreListsRefused};
+ghost use Rattle.image_half.specs.Steps.{IsPageRefused, ArePagesRefused, AreEntriesRefused, table_of};
 
 use crate::page::{page_at, read_bytes};
 use crate::parts::{entry_in, has_edges, header_in, heads_in, is_above, item_in, row_in};
@@ -32,7 +34,8 @@ fn read_header<D: Device>(
     requires inside { first < length (D.history device.old).disk.content }
     ensures found { IfOk result (IsHeaderIn version geometry (sector (D.history device.old).disk.content first)) }
     ensures refused { IfErr result (λ e. IsHindered (D.failures device.old) (D.failures device.new) e
-        ⊎ ((e ≡ Error.Damaged first) × (¬ IsSoundIn version geometry first (D.history device.old).disk.content TheHeader))) }
+        ⊎ ((e ≡ Error.Damaged first) × (¬ IsSoundIn version geometry first
+        (D.history device.old).disk.content TheHeader))) }
     ensures reads { OnlyReads (D.history device.old) (D.history device.new) }
     ensures quiet { OnOk result (D.failures device.new ≡ D.failures device.old) }
     ensures told { IfErr result (λ e. e ≢ Error.DeviceFailed → D.failures device.new ≡ D.failures device.old) }
@@ -56,9 +59,11 @@ fn read_heads<D: Device, A: Allocator + Copy>(
 ) -> Result<Vec<Head, A>, Error>
     requires inside { heads_at first < length (D.history device.old).disk.content }
     requires number { heads_at first < 2 ^ 64 }
-    ensures found { IfOk result (λ heads. AreHeads (sector (D.history device.old).disk.content (heads_at first)) heads.items) }
+    ensures found { IfOk result (λ heads.
+        AreHeads (sector (D.history device.old).disk.content (heads_at first)) heads.items) }
     ensures refused { IfErr result (λ e. IsHindered (D.failures device.old) (D.failures device.new) e
-        ⊎ ((e ≡ Error.Damaged (heads_at first)) × (¬ IsSoundIn version geometry first (D.history device.old).disk.content TheHeads))) }
+        ⊎ ((e ≡ Error.Damaged (heads_at first))
+        × (¬ IsSoundIn version geometry first (D.history device.old).disk.content TheHeads))) }
     ensures reads { OnlyReads (D.history device.old) (D.history device.new) }
     ensures quiet { OnOk result (D.failures device.new ≡ D.failures device.old) }
     ensures told { IfErr result (λ e. e ≢ Error.DeviceFailed → D.failures device.new ≡ D.failures device.old) }
@@ -87,8 +92,10 @@ fn read_list<D: Device, A: Allocator + Copy>(
     requires inside { page_at_in version first 0 ≤ length (D.history device.old).disk.content }
     requires number { page_at_in version first 0 < 2 ^ 64 }
     ensures count { IfOk result (λ changes. length changes.items ≡ count) }
-    ensures held { IfOk result (λ changes. HoldsListIn version geometry first (D.history device.old).disk.content h changes.items) }
-    ensures refused { IfErr result (IsItemRefused version geometry first (D.history device.old).disk.content h count (D.failures device.old) (D.failures device.new)) }
+    ensures held { IfOk result (λ changes. HoldsListIn version geometry first
+        (D.history device.old).disk.content h changes.items) }
+    ensures refused { IfErr result (IsItemRefused version geometry first (D.history device.old).disk.content h count
+        (D.failures device.old) (D.failures device.new)) }
     ensures reads { OnlyReads (D.history device.old) (D.history device.new) }
     ensures quiet { OnOk result (D.failures device.new ≡ D.failures device.old) }
     ensures told { IfErr result (λ e. e ≢ Error.DeviceFailed → D.failures device.new ≡ D.failures device.old) }
@@ -128,9 +135,11 @@ fn read_lists<D: Device, S: CellSink, A: Allocator + Copy>(
     requires empty { (S.cells sink.old).pending ≡ finite.empty }
     requires inside { page_at_in version first 0 ≤ length (D.history device.old).disk.content }
     requires number { page_at_in version first 0 < 2 ^ 64 }
-    ensures held { OnOk result (HoldsLists version geometry first (D.history device.old).disk.content heads.now (S.cells sink.new).pending) }
+    ensures held { OnOk result (HoldsLists version geometry first (D.history device.old).disk.content heads.now
+        (S.cells sink.new).pending) }
     ensures rest { OnOk result (S.cells sink.new ≡ record (S.cells sink.old) { pending = (S.cells sink.new).pending }) }
-    ensures refused { IfErr result (AreListsRefused version geometry first (D.history device.old).disk.content heads.now (D.failures device.old) (D.failures device.new)) }
+    ensures refused { IfErr result (AreListsRefused version geometry first (D.history device.old).disk.content heads.now
+        (D.failures device.old) (D.failures device.new)) }
     ensures reads { OnlyReads (D.history device.old) (D.history device.new) }
     ensures quiet { OnOk result (D.failures device.new ≡ D.failures device.old) }
     ensures told { IfErr result (λ e. e ≢ Error.DeviceFailed → D.failures device.new ≡ D.failures device.old) }
@@ -182,9 +191,12 @@ fn read_page<D: Device, A: Allocator + Copy>(
     requires page { page < geometry.pages }
     requires inside { entries_at_in version geometry first ≤ length (D.history device.old).disk.content }
     requires number { entries_at_in version geometry first < 2 ^ 64 }
-    requires held { HoldsPages version geometry first (D.history device.old).disk.content page (table_of rows.old.items) }
-    ensures held { OnOk result (HoldsPages version geometry first (D.history device.old).disk.content (page + 1) (table_of rows.new.items)) }
-    ensures refused { IfErr result (IsPageRefused version geometry first (D.history device.old).disk.content page (D.failures device.old) (D.failures device.new)) }
+    requires held { HoldsPages version geometry first (D.history device.old).disk.content page
+        (table_of rows.old.items) }
+    ensures held { OnOk result (HoldsPages version geometry first (D.history device.old).disk.content (page + 1)
+        (table_of rows.new.items)) }
+    ensures refused { IfErr result (IsPageRefused version geometry first (D.history device.old).disk.content page
+        (D.failures device.old) (D.failures device.new)) }
     ensures reads { OnlyReads (D.history device.old) (D.history device.new) }
     ensures quiet { OnOk result (D.failures device.new ≡ D.failures device.old) }
     ensures told { IfErr result (λ e. e ≢ Error.DeviceFailed → D.failures device.new ≡ D.failures device.old) }
@@ -217,9 +229,11 @@ fn read_pages<D: Device, S: CellSink, A: Allocator + Copy>(
     requires empty { (S.cells sink.old).rows ≡ finite.empty }
     requires inside { entries_at_in version geometry first ≤ length (D.history device.old).disk.content }
     requires number { entries_at_in version geometry first < 2 ^ 64 }
-    ensures held { OnOk result (HoldsPages version geometry first (D.history device.old).disk.content geometry.pages (S.cells sink.new).rows) }
+    ensures held { OnOk result (HoldsPages version geometry first (D.history device.old).disk.content geometry.pages
+        (S.cells sink.new).rows) }
     ensures rest { OnOk result (S.cells sink.new ≡ record (S.cells sink.old) { rows = (S.cells sink.new).rows }) }
-    ensures refused { IfErr result (ArePagesRefused version geometry first (D.history device.old).disk.content (D.failures device.old) (D.failures device.new)) }
+    ensures refused { IfErr result (ArePagesRefused version geometry first (D.history device.old).disk.content
+        (D.failures device.old) (D.failures device.new)) }
     ensures reads { OnlyReads (D.history device.old) (D.history device.new) }
     ensures quiet { OnOk result (D.failures device.new ≡ D.failures device.old) }
     ensures told { IfErr result (λ e. e ≢ Error.DeviceFailed → D.failures device.new ≡ D.failures device.old) }
@@ -247,9 +261,11 @@ fn read_entries<D: Device, S: CellSink, A: Allocator>(
     requires empty { (S.cells sink.old).entries ≡ finite.empty }
     requires inside { image_end_in version geometry first ≤ length (D.history device.old).disk.content }
     requires number { image_end_in version geometry first < 2 ^ 64 }
-    ensures held { OnOk result (HoldsEntries version geometry first (D.history device.old).disk.content count (S.cells sink.new).entries) }
+    ensures held { OnOk result (HoldsEntries version geometry first (D.history device.old).disk.content count
+        (S.cells sink.new).entries) }
     ensures rest { OnOk result (S.cells sink.new ≡ record (S.cells sink.old) { entries = (S.cells sink.new).entries }) }
-    ensures refused { IfErr result (AreEntriesRefused version geometry first (D.history device.old).disk.content count (D.failures device.old) (D.failures device.new)) }
+    ensures refused { IfErr result (AreEntriesRefused version geometry first (D.history device.old).disk.content count
+        (D.failures device.old) (D.failures device.new)) }
     ensures reads { OnlyReads (D.history device.old) (D.history device.new) }
     ensures quiet { OnOk result (D.failures device.new ≡ D.failures device.old) }
     ensures told { IfErr result (λ e. e ≢ Error.DeviceFailed → D.failures device.new ≡ D.failures device.old) }
@@ -278,14 +294,15 @@ fn read_entries<D: Device, S: CellSink, A: Allocator>(
     Ok(())
 }
 
-/// Reads the image of a store of this geometry that begins at sector `first`, by a version of the format, into an empty sink.
-/// The answer is its base, the number of the last record made as the image began. Nothing is written. That each of its sectors is read once at most is
-/// only tested.
+/// Reads the image of a store of this geometry that begins at sector `first`, by a version of the format, into an empty
+/// sink. The answer is its base, the number of the last record made as the image began. Nothing is written. That each
+/// of its sectors is read once at most is only tested.
 ///
 /// `Damaged` names the first sector with a part that says nothing: the header, the transaction heads, an undo item of a
-/// head that is used, the first sector of a page, or an entry, which is above the one before it. A place in a page that the
-/// geometry doesn't have says nothing. `DeviceFailed` where the device failed in the call, and only
-/// then. `NoMemory` where there is none for what is read, or the sink has none; a damaged header is told before any is wanted (`memory`).
+/// head that is used, the first sector of a page, or an entry, which is above the one before it. A place in a page that
+/// the geometry doesn't have says nothing. `DeviceFailed` where the device failed in the call, and only then.
+/// `NoMemory` where there is none for what is read, or the sink has none; a damaged header is told before any is wanted
+/// (`memory`).
 pub fn read_image<D: Device, S: CellSink, A: Allocator + Copy>(
     alloc: A,
     version: Version,
@@ -299,12 +316,15 @@ pub fn read_image<D: Device, S: CellSink, A: Allocator + Copy>(
     requires number { image_end_in version geometry first < 2 ^ 64 }
 
     // This is the only image that lies there, by the law `one_image`, and where one does no sector is damaged.
-    ensures read { IfOk result (λ base. IsImageIn version geometry first (D.history device.old).disk.content base (S.cells sink.new)) }
-    ensures refused { IfErr result (IsUnreadIn version geometry first (D.history device.old).disk.content (D.failures device.old) (D.failures device.new)) }
+    ensures read { IfOk result (λ base. IsImageIn version geometry first (D.history device.old).disk.content base
+        (S.cells sink.new)) }
+    ensures refused { IfErr result (IsUnreadIn version geometry first (D.history device.old).disk.content
+        (D.failures device.old) (D.failures device.new)) }
     ensures reads { OnlyReads (D.history device.old) (D.history device.new) }
     ensures quiet { OnOk result (D.failures device.new ≡ D.failures device.old) }
     ensures told { IfErr result (λ e. e ≢ Error.DeviceFailed → D.failures device.new ≡ D.failures device.old) }
-    ensures memory { IfErr result (λ e. e ≡ Error.NoMemory → IsSoundIn version geometry first (D.history device.old).disk.content TheHeader) }
+    ensures memory { IfErr result (λ e. e ≡ Error.NoMemory
+        → IsSoundIn version geometry first (D.history device.old).disk.content TheHeader) }
     ensures later { D.failures device.old ≤ D.failures device.new }
 {
     let header = read_header(version, device, geometry, first)?;

@@ -18,13 +18,17 @@ pub trait CellSink {
 
     /// Sets a transaction's list of changes, the first of them first.
     fn set_list(&mut self, txn: Txn, changes: &[Change]) -> Result<(), AllocError>
-        ensures { OnOk result (cells self.new ≡ record (cells self.old) { pending = with_list (cells self.old).pending txn (Some changes.now) }) };
+        ensures { OnOk result (cells self.new ≡ record (cells self.old)
+            { pending = with_list (cells self.old).pending txn (Some changes.now) }) };
 
-    /// Sets the rows at these places, one after another. Those of an image come in the order of their places, all at once.
+    /// Sets the rows at these places, one after another. Those of an image come in the order of their places, all at
+    /// once.
     fn set_rows(&mut self, rows: &[(Rid, Row)]) -> Result<(), AllocError>
-        ensures { OnOk result (cells self.new ≡ record (cells self.old) { rows = extended (cells self.old).rows rows.now }) };
+        ensures { OnOk result (cells self.new ≡ record (cells self.old)
+            { rows = extended (cells self.old).rows rows.now }) };
 
     /// Sets the entries of these pairs, one after another. Those of an image come in the order of pairs, all at once.
     fn set_entries(&mut self, entries: &[(Pair, Mark)]) -> Result<(), AllocError>
-        ensures { OnOk result (cells self.new ≡ record (cells self.old) { entries = extended (cells self.old).entries entries.now }) };
+        ensures { OnOk result (cells self.new ≡ record (cells self.old)
+            { entries = extended (cells self.old).entries entries.now }) };
 }

@@ -35,22 +35,24 @@ pub trait CellSource {
 
     /// The rows of a page, by their slots.
     fn page(&self, page: u32) -> [Option<Row>; ROWS_PER_PAGE]
-        ensures { (slot : ℕ) → slot < SLOTS_PER_PAGE → slice_get result slot ≡ Some (finite.get (cells self.now).rows (record { page = page; slot = slot })) };
+        ensures { (slot : ℕ) → slot < SLOTS_PER_PAGE → slice_get result slot
+            ≡ Some (finite.get (cells self.now).rows (record { page = page; slot = slot })) };
 
     /// How many entries there are.
     fn entry_count(&self) -> usize
         ensures { result ≡ length (finite.entries (cells self.now).entries) };
 
-    /// The entries of a sector, of which the first one comes behind that of this pair, or is the first of all where no pair is
-    /// given. Where there are too few the other places have none.
+    /// The entries of a sector, of which the first one comes behind that of this pair, or is the first of all where no
+    /// pair is given. Where there are too few the other places have none.
     fn entries_behind(&self, pair: Option<Pair>) -> [Option<(Pair, Mark)>; SECTOR_ENTRIES]
         ensures { (n j : ℕ) → IsPassed (finite.entries (cells self.now).entries) n pair → j < SECTOR_ENTRIES
             → slice_get result j ≡ Some (slice_get (finite.entries (cells self.now).entries) (n + j)) };
 
-    /// The transaction that comes behind this one, in the order of their numbers, or the first one where none is given, with
-    /// its list of changes.
+    /// The transaction that comes behind this one, in the order of their numbers, or the first one where none is given,
+    /// with its list of changes.
     fn list_behind(&self, txn: Option<Txn>) -> Option<(Txn, &[Change])>
-        ensures { IsNextBehind (finite.entries (cells self.now).pending) txn (option_map (λ l. (l.0, l.1.now)) result) };
+        ensures { IsNextBehind (finite.entries (cells self.now).pending) txn
+            (option_map (λ l. (l.0, l.1.now)) result) };
 }
 
 impl<A: Allocator + Copy> CellSource for CellMaps<A> {

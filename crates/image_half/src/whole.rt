@@ -1,5 +1,6 @@
 //! A whole image is written, without a sync.
-ghost use Rattle.std.specs.Prelude.{◌≡◌, ◌⊎◌, ℕ, ◌+◌, ◌-◌, ◌*◌, ◌^◌, ◌<◌, ◌≤◌, List, Option, true, length, map, slice_get, Some, None, OnOk};
+ghost use Rattle.std.specs.Prelude.{◌≡◌, ◌⊎◌, ℕ, ◌+◌, ◌-◌, ◌*◌, ◌^◌, ◌<◌, ◌≤◌, List, Option, true, length, map};
+ghost use Rattle.std.specs.Prelude.{slice_get, Some, None, OnOk};
 ghost use Rattle.std.specs.Option.{option_map};
 ghost use Rattle.std.specs.FinMap as finite;
 ghost use Rattle.sector_device.specs.Disk.{sector, SameOutside};
@@ -10,7 +11,8 @@ ghost use Rattle.records.specs.declared.pair.Mark.{Mark};
 ghost use Rattle.records.specs.declared.number.TheConstants.{LAST_NUMBER};
 ghost use Rattle.image_parts.specs.declared.head.Head.{Head as HeadValue};
 ghost use Rattle.image_half.specs.Layout.{cut, heads_at, page_at, entries_at, image_end, InPage, InPages, InEntries};
-ghost use Rattle.image_half.specs.Image.{AreHeads, HoldsList, IsImage, IsEntry, entry_bytes, head_of, ZerosBehindEntries, InLists, InStart, InImageOf};
+ghost use Rattle.image_half.specs.Image.{AreHeads, HoldsList, IsImage, IsEntry, entry_bytes, head_of};
+ghost use Rattle.image_half.specs.Image.{ZerosBehindEntries, InLists, InStart, InImageOf};
 ghost use Rattle.image_half.specs.Source.{FitsImage, IsPassed};
 ghost use Rattle.image_half.specs.Steps.{IsEntryPlace, IsReached, WritesIn};
 ghost use Rattle.image_half.specs.Part.{IsImagePart, HasPage};
@@ -33,7 +35,9 @@ fn write_lists<D: Device, S: CellSource>(
     requires fits { FitsImage geometry (S.cells source.now) }
     requires inside { page_at first 0 ≤ length (D.history device.old).disk.content }
     requires number { page_at first 0 < 2 ^ 64 }
-    ensures written { OnOk result ((h : ℕ) (list : ℕ × List ChangeValue) → slice_get (finite.entries (S.cells source.now).pending) h ≡ Some list → HoldsList geometry first (D.history device.new).disk.content h list.1) }
+    ensures written { OnOk result ((h : ℕ) (list : ℕ × List ChangeValue)
+        → slice_get (finite.entries (S.cells source.now).pending) h ≡ Some list
+        → HoldsList geometry first (D.history device.new).disk.content h list.1) }
     ensures part { WritesIn (InLists first (S.cells source.now)) (D.history device.old) (D.history device.new) }
     ensures counts { CountsFailure (D.failures device.old) (D.failures device.new) result }
 {
@@ -52,7 +56,8 @@ fn write_lists<D: Device, S: CellSource>(
 fn head_behind<S: CellSource>(geometry: Geometry, source: &S, txn: Option<Txn>) -> Option<Head>
     requires fits { FitsImage geometry (S.cells source.now) }
     requires reached { (n : ℕ) × IsReached (finite.entries (S.cells source.now).pending) n txn }
-    ensures { (n : ℕ) → IsReached (finite.entries (S.cells source.now).pending) n txn → result ≡ option_map head_of (slice_get (finite.entries (S.cells source.now).pending) n) }
+    ensures { (n : ℕ) → IsReached (finite.entries (S.cells source.now).pending) n txn
+        → result ≡ option_map head_of (slice_get (finite.entries (S.cells source.now).pending) n) }
 {
     let Some(list) = source.list_behind(txn) else {
         return None;
@@ -99,7 +104,8 @@ fn write_all_heads<D: Device, S: CellSource>(
     requires fits { FitsImage geometry (S.cells source.now) }
     requires inside { heads_at first < length (D.history device.old).disk.content }
     requires number { heads_at first < 2 ^ 64 }
-    ensures written { OnOk result (AreHeads (sector (D.history device.new).disk.content (heads_at first)) (map head_of (finite.entries (S.cells source.now).pending))) }
+    ensures written { OnOk result (AreHeads (sector (D.history device.new).disk.content (heads_at first))
+        (map head_of (finite.entries (S.cells source.now).pending))) }
     ensures part { WritesIn (λ n. n ≡ heads_at first) (D.history device.old) (D.history device.new) }
     ensures counts { CountsFailure (D.failures device.old) (D.failures device.new) result }
 {
@@ -116,7 +122,8 @@ fn write_pages<D: Device, S: CellSource>(
 ) -> Result<(), Failed>
     requires inside { entries_at geometry first ≤ length (D.history device.old).disk.content }
     requires number { entries_at geometry first < 2 ^ 64 }
-    ensures written { OnOk result ((page : ℕ) → page < geometry.pages → HasPage first (D.history device.new).disk.content page (S.cells source.now).rows) }
+    ensures written { OnOk result ((page : ℕ) → page < geometry.pages
+        → HasPage first (D.history device.new).disk.content page (S.cells source.now).rows) }
     ensures part { WritesIn (InPages geometry first) (D.history device.old) (D.history device.new) }
     ensures counts { CountsFailure (D.failures device.old) (D.failures device.new) result }
 {
@@ -150,8 +157,10 @@ fn last_pair(entries: &[Option<(Pair, Mark)>; SECTOR_ENTRIES], other: Option<Pai
 // The sector of the entries behind that of the last pair, which is then the last one of them where the sector is full.
 fn entries_sector<S: CellSource>(source: &S, last: &mut Option<Pair>) -> [u8; SECTOR_SIZE]
     ensures spelled { (n : ℕ) → IsPassed (finite.entries (S.cells source.now).entries) n last.old
-        → (j : ℕ) → j < ENTRIES_PER_SECTOR → IsEntryPlace (cut result ENTRY_SIZE j) (slice_get (finite.entries (S.cells source.now).entries) (n + j)) }
-    ensures passed { (n : ℕ) → IsPassed (finite.entries (S.cells source.now).entries) n last.old → n + ENTRIES_PER_SECTOR ≤ length (finite.entries (S.cells source.now).entries)
+        → (j : ℕ) → j < ENTRIES_PER_SECTOR
+        → IsEntryPlace (cut result ENTRY_SIZE j) (slice_get (finite.entries (S.cells source.now).entries) (n + j)) }
+    ensures passed { (n : ℕ) → IsPassed (finite.entries (S.cells source.now).entries) n last.old
+        → n + ENTRIES_PER_SECTOR ≤ length (finite.entries (S.cells source.now).entries)
         → IsPassed (finite.entries (S.cells source.now).entries) (n + ENTRIES_PER_SECTOR) last.new }
 {
     let entries = source.entries_behind(*last);
@@ -161,7 +170,8 @@ fn entries_sector<S: CellSource>(source: &S, last: &mut Option<Pair>) -> [u8; SE
 
 // The sector of these entries.
 fn pieces_of(entries: &[Option<(Pair, Mark)>; SECTOR_ENTRIES]) -> [u8; SECTOR_SIZE]
-    ensures { (j : ℕ) (o : Option (Pair × Mark)) → slice_get entries.now j ≡ Some o → IsEntryPlace (cut result ENTRY_SIZE j) o }
+    ensures { (j : ℕ) (o : Option (Pair × Mark)) → slice_get entries.now j ≡ Some o
+        → IsEntryPlace (cut result ENTRY_SIZE j) o }
 {
     let mut bytes = zero_sector();
     for j in 0..SECTOR_ENTRIES {
@@ -183,7 +193,9 @@ fn write_all_entries<D: Device, S: CellSource>(
     requires count { count ≡ length (finite.entries (S.cells source.now).entries) }
     requires inside { image_end geometry first ≤ length (D.history device.old).disk.content }
     requires number { image_end geometry first < 2 ^ 64 }
-    ensures written { OnOk result ((i : ℕ) (e : Pair × Mark) → slice_get (finite.entries (S.cells source.now).entries) i ≡ Some e → IsEntry geometry (entry_bytes geometry (D.history device.new).disk.content first i) e) }
+    ensures written { OnOk result ((i : ℕ) (e : Pair × Mark)
+        → slice_get (finite.entries (S.cells source.now).entries) i ≡ Some e
+        → IsEntry geometry (entry_bytes geometry (D.history device.new).disk.content first i) e) }
     ensures rest { OnOk result (ZerosBehindEntries geometry first (D.history device.new).disk.content count) }
     ensures part { WritesIn (InEntries geometry first 0 count) (D.history device.old) (D.history device.new) }
     ensures counts { CountsFailure (D.failures device.old) (D.failures device.new) result }
@@ -197,8 +209,8 @@ fn write_all_entries<D: Device, S: CellSource>(
     Ok(())
 }
 
-/// Begins the image of these cells that is written part by part from sector `first` on: writes undo items and heads. That no
-/// sector is written twice is only tested.
+/// Begins the image of these cells that is written part by part from sector `first` on: writes undo items and heads.
+/// That no sector is written twice is only tested.
 pub fn write_start<D: Device, S: CellSource>(
     device: &mut D,
     geometry: Geometry,
@@ -208,17 +220,21 @@ pub fn write_start<D: Device, S: CellSource>(
     requires fits { FitsImage geometry (S.cells source.now) }
     requires inside { page_at first 0 ≤ length (D.history device.old).disk.content }
     requires number { page_at first 0 < 2 ^ 64 }
-    ensures written { OnOk result (IsImagePart geometry first (D.history device.new).disk.content 0 (record (S.cells source.now) { rows = finite.empty; entries = finite.empty })) }
-    ensures outside { SameOutside (InStart first (S.cells source.now)) (D.history device.old).disk.content (D.history device.new).disk.content }
-    ensures within { RunsWithin (λ n. InStart first (S.cells source.now) n ⊎ ((D.history device.old).disk.unsynced n ≡ true)) (D.history device.old).disk.content (D.history device.old) (D.history device.new) }
+    ensures written { OnOk result (IsImagePart geometry first (D.history device.new).disk.content 0
+        (record (S.cells source.now) { rows = finite.empty; entries = finite.empty })) }
+    ensures outside { SameOutside (InStart first (S.cells source.now)) (D.history device.old).disk.content
+        (D.history device.new).disk.content }
+    ensures within { RunsWithin (λ n. InStart first (S.cells source.now) n
+        ⊎ ((D.history device.old).disk.unsynced n ≡ true)) (D.history device.old).disk.content (D.history device.old)
+        (D.history device.new) }
     ensures counts { CountsFailure (D.failures device.old) (D.failures device.new) result }
 {
     write_lists(device, geometry, first, source)?;
     write_all_heads(device, geometry, first, source)
 }
 
-/// Writes a page of the image that begins at sector `first`, with the rows that these cells have there. That each of its
-/// sixteen sectors is written once is only tested.
+/// Writes a page of the image that begins at sector `first`, with the rows that these cells have there. That each of
+/// its sixteen sectors is written once is only tested.
 pub fn write_rows<D: Device, S: CellSource>(
     device: &mut D,
     geometry: Geometry,
@@ -230,17 +246,21 @@ pub fn write_rows<D: Device, S: CellSource>(
     requires inside { entries_at geometry first ≤ length (D.history device.old).disk.content }
     requires number { entries_at geometry first < 2 ^ 64 }
     ensures written { OnOk result (HasPage first (D.history device.new).disk.content page (S.cells source.now).rows) }
-    ensures outside { SameOutside (InPage first page) (D.history device.old).disk.content (D.history device.new).disk.content }
-    ensures within { RunsWithin (λ n. InPage first page n ⊎ ((D.history device.old).disk.unsynced n ≡ true)) (D.history device.old).disk.content (D.history device.old) (D.history device.new) }
+    ensures outside { SameOutside (InPage first page) (D.history device.old).disk.content
+        (D.history device.new).disk.content }
+    ensures within { RunsWithin (λ n. InPage first page n
+        ⊎ ((D.history device.old).disk.unsynced n ≡ true)) (D.history device.old).disk.content (D.history device.old)
+        (D.history device.new) }
     ensures counts { CountsFailure (D.failures device.old) (D.failures device.new) result }
 {
     let rows = source.page(page);
     write_page(device, geometry, first, page, &rows)
 }
 
-/// Writes the image of these cells, which record `base` left, from sector `first` on: undo items, heads, every page, the
-/// entries, and the header behind them. What is left of the sector of the last entry is zeros then (`rest`); sectors of undo
-/// items and of entries behind the last ones stay as they are (`outside`). That no sector is written twice is only tested.
+/// Writes the image of these cells, which record `base` left, from sector `first` on: undo items, heads, every page,
+/// the entries, and the header behind them. What is left of the sector of the last entry is zeros then (`rest`);
+/// sectors of undo items and of entries behind the last ones stay as they are (`outside`). That no sector is written
+/// twice is only tested.
 pub fn write_image<D: Device, S: CellSource>(
     device: &mut D,
     geometry: Geometry,
@@ -252,10 +272,15 @@ pub fn write_image<D: Device, S: CellSource>(
     requires base { base ≤ LAST_NUMBER }
     requires inside { image_end geometry first ≤ length (D.history device.old).disk.content }
     requires number { image_end geometry first < 2 ^ 64 }
-    ensures written { OnOk result (IsImage geometry first (D.history device.new).disk.content base (S.cells source.now)) }
-    ensures rest { OnOk result (ZerosBehindEntries geometry first (D.history device.new).disk.content (length (finite.entries (S.cells source.now).entries))) }
-    ensures outside { SameOutside (InImageOf geometry first (S.cells source.now)) (D.history device.old).disk.content (D.history device.new).disk.content }
-    ensures within { RunsWithin (λ n. InImageOf geometry first (S.cells source.now) n ⊎ ((D.history device.old).disk.unsynced n ≡ true)) (D.history device.old).disk.content (D.history device.old) (D.history device.new) }
+    ensures written { OnOk result (IsImage geometry first (D.history device.new).disk.content base
+        (S.cells source.now)) }
+    ensures rest { OnOk result (ZerosBehindEntries geometry first (D.history device.new).disk.content
+        (length (finite.entries (S.cells source.now).entries))) }
+    ensures outside { SameOutside (InImageOf geometry first (S.cells source.now)) (D.history device.old).disk.content
+        (D.history device.new).disk.content }
+    ensures within { RunsWithin (λ n. InImageOf geometry first (S.cells source.now) n
+        ⊎ ((D.history device.old).disk.unsynced n ≡ true)) (D.history device.old).disk.content (D.history device.old)
+        (D.history device.new) }
     ensures counts { CountsFailure (D.failures device.old) (D.failures device.new) result }
 {
     let life = source.life();

@@ -1,5 +1,6 @@
 //! Parts of an image are written, without a sync. Until a sync a sector that was written may hold anything.
-ghost use Rattle.std.specs.Prelude.{◌≡◌, ◌⊎◌, ℕ, ◌+◌, ◌*◌, ◌%◌, ◌^◌, ◌<◌, ◌≤◌, Option, true, length, slice_get, Some, OnOk};
+ghost use Rattle.std.specs.Prelude.{◌≡◌, ◌⊎◌, ℕ, ◌+◌, ◌*◌, ◌%◌, ◌^◌, ◌<◌, ◌≤◌, Option, true, length, slice_get, Some};
+ghost use Rattle.std.specs.Prelude.{OnOk};
 ghost use Rattle.sector_device.specs.Disk.{sector, SameOutside};
 ghost use Rattle.sector_device.specs.History.{RunsWithin, CountsFailure};
 ghost use Rattle.records.specs.ChangeValue.{ChangeValue};
@@ -10,8 +11,10 @@ ghost use Rattle.image_parts.specs.declared.head.Head.{Head};
 ghost use Rattle.records.specs.declared.number.TheConstants.{LAST_NUMBER};
 ghost use Rattle.image_parts.specs.Spelling.{HeadFits, head};
 ghost use Rattle.records.specs.declared.version.Version.TheVariants.{Two};
-ghost use Rattle.image_half.specs.Layout.{cut, heads_at, page_at, entries_at, image_end, page_bytes, InPage, InEntries, InList};
-ghost use Rattle.image_half.specs.Image.{IsHeader, AreHeads, HoldsList, HasEdges, IsRow, IsEntry, row_bytes, entry_bytes, ZerosBehindEntries};
+ghost use Rattle.image_half.specs.Layout.{cut, heads_at, page_at, entries_at, image_end, page_bytes, InPage, InEntries};
+ghost use Rattle.image_half.specs.Layout.{InList};
+ghost use Rattle.image_half.specs.Image.{IsHeader, AreHeads, HoldsList, HasEdges, IsRow, IsEntry, row_bytes};
+ghost use Rattle.image_half.specs.Image.{entry_bytes, ZerosBehindEntries};
 ghost use Rattle.image_half.specs.Steps.{IsEntryPlace};
 
 use crate::page::{page_at, put_rows, zero_page};
@@ -43,16 +46,18 @@ pub fn write_header<D: Device>(
     requires pages { (p : Pair) → header.now.life ≡ Life.Building (Some p) → p.rid.page < geometry.pages }
     requires inside { first < length (D.history device.old).disk.content }
     ensures written { OnOk result (IsHeader geometry (sector (D.history device.new).disk.content first) header.now) }
-    ensures outside { SameOutside (λ n. n ≡ first) (D.history device.old).disk.content (D.history device.new).disk.content }
-    ensures within { RunsWithin (λ n. (n ≡ first) ⊎ ((D.history device.old).disk.unsynced n ≡ true)) (D.history device.old).disk.content (D.history device.old) (D.history device.new) }
+    ensures outside { SameOutside (λ n. n ≡ first) (D.history device.old).disk.content
+        (D.history device.new).disk.content }
+    ensures within { RunsWithin (λ n. (n ≡ first) ⊎ ((D.history device.old).disk.unsynced n ≡ true))
+        (D.history device.old).disk.content (D.history device.old) (D.history device.new) }
     ensures counts { CountsFailure (D.failures device.old) (D.failures device.new) result }
 {
     let bytes = spell_header(header);
     device.write(first, &bytes)
 }
 
-/// Writes a page of the image that begins at sector `first`, with the rows of its slots in order, or none. That each of its
-/// sixteen sectors is written once is only tested.
+/// Writes a page of the image that begins at sector `first`, with the rows of its slots in order, or none. That each of
+/// its sixteen sectors is written once is only tested.
 pub fn write_page<D: Device>(
     device: &mut D,
     geometry: Geometry,
@@ -65,9 +70,13 @@ pub fn write_page<D: Device>(
     requires inside { entries_at geometry first ≤ length (D.history device.old).disk.content }
     requires number { entries_at geometry first < 2 ^ 64 }
     ensures edges { OnOk result (HasEdges Two (page_bytes (D.history device.new).disk.content first page)) }
-    ensures written { OnOk result ((slot : ℕ) (o : Option Row) → slice_get rows.now slot ≡ Some o → IsRow (row_bytes (D.history device.new).disk.content first page slot) o) }
-    ensures outside { SameOutside (InPage first page) (D.history device.old).disk.content (D.history device.new).disk.content }
-    ensures within { RunsWithin (λ n. InPage first page n ⊎ ((D.history device.old).disk.unsynced n ≡ true)) (D.history device.old).disk.content (D.history device.old) (D.history device.new) }
+    ensures written { OnOk result ((slot : ℕ) (o : Option Row) → slice_get rows.now slot ≡ Some o
+        → IsRow (row_bytes (D.history device.new).disk.content first page slot) o) }
+    ensures outside { SameOutside (InPage first page) (D.history device.old).disk.content
+        (D.history device.new).disk.content }
+    ensures within { RunsWithin (λ n. InPage first page n
+        ⊎ ((D.history device.old).disk.unsynced n ≡ true)) (D.history device.old).disk.content (D.history device.old)
+        (D.history device.new) }
     ensures counts { CountsFailure (D.failures device.old) (D.failures device.new) result }
 {
     let mut bytes = zero_page();
@@ -94,7 +103,8 @@ fn entry_piece(entries: &[(Pair, Mark)], i: usize) -> [u8; ENTRY_SIZE]
 // The k-th sector of these entries.
 fn entries_sector(entries: &[(Pair, Mark)], k: usize) -> [u8; SECTOR_SIZE]
     requires { ENTRIES_PER_SECTOR * k < length entries.now }
-    ensures { (j : ℕ) → j < ENTRIES_PER_SECTOR → IsEntryPlace (cut result ENTRY_SIZE j) (slice_get entries.now (ENTRIES_PER_SECTOR * k + j)) }
+    ensures { (j : ℕ) → j < ENTRIES_PER_SECTOR
+        → IsEntryPlace (cut result ENTRY_SIZE j) (slice_get entries.now (ENTRIES_PER_SECTOR * k + j)) }
 {
     let mut bytes = zero_sector();
     for j in 0..ENTRIES_PER_SECTOR as usize {
@@ -104,8 +114,9 @@ fn entries_sector(entries: &[(Pair, Mark)], k: usize) -> [u8; SECTOR_SIZE]
     bytes
 }
 
-/// Writes these entries of the image that begins at sector `first`, from the entry number `start` on, which begins a sector.
-/// What is left of the last sector behind them is zeros then (`rest`). That each sector is written once is only tested.
+/// Writes these entries of the image that begins at sector `first`, from the entry number `start` on, which begins a
+/// sector. What is left of the last sector behind them is zeros then (`rest`). That each sector is written once is only
+/// tested.
 pub fn write_entries<D: Device>(
     device: &mut D,
     geometry: Geometry,
@@ -118,10 +129,15 @@ pub fn write_entries<D: Device>(
     requires pages { (i : ℕ) (e : Pair × Mark) → slice_get entries.now i ≡ Some e → e.0.rid.page < geometry.pages }
     requires inside { image_end geometry first ≤ length (D.history device.old).disk.content }
     requires number { image_end geometry first < 2 ^ 64 }
-    ensures written { OnOk result ((i : ℕ) (e : Pair × Mark) → slice_get entries.now i ≡ Some e → IsEntry geometry (entry_bytes geometry (D.history device.new).disk.content first (start + i)) e) }
-    ensures rest { OnOk result (ZerosBehindEntries geometry first (D.history device.new).disk.content (start + length entries.now)) }
-    ensures outside { SameOutside (InEntries geometry first start (length entries.now)) (D.history device.old).disk.content (D.history device.new).disk.content }
-    ensures within { RunsWithin (λ n. InEntries geometry first start (length entries.now) n ⊎ ((D.history device.old).disk.unsynced n ≡ true)) (D.history device.old).disk.content (D.history device.old) (D.history device.new) }
+    ensures written { OnOk result ((i : ℕ) (e : Pair × Mark) → slice_get entries.now i ≡ Some e
+        → IsEntry geometry (entry_bytes geometry (D.history device.new).disk.content first (start + i)) e) }
+    ensures rest { OnOk result (ZerosBehindEntries geometry first (D.history device.new).disk.content
+        (start + length entries.now)) }
+    ensures outside { SameOutside (InEntries geometry first start (length entries.now))
+        (D.history device.old).disk.content (D.history device.new).disk.content }
+    ensures within { RunsWithin (λ n. InEntries geometry first start (length entries.now) n
+        ⊎ ((D.history device.old).disk.unsynced n ≡ true)) (D.history device.old).disk.content (D.history device.old)
+        (D.history device.new) }
     ensures counts { CountsFailure (D.failures device.old) (D.failures device.new) result }
 {
     let at = page_at(Version::Two, first, u64::from(geometry.pages))
@@ -156,24 +172,29 @@ fn heads_sector(heads: &[Head]) -> [u8; SECTOR_SIZE]
     bytes
 }
 
-/// Writes the transaction heads of the image that begins at sector `first`, of transactions in the order of their numbers.
+/// Writes the transaction heads of the image that begins at sector `first`, of transactions in the order of their
+/// numbers.
 pub fn write_heads<D: Device>(device: &mut D, first: u64, heads: &[Head]) -> Result<(), Failed>
     requires count { length heads.now ≤ TXNS_MAX }
     requires fits { (k : ℕ) (h : Head) → slice_get heads.now k ≡ Some h → HeadFits h }
-    requires rising { (k : ℕ) (a b : Head) → slice_get heads.now k ≡ Some a → slice_get heads.now (k + 1) ≡ Some b → a.txn < b.txn }
+    requires rising { (k : ℕ) (a b : Head) → slice_get heads.now k ≡ Some a → slice_get heads.now (k + 1) ≡ Some b
+        → a.txn < b.txn }
     requires inside { heads_at first < length (D.history device.old).disk.content }
     requires number { heads_at first < 2 ^ 64 }
     ensures written { OnOk result (AreHeads (sector (D.history device.new).disk.content (heads_at first)) heads.now) }
-    ensures outside { SameOutside (λ n. n ≡ heads_at first) (D.history device.old).disk.content (D.history device.new).disk.content }
-    ensures within { RunsWithin (λ n. (n ≡ heads_at first) ⊎ ((D.history device.old).disk.unsynced n ≡ true)) (D.history device.old).disk.content (D.history device.old) (D.history device.new) }
+    ensures outside { SameOutside (λ n. n ≡ heads_at first) (D.history device.old).disk.content
+        (D.history device.new).disk.content }
+    ensures within { RunsWithin (λ n. (n ≡ heads_at first)
+        ⊎ ((D.history device.old).disk.unsynced n ≡ true)) (D.history device.old).disk.content (D.history device.old)
+        (D.history device.new) }
     ensures counts { CountsFailure (D.failures device.old) (D.failures device.new) result }
 {
     let bytes = heads_sector(heads);
     device.write(first + HEADER_SECTORS, &bytes)
 }
 
-/// Writes the changes of a head, numbered from 0, as undo items of the image that begins at sector `first`, each in a sector
-/// of its own. That each sector is written once is only tested.
+/// Writes the changes of a head, numbered from 0, as undo items of the image that begins at sector `first`, each in a
+/// sector of its own. That each sector is written once is only tested.
 pub fn write_list<D: Device>(
     device: &mut D,
     geometry: Geometry,
@@ -188,8 +209,11 @@ pub fn write_list<D: Device>(
     requires inside { page_at first 0 ≤ length (D.history device.old).disk.content }
     requires number { page_at first 0 < 2 ^ 64 }
     ensures written { OnOk result (HoldsList geometry first (D.history device.new).disk.content h changes.now) }
-    ensures outside { SameOutside (InList first h (length changes.now)) (D.history device.old).disk.content (D.history device.new).disk.content }
-    ensures within { RunsWithin (λ n. InList first h (length changes.now) n ⊎ ((D.history device.old).disk.unsynced n ≡ true)) (D.history device.old).disk.content (D.history device.old) (D.history device.new) }
+    ensures outside { SameOutside (InList first h (length changes.now)) (D.history device.old).disk.content
+        (D.history device.new).disk.content }
+    ensures within { RunsWithin (λ n. InList first h (length changes.now) n
+        ⊎ ((D.history device.old).disk.unsynced n ≡ true)) (D.history device.old).disk.content (D.history device.old)
+        (D.history device.new) }
     ensures counts { CountsFailure (D.failures device.old) (D.failures device.new) result }
 {
     let at = first + HEADER_SECTORS + HEADS_SECTORS + LIST_SECTORS * h;

@@ -60,7 +60,8 @@ module _ {K X : Type 0} {R : K → K → Ordering} (o : IsExact R) where
   below_both k [] fs here there = there
   below_both k (e ∷ es) fs here there = both _ _ (first _ _ here) (below_both k es fs (second _ _ here) there)
 
-  in_order : (es fs : List (K × X)) → T (is_sorted R es) → T (is_sorted R fs) → ((p q : K) → is_some (find R p es) ≡ true → is_some (find R q fs) ≡ true → R p q ≡ Less) → T (is_sorted R (es ++ fs))
+  in_order : (es fs : List (K × X)) → T (is_sorted R es) → T (is_sorted R fs)
+      → ((p q : K) → is_some (find R p es) ≡ true → is_some (find R q fs) ≡ true → R p q ≡ Less) → T (is_sorted R (es ++ fs))
   in_order [] fs low high apart = high
   in_order (e ∷ es) fs low high apart =
       both _ _ (below_both e.0 es fs (first _ _ low) (below_each e.0 fs (λ q. apart e.0 q (head_there e es))))
@@ -73,10 +74,13 @@ module _ {K X : Type 0} {R : K → K → Ordering} (o : IsExact R) where
   either_way (Some x) (Some y) apart = absurd (apart refl refl)
 
   -- the lower map's entries come first
-  pub joined_entries : (m n : FinMap R X) → ((p q : K) (a b : X) → finite.get m p ≡ Some a → finite.get n q ≡ Some b → R p q ≡ Less) → finite.entries (joined n m) ≡ finite.entries m ++ finite.entries n
+  pub joined_entries : (m n : FinMap R X) → ((p q : K) (a b : X) → finite.get m p ≡ Some a → finite.get n q ≡ Some b → R p q ≡ Less)
+      → finite.entries (joined n m) ≡ finite.entries m ++ finite.entries n
   joined_entries m n apart =
       let es = finite.entries m ++ finite.entries n in
-      let below : (p q : K) → is_some (finite.get m p) ≡ true → is_some (finite.get n q) ≡ true → R p q ≡ Less = λ p q here there. let one = value (finite.get m p) here in let two = value (finite.get n q) there in apart p q one.0 two.0 one.1 two.1 in
+      let below : (p q : K) → is_some (finite.get m p) ≡ true → is_some (finite.get n q) ≡ true
+      → R p q ≡ Less = λ p q here there. let one = value (finite.get m p) here in let two = value (finite.get n q) there in
+      apart p q one.0 two.0 one.1 two.1 in
       let sorted : T (is_sorted R es) = in_order (finite.entries m) (finite.entries n) (entries_sorted m) (entries_sorted n)
       (λ p q here there. below p q (ap is_some (finite.get-entries m p) ∙ here) (ap is_some (finite.get-entries n q) ∙ there)) in
       ap finite.entries (alike o (joined n m) (from_sorted es) (λ q.
@@ -108,9 +112,11 @@ beyond (Some h) low high up past = by (pair_cmp low h) refl
     by Greater is = absurd (up is)
 
 -- entries of which none is past a pair, and others of which each is
-joined_past : (highest : Option Pair) (entries more : Index) → ((pair : Pair) → ¬ IsUpTo highest pair → finite.get entries pair ≡ None) → ((pair : Pair) → IsUpTo highest pair → finite.get more pair ≡ None)
+joined_past : (highest : Option Pair) (entries more : Index) → ((pair : Pair) → ¬ IsUpTo highest pair → finite.get entries pair ≡ None)
+    → ((pair : Pair) → IsUpTo highest pair → finite.get more pair ≡ None)
     → finite.entries (joined more entries) ≡ finite.entries entries ++ finite.entries more
-joined_past highest entries more rest below = joined_entries pair_exact entries more (λ low high a b here there. beyond highest low high (up low a here) (λ is. none_some b (sym (below high is) ∙ there)))
+joined_past highest entries more rest below = joined_entries pair_exact entries more (λ low high a b here there.
+    beyond highest low high (up low a here) (λ is. none_some b (sym (below high is) ∙ there)))
   where
     none_some : {X : Type 0} (x : X) → None ≢ Some x
     none_some x is = false≢true (ap is_some is)
@@ -118,10 +124,12 @@ joined_past highest entries more rest below = joined_entries pair_exact entries 
     up : (low : Pair) (a : Mark) → finite.get entries low ≡ Some a → IsUpTo highest low
     up low a here = ⊎_elim (λ is. is) (λ past. absurd (none_some a (sym (rest low past) ∙ here))) (up_to_or_not highest low)
 
-pub joined_next : (cells now : Cells) (log : List RecordValue) (m pages : ℕ) (above highest : Option Pair) (rows : Table) (entries more : Index) → IsPartlyCopied cells log m pages above rows entries → AreNextEntries now above highest more
+pub joined_next : (cells now : Cells) (log : List RecordValue) (m pages : ℕ) (above highest : Option Pair) (rows : Table) (entries more : Index)
+    → IsPartlyCopied cells log m pages above rows entries → AreNextEntries now above highest more
     → finite.entries (joined more entries) ≡ finite.entries entries ++ finite.entries more
 joined_next cells now log m pages above highest rows entries more is next = joined_past above entries more is.entries-rest next.below
 
-pub joined_last : (cells now : Cells) (log : List RecordValue) (m pages : ℕ) (above : Option Pair) (rows : Table) (entries more : Index) → IsPartlyCopied cells log m pages above rows entries → AreLastEntries now above more
+pub joined_last : (cells now : Cells) (log : List RecordValue) (m pages : ℕ) (above : Option Pair) (rows : Table) (entries more : Index)
+    → IsPartlyCopied cells log m pages above rows entries → AreLastEntries now above more
     → finite.entries (joined more entries) ≡ finite.entries entries ++ finite.entries more
 joined_last cells now log m pages above rows entries more is last = joined_past above entries more is.entries-rest last.below

@@ -26,22 +26,28 @@ records_split run m n low rise =
     ∙ take-add (m - run.last) (n - m) run.records
 
 pub reached : (run : Run) (base n : ℕ) → run.last ≤ base → base ≤ n → cells_after (cells_at run base) (records_between run base n) ≡ cells_at run n
-reached run base n low rise = sym (ap (cells_after run.cells) (records_split run base n low rise) ∙ cells_after-append run.cells (records_to run base) (records_between run base n))
+reached run base n low rise = sym (ap (cells_after run.cells) (records_split run base n low rise)
+    ∙ cells_after-append run.cells (records_to run base) (records_between run base n))
 
-pub redone : (run : Run) (base to n : ℕ) (image : Cells) → IsCopiedFrom run base to image → run.last ≤ base → base ≤ n → to ≤ n → cells_after image (records_between run base n) ≡ cells_at run n
+pub redone : (run : Run) (base to n : ℕ) (image : Cells) → IsCopiedFrom run base to image → run.last ≤ base → base ≤ n → to ≤ n
+    → cells_after image (records_between run base n) ≡ cells_at run n
 redone run base to n image copied low rise late =
     redone_image (cells_at run base) (records_above run base) (to - base) image copied (n - base) (omega arith) ∙ reached run base n low rise
 
 -- the records above a number follow what the ones before it left
-above_follow : (run : Run) (base n : ℕ) → IsRun run → run.last ≤ base → base ≤ end_of run → AreFollowing run.geometry.pages base (cells_at run base) (records_between run base n)
+above_follow : (run : Run) (base n : ℕ) → IsRun run → run.last ≤ base → base ≤ end_of run
+    → AreFollowing run.geometry.pages base (cells_at run base) (records_between run base n)
 above_follow run base n is low high =
     let size : length (records_to run base) ≡ base - run.last = omega (arith, length-take (base - run.last) run.records) in
     let number : run.last + length (records_to run base) ≡ base = omega (arith, size) in
-    let whole : AreFollowing run.geometry.pages run.last run.cells (records_to run base ++ records_above run base) = subst (AreFollowing run.geometry.pages run.last run.cells) (sym (take-append-drop (base - run.last) run.records)) is.following in
+    let whole : AreFollowing run.geometry.pages run.last run.cells (records_to run base ++ records_above run base) =
+    subst (AreFollowing run.geometry.pages run.last run.cells) (sym (take-append-drop (base - run.last) run.records)) is.following in
     let rest = following_back run.geometry.pages run.last run.cells (records_to run base) (records_above run base) whole in
     following-take run.geometry.pages base (cells_at run base) (records_above run base) (n - base)
     (subst (λ k. AreFollowing run.geometry.pages k (cells_at run base) (records_above run base)) number rest)
 
-pub redone_following : (run : Run) (base to n : ℕ) (image : Cells) → IsCopiedFrom run base to image → IsRun run → run.last ≤ base → base ≤ end_of run → AreFollowing run.geometry.pages base image (records_between run base n)
+pub redone_following : (run : Run) (base to n : ℕ) (image : Cells) → IsCopiedFrom run base to image → IsRun run → run.last ≤ base → base ≤ end_of run
+    → AreFollowing run.geometry.pages base image (records_between run base n)
 redone_following run base to n image copied is low high =
-    image_follows run.geometry.pages base (cells_at run base) (records_above run base) (to - base) image copied (records_between run base n) (above_follow run base n is low high)
+    image_follows run.geometry.pages base (cells_at run base) (records_above run base) (to - base) image copied (records_between run base n)
+    (above_follow run base n is low high)

@@ -1,5 +1,6 @@
 -- An image is copied in steps.
-use Rattle.std.proofs.Common.{◌≡◌, ◌⊎◌, inl, inr, ⊎_elim, ℕ, ◌+◌, ◌≤◌, Bool, true, false, cond, List, [], ◌∷◌, ◌++◌, take, Option, Some, None, refl, sym, ap, ◌∙◌, arith}
+use Rattle.std.proofs.Common.{◌≡◌, ◌⊎◌, inl, inr, ⊎_elim, ℕ, ◌+◌, ◌≤◌, Bool, true, false, cond, List, [], ◌∷◌, ◌++◌, take, Option, Some, None, refl, sym, ap}
+use Rattle.std.proofs.Common.{◌∙◌, arith}
 use Rattle.std.proofs.lemmas.Bool.{cases_eq, cases_lt}
 use Rattle.std.specs.FinMap as finite
 use Rattle.std.specs.FinMap.{FinMap, find}
@@ -26,7 +27,8 @@ or_else (Some x) o = Some x
 or_else None o = o
 
 module _ {K X : Type 0} {R : K → K → Ordering} (o : IsExact R) where
-  one_more : (e : K × X) (es fs : List (K × X)) (q : K) → find R q (es ++ fs) ≡ or_else (find R q es) (find R q fs) → (b : Bool) → cond b (Some e.1) (find R q (es ++ fs)) ≡ or_else (cond b (Some e.1) (find R q es)) (find R q fs)
+  one_more : (e : K × X) (es fs : List (K × X)) (q : K) → find R q (es ++ fs) ≡ or_else (find R q es) (find R q fs) → (b : Bool)
+      → cond b (Some e.1) (find R q (es ++ fs)) ≡ or_else (cond b (Some e.1) (find R q es)) (find R q fs)
   one_more e es fs q is true = refl
   one_more e es fs q is false = is
 
@@ -90,29 +92,35 @@ module _ (cells : Cells) (log : List RecordValue) (m n : ℕ) (late : m ≤ n) w
   entry_now : (pair : Pair) (mark : Option Mark) → mark ≡ finite.get now.entries pair → WasEntry cells log n pair mark
   entry_now pair mark is = (n, omega arith, is)
 
-  a_page : (page : ℕ) (highest : Option Pair) (rows more : Table) (entries : Index) → IsPartlyCopied cells log m page highest rows entries → ArePageRows now page more → IsPartlyCopied cells log n (page + 1) highest (joined more rows) entries
+  a_page : (page : ℕ) (highest : Option Pair) (rows more : Table) (entries : Index) → IsPartlyCopied cells log m page highest rows entries
+      → ArePageRows now page more → IsPartlyCopied cells log n (page + 1) highest (joined more rows) entries
   a_page page highest rows more entries is next = record {
     rows-were = λ q below. ⊎_elim
         (λ here. row_now q (finite.get (joined more rows) q) (get_first rid_exact more rows q (is.rows-rest q (omega (arith, here))) ∙ next.there q here))
-        (λ other. later_row q (finite.get rows q) (finite.get (joined more rows) q) (get_second rid_exact more rows q (next.elsewhere q other)) (is.rows-were q (omega (arith, below, other))))
+        (λ other. later_row q (finite.get rows q) (finite.get (joined more rows) q) (get_second rid_exact more rows q (next.elsewhere q other))
+        (is.rows-were q (omega (arith, below, other))))
         (cases_eq q.page page);
     rows-rest = λ q past. get_second rid_exact more rows q (next.elsewhere q (λ here. omega (arith, past, here))) ∙ is.rows-rest q (omega (arith, past));
     entries-were = λ pair up. later_entry pair (finite.get entries pair) (finite.get entries pair) refl (is.entries-were pair up);
     entries-rest = is.entries-rest;
   }
 
-  some_entries : (pages : ℕ) (above highest : Option Pair) (rows : Table) (entries more : Index) → IsPartlyCopied cells log m pages above rows entries → AreNextEntries now above highest more → IsPartlyCopied cells log n pages highest rows (joined more entries)
+  some_entries : (pages : ℕ) (above highest : Option Pair) (rows : Table) (entries more : Index) → IsPartlyCopied cells log m pages above rows entries
+      → AreNextEntries now above highest more → IsPartlyCopied cells log n pages highest rows (joined more entries)
   some_entries pages above highest rows entries more is next = record {
     rows-were = λ q below. later_row q (finite.get rows q) (finite.get rows q) refl (is.rows-were q below);
     rows-rest = is.rows-rest;
     entries-were = λ pair up. ⊎_elim
-        (λ old. later_entry pair (finite.get entries pair) (finite.get (joined more entries) pair) (get_second pair_exact more entries pair (next.below pair old)) (is.entries-were pair old))
-        (λ new. entry_now pair (finite.get (joined more entries) pair) (get_first pair_exact more entries pair (is.entries-rest pair new) ∙ next.there pair new up))
+        (λ old. later_entry pair (finite.get entries pair) (finite.get (joined more entries) pair)
+        (get_second pair_exact more entries pair (next.below pair old)) (is.entries-were pair old))
+        (λ new. entry_now pair (finite.get (joined more entries) pair) (get_first pair_exact more entries pair (is.entries-rest pair new)
+        ∙ next.there pair new up))
         (up_to_or_not above pair);
     entries-rest = λ pair past. get_second pair_exact more entries pair (next.past pair past) ∙ is.entries-rest pair (λ old. past (next.further pair old));
   }
 
-  last_entries : (pages : ℕ) (above : Option Pair) (rows : Table) (entries more : Index) → IsPartlyCopied cells log m pages above rows entries → AreLastEntries now above more → IsWithin pages cells.rows
+  last_entries : (pages : ℕ) (above : Option Pair) (rows : Table) (entries more : Index) → IsPartlyCopied cells log m pages above rows entries
+      → AreLastEntries now above more → IsWithin pages cells.rows
       → IsCopied cells log n (record { rows = rows; entries = joined more entries; pending = cells.pending; life = cells.life })
   last_entries pages above rows entries more is next within = record {
     rows = λ q. ⊎_elim
@@ -120,8 +128,10 @@ module _ (cells : Cells) (log : List RecordValue) (m n : ℕ) (late : m ≤ n) w
         (λ past. (0, omega arith, is.rows-rest q past ∙ sym (none q past (finite.get cells.rows q) refl)))
         (cases_lt q.page pages);
     entries = λ pair. ⊎_elim
-        (λ old. later_entry pair (finite.get entries pair) (finite.get (joined more entries) pair) (get_second pair_exact more entries pair (next.below pair old)) (is.entries-were pair old))
-        (λ new. entry_now pair (finite.get (joined more entries) pair) (get_first pair_exact more entries pair (is.entries-rest pair new) ∙ next.there pair new))
+        (λ old. later_entry pair (finite.get entries pair) (finite.get (joined more entries) pair)
+        (get_second pair_exact more entries pair (next.below pair old)) (is.entries-were pair old))
+        (λ new. entry_now pair (finite.get (joined more entries) pair) (get_first pair_exact more entries pair (is.entries-rest pair new)
+        ∙ next.there pair new))
         (up_to_or_not above pair);
     pending = refl;
     life = refl;
@@ -131,15 +141,18 @@ module _ (cells : Cells) (log : List RecordValue) (m n : ℕ) (late : m ≤ n) w
       none q past None is_ = is_
       none q past (Some row) is_ = absurd (omega (arith, past, within q row is_))
 
-pub page_copied : (cells : Cells) (log : List RecordValue) (m n page : ℕ) (highest : Option Pair) (rows more : Table) (entries : Index) → IsPartlyCopied cells log m page highest rows entries → m ≤ n
+pub page_copied : (cells : Cells) (log : List RecordValue) (m n page : ℕ) (highest : Option Pair) (rows more : Table) (entries : Index)
+    → IsPartlyCopied cells log m page highest rows entries → m ≤ n
     → ArePageRows (cells_after cells (take n log)) page more → IsPartlyCopied cells log n (page + 1) highest (joined more rows) entries
 page_copied cells log m n page highest rows more entries is late next = a_page cells log m n late page highest rows more entries is next
 
-pub entries_copied : (cells : Cells) (log : List RecordValue) (m n pages : ℕ) (above highest : Option Pair) (rows : Table) (entries more : Index) → IsPartlyCopied cells log m pages above rows entries → m ≤ n
+pub entries_copied : (cells : Cells) (log : List RecordValue) (m n pages : ℕ) (above highest : Option Pair) (rows : Table) (entries more : Index)
+    → IsPartlyCopied cells log m pages above rows entries → m ≤ n
     → AreNextEntries (cells_after cells (take n log)) above highest more → IsPartlyCopied cells log n pages highest rows (joined more entries)
 entries_copied cells log m n pages above highest rows entries more is late next = some_entries cells log m n late pages above highest rows entries more is next
 
-pub last_copied : (cells : Cells) (log : List RecordValue) (m n pages : ℕ) (above : Option Pair) (rows : Table) (entries more : Index) → IsPartlyCopied cells log m pages above rows entries → m ≤ n
+pub last_copied : (cells : Cells) (log : List RecordValue) (m n pages : ℕ) (above : Option Pair) (rows : Table) (entries more : Index)
+    → IsPartlyCopied cells log m pages above rows entries → m ≤ n
     → AreLastEntries (cells_after cells (take n log)) above more → IsWithin pages cells.rows
     → IsCopied cells log n (record { rows = rows; entries = joined more entries; pending = cells.pending; life = cells.life })
 last_copied cells log m n pages above rows entries more is late next within = last_entries cells log m n late pages above rows entries more is next within

@@ -30,9 +30,10 @@ IsUpTo (Some highest) pair = pair_cmp pair highest ≢ Greater
 abbrev pub joined : {K X : Type 0} {R : K → K → Ordering} → FinMap R X → FinMap R X → FinMap R X
 joined {K} {X} {R} m n = map.from_entries {R = R} (map.entries m ++ map.entries n)
 
--- Copied so far, while at most the first m records of the log were made: the rows of the first pages, and the entries up
--- to the highest pair.
-pub record IsPartlyCopied (cells : Cells) (log : List RecordValue) (m pages : ℕ) (highest : Option Pair) (rows : Table) (entries : Index) : Type 0 where
+-- Copied so far, while at most the first m records of the log were made: the rows of the first pages, and the entries
+-- up to the highest pair.
+pub record IsPartlyCopied (cells : Cells) (log : List RecordValue) (m pages : ℕ) (highest : Option Pair) (rows : Table)
+    (entries : Index) : Type 0 where
   pub rows-were : (q : Place) → q.page < pages → WasRow cells log m q (map.get rows q)
   pub rows-rest : (q : Place) → pages ≤ q.page → map.get rows q ≡ None
   pub entries-were : (pair : Pair) → IsUpTo highest pair → WasEntry cells log m pair (map.get entries pair)
@@ -46,7 +47,8 @@ pub record ArePageRows (cells : Cells) (page : ℕ) (rows : Table) : Type 0 wher
 -- the entries of these cells above one pair and up to another
 pub record AreNextEntries (cells : Cells) (above highest : Option Pair) (entries : Index) : Type 0 where
   pub further : (pair : Pair) → IsUpTo above pair → IsUpTo highest pair
-  pub there : (pair : Pair) → ¬ IsUpTo above pair → IsUpTo highest pair → map.get entries pair ≡ map.get cells.entries pair
+  pub there : (pair : Pair) → ¬ IsUpTo above pair → IsUpTo highest pair
+      → map.get entries pair ≡ map.get cells.entries pair
   pub below : (pair : Pair) → IsUpTo above pair → map.get entries pair ≡ None
   pub past : (pair : Pair) → ¬ IsUpTo highest pair → map.get entries pair ≡ None
 

@@ -44,8 +44,9 @@ pub struct Chunk<A: Allocator> {
 }
 
 impl<A: Allocator> Chunk<A> {
-    /// Where the copying of the image goes on behind this chunk, or `None` where the image is whole with it: the pages in
-    /// order, behind the last one the first entries, and behind `CHUNK_ENTRIES` entries those above the last of them.
+    /// Where the copying of the image goes on behind this chunk, or `None` where the image is whole with it: the pages
+    /// in order, behind the last one the first entries, and behind `CHUNK_ENTRIES` entries those above the last of
+    /// them.
     pub fn place_behind(&self, geometry: Geometry) -> Option<CopyPlace>
         ensures { result ≡ place_behind geometry.pages self.now.piece }
     {

@@ -1,8 +1,8 @@
 //! Images of a store that are copied in steps while records are made: what each step copies, and what the records give
 //! that are redone over such an image.
 //!
-//! Laws, and `Chunk::place_behind`, which is exact. An image that was copied in steps, with the records above its base redone over
-//! it, gives the cells that they were made in (`copied_in_steps`, `redone_image`).
+//! Laws, and `Chunk::place_behind`, which is exact. An image that was copied in steps, with the records above its base
+//! redone over it, gives the cells that they were made in (`copied_in_steps`, `redone_image`).
 #![tactic(auto)]
 
 mod chunk;

@@ -44,9 +44,11 @@ impl<A: Allocator> PageRows<A> {
         page: u32,
         slots: &[Option<Row>; ROWS_PER_PAGE],
     ) -> Result<Self, AllocError>
-        ensures there { IfOk result (λ rows. (slot : ℕ) → slot < SLOTS_PER_PAGE → slice_get slots.now slot ≡ Some (map.get rows (record { page = page; slot = slot }))) }
+        ensures there { IfOk result (λ rows. (slot : ℕ) → slot < SLOTS_PER_PAGE
+            → slice_get slots.now slot ≡ Some (map.get rows (record { page = page; slot = slot }))) }
         ensures elsewhere { IfOk result (λ rows. (q : Place) → q.page ≢ page → map.get rows q ≡ None) }
-        ensures slots { IfOk result (λ rows. (q : Place) (r : RowValue) → map.get rows q ≡ Some r → q.slot < SLOTS_PER_PAGE) }
+        ensures slots { IfOk result (λ rows. (q : Place) (r : RowValue) → map.get rows q ≡ Some r
+            → q.slot < SLOTS_PER_PAGE) }
     {
         let mut kept = Vec::with_capacity(alloc, ROWS_PER_PAGE)?;
         kept.extend_from_slice(slots)?;
@@ -65,7 +67,8 @@ impl<A: Allocator> PageRows<A> {
 
     /// The rows of a page, by their slots. `None` only where the table has none of it.
     pub fn page(&self, page: u32) -> Option<&[Option<Row>]>
-        ensures slots { IfSome result (λ rows. (slot : ℕ) → slot < SLOTS_PER_PAGE → slice_get rows.now slot ≡ Some (map.get self.now (record { page = page; slot = slot }))) }
+        ensures slots { IfSome result (λ rows. (slot : ℕ) → slot < SLOTS_PER_PAGE
+            → slice_get rows.now slot ≡ Some (map.get self.now (record { page = page; slot = slot }))) }
         ensures count { IfSome result (λ rows. length rows.now ≡ SLOTS_PER_PAGE) }
         ensures none { result ≡ None → (slot : ℕ) → map.get self.now (record { page = page; slot = slot }) ≡ None }
     {

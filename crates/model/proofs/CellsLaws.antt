@@ -11,11 +11,13 @@ use Rattle.model.specs.Cells.{Cells, cells_after, rows_after, set_by, Pending, l
 
 -- ---- records
 
-pub cells_after-append : (cells : Cells) (records later : List RecordValue) → cells_after cells (records ++ later) ≡ cells_after (cells_after cells records) later
+pub cells_after-append : (cells : Cells) (records later : List RecordValue)
+    → cells_after cells (records ++ later) ≡ cells_after (cells_after cells records) later
 cells_after-append cells [] later = refl
 cells_after-append cells (r ∷ records) later = cells_after-append (set_by cells r.action) records later
 
-pub cells_after_one_more : (cells : Cells) (records : List RecordValue) (r : RecordValue) → cells_after cells (records ++ r ∷ []) ≡ set_by (cells_after cells records) r.action
+pub cells_after_one_more : (cells : Cells) (records : List RecordValue) (r : RecordValue)
+    → cells_after cells (records ++ r ∷ []) ≡ set_by (cells_after cells records) r.action
 cells_after_one_more cells records r = cells_after-append cells records (r ∷ [])
 
 -- the rows of the cells are those that the records set, whatever the other cells are
@@ -28,20 +30,24 @@ rows-cells_after cells (r ∷ records) = rows-cells_after (set_by cells r.action
 pub list_of-with_list : (pending : Pending) (txn : ℕ) (list : Option (List ChangeValue)) → list_of (with_list pending txn list) txn ≡ unwrap_or list []
 list_of-with_list pending txn list = ap (λ o. unwrap_or o []) (get-set_at_same nat_exact pending txn list)
 
-pub list_of_other : (pending : Pending) (txn other : ℕ) (list : Option (List ChangeValue)) → other ≢ txn → list_of (with_list pending txn list) other ≡ list_of pending other
+pub list_of_other : (pending : Pending) (txn other : ℕ) (list : Option (List ChangeValue)) → other ≢ txn
+    → list_of (with_list pending txn list) other ≡ list_of pending other
 list_of_other pending txn other list apart = ap (λ o. unwrap_or o []) (get-set_at_other nat_exact pending txn list other apart)
 
 -- ---- changes taken back
 
-pub reverted_one_more : (rows : Table) (changes : List ChangeValue) (c : ChangeValue) → reverted rows (changes ++ c ∷ []) ≡ reverted (set_at rows c.rid (old_row c.rows)) changes
+pub reverted_one_more : (rows : Table) (changes : List ChangeValue) (c : ChangeValue)
+    → reverted rows (changes ++ c ∷ []) ≡ reverted (set_at rows c.rid (old_row c.rows)) changes
 reverted_one_more rows [] c = refl
 reverted_one_more rows (d ∷ changes) c = ap (λ (t : Table). set_at t d.rid (old_row d.rows)) (reverted_one_more rows changes c)
 
-pub made_and_taken : (rows : Table) (c : ChangeValue) → map.get rows c.rid ≡ old_row c.rows → set_at (set_at rows c.rid (new_row c.rows)) c.rid (old_row c.rows) ≡ rows
+pub made_and_taken : (rows : Table) (c : ChangeValue) → map.get rows c.rid ≡ old_row c.rows
+    → set_at (set_at rows c.rid (new_row c.rows)) c.rid (old_row c.rows) ≡ rows
 made_and_taken rows c was =
     set_at-again rid_exact rows c.rid (new_row c.rows) (old_row c.rows) ∙ ap (set_at rows c.rid) (sym was) ∙ set_at-get rid_exact rows c.rid
 
-pub reverted_made : (rows : Table) (changes : List ChangeValue) (c : ChangeValue) → map.get rows c.rid ≡ old_row c.rows → reverted (set_at rows c.rid (new_row c.rows)) (changes ++ c ∷ []) ≡ reverted rows changes
+pub reverted_made : (rows : Table) (changes : List ChangeValue) (c : ChangeValue) → map.get rows c.rid ≡ old_row c.rows
+    → reverted (set_at rows c.rid (new_row c.rows)) (changes ++ c ∷ []) ≡ reverted rows changes
 reverted_made rows changes c was =
     reverted_one_more (set_at rows c.rid (new_row c.rows)) changes c ∙ ap (λ (t : Table). reverted t changes) (made_and_taken rows c was)
 

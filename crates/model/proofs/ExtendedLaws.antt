@@ -15,7 +15,8 @@ use Rattle.model.specs.Extended.{extended}
 use Rattle.model.proofs.MapLaws.{get-entries}
 
 -- one more entry is set last
-pub extended_more : {K X : Type 0} {R : K → K → Ordering} (m : FinMap R X) (es : List (K × X)) (k : K) (v : X) → extended m (es ++ (k, v) ∷ []) ≡ insert (extended m es) k v
+pub extended_more : {K X : Type 0} {R : K → K → Ordering} (m : FinMap R X) (es : List (K × X)) (k : K) (v : X)
+    → extended m (es ++ (k, v) ∷ []) ≡ insert (extended m es) k v
 extended_more m [] k v = refl
 extended_more m (e ∷ es) k v = extended_more (insert m e.0 e.1) es k v
 
@@ -25,19 +26,24 @@ step false v f g h is = is
 
 module _ {K X : Type 0} (e : K → K → Bool) where
   -- what was set last, or else what was there before
-  over : (f g h : K → Option X) (xs : List (K × X)) → ((q : K) → f q ≡ option_or (g q) (h q)) → (q : K) → update_all e f xs q ≡ option_or (update_all e g xs q) (h q)
+  over : (f g h : K → Option X) (xs : List (K × X)) → ((q : K) → f q ≡ option_or (g q) (h q)) → (q : K)
+      → update_all e f xs q ≡ option_or (update_all e g xs q) (h q)
   over f g h [] is q = is q
   over f g h (p ∷ xs) is q = over (update e f p.0 (Some p.1)) (update e g p.0 (Some p.1)) h xs (λ x. step (e p.0 x) p.1 (f x) (g x) (h x) (is x)) q
 
 module _ {K X : Type 0} {R : K → K → Ordering} (o : IsExact R) where
-  get-extended : (m : FinMap R X) (f : K → Option X) (xs : List (K × X)) → ((q : K) → get m q ≡ f q) → (q : K) → get (extended m xs) q ≡ update_all (eq_by_cmp R) f xs q
+  get-extended : (m : FinMap R X) (f : K → Option X) (xs : List (K × X)) → ((q : K) → get m q ≡ f q) → (q : K)
+      → get (extended m xs) q ≡ update_all (eq_by_cmp R) f xs q
   get-extended m f [] is q = is q
   get-extended m f (p ∷ xs) is q = get-extended (insert m p.0 p.1) (update (eq_by_cmp R) f p.0 (Some p.1)) xs
-      (λ x. get-insert o.total m p.0 p.1 x ∙ ap (λ b. cond b (Some p.1) (get m x)) ((eq_by_cmp_equiv o.total).symm x p.0) ∙ ap (cond (eq_by_cmp R p.0 x) (Some p.1)) (is x)) q
+      (λ x. get-insert o.total m p.0 p.1 x ∙ ap (λ b. cond b (Some p.1) (get m x)) ((eq_by_cmp_equiv o.total).symm x p.0)
+      ∙ ap (cond (eq_by_cmp R p.0 x) (Some p.1)) (is x)) q
 
   -- a tree map to which another one is appended, which was made of these entries
-  pub extended_map : (es others fs xs : List (K × X)) → ((q : K) → lookup (is_at (R q)) others ≡ update_all (eq_by_cmp R) (λ _. None) xs q) → IsStrictlySortedBy R (keys_of others)
-      → ((q : K) → lookup (is_at (R q)) fs ≡ update_all (eq_by_cmp R) (λ x. lookup (is_at (R x)) es) others q) → from_entries {R = R} fs ≡ extended (from_entries es) xs
+  pub extended_map : (es others fs xs : List (K × X)) → ((q : K) → lookup (is_at (R q)) others ≡ update_all (eq_by_cmp R) (λ _. None) xs q)
+      → IsStrictlySortedBy R (keys_of others)
+      → ((q : K) → lookup (is_at (R q)) fs ≡ update_all (eq_by_cmp R) (λ x. lookup (is_at (R x)) es) others q)
+      → from_entries {R = R} fs ≡ extended (from_entries es) xs
   extended_map es others fs xs made sorted appended = alike o _ _ (λ q.
       let before = λ (x : K). lookup (is_at (R x)) es in
       get-entries o fs q ∙ appended q

@@ -1,5 +1,6 @@
 -- Which records can follow one another.
-use Rattle.std.proofs.Common.{refl, inl, Some, Option, is_some, false, true, Bool, None, ◌≡◌, ◌↔◌, ⊎_elim, inr, nat_lt, ℕ, ◌+◌, ◌-◌, ◌<◌, ◌≤◌, List, [], ◌∷◌, ◌++◌, length, take, drop, get_or, IsTrue, ◌==◌, sym, ap, subst, ◌∙◌, arith, length-append}
+use Rattle.std.proofs.Common.{refl, inl, Some, Option, is_some, false, true, Bool, None, ◌≡◌, ◌↔◌, ⊎_elim, inr, nat_lt, ℕ, ◌+◌, ◌-◌, ◌<◌, ◌≤◌, List, [], ◌∷◌}
+use Rattle.std.proofs.Common.{◌++◌, length, take, drop, get_or, IsTrue, ◌==◌, sym, ap, subst, ◌∙◌, arith, length-append}
 use Rattle.std.proofs.lemmas.Bool.{eq-eqb, eqb-true, ltb-true, lt-ltb, cases_lt}
 use Rattle.std.proofs.lemmas.List.{take_more, drop_more, length-take-le, take-append-drop, take-append-le}
 use Rattle.std.proofs.Math.Seq.{take-length, take-append_seam, get_or-append_seam}
@@ -20,9 +21,18 @@ last_is changes c x p some is same place =
     let n = length changes - 1 in
     let up : n + 1 ≡ length changes = omega arith in
     let parts : changes ≡ take n changes ++ c ∷ [] =
-    sym (take-length changes) ∙ ap (λ k. take k changes) (sym up) ∙ take_more changes n x (omega arith) ∙ ap (λ y. take n changes ++ y ∷ []) (sym is ∙ same) in (
+    sym (take-length changes) ∙ ap (λ k. take k changes) (sym up) ∙ take_more changes n x (omega arith)
+    ∙ ap (λ y. take n changes ++ y ∷ []) (sym is ∙ same) in (
       (λ test. (take n changes, parts, sym place ∙ eqb-true _ _ test)),
-      (λ (earlier, all, at). eq-eqb _ _ (omega (arith, place, at, ap length all, ap length parts, length-append earlier (c ∷ []), length-append (take n changes) (c ∷ [])))),
+      (λ (earlier, all, at). eq-eqb _ _ (omega (
+        arith,
+        place,
+        at,
+        ap length all,
+        ap length parts,
+        length-append earlier (c ∷ []),
+        length-append (take n changes) (c ∷ []),
+      ))),
     )
 
 pub last_is_not : (changes : List ChangeValue) (c x : ChangeValue) → x ≡ get_or changes (length changes - 1) x → ¬ (x ≡ c) → ¬ IsLastOf changes c
@@ -37,10 +47,12 @@ pub following-append : (pages last : ℕ) (cells : Cells) (records later : List 
 following-append pages last cells [] later before after = subst (λ n. AreFollowing pages n cells later) (omega arith) after
 following-append pages last cells (r ∷ records) later before after = (
   before.0,
-  following-append pages (last + 1) (set_by cells r.action) records later before.1 (subst (λ n. AreFollowing pages n (cells_after (set_by cells r.action) records) later) (omega arith) after),
+  following-append pages (last + 1) (set_by cells r.action) records later before.1
+      (subst (λ n. AreFollowing pages n (cells_after (set_by cells r.action) records) later) (omega arith) after),
 )
 
-pub following_front : (pages last : ℕ) (cells : Cells) (records later : List RecordValue) → AreFollowing pages last cells (records ++ later) → AreFollowing pages last cells records
+pub following_front : (pages last : ℕ) (cells : Cells) (records later : List RecordValue) → AreFollowing pages last cells (records ++ later)
+    → AreFollowing pages last cells records
 following_front pages last cells [] later all = tt
 following_front pages last cells (r ∷ records) later all = (all.0, following_front pages (last + 1) (set_by cells r.action) records later all.1)
 
@@ -48,7 +60,8 @@ pub following_back : (pages last : ℕ) (cells : Cells) (records later : List Re
     → AreFollowing pages (last + length records) (cells_after cells records) later
 following_back pages last cells [] later all = subst (λ n. AreFollowing pages n cells later) (omega arith) all
 following_back pages last cells (r ∷ records) later all =
-    subst (λ n. AreFollowing pages n (cells_after (set_by cells r.action) records) later) (omega arith) (following_back pages (last + 1) (set_by cells r.action) records later all.1)
+    subst (λ n. AreFollowing pages n (cells_after (set_by cells r.action) records) later) (omega arith)
+    (following_back pages (last + 1) (set_by cells r.action) records later all.1)
 
 -- one record more, at the end
 pub following_push : (pages last : ℕ) (cells : Cells) (records : List RecordValue) (r : RecordValue) → AreFollowing pages last cells records
@@ -56,11 +69,14 @@ pub following_push : (pages last : ℕ) (cells : Cells) (records : List RecordVa
 following_push pages last cells records r follow can = following-append pages last cells records (r ∷ []) follow (can, tt)
 
 -- each prefix
-pub following-take : (pages last : ℕ) (cells : Cells) (records : List RecordValue) (n : ℕ) → AreFollowing pages last cells records → AreFollowing pages last cells (take n records)
-following-take pages last cells records n follow = following_front pages last cells (take n records) (drop n records) (subst (AreFollowing pages last cells) (sym (take-append-drop n records)) follow)
+pub following-take : (pages last : ℕ) (cells : Cells) (records : List RecordValue) (n : ℕ) → AreFollowing pages last cells records
+    → AreFollowing pages last cells (take n records)
+following-take pages last cells records n follow =
+    following_front pages last cells (take n records) (drop n records) (subst (AreFollowing pages last cells) (sym (take-append-drop n records)) follow)
 
 -- where one can't follow, they are not following, whatever comes behind
-pub not_following : (pages last : ℕ) (cells : Cells) (records : List RecordValue) (n : ℕ) → IsFirstUnfit pages last cells records n → ¬ AreFollowing pages last cells records
+pub not_following : (pages last : ℕ) (cells : Cells) (records : List RecordValue) (n : ℕ) → IsFirstUnfit pages last cells records n
+    → ¬ AreFollowing pages last cells records
 not_following pages last cells records n unfit all =
     let parts = subst (AreFollowing pages last cells) unfit.all all in
     let rest = following_back pages last cells unfit.earlier (unfit.unfit ∷ unfit.later) parts in
@@ -68,7 +84,8 @@ not_following pages last cells records n unfit all =
 
 -- ---- room for a transaction
 
-pub room_test : (pending : Pending) (txn n : ℕ) → map.get pending txn ≡ None → n ≡ length (map.entries pending) → IsTrue (nat_lt n TXNS_MAX) ↔ IsAdmitted pending txn
+pub room_test : (pending : Pending) (txn n : ℕ) → map.get pending txn ≡ None → n ≡ length (map.entries pending) → IsTrue (nat_lt n TXNS_MAX)
+    ↔ IsAdmitted pending txn
 room_test pending txn n none is = (
   (λ test. inr (omega (arith, is, ltb-true _ _ test))),
   (λ room. ⊎_elim (λ some. absurd (some none)) (λ less. lt-ltb _ _ (omega (arith, less, is))) room),
@@ -126,10 +143,15 @@ front xs ys x y us vs same less =
     let n = length xs in
     let up : n + (length ys - n) ≡ length ys = omega arith in
     let taken : take n ys ≡ xs = sym (take-append-le n ys (y ∷ vs) (omega arith)) ∙ ap (take n) (sym same) ∙ take-append_seam xs (x ∷ us) in
-    let next : get_or ys n x ≡ x = sym (get_or-append ys (y ∷ vs) x n less) ∙ ap (λ (l : List RecordValue). get_or l n x) (sym same) ∙ get_or-append_seam xs x us x in
-    (drop (n + 1) ys, sym (take-append-drop n ys) ∙ ap (λ l. l ++ drop n ys) taken ∙ ap (λ l. xs ++ l) (drop_more ys n x less ∙ ap (λ r. r ∷ drop (n + 1) ys) next))
+    let next : get_or ys n x ≡ x = sym (get_or-append ys (y ∷ vs) x n less) ∙ ap (λ (l : List RecordValue). get_or l n x) (sym same)
+    ∙ get_or-append_seam xs x us x in (
+      drop (n + 1) ys,
+      sym (take-append-drop n ys) ∙ ap (λ l. l ++ drop n ys) taken
+          ∙ ap (λ l. xs ++ l) (drop_more ys n x less ∙ ap (λ r. r ∷ drop (n + 1) ys) next),
+    )
 
-not_below : (pages last : ℕ) (cells : Cells) (records : List RecordValue) (m n : ℕ) → IsFirstUnfit pages last cells records m → IsFirstUnfit pages last cells records n → ¬ (m < n)
+not_below : (pages last : ℕ) (cells : Cells) (records : List RecordValue) (m n : ℕ) → IsFirstUnfit pages last cells records m
+    → IsFirstUnfit pages last cells records n → ¬ (m < n)
 not_below pages last cells records m n p q less =
     let parts = front p.earlier q.earlier p.unfit q.unfit p.later q.later (sym p.all ∙ q.all) (omega (arith, less, p.index, q.index)) in
     not_following pages last cells q.earlier m (record {
@@ -142,7 +164,8 @@ not_below pages last cells records m n p q less =
       refused = p.refused;
     }) q.following
 
-pub one_unfit : (pages last : ℕ) (cells : Cells) (records : List RecordValue) (m n : ℕ) → IsFirstUnfit pages last cells records m → IsFirstUnfit pages last cells records n → m ≡ n
+pub one_unfit : (pages last : ℕ) (cells : Cells) (records : List RecordValue) (m n : ℕ) → IsFirstUnfit pages last cells records m
+    → IsFirstUnfit pages last cells records n → m ≡ n
 one_unfit pages last cells records m n p q =
     ⊎_elim (λ less. absurd (not_below pages last cells records m n p q less))
     (λ up. ⊎_elim (λ less. absurd (not_below pages last cells records n m q p less)) (λ down. omega (arith, up, down)) (cases_lt n m))

@@ -21,7 +21,12 @@ use Rattle.model.proofs.ImageLaws.{redone_image}
 -- without a record it is what was given
 pub given_again : (given : Given) → given_after given [] ≡ given
 given_again given =
-    λ i. record { table = all_reverted given.table (none_left i); entries = all_entries_reverted (is_indexed given.life) given.entries (none_left i); life = given.life; last = no_more i }
+    λ i. record {
+      table = all_reverted given.table (none_left i);
+      entries = all_entries_reverted (is_indexed given.life) given.entries (none_left i);
+      life = given.life;
+      last = no_more i;
+    }
   where
     none_long : (l : List (ℕ × List ChangeValue)) → length l ≡ 0 → l ≡ []
     none_long [] e = refl
@@ -34,7 +39,8 @@ given_again given =
     no_more = omega arith
 
 -- what was given is a beginning of any history from there on
-pub begins_itself : (given : Given) (items : List Item) → AreRising given.last items → ((p : Pair) → map.get given.entries p ≡ Some Live → IsPairOf given.table p) → IsBeginning given items given.last given
+pub begins_itself : (given : Given) (items : List Item) → AreRising given.last items
+    → ((p : Pair) → map.get given.entries p ≡ Some Live → IsPairOf given.table p) → IsBeginning given items given.last given
 begins_itself given items rising shown = record {
   has_floor = omega arith;
   table = ap (table_after given.table) (sym (up_to_none given.last given.last items (omega arith) rising));
@@ -43,17 +49,27 @@ begins_itself given items rising shown = record {
 }
 
 -- and stays one as the history goes on
-pub goes_further : (opening : Given) (items later : List Item) (floor : ℕ) (given : Given) → IsBeginning opening items floor given → AreRising given.last later → IsBeginning opening (items ++ later) floor given
+pub goes_further : (opening : Given) (items later : List Item) (floor : ℕ) (given : Given) → IsBeginning opening items floor given → AreRising given.last later
+    → IsBeginning opening (items ++ later) floor given
 goes_further opening items later floor given h rising =
     let same : up_to given.last (items ++ later) ≡ up_to given.last items =
-    up_to-append given.last items later ∙ ap (λ l. up_to given.last items ++ l) (up_to_none given.last given.last later (omega arith) rising) ∙ append-nil (up_to given.last items) in
-    record { has_floor = h.has_floor; table = h.table ∙ ap (table_after opening.table) (sym same); life = h.life ∙ ap (life_after opening.life) (sym same); shown = h.shown }
+    up_to-append given.last items later ∙ ap (λ l. up_to given.last items ++ l) (up_to_none given.last given.last later (omega arith) rising)
+    ∙ append-nil (up_to given.last items) in
+    record {
+      has_floor = h.has_floor;
+      table = h.table ∙ ap (table_after opening.table) (sym same);
+      life = h.life
+          ∙ ap (life_after opening.life) (sym same);
+      shown = h.shown;
+    }
 
-pub lower_floor : (opening : Given) (items : List Item) (floor lower : ℕ) (given : Given) → IsBeginning opening items floor given → lower ≤ floor → IsBeginning opening items lower given
+pub lower_floor : (opening : Given) (items : List Item) (floor lower : ℕ) (given : Given) → IsBeginning opening items floor given → lower ≤ floor
+    → IsBeginning opening items lower given
 lower_floor opening items floor lower given h le = record { has_floor = omega (arith, le, h.has_floor); table = h.table; life = h.life; shown = h.shown }
 
 -- an image with its log gives what all records up to there give
-pub image_gives : (opening : Given) (before log : List RecordValue) (m : ℕ) (image : Cells) → IsCopied (cells_after (opening_cells opening) before) log m image → (k : ℕ) → m ≤ k
+pub image_gives : (opening : Given) (before log : List RecordValue) (m : ℕ) (image : Cells) → IsCopied (cells_after (opening_cells opening) before) log m image
+    → (k : ℕ) → m ≤ k
     → recovered (cells_after image (take k log)) (opening.last + length before + length (take k log)) ≡ given_after opening (before ++ take k log)
 image_gives opening before log m image h k le =
     let cells : cells_after image (take k log) ≡ cells_after (opening_cells opening) (before ++ take k log) =
@@ -61,5 +77,6 @@ image_gives opening before log m image h k le =
     let last : opening.last + length before + length (take k log) ≡ opening.last + length (before ++ take k log) = all_of (length-append before (take k log)) in
     λ i. recovered (cells i) (last i)
   where
-    all_of : length (before ++ take k log) ≡ length before + length (take k log) → opening.last + length before + length (take k log) ≡ opening.last + length (before ++ take k log)
+    all_of : length (before ++ take k log) ≡ length before + length (take k log)
+        → opening.last + length before + length (take k log) ≡ opening.last + length (before ++ take k log)
     all_of e = omega (arith, e)

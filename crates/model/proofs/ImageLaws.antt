@@ -1,5 +1,6 @@
 -- Records that are redone over an image give the cells that they were made in.
-use Rattle.std.proofs.Common.{◌≡◌, ◌⊎◌, ◌≤◌, ◌+◌, ℕ, zero, suc, List, [], ◌∷◌, take, Option, Some, None, Bool, true, false, true≢false, inl, inr, refl, sym, ap, subst, ◌∙◌, arith}
+use Rattle.std.proofs.Common.{◌≡◌, ◌⊎◌, ◌≤◌, ◌+◌, ℕ, zero, suc, List, [], ◌∷◌, take, Option, Some, None, Bool, true, false, true≢false, inl, inr, refl, sym, ap}
+use Rattle.std.proofs.Common.{subst, ◌∙◌, arith}
 use Rattle.std.specs.Ordering.{eq_by_cmp}
 use Rattle.std.specs.declared.cmp.Ordering.{Ordering}
 use Rattle.std.specs.FinMap as map
@@ -50,9 +51,11 @@ module _ {K X : Type 0} {R : K → K → Ordering} where
     agree : (q : K) (records : List RecordValue) (m n : FinMap R X) → map.get m q ≡ map.get n q → map.get (after m records) q ≡ map.get (after n records) q
     unfolding after
     agree q [] m n e = e
-    agree q (r ∷ records) m n e = agree q records (by m r.action) (by n r.action) (elim (one r.action q) [ inl same ↦ same m n | inr stays ↦ stays m ∙ e ∙ sym (stays n) ])
+    agree q (r ∷ records) m n e = agree q records (by m r.action) (by n r.action)
+        (elim (one r.action q) [ inl same ↦ same m n | inr stays ↦ stays m ∙ e ∙ sym (stays n) ])
 
-    copied : (q : K) (log : List RecordValue) (n k : ℕ) → n ≤ k → (base image : FinMap R X) → map.get image q ≡ map.get (after base (take n log)) q → map.get (after image (take k log)) q ≡ map.get (after base (take k log)) q
+    copied : (q : K) (log : List RecordValue) (n k : ℕ) → n ≤ k → (base image : FinMap R X) → map.get image q ≡ map.get (after base (take n log)) q
+        → map.get (after image (take k log)) q ≡ map.get (after base (take k log)) q
     unfolding after
     copied q log zero k le base image e = agree q (take k log) image base e
     copied q log (suc n) zero le base image e = absurd (omega (arith, le))
@@ -111,7 +114,8 @@ same_life : (a b : Cells) (records : List RecordValue) → a.life ≡ b.life →
 same_life a b [] e = e
 same_life a b (r ∷ records) e = same_life (set_by a r.action) (set_by b r.action) records (ap (λ l. life_by l r.action) e)
 
-pub redone_image : (cells : Cells) (log : List RecordValue) (m : ℕ) (image : Cells) → IsCopied cells log m image → (k : ℕ) → m ≤ k → cells_after image (take k log) ≡ cells_after cells (take k log)
+pub redone_image : (cells : Cells) (log : List RecordValue) (m : ℕ) (image : Cells) → IsCopied cells log m image → (k : ℕ) → m ≤ k
+    → cells_after image (take k log) ≡ cells_after cells (take k log)
 redone_image cells log m image h k le =
     let rows : (cells_after image (take k log)).rows ≡ (cells_after cells (take k log)).rows = alike rid_exact _ _ row_is in
     let entries : (cells_after image (take k log)).entries ≡ (cells_after cells (take k log)).entries = alike pair_exact _ _ entry_is in
@@ -123,14 +127,16 @@ redone_image cells log m image h k le =
     row_is q =
         let at : (n : ℕ) × (n ≤ m) × (map.get image.rows q ≡ map.get (cells_after cells (take n log)).rows q) = h.rows q in
         ap (λ (m : Table). map.get m q) (rows_are image (take k log))
-        ∙ copied rows_by one_row q log at.0 k (omega (arith, at.1, le)) cells.rows image.rows (at.2 ∙ ap (λ (m : Table). map.get m q) (rows_are cells (take at.0 log)))
+        ∙ copied rows_by one_row q log at.0 k (omega (arith, at.1, le)) cells.rows image.rows (at.2
+        ∙ ap (λ (m : Table). map.get m q) (rows_are cells (take at.0 log)))
         ∙ ap (λ (m : Table). map.get m q) (sym (rows_are cells (take k log)))
 
     entry_is : (p : Pair) → map.get (cells_after image (take k log)).entries p ≡ map.get (cells_after cells (take k log)).entries p
     entry_is p =
         let at : (n : ℕ) × (n ≤ m) × (map.get image.entries p ≡ map.get (cells_after cells (take n log)).entries p) = h.entries p in
         ap (λ (m : Index). map.get m p) (entries_are image (take k log))
-        ∙ copied entries_by one_entry p log at.0 k (omega (arith, at.1, le)) cells.entries image.entries (at.2 ∙ ap (λ (m : Index). map.get m p) (entries_are cells (take at.0 log)))
+        ∙ copied entries_by one_entry p log at.0 k (omega (arith, at.1, le)) cells.entries image.entries (at.2
+        ∙ ap (λ (m : Index). map.get m p) (entries_are cells (take at.0 log)))
         ∙ ap (λ (m : Index). map.get m p) (sym (entries_are cells (take k log)))
 
 -- whether a record can follow hangs on the lists and the life alone
@@ -152,12 +158,14 @@ follows_too pages last a b r p l h = record { number = h.number; allowed = by_ac
     by_action (OfTxn txn action) h = by_txn txn action h
     by_action (OfIndex action) h = subst (λ life. CanFollowIndex pages life action) l h
 
-follow_too : (pages last : ℕ) (a b : Cells) (records : List RecordValue) → a.pending ≡ b.pending → a.life ≡ b.life → AreFollowing pages last a records → AreFollowing pages last b records
+follow_too : (pages last : ℕ) (a b : Cells) (records : List RecordValue) → a.pending ≡ b.pending → a.life ≡ b.life → AreFollowing pages last a records
+    → AreFollowing pages last b records
 follow_too pages last a b [] p l h = tt
 follow_too pages last a b (r ∷ records) p l h = (
   follows_too pages last a b r p l h.0,
   follow_too pages (last + 1) (set_by a r.action) (set_by b r.action) records (ap (λ m. pending_by m r.action) p) (ap (λ life. life_by life r.action) l) h.1,
 )
 
-pub image_follows : (pages last : ℕ) (cells : Cells) (log : List RecordValue) (m : ℕ) (image : Cells) → IsCopied cells log m image → (records : List RecordValue) → AreFollowing pages last cells records → AreFollowing pages last image records
+pub image_follows : (pages last : ℕ) (cells : Cells) (log : List RecordValue) (m : ℕ) (image : Cells) → IsCopied cells log m image
+    → (records : List RecordValue) → AreFollowing pages last cells records → AreFollowing pages last image records
 image_follows pages last cells log m image h records follow = follow_too pages last cells image records (sym h.pending) (sym h.life) follow

@@ -38,7 +38,8 @@ module _ (pages : ℕ) where
 
   -- ---- an entry
 
-  pub set_inside : (entries : Index) (p : Pair) (mark : Option Mark) → p.rid.page < pages → AreEntriesWithin pages entries → AreEntriesWithin pages (set_at entries p mark)
+  pub set_inside : (entries : Index) (p : Pair) (mark : Option Mark) → p.rid.page < pages → AreEntriesWithin pages entries
+      → AreEntriesWithin pages (set_at entries p mark)
   set_inside entries p mark inside is q there = by_key (eq_by_cmp pair_cmp q p) refl
     where
       by_key : (b : Bool) → eq_by_cmp pair_cmp q p ≡ b → q.rid.page < pages
@@ -69,23 +70,30 @@ module _ (pages : ℕ) where
       by_key true = none_here
       by_key false = some_here rid row inside
 
-  marked_inside : (entries : Index) (o : Option Pair) (mark : Mark) → IsPairHere o → AreEntriesWithin pages entries → AreEntriesWithin pages (with_entry entries o mark)
+  marked_inside : (entries : Index) (o : Option Pair) (mark : Mark) → IsPairHere o → AreEntriesWithin pages entries
+      → AreEntriesWithin pages (with_entry entries o mark)
   marked_inside entries None mark here is = is
   marked_inside entries (Some p) mark here is = set_inside entries p (Some mark) (here p refl) is
 
   -- ---- a record
 
-  entries_txn : (cells : Cells) (txn : ℕ) (action : TxnAction) → CanFollowTxn pages cells txn action → AreEntriesWithin pages cells.entries → AreEntriesWithin pages (entries_by_txn cells.entries action)
+  entries_txn : (cells : Cells) (txn : ℕ) (action : TxnAction) → CanFollowTxn pages cells txn action → AreEntriesWithin pages cells.entries
+      → AreEntriesWithin pages (entries_by_txn cells.entries action)
   entries_txn cells txn (Forward Slot c) can is = is
-  entries_txn cells txn (Forward OldEntry c) can is = marked_inside cells.entries (pair_at c.rid (old_row c.rows)) Marked (pair_here c.rid (old_row c.rows) can.0) is
-  entries_txn cells txn (Forward NewEntry c) can is = marked_inside cells.entries (pair_at c.rid (new_row c.rows)) Live (pair_here c.rid (new_row c.rows) can.0) is
+  entries_txn cells txn (Forward OldEntry c) can is =
+      marked_inside cells.entries (pair_at c.rid (old_row c.rows)) Marked (pair_here c.rid (old_row c.rows) can.0) is
+  entries_txn cells txn (Forward NewEntry c) can is =
+      marked_inside cells.entries (pair_at c.rid (new_row c.rows)) Live (pair_here c.rid (new_row c.rows) can.0) is
   entries_txn cells txn (Undo Slot c last) can is = is
-  entries_txn cells txn (Undo OldEntry c last) can is = marked_inside cells.entries (pair_at c.rid (old_row c.rows)) Live (pair_here c.rid (old_row c.rows) can.0) is
-  entries_txn cells txn (Undo NewEntry c last) can is = marked_inside cells.entries (pair_at c.rid (new_row c.rows)) Marked (pair_here c.rid (new_row c.rows) can.0) is
+  entries_txn cells txn (Undo OldEntry c last) can is =
+      marked_inside cells.entries (pair_at c.rid (old_row c.rows)) Live (pair_here c.rid (old_row c.rows) can.0) is
+  entries_txn cells txn (Undo NewEntry c last) can is =
+      marked_inside cells.entries (pair_at c.rid (new_row c.rows)) Marked (pair_here c.rid (new_row c.rows) can.0) is
   entries_txn cells txn Commit can is = is
   entries_txn cells txn End can is = is
 
-  entries_index : (cells : Cells) (action : IndexAction) → CanFollowIndex pages cells.life action → AreEntriesWithin pages cells.entries → AreEntriesWithin pages (entries_by_index cells.entries action)
+  entries_index : (cells : Cells) (action : IndexAction) → CanFollowIndex pages cells.life action → AreEntriesWithin pages cells.entries
+      → AreEntriesWithin pages (entries_by_index cells.entries action)
   entries_index cells Create can is = is
   entries_index cells (BuildPlace pair) can is = set_inside cells.entries pair (Some Live) can.0 is
   entries_index cells (BuildCheckpoint pair) can is = is
@@ -93,7 +101,8 @@ module _ (pages : ℕ) where
   entries_index cells (Clean pair) can is = set_inside cells.entries pair None can.0 is
   entries_index cells Drop can is = λ p e. absurd (e (map.get-empty pair_cmp p))
 
-  life_index : (life : Life) (action : IndexAction) → CanFollowIndex pages life action → IsLifeWithin pages life → IsLifeWithin pages (life_by_index life action)
+  life_index : (life : Life) (action : IndexAction) → CanFollowIndex pages life action → IsLifeWithin pages life
+      → IsLifeWithin pages (life_by_index life action)
   life_index life Create can is p e = absurd cc
   life_index life (BuildPlace pair) can is p e = is p e
   life_index life (BuildCheckpoint pair) can is p e = let same : pair ≡ p = cc in subst (λ (x : Pair). x.rid.page < pages) same can.0
@@ -108,27 +117,35 @@ module _ (pages : ℕ) where
   step_inside cells (OfIndex action) can is =
       record { rows = is.rows; entries = entries_index cells action can is.entries; changes = is.changes; life = life_index cells.life action can is.life }
 
-  pub after_inside : (last : ℕ) (cells : Cells) (records : List RecordValue) → AreFollowing pages last cells records → AreInside pages cells → AreInside pages (cells_after cells records)
+  pub after_inside : (last : ℕ) (cells : Cells) (records : List RecordValue) → AreFollowing pages last cells records → AreInside pages cells
+      → AreInside pages (cells_after cells records)
   after_inside last cells [] following is = is
-  after_inside last cells (r ∷ records) following is = after_inside (last + 1) (set_by cells r.action) records following.1 (step_inside cells r.action following.0.allowed is)
+  after_inside last cells (r ∷ records) following is =
+      after_inside (last + 1) (set_by cells r.action) records following.1 (step_inside cells r.action following.0.allowed is)
 
   -- ---- changes taken back
 
-  without_inside : (indexed : Bool) (entries : Index) (c : ChangeValue) → c.rid.page < pages → AreEntriesWithin pages entries → AreEntriesWithin pages (entries_without indexed entries c)
+  without_inside : (indexed : Bool) (entries : Index) (c : ChangeValue) → c.rid.page < pages → AreEntriesWithin pages entries
+      → AreEntriesWithin pages (entries_without indexed entries c)
   without_inside indexed entries c inside is =
-      marked_inside (with_entry entries (new_pair indexed c) Marked) (old_pair indexed c) Live (gone_here indexed c.rid (old_row c.rows) (new_row c.rows) inside)
+      marked_inside (with_entry entries (new_pair indexed c) Marked) (old_pair indexed c) Live
+      (gone_here indexed c.rid (old_row c.rows) (new_row c.rows) inside)
       (marked_inside entries (new_pair indexed c) Marked (gone_here indexed c.rid (new_row c.rows) (old_row c.rows) inside) is)
 
-  reverted_inside : (indexed : Bool) (entries : Index) (changes : List ChangeValue) → All Here changes → AreEntriesWithin pages entries → AreEntriesWithin pages (entries_reverted indexed entries changes)
+  reverted_inside : (indexed : Bool) (entries : Index) (changes : List ChangeValue) → All Here changes → AreEntriesWithin pages entries
+      → AreEntriesWithin pages (entries_reverted indexed entries changes)
   reverted_inside indexed entries [] here is = is
   reverted_inside indexed entries (c ∷ changes) here is =
-      without_inside indexed (entries_reverted indexed entries changes) c (All-head Here c changes here) (reverted_inside indexed entries changes (All-tail Here c changes here) is)
+      without_inside indexed (entries_reverted indexed entries changes) c (All-head Here c changes here)
+      (reverted_inside indexed entries changes (All-tail Here c changes here) is)
 
-  all_inside : (indexed : Bool) (pending : Pending) (part : List (ℕ × List ChangeValue)) (entries : Index) → ((txn : ℕ) → All Here (list_of pending txn)) → AllByRecursion (λ e. list_of pending e.0 ≡ e.1) part
+  all_inside : (indexed : Bool) (pending : Pending) (part : List (ℕ × List ChangeValue)) (entries : Index) → ((txn : ℕ) → All Here (list_of pending txn))
+      → AllByRecursion (λ e. list_of pending e.0 ≡ e.1) part
       → AreEntriesWithin pages entries → AreEntriesWithin pages (all_entries_reverted indexed entries part)
   all_inside indexed pending [] entries here names is = is
   all_inside indexed pending (e ∷ part) entries here names is =
-      all_inside indexed pending part (entries_reverted indexed entries e.1) here names.1 (reverted_inside indexed entries e.1 (All-same Here _ _ (sym names.0) (here e.0)) is)
+      all_inside indexed pending part (entries_reverted indexed entries e.1) here names.1
+      (reverted_inside indexed entries e.1 (All-same Here _ _ (sym names.0) (here e.0)) is)
 
   pub recovered_inside : (cells : Cells) (last : ℕ) → AreInside pages cells → IsGivenInside pages (recovered cells last)
   recovered_inside cells last is = record {
@@ -139,14 +156,32 @@ module _ (pages : ℕ) where
 
   -- ---- one cell
 
-  pub row_inside : (cells : Cells) (rid : Place) (row : Option Row) → rid.page < pages → AreInside pages cells → AreInside pages (record cells { rows = set_at cells.rows rid row })
-  row_inside cells rid row inside is = record { rows = set_within pages cells.rows rid row inside is.rows; entries = is.entries; changes = is.changes; life = is.life }
+  pub row_inside : (cells : Cells) (rid : Place) (row : Option Row) → rid.page < pages → AreInside pages cells
+      → AreInside pages (record cells { rows = set_at cells.rows rid row })
+  row_inside cells rid row inside is = record {
+    rows = set_within pages cells.rows rid row inside is.rows;
+    entries = is.entries;
+    changes = is.changes;
+    life = is.life;
+  }
 
-  pub entry_inside : (cells : Cells) (p : Pair) (mark : Option Mark) → p.rid.page < pages → AreInside pages cells → AreInside pages (record cells { entries = set_at cells.entries p mark })
-  entry_inside cells p mark inside is = record { rows = is.rows; entries = set_inside cells.entries p mark inside is.entries; changes = is.changes; life = is.life }
+  pub entry_inside : (cells : Cells) (p : Pair) (mark : Option Mark) → p.rid.page < pages → AreInside pages cells
+      → AreInside pages (record cells { entries = set_at cells.entries p mark })
+  entry_inside cells p mark inside is = record {
+    rows = is.rows;
+    entries = set_inside cells.entries p mark inside is.entries;
+    changes = is.changes;
+    life = is.life;
+  }
 
-  pub list_inside : (cells : Cells) (txn : ℕ) (changes : List ChangeValue) → All Here changes → AreInside pages cells → AreInside pages (record cells { pending = with_list cells.pending txn (Some changes) })
-  list_inside cells txn changes here is = record { rows = is.rows; entries = is.entries; changes = with_list_here pages cells.pending txn (Some changes) here is.changes; life = is.life }
+  pub list_inside : (cells : Cells) (txn : ℕ) (changes : List ChangeValue) → All Here changes → AreInside pages cells
+      → AreInside pages (record cells { pending = with_list cells.pending txn (Some changes) })
+  list_inside cells txn changes here is = record {
+    rows = is.rows;
+    entries = is.entries;
+    changes = with_list_here pages cells.pending txn (Some changes) here is.changes;
+    life = is.life;
+  }
 
   pub life_inside : (cells : Cells) (life : Life) → IsLifeWithin pages life → AreInside pages cells → AreInside pages (record cells { life = life })
   life_inside cells life within is = record { rows = is.rows; entries = is.entries; changes = is.changes; life = within }

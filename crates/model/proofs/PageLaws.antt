@@ -1,5 +1,6 @@
 -- The rows of a page, as they are taken from a range of the map.
-use Rattle.std.proofs.Common.{◌≡◌, ◌⊎◌, ⊎_elim, inl, inr, ℕ, ◌<◌, ◌≤◌, Bool, true, false, cond, not, ◌&&◌, List, [], ◌∷◌, length, get_or, set, replicate, Option, Some, None, arith, refl, sym, ap, ◌∙◌}
+use Rattle.std.proofs.Common.{◌≡◌, ◌⊎◌, ⊎_elim, inl, inr, ℕ, ◌<◌, ◌≤◌, Bool, true, false, cond, not, ◌&&◌, List, [], ◌∷◌, length, get_or, set, replicate}
+use Rattle.std.proofs.Common.{Option, Some, None, arith, refl, sym, ap, ◌∙◌}
 use Rattle.std.specs.declared.cmp.Ordering.{Ordering}
 use Rattle.std.specs.declared.cmp.Ordering.TheVariants.{Less, Equal, Greater}
 use Rattle.std.specs.Ordering.{nat_cmp, ordering_then, is_le, is_lt, is_gt}
@@ -34,10 +35,12 @@ abbrev pub high : ℕ → Bound Place
 high page = Included (place page 62)
 
 le_is : (a b : ℕ) → a ≤ b → is_le (nat_cmp a b) ≡ true
-le_is a b h = ⊎_elim (λ (same : a ≡ b). ap is_le (sym (nat_cmp_is a b Equal same))) (λ other. ap is_le (sym (nat_cmp_is a b Less (omega (arith, h, other))))) (cases_eq a b)
+le_is a b h = ⊎_elim (λ (same : a ≡ b). ap is_le (sym (nat_cmp_is a b Equal same))) (λ other. ap is_le (sym (nat_cmp_is a b Less (omega (arith, h, other)))))
+    (cases_eq a b)
 
 not_lt_is : (a b : ℕ) → b ≤ a → is_lt (nat_cmp a b) ≡ false
-not_lt_is a b h = ⊎_elim (λ (same : a ≡ b). ap is_lt (sym (nat_cmp_is a b Equal same))) (λ other. ap is_lt (sym (nat_cmp_is a b Greater (omega (arith, h, other))))) (cases_eq a b)
+not_lt_is a b h = ⊎_elim (λ (same : a ≡ b). ap is_lt (sym (nat_cmp_is a b Equal same))) (λ other.
+    ap is_lt (sym (nat_cmp_is a b Greater (omega (arith, h, other))))) (cases_eq a b)
 
 both : (a b : Bool) → a ≡ true → b ≡ false → (a && not b) ≡ true
 both a b h k = ap (λ x. x && not b) h ∙ ap not k
@@ -63,7 +66,8 @@ page_is page q h =
     omega (arith, above, below)
 
 -- what is found there among these entries
-found : (es : List (Place × Row)) (page slot : ℕ) → slot < 63 → lookup (is_at (rid_cmp (place page slot))) (entries_between rid_cmp (low page) (high page) es) ≡ lookup (is_at (rid_cmp (place page slot))) es
+found : (es : List (Place × Row)) (page slot : ℕ) → slot < 63
+    → lookup (is_at (rid_cmp (place page slot))) (entries_between rid_cmp (low page) (high page) es) ≡ lookup (is_at (rid_cmp (place page slot))) es
 found es page slot h =
     lookup-filter-keys (is_at (rid_cmp (place page slot))) (range_contains rid_cmp (low page) (high page)) true
     (λ k at. ap (range_contains rid_cmp (low page) (high page)) (sym (key_is rid_exact (place page slot) k at)) ∙ between page slot h) es
@@ -77,28 +81,33 @@ pub record IsRowOf (page : ℕ) (m : Table) (e : Place × Row) : Type 0 where
   pub page-is : e.0.page ≡ page
   pub there : get m e.0 ≡ Some e.1
 
-pub row_of : (es : List (Place × Row)) (m : Table) (page : ℕ) (e : Place × Row) → from_entries es ≡ m → IsInRange rid_cmp (low page) (high page) e.0 → lookup (is_at (rid_cmp e.0)) es ≡ Some e.1 → IsRowOf page m e
+pub row_of : (es : List (Place × Row)) (m : Table) (page : ℕ) (e : Place × Row) → from_entries es ≡ m → IsInRange rid_cmp (low page) (high page) e.0
+    → lookup (is_at (rid_cmp e.0)) es ≡ Some e.1 → IsRowOf page m e
 row_of es m page e is inside at = record {
   page-is = page_is page e.0 inside;
   there = ap (λ (t : Table). get t e.0) (sym is) ∙ get-entries rid_exact es e.0 ∙ at;
 }
 
-pub shown_first : (es : List (Place × Row)) (m : Table) (rest : List (Place × Row)) (page slot : ℕ) → from_entries es ≡ m → rest ≡ entries_between rid_cmp (low page) (high page) es → slot < 63
+pub shown_first : (es : List (Place × Row)) (m : Table) (rest : List (Place × Row)) (page slot : ℕ) → from_entries es ≡ m
+    → rest ≡ entries_between rid_cmp (low page) (high page) es → slot < 63
     → IsShown m rest (replicate 63 None) (place page slot)
 shown_first es m rest page slot is left h = inr (
   get_or-replicate 63 slot None None h,
-  ap (λ (t : Table). get t (place page slot)) (sym is) ∙ get-entries rid_exact es (place page slot) ∙ sym (found es page slot h) ∙ ap (lookup (is_at (rid_cmp (place page slot)))) (sym left),
+  ap (λ (t : Table). get t (place page slot)) (sym is) ∙ get-entries rid_exact es (place page slot) ∙ sym (found es page slot h)
+      ∙ ap (lookup (is_at (rid_cmp (place page slot)))) (sym left),
 )
 
 same_place : (page slot : ℕ) (q : Place) → q.page ≡ page → slot ≡ q.slot → place page slot ≡ q
 same_place page slot q p s i = record { page = sym p i; slot = s i }
 
-pub shown_next : (m : Table) (e : Place × Row) (rest : List (Place × Row)) (rows : List (Option Row)) (page slot : ℕ) → IsRowOf page m e → slot < length rows → e.0.slot < length rows
+pub shown_next : (m : Table) (e : Place × Row) (rest : List (Place × Row)) (rows : List (Option Row)) (page slot : ℕ) → IsRowOf page m e → slot < length rows
+    → e.0.slot < length rows
     → IsShown m (e ∷ rest) rows (place page slot) → IsShown m rest (set rows e.0.slot (Some e.1)) (place page slot)
 shown_next m e rest rows page slot row long fits was =
     let q = place page slot in
     ⊎_elim
-    (λ (same : slot ≡ e.0.slot). inl (get_or-set_at rows e.0.slot slot (Some e.1) None same fits ∙ sym row.there ∙ ap (get m) (sym (same_place page slot e.0 row.page-is same))))
+    (λ (same : slot ≡ e.0.slot). inl (get_or-set_at rows e.0.slot slot (Some e.1) None same fits ∙ sym row.there
+    ∙ ap (get m) (sym (same_place page slot e.0 row.page-is same))))
     (λ other.
     let stays = get_or-set_other rows e.0.slot slot (Some e.1) None other in
     let apart = other_key rid_exact q e.0 (λ is. other (ap (λ (x : Place). x.slot) is)) in
@@ -109,7 +118,8 @@ shown_next m e rest rows page slot row long fits was =
     was)
     (cases_eq slot e.0.slot)
 
-pub shown_last : (m : Table) (rest : List (Place × Row)) (rows : List (Option Row)) (q : Place) → rest ≡ [] → IsShown m rest rows q → get_or rows q.slot None ≡ get m q
+pub shown_last : (m : Table) (rest : List (Place × Row)) (rows : List (Option Row)) (q : Place) → rest ≡ [] → IsShown m rest rows q
+    → get_or rows q.slot None ≡ get m q
 shown_last m rest rows q none was = ⊎_elim
     (λ (there : get_or rows q.slot None ≡ get m q). there)
     (λ (later : (get_or rows q.slot None ≡ None) × (get m q ≡ lookup (is_at (rid_cmp q)) rest)). later.0 ∙ sym (later.1 ∙ ap (lookup (is_at (rid_cmp q))) none))

@@ -43,7 +43,8 @@ module _ (pages : ℕ) where
   reverted_within rows (c ∷ changes) here is =
       set_within (reverted rows changes) c.rid (old_row c.rows) (All-head Here c changes here) (reverted_within rows changes (All-tail Here c changes here) is)
 
-  all_reverted_within : (pending : Pending) (part : List (ℕ × List ChangeValue)) (rows : Table) → AreHere pending → AllByRecursion (λ e. list_of pending e.0 ≡ e.1) part → IsWithin pages rows
+  all_reverted_within : (pending : Pending) (part : List (ℕ × List ChangeValue)) (rows : Table) → AreHere pending
+      → AllByRecursion (λ e. list_of pending e.0 ≡ e.1) part → IsWithin pages rows
       → IsWithin pages (all_reverted rows part)
   all_reverted_within pending [] rows here names is = is
   all_reverted_within pending (e ∷ part) rows here names is =
@@ -54,7 +55,8 @@ module _ (pages : ℕ) where
 
   -- ---- a record
 
-  rows_by_txn_within : (cells : Cells) (txn : ℕ) (action : TxnAction) → CanFollowTxn pages cells txn action → IsWithin pages cells.rows → IsWithin pages (rows_by_txn cells.rows action)
+  rows_by_txn_within : (cells : Cells) (txn : ℕ) (action : TxnAction) → CanFollowTxn pages cells txn action → IsWithin pages cells.rows
+      → IsWithin pages (rows_by_txn cells.rows action)
   rows_by_txn_within cells txn (Forward Slot c) can is = set_within cells.rows c.rid (new_row c.rows) can.0 is
   rows_by_txn_within cells txn (Forward OldEntry c) can is = is
   rows_by_txn_within cells txn (Forward NewEntry c) can is = is
@@ -68,13 +70,15 @@ module _ (pages : ℕ) where
   taken_here changes true here = All-take Here _ changes here
   taken_here changes false here = here
 
-  list_here : (cells : Cells) (txn : ℕ) (action : TxnAction) (changes : List ChangeValue) → CanFollowTxn pages cells txn action → All Here changes → All Here (unwrap_or (list_by changes action) [])
+  list_here : (cells : Cells) (txn : ℕ) (action : TxnAction) (changes : List ChangeValue) → CanFollowTxn pages cells txn action → All Here changes
+      → All Here (unwrap_or (list_by changes action) [])
   list_here cells txn (Forward part c) changes can here = All-append Here _ _ (All-take Here c.position changes here) (All-cons Here c [] can.0 (All-nil Here))
   list_here cells txn (Undo part c last) changes can here = taken_here changes last here
   list_here cells txn Commit changes can here = All-nil Here
   list_here cells txn End changes can here = All-nil Here
 
-  pub with_list_here : (pending : Pending) (txn : ℕ) (list : Option (List ChangeValue)) → All Here (unwrap_or list []) → AreHere pending → AreHere (with_list pending txn list)
+  pub with_list_here : (pending : Pending) (txn : ℕ) (list : Option (List ChangeValue)) → All Here (unwrap_or list []) → AreHere pending
+      → AreHere (with_list pending txn list)
   with_list_here pending txn list new here other =
       elim (cases_eq other txn) [
         | inl is ↦ subst (λ n. All Here (list_of (with_list pending txn list) n)) (sym is) (All-same Here _ _ (list_of-with_list pending txn list) new)

@@ -11,7 +11,8 @@ use Rattle.records.specs.declared.record.Part.TheVariants.{Slot, OldEntry, NewEn
 use Rattle.records.specs.declared.record.TxnAction.{TxnAction}
 use Rattle.records.specs.declared.record.TxnAction.TheVariants.{Forward, Undo, Commit, End}
 use Rattle.records.specs.declared.record.IndexAction.{IndexAction}
-use Rattle.records.specs.declared.record.IndexAction.TheVariants.{Create, BuildPlace, BuildCheckpoint, BuildDone, Clean, Drop}
+use Rattle.records.specs.declared.record.IndexAction.TheVariants.{Create, BuildPlace, BuildCheckpoint, BuildDone, Clean}
+use Rattle.records.specs.declared.record.IndexAction.TheVariants.{Drop}
 use Rattle.records.specs.declared.record.Action.{Action}
 use Rattle.records.specs.declared.record.Action.TheVariants.{OfTxn, OfIndex}
 use Rattle.model.specs.declared.life.Life.{Life}
@@ -38,10 +39,13 @@ AllowsPart life Slot = Unit {0}
 AllowsPart life OldEntry = life ≢ Absent
 AllowsPart life NewEntry = life ≢ Absent
 
--- a transaction's record that may come: of a page of the store, a part that there is, and the next or the last change of its list
+-- a transaction's record that may come: of a page of the store, a part that there is, and the next or the last change
+-- of its list
 abbrev pub CanFollowTxn : ℕ → Cells → ℕ → TxnAction → Type 0
-CanFollowTxn pages cells txn (Forward part c) = (c.rid.page < pages) × AllowsPart cells.life part × IsNextOn (list_of cells.pending txn) c × IsAdmitted cells.pending txn
-CanFollowTxn pages cells txn (Undo part c last) = (c.rid.page < pages) × AllowsPart cells.life part × IsLastOf (list_of cells.pending txn) c
+CanFollowTxn pages cells txn (Forward part c) = (c.rid.page < pages) × AllowsPart cells.life part
+    × IsNextOn (list_of cells.pending txn) c × IsAdmitted cells.pending txn
+CanFollowTxn pages cells txn (Undo part c last) = (c.rid.page < pages) × AllowsPart cells.life part
+    × IsLastOf (list_of cells.pending txn) c
 CanFollowTxn pages cells txn Commit = Unit {0}
 CanFollowTxn pages cells txn End = Unit {0}
 
@@ -71,7 +75,8 @@ pub record CanFollow (pages last : ℕ) (cells : Cells) (r : RecordValue) : Type
 -- each record can follow the one before, the first of them the record `last`, which left these cells
 abbrev pub AreFollowing : ℕ → ℕ → Cells → List RecordValue → Type 0
 AreFollowing pages last cells [] = Unit {0}
-AreFollowing pages last cells (r ∷ records) = CanFollow pages last cells r × AreFollowing pages (last + 1) (set_by cells r.action) records
+AreFollowing pages last cells (r ∷ records) = CanFollow pages last cells r
+    × AreFollowing pages (last + 1) (set_by cells r.action) records
 
 -- the record at index n, from 0, is the first that can't follow the ones before it
 pub record IsFirstUnfit (pages last : ℕ) (cells : Cells) (records : List RecordValue) (n : ℕ) : Type 0 where
@@ -87,7 +92,8 @@ pub record IsFirstUnfit (pages last : ℕ) (cells : Cells) (records : List Recor
 abbrev pub IsWithin : ℕ → Table → Type 0
 IsWithin pages rows = (q : Place) (row : Row) → finite.get rows q ≡ Some row → q.page < pages
 
--- each of these changes has its place on the list as its position, the first of them n, and is of a row on one of so many pages
+-- each of these changes has its place on the list as its position, the first of them n, and is of a row on one of so
+-- many pages
 abbrev pub ArePlaced : ℕ → ℕ → List ChangeValue → Type 0
 ArePlaced pages n [] = Unit {0}
 ArePlaced pages n (c ∷ changes) = (c.position ≡ n) × (c.rid.page < pages) × ArePlaced pages (n + 1) changes

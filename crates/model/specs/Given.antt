@@ -28,7 +28,8 @@ nothing = record { table = map.empty; entries = map.empty; life = Absent; last =
 
 -- of one change: the pair that it put is marked, and then the one that it marked is put
 abbrev pub entries_without : Bool → Index → ChangeValue → Index
-entries_without indexed entries c = with_entry (with_entry entries (new_pair indexed c) Marked) (old_pair indexed c) Live
+entries_without indexed entries c = with_entry (with_entry entries (new_pair indexed c) Marked)
+    (old_pair indexed c) Live
 
 -- the last of these changes first
 abbrev pub entries_reverted : Bool → Index → List ChangeValue → Index
@@ -38,7 +39,8 @@ entries_reverted indexed entries (c ∷ changes) = entries_without indexed (entr
 -- one transaction after the other
 abbrev pub all_entries_reverted : Bool → Index → List (ℕ × List ChangeValue) → Index
 all_entries_reverted indexed entries [] = entries
-all_entries_reverted indexed entries (txn ∷ txns) = all_entries_reverted indexed (entries_reverted indexed entries txn.1) txns
+all_entries_reverted indexed entries (txn ∷ txns) =
+    all_entries_reverted indexed (entries_reverted indexed entries txn.1) txns
 
 -- the entries with every unfinished transaction taken back, in the order of their numbers
 abbrev pub recovered_entries : Cells → Index
@@ -46,7 +48,12 @@ recovered_entries cells = all_entries_reverted (is_indexed cells.life) cells.ent
 
 -- what is recovered of these cells, which records up to this number left
 abbrev pub recovered : Cells → ℕ → Given
-recovered cells last = record { table = recovered_rows cells; entries = recovered_entries cells; life = cells.life; last = last }
+recovered cells last = record {
+  table = recovered_rows cells;
+  entries = recovered_entries cells;
+  life = cells.life;
+  last = last;
+}
 
 -- the cells of what was given, with no transaction
 abbrev pub opening_cells : Given → Cells

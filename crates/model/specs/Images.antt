@@ -6,10 +6,11 @@ use Rattle.records.specs.Values.{Place}
 use Rattle.records.specs.declared.pair.Pair.{Pair}
 use Rattle.model.specs.Cells.{Cells, cells_after}
 
--- Since these cells stood the records of the log were made. The image has the lists and the life of these cells, and each row
--- and each entry as it was when some of the records were made, at most the first m.
+-- Since these cells stood the records of the log were made. The image has the lists and the life of these cells, and
+-- each row and each entry as it was when some of the records were made, at most the first m.
 pub record IsCopied (cells : Cells) (log : List RecordValue) (m : ℕ) (image : Cells) : Type 0 where
   pub pending : image.pending ≡ cells.pending
   pub life : image.life ≡ cells.life
   pub rows : (q : Place) → (n : ℕ) × (n ≤ m) × (map.get image.rows q ≡ map.get (cells_after cells (take n log)).rows q)
-  pub entries : (p : Pair) → (n : ℕ) × (n ≤ m) × (map.get image.entries p ≡ map.get (cells_after cells (take n log)).entries p)
+  pub entries : (p : Pair) → (n : ℕ) × (n ≤ m)
+      × (map.get image.entries p ≡ map.get (cells_after cells (take n log)).entries p)

@@ -46,7 +46,12 @@ pub struct Recovered<A: Allocator> {
 impl<A: Allocator + Copy> CellMaps<A> {
     /// No row, no entry, no transaction and no index.
     pub fn new(alloc: A) -> Self
-        ensures { cells_of result ≡ record { rows = map.empty; entries = map.empty; pending = map.empty; life = Life.Absent } }
+        ensures { cells_of result ≡ record {
+          rows = map.empty;
+          entries = map.empty;
+          pending = map.empty;
+          life = Life.Absent;
+        } }
     {
         CellMaps {
             rows: RowMap::new(alloc),
@@ -165,8 +170,8 @@ impl<A: Allocator + Copy> CellMaps<A> {
         Ok(Redone::All(self))
     }
 
-    /// What is recovered of the cells, which records up to the number `last` left: every unfinished transaction is taken
-    /// back, in the order of their numbers.
+    /// What is recovered of the cells, which records up to the number `last` left: every unfinished transaction is
+    /// taken back, in the order of their numbers.
     pub fn recover(self, last: u64) -> Result<Recovered<A>, AllocError>
         ensures { IfOk result (λ found. given_of found ≡ recovered (cells_of self) last) }
     {

@@ -1,9 +1,9 @@
 //! The definitions that several crates speak of, with a plain program over maps
 //! that computes them: a restart runs on it, and its maps give images their cells.
 //!
-//! Proved: each function of the plain program has the definition as its exact contract (`CellMaps::redo`, `follow`, `recover`,
-//! `RowMap::redo_all`); want of memory leaves a map as it was (`err`). Laws: `beginnings` (what a store gives is a
-//! prefix of a history, and stays one), `copied_image`, `following_records`, `inside_pages`.
+//! Proved: each function of the plain program has the definition as its exact contract (`CellMaps::redo`, `follow`,
+//! `recover`, `RowMap::redo_all`); want of memory leaves a map as it was (`err`). Laws: `beginnings` (what a store
+//! gives is a prefix of a history, and stays one), `copied_image`, `following_records`, `inside_pages`.
 #![tactic(auto)]
 
 mod cell_maps;

@@ -4,7 +4,8 @@ ghost use Rattle.model.specs.Pairs as pairs;
 
 use records::{Change, Pair, Rid, Row};
 
-// The pair that goes as the row at this place is replaced: none without an index, without a row, or where the key stays.
+// The pair that goes as the row at this place is replaced: none without an index, without a row, or where the key
+// stays.
 #[tactic(auto, using(crate::proofs::PairLaws::key_test))]
 fn gone(indexed: bool, rid: Rid, row: Option<Row>, other: Option<Row>) -> Option<Pair>
     ensures { result ≡ pairs.gone indexed rid row other }

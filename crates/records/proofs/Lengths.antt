@@ -15,7 +15,8 @@ use Rattle.records.specs.declared.record.IndexAction.{IndexAction}
 use Rattle.records.specs.declared.record.IndexAction.TheVariants.{Create, BuildPlace, BuildCheckpoint, BuildDone, Clean, Drop}
 use Rattle.records.specs.declared.record.Action.{Action}
 use Rattle.records.specs.declared.record.Action.TheVariants.{OfTxn, OfIndex}
-use Rattle.records.specs.Spelling.{short, rid, row, change, pair, flag, u16, u32, u64, old_row, new_row, txn_fields, index_fields, txn_of, fields_of, spelling, RowFits, RowsFit, PairFits, TxnActionFits, IndexActionFits, ActionFits, Fits}
+use Rattle.records.specs.Spelling.{short, rid, row, change, pair, flag, u16, u32, u64, old_row, new_row, txn_fields, index_fields, txn_of, fields_of, spelling}
+use Rattle.records.specs.Spelling.{RowFits, RowsFit, PairFits, TxnActionFits, IndexActionFits, ActionFits, Fits}
 use Rattle.records.proofs.Sizes.{length-u16, length-u32, length-u64, length-flag}
 
 row_most : (r : Row) → RowFits r → length (row (Some r)) ≤ 3 + KEY_MAX + BODY_MAX
@@ -72,7 +73,13 @@ some_fields (OfTxn txn action) = some_txn action
 some_fields (OfIndex action) = some_index action
 
 numbers : (r : RecordValue) → length (spelling r) ≡ 16 + length (fields_of r.action)
-numbers r = omega (arith, length-append (u64 r.number) (u64 (txn_of r.action) ++ fields_of r.action), length-append (u64 (txn_of r.action)) (fields_of r.action), length-u64 r.number, length-u64 (txn_of r.action))
+numbers r = omega (
+  arith,
+  length-append (u64 r.number) (u64 (txn_of r.action) ++ fields_of r.action),
+  length-append (u64 (txn_of r.action)) (fields_of r.action),
+  length-u64 r.number,
+  length-u64 (txn_of r.action),
+)
 
 pub spelling_most : (r : RecordValue) → Fits r → length (spelling r) ≤ RECORD_MAX
 spelling_most r fits = omega (arith, numbers r, fields_most r.action fits.action)

@@ -1,5 +1,6 @@
 -- Records that are read are those that were written, and what was written is read again.
-use Rattle.std.proofs.Common.{◌≡◌, ℕ, zero, suc, ◌-◌, ◌^◌, ◌<◌, ◌≤◌, Bool, true, false, cond, ltb, eqb, List, [], ◌∷◌, ◌++◌, length, take, Option, Some, None, refl, sym, ap, subst, ◌∙◌, append_assoc, arith, inl, inr, IsTrue, length-append}
+use Rattle.std.proofs.Common.{◌≡◌, ℕ, zero, suc, ◌-◌, ◌^◌, ◌<◌, ◌≤◌, Bool, true, false, cond, ltb, eqb, List, [], ◌∷◌, ◌++◌, length, take, Option, Some, None}
+use Rattle.std.proofs.Common.{refl, sym, ap, subst, ◌∙◌, append_assoc, arith, inl, inr, IsTrue, length-append}
 use Rattle.std.specs.Prelude.{IfSome, IfNone}
 use Rattle.std.specs.Option.{option_map}
 use Rattle.std.proofs.lemmas.Bool.{ltb-false, le-ltb, ltb-true, lt-ltb, eqb-true}
@@ -20,8 +21,10 @@ use Rattle.records.specs.declared.record.IndexAction.{IndexAction}
 use Rattle.records.specs.declared.record.IndexAction.TheVariants.{Create, BuildPlace, BuildCheckpoint, BuildDone, Clean, Drop}
 use Rattle.records.specs.declared.record.Action.{Action}
 use Rattle.records.specs.declared.record.Action.TheVariants.{OfTxn, OfIndex}
-use Rattle.records.specs.Spelling.{rid, row, change, pair, u64, old_row, new_row, RowsFit, ChangeFits, PairFits, TxnActionFits, IndexActionFits, ActionFits, flag, forward_kind, undo_kind, txn_fields, index_fields, txn_of, fields_of, spelling, Fits}
-use Rattle.records.specs.Reading.{◌>>=◌, u64_at, byte_at, rid_at, row_at, rows_of, change_at, pair_at, flag_at, part_at, forward_at, undo_at, txn_action_at, index_action_at, action_at, numbered, record_at}
+use Rattle.records.specs.Spelling.{rid, row, change, pair, u64, old_row, new_row, RowsFit, ChangeFits, PairFits, TxnActionFits, IndexActionFits, ActionFits}
+use Rattle.records.specs.Spelling.{flag, forward_kind, undo_kind, txn_fields, index_fields, txn_of, fields_of, spelling, Fits}
+use Rattle.records.specs.Reading.{◌>>=◌, u64_at, byte_at, rid_at, row_at, rows_of, change_at, pair_at, flag_at, part_at, forward_at, undo_at, txn_action_at}
+use Rattle.records.specs.Reading.{index_action_at, action_at, numbered, record_at}
 use Rattle.records.proofs.Steps.{IsBytes, IsBytes-rest, bind_some, passed_not, passed, chosen, some, some_is, by_kind, Takes, Takes-then, Takes-cons}
 use Rattle.records.proofs.Fields.{u64_takes, u64_again, rid_takes, rid_again, RowFitsIfSome, row_takes, row_again, pair_takes, pair_again}
 
@@ -37,7 +40,8 @@ both_rows : (old new : Option Row) (rows : Rows) → RowFitsIfSome old → RowFi
 both_rows None None rows p q e = absurd cc
 both_rows None (Some n) rows p q e = subst (BothRows None (Some n)) (some_is (Inserted n) rows e) (record { old-is = refl; new-is = refl; fits = q })
 both_rows (Some o) None rows p q e = subst (BothRows (Some o) None) (some_is (Deleted o) rows e) (record { old-is = refl; new-is = refl; fits = p })
-both_rows (Some o) (Some n) rows p q e = subst (BothRows (Some o) (Some n)) (some_is (Updated o n) rows e) (record { old-is = refl; new-is = refl; fits = (p, q) })
+both_rows (Some o) (Some n) rows p q e = subst (BothRows (Some o) (Some n)) (some_is (Updated o n) rows e)
+    (record { old-is = refl; new-is = refl; fits = (p, q) })
 
 rows_again : (rows : Rows) → rows_of (old_row rows) (new_row rows) ≡ Some rows
 rows_again (Inserted new) = refl
@@ -54,14 +58,19 @@ new_fits (Inserted new) h = h
 new_fits (Deleted old) h = tt
 new_fits (Updated old new) h = h.1
 
-pub change_takes : (bytes : List ℕ) (c : ChangeValue) (rest : List ℕ) → IsBytes bytes → change_at bytes ≡ Some (c, rest) → Takes bytes (change c) rest × ChangeFits c
+pub change_takes : (bytes : List ℕ) (c : ChangeValue) (rest : List ℕ) → IsBytes bytes → change_at bytes ≡ Some (c, rest) → Takes bytes (change c) rest
+    × ChangeFits c
 unfolding change_at byte_at
 change_takes [] c rest fits e = absurd cc
 change_takes (position ∷ bs) c rest fits e =
-    let p = bind_some (rid_at bs) (λ place. row_at place.1 >>= λ old. row_at old.1 >>= λ new. rows_of old.0 new.0 >>= λ rows. cond (ltb position CHANGES_MAX) (Some (record { position = position; rid = place.0; rows = rows }, new.1)) None) (c, rest) e in
-    let o = bind_some (row_at p.0.1) (λ old. row_at old.1 >>= λ new. rows_of old.0 new.0 >>= λ rows. cond (ltb position CHANGES_MAX) (Some (record { position = position; rid = p.0.0; rows = rows }, new.1)) None) (c, rest) p.2 in
-    let n = bind_some (row_at o.0.1) (λ new. rows_of o.0.0 new.0 >>= λ rows. cond (ltb position CHANGES_MAX) (Some (record { position = position; rid = p.0.0; rows = rows }, new.1)) None) (c, rest) o.2 in
-    let r = bind_some (rows_of o.0.0 n.0.0) (λ rows. cond (ltb position CHANGES_MAX) (Some (record { position = position; rid = p.0.0; rows = rows }, n.0.1)) None) (c, rest) n.2 in
+    let p = bind_some (rid_at bs) (λ place. row_at place.1 >>= λ old. row_at old.1 >>= λ new. rows_of old.0 new.0 >>= λ rows.
+    cond (ltb position CHANGES_MAX) (Some (record { position = position; rid = place.0; rows = rows }, new.1)) None) (c, rest) e in
+    let o = bind_some (row_at p.0.1) (λ old. row_at old.1 >>= λ new. rows_of old.0 new.0 >>= λ rows.
+    cond (ltb position CHANGES_MAX) (Some (record { position = position; rid = p.0.0; rows = rows }, new.1)) None) (c, rest) p.2 in
+    let n = bind_some (row_at o.0.1) (λ new. rows_of o.0.0 new.0 >>= λ rows.
+    cond (ltb position CHANGES_MAX) (Some (record { position = position; rid = p.0.0; rows = rows }, new.1)) None) (c, rest) o.2 in
+    let r = bind_some (rows_of o.0.0 n.0.0) (λ rows. cond (ltb position CHANGES_MAX)
+    (Some (record { position = position; rid = p.0.0; rows = rows }, n.0.1)) None) (c, rest) n.2 in
     let made : ChangeValue = record { position = position; rid = p.0.0; rows = r.0 } in
     let g = passed (ltb position CHANGES_MAX) (Some (made, n.0.1)) (c, rest) r.2 in
     let first = rid_takes bs p.0.0 p.0.1 (IsBytes-rest position bs fits) p.1 in
@@ -81,9 +90,16 @@ change_again c rest fits =
     let o = old_row c.rows in
     let n = new_row c.rows in
     let regroup : change c ++ rest ≡ c.position ∷ (rid c.rid ++ (row o ++ (row n ++ rest))) =
-    ap (λ (t : List ℕ). c.position ∷ t) (append_assoc (rid c.rid) (row o ++ row n) rest ∙ ap (λ (t : List ℕ). rid c.rid ++ t) (append_assoc (row o) (row n) rest)) in
+    ap (λ (t : List ℕ). c.position ∷ t) (append_assoc (rid c.rid) (row o ++ row n) rest
+    ∙ ap (λ (t : List ℕ). rid c.rid ++ t) (append_assoc (row o) (row n) rest)) in
     let low : ltb c.position CHANGES_MAX ≡ true = lt-ltb _ _ fits.position in
-    ap change_at regroup ∙ rw (rid_again c.rid (row o ++ (row n ++ rest)) fits.rid, row_again o (row n ++ rest) (old_fits c.rows fits.rows), row_again n rest (new_fits c.rows fits.rows), rows_again c.rows, low) refl
+    ap change_at regroup ∙ rw (
+      rid_again c.rid (row o ++ (row n ++ rest)) fits.rid,
+      row_again o (row n ++ rest) (old_fits c.rows fits.rows),
+      row_again n rest (new_fits c.rows fits.rows),
+      rows_again c.rows,
+      low,
+    ) refl
 
 -- ---- the parts of an action
 
@@ -91,9 +107,11 @@ flag_takes : (bytes : List ℕ) (last : Bool) (rest : List ℕ) → IsBytes byte
 unfolding flag_at
 flag_takes [] last rest fits e = absurd cc
 flag_takes (zero ∷ bytes) last rest fits e =
-    subst (λ (x : Bool × List ℕ). Takes (0 ∷ bytes) (flag x.0) x.1) (some_is (false, bytes) (last, rest) e) (record { parts = refl; rest_fits = IsBytes-rest 0 bytes fits })
+    subst (λ (x : Bool × List ℕ). Takes (0 ∷ bytes) (flag x.0) x.1) (some_is (false, bytes) (last, rest) e)
+    (record { parts = refl; rest_fits = IsBytes-rest 0 bytes fits })
 flag_takes (suc zero ∷ bytes) last rest fits e =
-    subst (λ (x : Bool × List ℕ). Takes (1 ∷ bytes) (flag x.0) x.1) (some_is (true, bytes) (last, rest) e) (record { parts = refl; rest_fits = IsBytes-rest 1 bytes fits })
+    subst (λ (x : Bool × List ℕ). Takes (1 ∷ bytes) (flag x.0) x.1) (some_is (true, bytes) (last, rest) e)
+    (record { parts = refl; rest_fits = IsBytes-rest 1 bytes fits })
 flag_takes (suc (suc b) ∷ bytes) last rest fits e = absurd cc
 
 flag_again : (last : Bool) (rest : List ℕ) → flag_at (flag last ++ rest) ≡ Some (last, rest)
@@ -107,7 +125,8 @@ record TakesPart (part : Part) (bytes : List ℕ) (c : ChangeValue) (rest : List
   pub fits : ChangeFits c
   pub has : IsTrue (has_part part c.rows)
 
-part_takes : (part : Part) (bytes : List ℕ) (c : ChangeValue) (rest : List ℕ) → IsBytes bytes → part_at part bytes ≡ Some (c, rest) → TakesPart part bytes c rest
+part_takes : (part : Part) (bytes : List ℕ) (c : ChangeValue) (rest : List ℕ) → IsBytes bytes → part_at part bytes ≡ Some (c, rest)
+    → TakesPart part bytes c rest
 unfolding part_at
 part_takes part bytes c rest fits e =
     let b = bind_some (change_at bytes) (λ c. cond (has_part part c.0.rows) (Some (c.0, c.1)) None) (c, rest) e in
@@ -127,7 +146,8 @@ record TakesTxn (bytes : List ℕ) (kind : ℕ) (action : TxnAction) (rest : Lis
   pub rows : IsTrue (txn_has_rows action)
   pub fits : TxnActionFits action
 
-forward_takes : (part : Part) (bytes : List ℕ) (a : TxnAction) (rest : List ℕ) → IsBytes bytes → forward_at part bytes ≡ Some (a, rest) → TakesTxn bytes (forward_kind part) a rest
+forward_takes : (part : Part) (bytes : List ℕ) (a : TxnAction) (rest : List ℕ) → IsBytes bytes → forward_at part bytes ≡ Some (a, rest)
+    → TakesTxn bytes (forward_kind part) a rest
 unfolding forward_at
 forward_takes part bytes a rest fits e =
     let b = bind_some (part_at part bytes) (λ c. Some (Forward part c.0, c.1)) (a, rest) e in
@@ -135,7 +155,8 @@ forward_takes part bytes a rest fits e =
     subst (λ (x : TxnAction × List ℕ). TakesTxn bytes (forward_kind part) x.0 x.1) (some_is (Forward part b.0.0, b.0.1) (a, rest) b.2)
     (record { taken = Takes-cons (forward_kind part) bytes (change b.0.0) b.0.1 t.taken; rows = t.has; fits = t.fits })
 
-undo_takes : (part : Part) (bytes : List ℕ) (a : TxnAction) (rest : List ℕ) → IsBytes bytes → undo_at part bytes ≡ Some (a, rest) → TakesTxn bytes (undo_kind part) a rest
+undo_takes : (part : Part) (bytes : List ℕ) (a : TxnAction) (rest : List ℕ) → IsBytes bytes → undo_at part bytes ≡ Some (a, rest)
+    → TakesTxn bytes (undo_kind part) a rest
 unfolding undo_at
 undo_takes part bytes a rest fits e =
     let b = bind_some (part_at part bytes) (λ c. flag_at c.1 >>= λ last. Some (Undo part c.0 last.0, last.1)) (a, rest) e in
@@ -146,10 +167,12 @@ undo_takes part bytes a rest fits e =
     subst (λ (x : TxnAction × List ℕ). TakesTxn bytes (undo_kind part) x.0 x.1) (some_is (Undo part b.0.0 l.0.0, l.0.1) (a, rest) l.2)
     (record { taken = Takes-cons (undo_kind part) bytes (change b.0.0 ++ flag l.0.0) l.0.1 both; rows = t.has; fits = t.fits })
 
-commit_takes : (bytes : List ℕ) (x a : TxnAction) (rest : List ℕ) (kind : ℕ) → TakesTxn bytes kind x bytes → some {A = TxnAction × List ℕ} (x, bytes) ≡ Some (a, rest) → TakesTxn bytes kind a rest
+commit_takes : (bytes : List ℕ) (x a : TxnAction) (rest : List ℕ) (kind : ℕ) → TakesTxn bytes kind x bytes
+    → some {A = TxnAction × List ℕ} (x, bytes) ≡ Some (a, rest) → TakesTxn bytes kind a rest
 commit_takes bytes x a rest kind t e = subst (λ (x : TxnAction × List ℕ). TakesTxn bytes kind x.0 x.1) (some_is (x, bytes) (a, rest) e) t
 
-txn_action_takes : (kind : ℕ) (bytes : List ℕ) (a : TxnAction) (rest : List ℕ) → IsBytes bytes → txn_action_at kind bytes ≡ Some (a, rest) → TakesTxn bytes kind a rest
+txn_action_takes : (kind : ℕ) (bytes : List ℕ) (a : TxnAction) (rest : List ℕ) → IsBytes bytes → txn_action_at kind bytes ≡ Some (a, rest)
+    → TakesTxn bytes kind a rest
 unfolding txn_action_at
 txn_action_takes kind bytes a rest fits =
     let at : (n : ℕ) → TakesTxn bytes n a rest → kind ≡ n → TakesTxn bytes kind a rest = λ n t is. subst (λ (k : ℕ). TakesTxn bytes k a rest) (sym is) t in
@@ -159,15 +182,18 @@ txn_action_takes kind bytes a rest fits =
     by_kind kind 4 (λ is e. at 4 (undo_takes NewEntry bytes a rest fits e) is) (
     by_kind kind 5 (λ is e. at 5 (undo_takes Slot bytes a rest fits e) is) (
     by_kind kind 6 (λ is e. at 6 (undo_takes OldEntry bytes a rest fits e) is) (
-    by_kind kind 7 (λ is e. at 7 (commit_takes bytes Commit a rest 7 (record { taken = record { parts = refl; rest_fits = fits }; rows = refl; fits = tt }) e) is) (
+    by_kind kind 7 (λ is e. at 7 (commit_takes bytes Commit a rest 7 (record { taken = record { parts = refl; rest_fits = fits }; rows = refl; fits = tt }) e)
+    is) (
     by_kind kind 8 (λ is e. at 8 (commit_takes bytes End a rest 8 (record { taken = record { parts = refl; rest_fits = fits }; rows = refl; fits = tt }) e) is)
     (λ e. absurd cc))))))))
 
-forward_again : (part : Part) (c : ChangeValue) (rest : List ℕ) → ChangeFits c → IsTrue (has_part part c.rows) → forward_at part (change c ++ rest) ≡ Some (Forward part c, rest)
+forward_again : (part : Part) (c : ChangeValue) (rest : List ℕ) → ChangeFits c → IsTrue (has_part part c.rows)
+    → forward_at part (change c ++ rest) ≡ Some (Forward part c, rest)
 unfolding forward_at
 forward_again part c rest fits has = rw (part_again part c rest fits has) refl
 
-undo_again : (part : Part) (c : ChangeValue) (last : Bool) (rest : List ℕ) → ChangeFits c → IsTrue (has_part part c.rows) → undo_at part ((change c ++ flag last) ++ rest) ≡ Some (Undo part c last, rest)
+undo_again : (part : Part) (c : ChangeValue) (last : Bool) (rest : List ℕ) → ChangeFits c → IsTrue (has_part part c.rows)
+    → undo_at part ((change c ++ flag last) ++ rest) ≡ Some (Undo part c last, rest)
 unfolding undo_at
 undo_again part c last rest fits has =
     ap (undo_at part) (append_assoc (change c) (flag last) rest) ∙ rw (part_again part c (flag last ++ rest) fits has, flag_again last rest) refl
@@ -192,7 +218,8 @@ record TakesIndex (bytes : List ℕ) (kind : ℕ) (action : IndexAction) (rest :
   pub taken : Takes (kind ∷ bytes) (index_fields action) rest
   pub fits : IndexActionFits action
 
-alone_takes : (bytes : List ℕ) (x a : IndexAction) (rest : List ℕ) (kind : ℕ) → TakesIndex bytes kind x bytes → some {A = IndexAction × List ℕ} (x, bytes) ≡ Some (a, rest) → TakesIndex bytes kind a rest
+alone_takes : (bytes : List ℕ) (x a : IndexAction) (rest : List ℕ) (kind : ℕ) → TakesIndex bytes kind x bytes
+    → some {A = IndexAction × List ℕ} (x, bytes) ≡ Some (a, rest) → TakesIndex bytes kind a rest
 alone_takes bytes x a rest kind t e = subst (λ (x : IndexAction × List ℕ). TakesIndex bytes kind x.0 x.1) (some_is (x, bytes) (a, rest) e) t
 
 abbrev of_pair : (Pair → IndexAction) → Pair × List ℕ → Option (IndexAction × List ℕ)
@@ -205,7 +232,10 @@ of_pair_takes of kind spelled within bytes a rest fits e =
     let b = bind_some (pair_at bytes) (of_pair of) (a, rest) e in
     let t = pair_takes bytes b.0.0 b.0.1 fits b.1 in
     subst (λ (x : IndexAction × List ℕ). TakesIndex bytes kind x.0 x.1) (some_is (of b.0.0, b.0.1) (a, rest) b.2)
-    (record { taken = subst (λ (text : List ℕ). Takes (kind ∷ bytes) text b.0.1) (sym (spelled b.0.0)) (Takes-cons kind bytes (pair b.0.0) b.0.1 t.0); fits = within b.0.0 t.1 })
+    (record {
+      taken = subst (λ (text : List ℕ). Takes (kind ∷ bytes) text b.0.1) (sym (spelled b.0.0)) (Takes-cons kind bytes (pair b.0.0) b.0.1 t.0);
+      fits = within b.0.0 t.1;
+    })
 
 abbrev placed : Pair → IndexAction
 placed p = BuildPlace p
@@ -216,10 +246,12 @@ reached p = BuildCheckpoint p
 abbrev cleaned : Pair → IndexAction
 cleaned p = Clean p
 
-index_action_takes : (kind : ℕ) (bytes : List ℕ) (a : IndexAction) (rest : List ℕ) → IsBytes bytes → index_action_at kind bytes ≡ Some (a, rest) → TakesIndex bytes kind a rest
+index_action_takes : (kind : ℕ) (bytes : List ℕ) (a : IndexAction) (rest : List ℕ) → IsBytes bytes → index_action_at kind bytes ≡ Some (a, rest)
+    → TakesIndex bytes kind a rest
 unfolding index_action_at
 index_action_takes kind bytes a rest fits =
-    let at : (n : ℕ) → TakesIndex bytes n a rest → kind ≡ n → TakesIndex bytes kind a rest = λ n t is. subst (λ (k : ℕ). TakesIndex bytes k a rest) (sym is) t in
+    let at : (n : ℕ) → TakesIndex bytes n a rest → kind ≡ n
+    → TakesIndex bytes kind a rest = λ n t is. subst (λ (k : ℕ). TakesIndex bytes k a rest) (sym is) t in
     by_kind kind 9 (λ is e. at 9 (alone_takes bytes Create a rest 9 (record { taken = record { parts = refl; rest_fits = fits }; fits = tt }) e) is) (
     by_kind kind 10 (λ is e. at 10 (of_pair_takes placed 10 (λ p. refl) (λ p h. h) bytes a rest fits e) is) (
     by_kind kind 11 (λ is e. at 11 (of_pair_takes reached 11 (λ p. refl) (λ p h. h) bytes a rest fits e) is) (
@@ -254,7 +286,8 @@ of_txn txn a = Some (OfTxn txn a.0, a.1)
 abbrev of_index : IndexAction × List ℕ → Option (Action × List ℕ)
 of_index a = Some (OfIndex a.0, a.1)
 
-action_takes : (txn : ℕ) (bytes : List ℕ) (a : Action) (rest : List ℕ) → txn < 2 ^ 64 → IsBytes bytes → action_at txn bytes ≡ Some (a, rest) → TakesAction bytes txn a rest
+action_takes : (txn : ℕ) (bytes : List ℕ) (a : Action) (rest : List ℕ) → txn < 2 ^ 64 → IsBytes bytes → action_at txn bytes ≡ Some (a, rest)
+    → TakesAction bytes txn a rest
 unfolding action_at byte_at
 action_takes txn [] a rest lt fits e = absurd cc
 action_takes txn (kind ∷ bytes) a rest lt fits e =
@@ -276,7 +309,8 @@ abbrev none_read : Option (Action × List ℕ)
 none_read = None
 
 -- the same steps, with the kind read first
-action_by_parts : (txn : ℕ) (bytes : List ℕ) → action_at txn bytes ≡ cond (eqb txn 0) (index_action_from bytes >>= of_index) (txn_action_from bytes >>= of_txn txn)
+action_by_parts : (txn : ℕ) (bytes : List ℕ) → action_at txn bytes
+    ≡ cond (eqb txn 0) (index_action_from bytes >>= of_index) (txn_action_from bytes >>= of_txn txn)
 unfolding action_at byte_at
 action_by_parts txn [] = neither (eqb txn 0)
   where
@@ -306,7 +340,8 @@ record_takes bytes r rest fits e =
     let first = u64_takes bytes n.0.0 n.0.1 fits n.1 in
     let second = u64_takes n.0.1 t.0.0 t.0.1 first.0.rest_fits t.1 in
     let third = action_takes t.0.0 t.0.1 a.0.0 a.0.1 second.1 second.0.rest_fits a.1 in
-    let tail : Takes n.0.1 (u64 (txn_of a.0.0) ++ fields_of a.0.0) a.0.1 = rw third.txn-is (Takes-then n.0.1 (u64 t.0.0) t.0.1 (fields_of a.0.0) a.0.1 second.0 third.taken) in
+    let tail : Takes n.0.1 (u64 (txn_of a.0.0) ++ fields_of a.0.0) a.0.1 =
+    rw third.txn-is (Takes-then n.0.1 (u64 t.0.0) t.0.1 (fields_of a.0.0) a.0.1 second.0 third.taken) in
     let whole = Takes-then bytes (u64 n.0.0) n.0.1 (u64 (txn_of a.0.0) ++ fields_of a.0.0) a.0.1 first.0 tail in
     let low : 1 ≤ n.0.0 = grind (arith, g.0) in
     subst (λ (x : RecordValue × List ℕ). (bytes ≡ spelling x.0 ++ x.1) × Fits x.0) (some_is (made, a.0.1) (r, rest) h.1)
@@ -328,7 +363,13 @@ record_again r rest fits =
     let within : ltb LAST_NUMBER r.number ≡ false = le-ltb _ _ (omega (arith, fits.last)) in
     let number_lt : r.number < 2 ^ 64 = omega (arith, fits.last) in
     ap (λ (bytes : List ℕ). u64_at bytes >>= λ n. u64_at n.1 >>= λ t. action_at t.0 t.1 >>= λ a. numbered n.0 a) regroup
-    ∙ rw (u64_again r.number (txn ++ (body ++ rest)) number_lt, u64_again (txn_of r.action) (body ++ rest) (txn_of-lt r.action fits.action), action_again r.action rest fits.action fits.rows, some_number, within) refl
+    ∙ rw (
+      u64_again r.number (txn ++ (body ++ rest)) number_lt,
+      u64_again (txn_of r.action) (body ++ rest) (txn_of-lt r.action fits.action),
+      action_again r.action rest fits.action fits.rows,
+      some_number,
+      within,
+    ) refl
 
 -- no spelling begins another, and a spelling is of one record
 pub one_spelling : (a b : RecordValue) (x y : List ℕ) → Fits a → Fits b → spelling a ++ x ≡ spelling b ++ y → (a ≡ b) × (x ≡ y)
@@ -354,13 +395,15 @@ with_length bytes x = (x.0, length bytes - length x.1)
 abbrev pub IsDecoded : List ℕ → Option (RecordValue × ℕ) → Type 0
 IsDecoded bytes o = IfSome o (λ f. take f.1 bytes ≡ spelling f.0) × IfSome o (λ f. Fits f.0)
 
-decoded_from : (bytes : List ℕ) (read : Option (RecordValue × List ℕ)) → IsBytes bytes → record_at bytes ≡ read → IsDecoded bytes (option_map (with_length bytes) read)
+decoded_from : (bytes : List ℕ) (read : Option (RecordValue × List ℕ)) → IsBytes bytes → record_at bytes ≡ read
+    → IsDecoded bytes (option_map (with_length bytes) read)
 decoded_from bytes None fits e = (tt, tt)
 decoded_from bytes (Some x) fits e =
     let t = record_takes bytes x.0 x.1 fits e in
     (found_length bytes x.0 x.1 t.0, t.1)
 
-pub decoded : (bytes : List ℕ) (result : Option (RecordValue × ℕ)) → IsBytes bytes → result ≡ option_map (with_length bytes) (record_at bytes) → IsDecoded bytes result
+pub decoded : (bytes : List ℕ) (result : Option (RecordValue × ℕ)) → IsBytes bytes → result ≡ option_map (with_length bytes) (record_at bytes)
+    → IsDecoded bytes result
 decoded bytes result fits e = subst (IsDecoded bytes) (sym e) (decoded_from bytes (record_at bytes) fits refl)
 
 pub undecoded : (bytes : List ℕ) (result : Option (RecordValue × ℕ)) → result ≡ option_map (with_length bytes) (record_at bytes)

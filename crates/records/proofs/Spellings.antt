@@ -13,10 +13,12 @@ pub one_spelling : (a b : RecordValue) (x y : List ℕ) → Fits a → Fits b �
 one_spelling = records.one_spelling
 
 -- bytes begin with a record's spelling, or they do not
-pub begins_or_not : (bytes : List ℕ) → IsBytes bytes → ((r : RecordValue) × (rest : List ℕ) × (bytes ≡ spelling r ++ rest) × Fits r) ⊎ ((r : RecordValue) (rest : List ℕ) → Fits r → ¬ (bytes ≡ spelling r ++ rest))
+pub begins_or_not : (bytes : List ℕ) → IsBytes bytes → ((r : RecordValue) × (rest : List ℕ) × (bytes ≡ spelling r ++ rest) × Fits r)
+    ⊎ ((r : RecordValue) (rest : List ℕ) → Fits r → ¬ (bytes ≡ spelling r ++ rest))
 begins_or_not bytes fits = go (record_at bytes) refl
   where
-    go : (read : Option (RecordValue × List ℕ)) → record_at bytes ≡ read → ((r : RecordValue) × (rest : List ℕ) × (bytes ≡ spelling r ++ rest) × Fits r) ⊎ ((r : RecordValue) (rest : List ℕ) → Fits r → ¬ (bytes ≡ spelling r ++ rest))
+    go : (read : Option (RecordValue × List ℕ)) → record_at bytes ≡ read → ((r : RecordValue) × (rest : List ℕ) × (bytes ≡ spelling r ++ rest) × Fits r)
+        ⊎ ((r : RecordValue) (rest : List ℕ) → Fits r → ¬ (bytes ≡ spelling r ++ rest))
     go (Some x) e =
         let taken = records.record_takes bytes x.0 x.1 fits e in
         inl (x.0, x.1, taken.0, taken.1)

@@ -16,7 +16,8 @@ use Rattle.records.specs.declared.record.IndexAction.{IndexAction}
 use Rattle.records.specs.declared.record.IndexAction.TheVariants.{Create, BuildPlace, BuildCheckpoint, BuildDone, Clean, Drop}
 use Rattle.records.specs.declared.record.Action.{Action}
 use Rattle.records.specs.declared.record.Action.TheVariants.{OfTxn, OfIndex}
-use Rattle.records.specs.Spelling.{spelling, RowFitsIn, RowFits, RowsFitIn, RowsFit, ChangeFitsIn, ChangeFits, PairFitsIn, PairFits, TxnActionFitsIn, TxnActionFits, IndexActionFitsIn, IndexActionFits, ActionFitsIn, ActionFits, FitsIn, Fits}
+use Rattle.records.specs.Spelling.{spelling, RowFitsIn, RowFits, RowsFitIn, RowsFit, ChangeFitsIn, ChangeFits, PairFitsIn, PairFits, TxnActionFitsIn}
+use Rattle.records.specs.Spelling.{TxnActionFits, IndexActionFitsIn, IndexActionFits, ActionFitsIn, ActionFits, FitsIn, Fits}
 use Rattle.records.proofs.Spellings.{one_spelling}
 
 key_most : (v : Version) → key_max v ≤ KEY_MAX
@@ -63,6 +64,7 @@ pub wide : (v : Version) (r : RecordValue) → FitsIn v r → Fits r
 wide v r fits = record { first = fits.first; last = fits.last; rows = fits.rows; action = action_wide v r.action fits.action }
 
 -- a record that bytes begin with is any other that they begin with
-pub same_record : (v : Version) (bytes : List ℕ) (n : ℕ) (found r : RecordValue) (rest : List ℕ) → take n bytes ≡ spelling found → Fits found → FitsIn v r → bytes ≡ spelling r ++ rest → found ≡ r
+pub same_record : (v : Version) (bytes : List ℕ) (n : ℕ) (found r : RecordValue) (rest : List ℕ) → take n bytes ≡ spelling found → Fits found → FitsIn v r
+    → bytes ≡ spelling r ++ rest → found ≡ r
 same_record v bytes n found r rest there fits good is =
     (one_spelling found r (drop n bytes) rest fits (wide v r good) (ap (λ (t : List ℕ). t ++ drop n bytes) (sym there) ∙ take-append-drop n bytes ∙ is)).0

@@ -1,6 +1,7 @@
 -- The order of bytes: by the numbers that they spell, eight at a time, and in front of zeros.
 use Rattle.std.specs.Prelude.{◌⊎◌}
-use Rattle.std.proofs.Common.{◌≡◌, ℕ, zero, suc, ◌+◌, ◌-◌, ◌*◌, ◌<◌, ◌≤◌, List, [], ◌∷◌, ◌++◌, length, get_or, take, drop, replicate, refl, sym, ap, ◌∙◌, arith, length-append, length-take-le, length-drop, take-append-drop, inl, inr}
+use Rattle.std.proofs.Common.{◌≡◌, ℕ, zero, suc, ◌+◌, ◌-◌, ◌*◌, ◌<◌, ◌≤◌, List, [], ◌∷◌, ◌++◌, length, get_or, take, drop, replicate, refl, sym, ap, ◌∙◌, arith}
+use Rattle.std.proofs.Common.{length-append, length-take-le, length-drop, take-append-drop, inl, inr}
 use Rattle.std.proofs.lemmas.List.{drop-drop, length-replicate}
 use Rattle.std.specs.Simd.{first_chunks}
 use Rattle.std.specs.Slice.Scan.{big_endian}
@@ -28,7 +29,8 @@ nth_chunk n (suc k) (suc j) xs d below =
 
 eight : (a b c d e f g h : ℕ) → from_be_bytes w64 (a ∷ b ∷ c ∷ d ∷ e ∷ f ∷ g ∷ h ∷ []) ≡ big_endian 0 (a ∷ b ∷ c ∷ d ∷ e ∷ f ∷ g ∷ h ∷ [])
 eight a b c d e f g h =
-    let spelt : a * 72057594037927936 + b * 281474976710656 + c * 1099511627776 + d * 4294967296 + e * 16777216 + f * 65536 + g * 256 + h ≡ big_endian 0 (a ∷ b ∷ c ∷ d ∷ e ∷ f ∷ g ∷ h ∷ []) =
+    let spelt : a * 72057594037927936 + b * 281474976710656 + c * 1099511627776 + d * 4294967296 + e * 16777216 + f * 65536 + g * 256 + h
+    ≡ big_endian 0 (a ∷ b ∷ c ∷ d ∷ e ∷ f ∷ g ∷ h ∷ []) =
     omega arith in
     spelt
 
@@ -85,7 +87,8 @@ then_assoc Less b c = refl
 then_assoc Equal b c = refl
 then_assoc Greater b c = refl
 
-append_cmp : (us vs xs ys : List ℕ) → length us ≡ length vs → slice_cmp nat_cmp (us ++ xs) (vs ++ ys) ≡ ordering_then (slice_cmp nat_cmp us vs) (slice_cmp nat_cmp xs ys)
+append_cmp : (us vs xs ys : List ℕ) → length us ≡ length vs
+    → slice_cmp nat_cmp (us ++ xs) (vs ++ ys) ≡ ordering_then (slice_cmp nat_cmp us vs) (slice_cmp nat_cmp xs ys)
 append_cmp [] [] xs ys size = refl
 append_cmp [] (v ∷ vs) xs ys size = absurd (omega (arith, size))
 append_cmp (u ∷ us) [] xs ys size = absurd (omega (arith, size))
@@ -110,7 +113,8 @@ cut xs i =
 word_long : (xs : List ℕ) (i : ℕ) → 8 * i + 8 ≤ length xs → length (take 8 (drop (8 * i) xs)) ≡ 8
 word_long xs i room = length-take-le 8 (drop (8 * i) xs) (omega (arith, room, length-drop (8 * i) xs))
 
-pub word_cmp : (xs ys : List ℕ) (i : ℕ) → length xs ≡ length ys → 8 * i + 8 ≤ length xs → IsBytes xs → IsBytes ys → rest_cmp i xs ys ≡ ordering_then (nat_cmp (word i xs) (word i ys)) (rest_cmp (i + 1) xs ys)
+pub word_cmp : (xs ys : List ℕ) (i : ℕ) → length xs ≡ length ys → 8 * i + 8 ≤ length xs → IsBytes xs → IsBytes ys
+    → rest_cmp i xs ys ≡ ordering_then (nat_cmp (word i xs) (word i ys)) (rest_cmp (i + 1) xs ys)
 word_cmp xs ys i size room some other =
     let us = take 8 (drop (8 * i) xs) in
     let vs = take 8 (drop (8 * i) ys) in
@@ -147,12 +151,14 @@ level (x ∷ xs) = same_word x x (slice_cmp nat_cmp xs xs) refl ∙ level xs
 zeros_low : (zs : List ℕ) → (slice_cmp nat_cmp (replicate (length zs) 0) zs ≡ Less) ⊎ (slice_cmp nat_cmp (replicate (length zs) 0) zs ≡ Equal)
 zeros_low [] = inr refl
 zeros_low (zero ∷ zs) = zeros_low zs
-zeros_low (suc z ∷ zs) = inl (ap (λ (r : Ordering). ordering_then r (slice_cmp nat_cmp (replicate (length zs) 0) zs)) (sym (nat_cmp_is 0 (suc z) Less (omega arith))))
+zeros_low (suc z ∷ zs) = inl (ap (λ (r : Ordering). ordering_then r (slice_cmp nat_cmp (replicate (length zs) 0) zs))
+    (sym (nat_cmp_is 0 (suc z) Less (omega arith))))
 
 zeros_high : (zs : List ℕ) → (slice_cmp nat_cmp zs (replicate (length zs) 0) ≡ Greater) ⊎ (slice_cmp nat_cmp zs (replicate (length zs) 0) ≡ Equal)
 zeros_high [] = inr refl
 zeros_high (zero ∷ zs) = zeros_high zs
-zeros_high (suc z ∷ zs) = inl (ap (λ (r : Ordering). ordering_then r (slice_cmp nat_cmp zs (replicate (length zs) 0))) (sym (nat_cmp_is (suc z) 0 Greater (omega arith))))
+zeros_high (suc z ∷ zs) = inl (ap (λ (r : Ordering). ordering_then r (slice_cmp nat_cmp zs (replicate (length zs) 0)))
+    (sym (nat_cmp_is (suc z) 0 Greater (omega arith))))
 
 none_first : (n : ℕ) (r : Ordering) → (r ≡ Less) ⊎ (r ≡ Equal) → ordering_then r (nat_cmp 0 (suc n)) ≡ Less
 none_first n r low =
@@ -176,7 +182,8 @@ shift a b = nat_cmp_is a b (nat_cmp (suc a) (suc b)) (by (nat_cmp (suc a) (suc b
     by Equal l = let h : suc a ≡ suc b = l in omega (arith, h)
     by Greater l = let h : suc b < suc a = l in omega (arith, h)
 
-padded_cmp : (p q : ℕ) (xs ys : List ℕ) → length xs + p ≡ length ys + q → ordering_then (slice_cmp nat_cmp (xs ++ replicate p 0) (ys ++ replicate q 0)) (nat_cmp (length xs) (length ys)) ≡ slice_cmp nat_cmp xs ys
+padded_cmp : (p q : ℕ) (xs ys : List ℕ) → length xs + p ≡ length ys + q
+    → ordering_then (slice_cmp nat_cmp (xs ++ replicate p 0) (ys ++ replicate q 0)) (nat_cmp (length xs) (length ys)) ≡ slice_cmp nat_cmp xs ys
 padded_cmp p q [] [] same =
     let e : q ≡ p = omega (arith, same) in
     ap (λ (k : ℕ). ordering_then (slice_cmp nat_cmp (replicate p 0) (replicate k 0)) (nat_cmp 0 0)) e

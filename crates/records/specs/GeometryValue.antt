@@ -1,6 +1,8 @@
 -- How large a store is, and how many sectors that takes.
 use Rattle.std.specs.Prelude.{ℕ, ◌≤◌, ◌+◌, ◌*◌, ◌/◌, ◌-◌}
-use Rattle.records.specs.declared.geometry.TheConstants.{PAGES_MAX, ENTRIES_MIN, ENTRIES_MAX, LOG_SLOTS_MIN, LOG_SLOTS_MAX, FRONT_SECTORS, HEADER_SECTORS, HEADS_SECTORS, SLOT_SECTORS}
+use Rattle.records.specs.declared.geometry.TheConstants.{PAGES_MAX, ENTRIES_MIN, ENTRIES_MAX, LOG_SLOTS_MIN}
+use Rattle.records.specs.declared.geometry.TheConstants.{LOG_SLOTS_MAX, FRONT_SECTORS, HEADER_SECTORS, HEADS_SECTORS}
+use Rattle.records.specs.declared.geometry.TheConstants.{SLOT_SECTORS}
 use Rattle.records.specs.Version.{undo_sectors, page_sectors, entries_per_sector}
 use Rattle.records.specs.declared.version.Version.{Version}
 use Rattle.records.specs.declared.version.Version.TheVariants.{Two}
@@ -26,7 +28,8 @@ sectors_for n to_a_sector = (n + (to_a_sector - 1)) / to_a_sector
 
 -- a half in a version: header, transaction heads, undo items, pages, entries, log
 abbrev pub half_sectors_in : Version → GeometryValue → ℕ
-half_sectors_in v g = HEADER_SECTORS + HEADS_SECTORS + undo_sectors v + page_sectors v * g.pages + sectors_for g.entries (entries_per_sector v) + SLOT_SECTORS * g.slots
+half_sectors_in v g = HEADER_SECTORS + HEADS_SECTORS + undo_sectors v + page_sectors v * g.pages + sectors_for g.entries
+    (entries_per_sector v) + SLOT_SECTORS * g.slots
 
 -- what stands before the halves, and the two halves
 abbrev pub sectors_in : Version → GeometryValue → ℕ

@@ -25,20 +25,28 @@ both_Equal Greater b e = cc
 
 -- any two places are in order
 pub rid_cmp_total : IsTotalOrder rid_cmp
-rid_cmp_total = then_total (on_total (λ (r : Place). r.page) nat_cmp_total) (on_total (λ (r : Place). r.slot) nat_cmp_total)
+rid_cmp_total = then_total (on_total (λ (r : Place). r.page) nat_cmp_total)
+    (on_total (λ (r : Place). r.slot) nat_cmp_total)
 
 -- any two pairs are in order
 pub pair_cmp_total : IsTotalOrder pair_cmp
-pair_cmp_total = then_total (on_total (λ (p : Pair). p.key) nat_list_cmp_total) (on_total (λ (p : Pair). p.rid) rid_cmp_total)
+pair_cmp_total = then_total (on_total (λ (p : Pair). p.key) nat_list_cmp_total)
+    (on_total (λ (p : Pair). p.rid) rid_cmp_total)
 
 -- only equal places tie
 pub rid_cmp-IsAntisymmetric : IsAntisymmetric rid_cmp
 rid_cmp-IsAntisymmetric a b e =
     let k = both_Equal (nat_cmp a.page b.page) (nat_cmp a.slot b.slot) e in
-    λ i. record { page = nat_cmp-IsAntisymmetric a.page b.page k.0 i; slot = nat_cmp-IsAntisymmetric a.slot b.slot k.1 i }
+    λ i. record {
+      page = nat_cmp-IsAntisymmetric a.page b.page k.0 i;
+      slot = nat_cmp-IsAntisymmetric a.slot b.slot k.1 i;
+    }
 
 -- only equal pairs tie
 pub pair_cmp-IsAntisymmetric : IsAntisymmetric pair_cmp
 pair_cmp-IsAntisymmetric a b e =
     let k = both_Equal (slice_cmp nat_cmp a.key b.key) (rid_cmp a.rid b.rid) e in
-    λ i. record { key = slice_cmp-IsAntisymmetric nat_cmp-IsAntisymmetric a.key b.key k.0 i; rid = rid_cmp-IsAntisymmetric a.rid b.rid k.1 i }
+    λ i. record {
+      key = slice_cmp-IsAntisymmetric nat_cmp-IsAntisymmetric a.key b.key k.0 i;
+      rid = rid_cmp-IsAntisymmetric a.rid b.rid k.1 i;
+    }

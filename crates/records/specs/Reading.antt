@@ -1,5 +1,6 @@
 -- Reading a record from left to right: the value, and the bytes after it.
-use Rattle.std.specs.Prelude.{ℕ, zero, suc, List, [], ◌∷◌, length, take, drop, Option, Some, None, Bool, true, false, nat_lt, ◌==◌, if◌then◌else◌}
+use Rattle.std.specs.Prelude.{ℕ, zero, suc, List, [], ◌∷◌, length, take, drop, Option, Some, None, Bool, true, false}
+use Rattle.std.specs.Prelude.{nat_lt, ◌==◌, if◌then◌else◌}
 use Rattle.byteorder.specs.Endian.{big_number}
 use Rattle.records.specs.declared.key.TheConstants.{KEY_MAX, BODY_MAX}
 use Rattle.records.specs.declared.rid.TheConstants.{SLOTS_PER_PAGE}
@@ -17,7 +18,8 @@ use Rattle.records.specs.declared.record.Part.TheVariants.{Slot, OldEntry, NewEn
 use Rattle.records.specs.declared.record.TxnAction.{TxnAction}
 use Rattle.records.specs.declared.record.TxnAction.TheVariants.{Forward, Undo, Commit, End}
 use Rattle.records.specs.declared.record.IndexAction.{IndexAction}
-use Rattle.records.specs.declared.record.IndexAction.TheVariants.{Create, BuildPlace, BuildCheckpoint, BuildDone, Clean, Drop}
+use Rattle.records.specs.declared.record.IndexAction.TheVariants.{Create, BuildPlace, BuildCheckpoint, BuildDone, Clean}
+use Rattle.records.specs.declared.record.IndexAction.TheVariants.{Drop}
 use Rattle.records.specs.declared.record.Action.{Action}
 use Rattle.records.specs.declared.record.Action.TheVariants.{OfTxn, OfIndex}
 
@@ -82,7 +84,10 @@ change_at bytes = do
   old ← row_at place.1
   new ← row_at old.1
   rows ← rows_of old.0 new.0
-  if nat_lt position.0 CHANGES_MAX then Some (record { position = position.0; rid = place.0; rows = rows }, new.1) else None
+  if nat_lt position.0 CHANGES_MAX then Some (
+    record { position = position.0; rid = place.0; rows = rows },
+    new.1,
+  ) else None
 
 unfoldable pub pair_at : List ℕ → Option (Pair × List ℕ)
 pair_at bytes = do
@@ -140,11 +145,13 @@ index_action_at kind bytes =
 unfoldable pub action_at : ℕ → List ℕ → Option (Action × List ℕ)
 action_at txn bytes = do
   kind ← byte_at bytes
-  if txn == 0 then (index_action_at kind.0 kind.1 >>= λ a. Some (OfIndex a.0, a.1)) else (txn_action_at kind.0 kind.1 >>= λ a. Some (OfTxn txn a.0, a.1))
+  if txn == 0 then (index_action_at kind.0 kind.1 >>= λ a. Some (OfIndex a.0, a.1)) else
+      (txn_action_at kind.0 kind.1 >>= λ a. Some (OfTxn txn a.0, a.1))
 
 -- a record with this number, where the format allows that
 abbrev pub numbered : ℕ → Action × List ℕ → Option (RecordValue × List ℕ)
-numbered n a = if n == 0 then None else if nat_lt LAST_NUMBER n then None else Some (record { number = n; action = a.0 }, a.1)
+numbered n a = if n == 0 then None else if nat_lt LAST_NUMBER n then None else Some
+    (record { number = n; action = a.0 }, a.1)
 
 unfoldable pub record_at : List ℕ → Option (RecordValue × List ℕ)
 record_at bytes = do

@@ -1,7 +1,11 @@
 -- The numbers and the names of the refusals.
 use Rattle.std.specs.Prelude.{ℕ, List, codes}
 use Rattle.records.specs.declared.error.Error.{Error}
-use Rattle.records.specs.declared.error.Error.TheVariants.{NoMemory, DeviceFailed, NotFormatted, Damaged, DeviceTooSmall, BadGeometry, TooManyTxns, TooManyChanges, NoSuchTxn, NoSuchRow, RowBusy, HeapFull, IndexFull, KeyTooLong, BodyTooLong, TxnsActive, IndexExists, NoIndex, NotBuilt, Stopped, Exhausted, BadScript, OldVersion}
+use Rattle.records.specs.declared.error.Error.TheVariants.{NoMemory, DeviceFailed, NotFormatted, Damaged}
+use Rattle.records.specs.declared.error.Error.TheVariants.{DeviceTooSmall, BadGeometry, TooManyTxns, TooManyChanges}
+use Rattle.records.specs.declared.error.Error.TheVariants.{NoSuchTxn, NoSuchRow, RowBusy, HeapFull, IndexFull}
+use Rattle.records.specs.declared.error.Error.TheVariants.{KeyTooLong, BodyTooLong, TxnsActive, IndexExists, NoIndex}
+use Rattle.records.specs.declared.error.Error.TheVariants.{NotBuilt, Stopped, Exhausted, BadScript, OldVersion}
 
 -- the number of each refusal
 abbrev pub number_of : Error → ℕ

@@ -1,9 +1,10 @@
--- What differs between the versions of the format: how long keys and bodies are at most, which kinds of record there are, and how
--- many sectors the parts of a half take.
+-- What differs between the versions of the format: how long keys and bodies are at most, which kinds of record there
+-- are, and how many sectors the parts of a half take.
 use Rattle.std.specs.Prelude.{ℕ}
 use Rattle.records.specs.declared.key.TheConstants.{KEY_MAX, BODY_MAX}
 use Rattle.records.specs.declared.geometry.TheConstants.{UNDO_SECTORS, PAGE_SECTORS, ENTRIES_PER_SECTOR}
-use Rattle.records.specs.declared.version.TheConstants.{OLD_KEY_MAX, OLD_BODY_MAX, OLD_UNDO_SECTORS, OLD_PAGE_SECTORS, OLD_ENTRIES_PER_SECTOR}
+use Rattle.records.specs.declared.version.TheConstants.{OLD_KEY_MAX, OLD_BODY_MAX, OLD_UNDO_SECTORS, OLD_PAGE_SECTORS}
+use Rattle.records.specs.declared.version.TheConstants.{OLD_ENTRIES_PER_SECTOR}
 use Rattle.records.specs.declared.version.Version.{Version}
 use Rattle.records.specs.declared.version.Version.TheVariants.{One, Two}
 

@@ -3,7 +3,9 @@ ghost use Rattle.std.specs.Prelude.{◌≡◌, ◌≤◌, ◌-◌, ◌++◌, Lis
 ghost use Rattle.records.specs.RecordValue.{RecordValue, has_part, txn_has_rows, has_rows};
 ghost use Rattle.records.specs.Spelling.{spelling, Fits};
 ghost use Rattle.std.specs.Option.{option_map};
-ghost use Rattle.records.specs.Reading.{u16_at, u32_at, u64_at, byte_at, short_at, rid_at, present_row_at, row_at, rows_of, change_at, pair_at, flag_at, part_at, forward_at, undo_at, txn_action_at, index_action_at, action_at, record_at};
+ghost use Rattle.records.specs.Reading.{u16_at, u32_at, u64_at, byte_at, short_at, rid_at, present_row_at, row_at};
+ghost use Rattle.records.specs.Reading.{rows_of, change_at, pair_at, flag_at, part_at, forward_at, undo_at};
+ghost use Rattle.records.specs.Reading.{txn_action_at, index_action_at, action_at, record_at};
 
 use crate::change::{CHANGES_MAX, Change, Rows};
 use crate::key::{BODY_MAX, Body, KEY_MAX, Key};

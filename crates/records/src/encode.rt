@@ -81,7 +81,8 @@ fn put_row<A: Allocator>(out: &mut Vec<u8, A>, row: &Option<Row>) -> Result<(), 
 }
 
 fn put_rows<A: Allocator>(out: &mut Vec<u8, A>, rows: &Rows) -> Result<(), AllocError>
-    ensures ok { OnOk result (out.new.items ≡ out.old.items ++ (as_bytes.row (as_bytes.old_row rows.now) ++ as_bytes.row (as_bytes.new_row rows.now))) }
+    ensures ok { OnOk result (out.new.items ≡ out.old.items
+        ++ (as_bytes.row (as_bytes.old_row rows.now) ++ as_bytes.row (as_bytes.new_row rows.now))) }
     ensures kept { take (length out.old.items) out.new.items ≡ out.old.items }
 {
     put_row(out, &rows.old())?;

@@ -12,9 +12,12 @@ pub fn one_number()
 
 /// Bytes begin with the spelling of the number that is read at their front.
 pub fn number_in_front()
-    ensures two { (bytes : List ℕ) → IsBytes bytes → 2 ≤ length bytes → bytes ≡ u16 (big_number 2 bytes) ++ drop 2 bytes }
-    ensures four { (bytes : List ℕ) → IsBytes bytes → 4 ≤ length bytes → bytes ≡ u32 (big_number 4 bytes) ++ drop 4 bytes }
-    ensures eight { (bytes : List ℕ) → IsBytes bytes → 8 ≤ length bytes → bytes ≡ u64 (big_number 8 bytes) ++ drop 8 bytes }
+    ensures two { (bytes : List ℕ) → IsBytes bytes → 2 ≤ length bytes
+        → bytes ≡ u16 (big_number 2 bytes) ++ drop 2 bytes }
+    ensures four { (bytes : List ℕ) → IsBytes bytes → 4 ≤ length bytes
+        → bytes ≡ u32 (big_number 4 bytes) ++ drop 4 bytes }
+    ensures eight { (bytes : List ℕ) → IsBytes bytes → 8 ≤ length bytes
+        → bytes ≡ u64 (big_number 8 bytes) ++ drop 8 bytes }
 {}
 
 /// How many bytes a number takes.

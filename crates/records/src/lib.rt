@@ -1,9 +1,10 @@
 //! The values of the index builder: keys, bodies, places of rows, and pairs.
 //!
-//! Proved: a value is within the format's limits, which its type keeps; what is longer or larger is refused, and only that (`fits`,
-//! `ok`, `too_long`, `bad`). `encode_into` appends a record's spelling (`ok`), `decode` reads just what is one (`found`, `none`).
-//! No spelling begins another (the law `one_spelling`). The orders of places and pairs are total, and only equal ones tie.
-//! Only tested (`value_tests`): the text of refusals, and the vectors of the format document.
+//! Proved: a value is within the format's limits, which its type keeps; what is longer or larger is refused, and only
+//! that (`fits`, `ok`, `too_long`, `bad`). `encode_into` appends a record's spelling (`ok`), `decode` reads just what
+//! is one (`found`, `none`). No spelling begins another (the law `one_spelling`). The orders of places and pairs are
+//! total, and only equal ones tie. Only tested (`value_tests`): the text of refusals, and the vectors of the format
+//! document.
 #![tactic(auto)]
 
 mod change;

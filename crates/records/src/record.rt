@@ -118,7 +118,8 @@ impl Model for Record {
 
 /// No spelling begins another, and a spelling is of one record.
 pub fn one_spelling()
-    ensures { (a b : RecordValue) (x y : List ℕ) → Fits a → Fits b → spelling a ++ x ≡ spelling b ++ y → (a ≡ b) × (x ≡ y) }
+    ensures { (a b : RecordValue) (x y : List ℕ) → Fits a → Fits b → spelling a ++ x ≡ spelling b ++ y → (a ≡ b)
+        × (x ≡ y) }
 {}
 
 /// Each record within the limits has a spelling, of 17 to 281 bytes.

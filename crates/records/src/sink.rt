@@ -1,5 +1,6 @@
 //! What takes records.
-ghost use Rattle.std.specs.Prelude.{◌≡◌, ◌<◌, ◌≤◌, ◌+◌, ◌-◌, ◌++◌, [], ◌∷◌, List, ℕ, IsOk, OnOk, MatchResult, vec_len, vec_capacity};
+ghost use Rattle.std.specs.Prelude.{◌≡◌, ◌<◌, ◌≤◌, ◌+◌, ◌-◌, ◌++◌, [], ◌∷◌, List, ℕ, IsOk, OnOk, MatchResult, vec_len};
+ghost use Rattle.std.specs.Prelude.{vec_capacity};
 ghost use Rattle.records.specs.RecordValue.{RecordValue};
 
 use crate::record::Record;
@@ -20,7 +21,8 @@ pub trait Sink {
     /// Takes the record as the last one, or gives it back and has then taken
     /// nothing.
     fn take(&mut self, item: Record) -> Result<(), Record>
-        ensures taken { MatchResult result (λ _. taken self.new ≡ taken self.old ++ item ∷ []) (λ back. (back ≡ item) × (taken self.new ≡ taken self.old)) }
+        ensures taken { MatchResult result (λ _. taken self.new ≡ taken self.old ++ item ∷ []) (λ back. (back ≡ item)
+            × (taken self.new ≡ taken self.old)) }
         ensures sure { 0 < room self.old → IsOk result }
         ensures left { OnOk result (room self.old ≤ room self.new + 1) }
         ensures place { place self.new ≡ place self.old };

@@ -1,7 +1,8 @@
 //! How many bytes a record's spelling has.
 ghost use Rattle.std.specs.Prelude.{◌≡◌, ◌≤◌, ◌+◌, ◌*◌, ◌++◌, Some, length};
 ghost use Rattle.records.specs.Spelling as as_bytes;
-ghost use Rattle.records.specs.Spelling.{spelling, old_row, new_row, RidFits, RowFits, RowsFit, ChangeFits, PairFits, TxnActionFits, IndexActionFits, ActionFits, Fits};
+ghost use Rattle.records.specs.Spelling.{spelling, old_row, new_row, RidFits, RowFits, RowsFit, ChangeFits, PairFits};
+ghost use Rattle.records.specs.Spelling.{TxnActionFits, IndexActionFits, ActionFits, Fits};
 
 use crate::change::{Change, Rows};
 use crate::key::{BODY_MAX, KEY_MAX};

@@ -1,7 +1,8 @@
 //! Whether a record is within the limits of a version of the format.
 ghost use Rattle.std.specs.Prelude.{◌≡◌, ◌≤◌, ◌++◌, ◌↔◌, ℕ, List, length, take, IsTrue, IfSome, IfNone};
 ghost use Rattle.records.specs.RecordValue.{RecordValue};
-ghost use Rattle.records.specs.Spelling.{spelling, RowFitsIn, RowsFitIn, ChangeFitsIn, PairFitsIn, TxnActionFitsIn, IndexActionFitsIn, ActionFitsIn, FitsIn, RidFits, IsTxn};
+ghost use Rattle.records.specs.Spelling.{spelling, RowFitsIn, RowsFitIn, ChangeFitsIn, PairFitsIn, TxnActionFitsIn};
+ghost use Rattle.records.specs.Spelling.{IndexActionFitsIn, ActionFitsIn, FitsIn, RidFits, IsTxn};
 
 use crate::change::{Change, Rows};
 use crate::pair::Pair;
@@ -96,7 +97,8 @@ impl Record {
         ensures inside { IfSome result (λ found. found.1 ≤ length bytes.now) }
         ensures found { IfSome result (λ found. take found.1 bytes.now ≡ spelling found.0) }
         ensures fits { IfSome result (λ found. FitsIn version found.0) }
-        ensures none { IfNone result ((r : RecordValue) (rest : List ℕ) → FitsIn version r → bytes.now ≡ spelling r ++ rest → ⊥) }
+        ensures none { IfNone result ((r : RecordValue) (rest : List ℕ) → FitsIn version r
+            → bytes.now ≡ spelling r ++ rest → ⊥) }
     {
         let Some(found) = Record::decode(bytes) else {
             return None;

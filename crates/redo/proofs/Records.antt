@@ -23,10 +23,12 @@ module _ (v now : StoreValue) (records : List RecordValue) (i : ℕ) (r : Record
   Can = CanFollow v.geometry.pages (v.last + i) (cells_after v.cells (take i records)) r
 
   can_here : CanRedo now r → Can
-  can_here can = subst (λ n. CanFollow v.geometry.pages (v.last + n) (cells_after v.cells (take i records)) r) size (subst (λ (w : StoreValue). CanRedo w r) reached can)
+  can_here can = subst (λ n. CanFollow v.geometry.pages (v.last + n) (cells_after v.cells (take i records)) r) size
+      (subst (λ (w : StoreValue). CanRedo w r) reached can)
 
   can_back : Can → CanRedo now r
-  can_back can = subst (λ (w : StoreValue). CanRedo w r) (sym reached) (subst (λ n. CanFollow v.geometry.pages (v.last + n) (cells_after v.cells (take i records)) r) (sym size) can)
+  can_back can = subst (λ (w : StoreValue). CanRedo w r) (sym reached)
+      (subst (λ n. CanFollow v.geometry.pages (v.last + n) (cells_after v.cells (take i records)) r) (sym size) can)
 
   pub following_more : CanRedo now r → AreFollowing v.geometry.pages v.last v.cells (take (i + 1) records)
   following_more can = following_one_more v.geometry.pages v.last v.cells records i r inside is following (can_here can)
@@ -37,7 +39,8 @@ module _ (v now : StoreValue) (records : List RecordValue) (i : ℕ) (r : Record
   pub reached_more : (next : StoreValue) → CanRedo now r → next ≡ after_record now r → next ≡ after_records v (take (i + 1) records)
   reached_more next can then =
       let number : r.number ≡ v.last + length (take (i + 1) records) = all_of (can_here can).number (length-take-le (i + 1) records (omega arith)) in
-      let cells : cells_after v.cells (take (i + 1) records) ≡ (after_record (after_records v (take i records)) r).cells = cells_one_more v.geometry.pages v.last v.cells records i r inside is following in
+      let cells : cells_after v.cells (take (i + 1) records) ≡ (after_record (after_records v (take i records)) r).cells =
+      cells_one_more v.geometry.pages v.last v.cells records i r inside is following in
       then ∙ ap (λ (w : StoreValue). after_record w r) reached ∙ (λ j. record { geometry = v.geometry; cells = sym cells j; last = number j })
     where
       all_of : r.number ≡ (v.last + i) + 1 → length (take (i + 1) records) ≡ i + 1 → r.number ≡ v.last + length (take (i + 1) records)

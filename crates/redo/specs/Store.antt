@@ -45,7 +45,8 @@ after_records v records = record v { cells = cells_after v.cells records; last =
 
 -- how the logic stores a geometry
 abbrev coded_geometry : Coded GeometryValue
-coded_geometry = code_by (ℕ × (ℕ × ℕ)) (coded× coded_ℕ (coded× coded_ℕ coded_ℕ)) (λ g. (g.pages, (g.entries, g.slots))) (λ p. record { pages = p.0; entries = p.1.0; slots = p.1.1 }) (λ _. refl)
+coded_geometry = code_by (ℕ × (ℕ × ℕ)) (coded× coded_ℕ (coded× coded_ℕ coded_ℕ)) (λ g. (g.pages, (g.entries, g.slots)))
+    (λ p. record { pages = p.0; entries = p.1.0; slots = p.1.1 }) (λ _. refl)
 
 -- a life as one of three cases
 abbrev life_in : Life → Bool ⊎ Option Pair
@@ -71,9 +72,13 @@ coded_life = code_by (Bool ⊎ Option Pair) (coded⊎ coded_bool (coded_option c
 
 -- how it stores cells
 abbrev pub coded_cells : Coded Cells
-coded_cells = code_by (Table × (Index × (Pending × Life))) (coded× (map.code coded_rid coded_row) (coded× (map.code coded_pair coded_mark) (coded× (map.code coded_ℕ (coded_list coded_change)) coded_life)))
-    (λ c. (c.rows, (c.entries, (c.pending, c.life)))) (λ p. record { rows = p.0; entries = p.1.0; pending = p.1.1.0; life = p.1.1.1 }) (λ _. refl)
+coded_cells = code_by (Table × (Index × (Pending × Life)))
+    (coded× (map.code coded_rid coded_row) (coded× (map.code coded_pair coded_mark)
+    (coded× (map.code coded_ℕ (coded_list coded_change)) coded_life)))
+    (λ c. (c.rows, (c.entries, (c.pending, c.life)))) (λ p.
+    record { rows = p.0; entries = p.1.0; pending = p.1.1.0; life = p.1.1.1 }) (λ _. refl)
 
 -- how it stores all of it
 abbrev pub coded_store : Coded StoreValue
-coded_store = code_by (GeometryValue × (Cells × ℕ)) (coded× coded_geometry (coded× coded_cells coded_ℕ)) (λ v. (v.geometry, (v.cells, v.last))) (λ p. record { geometry = p.0; cells = p.1.0; last = p.1.1 }) (λ _. refl)
+coded_store = code_by (GeometryValue × (Cells × ℕ)) (coded× coded_geometry (coded× coded_cells coded_ℕ)) (λ v.
+    (v.geometry, (v.cells, v.last))) (λ p. record { geometry = p.0; cells = p.1.0; last = p.1.1 }) (λ _. refl)

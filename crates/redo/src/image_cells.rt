@@ -9,8 +9,8 @@ use records::{Change, Mark, Pair, Rid, Row, Txn};
 use std::alloc::{AllocError, Allocator};
 use std::marker::Model;
 
-/// The cells of an image: rows, entries of the index, the changes of unfinished transactions, and how far the index is. An
-/// image is read into it.
+/// The cells of an image: rows, entries of the index, the changes of unfinished transactions, and how far the index is.
+/// An image is read into it.
 #[derive(Drop)]
 pub struct ImageCells<A: Allocator> {
     alloc: A,

@@ -7,8 +7,8 @@ use model::{EntryMap, Life, RowMap};
 use records::Geometry;
 use std::alloc::Allocator;
 
-/// What is restored of a store: its cells with every unfinished transaction taken back. All of it is in the store's pages,
-/// but there may be more entries than its geometry has room for: a store that no crash left so is damaged.
+/// What is restored of a store: its cells with every unfinished transaction taken back. All of it is in the store's
+/// pages, but there may be more entries than its geometry has room for: a store that no crash left so is damaged.
 #[derive(Drop)]
 pub struct Restored<A: Allocator> {
     /// How large the store is.
@@ -21,6 +21,11 @@ pub struct Restored<A: Allocator> {
     pub life: Life,
     /// The number of the last record.
     pub last: u64,
-    ghost inside: { IsGivenInside geometry.pages (record { table = rows; entries = entries; life = life; last = last }) },
+    ghost inside: { IsGivenInside geometry.pages (record {
+      table = rows;
+      entries = entries;
+      life = life;
+      last = last;
+    }) },
     ghost numbered: { last ≤ LAST_NUMBER },
 }

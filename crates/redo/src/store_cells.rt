@@ -15,8 +15,8 @@ use records::{Geometry, Record};
 use std::alloc::{AllocError, Allocator};
 use std::marker::Model;
 
-/// The cells of a store, as an image and the records behind it have left them: rows, entries of the index, the changes of
-/// unfinished transactions, and how far the index is. All of it is in the store's pages.
+/// The cells of a store, as an image and the records behind it have left them: rows, entries of the index, the changes
+/// of unfinished transactions, and how far the index is. All of it is in the store's pages.
 #[derive(Drop)]
 pub struct StoreCells<A: Allocator> {
     alloc: A,
@@ -65,10 +65,10 @@ impl<A: Allocator + Copy> StoreCells<A> {
         self.geometry.pages
     }
 
-    /// Sets what the record says. `Unfit` where it can't follow the records before it: its number is not the next one, its
-    /// place is in none of the store's pages, its change is not the one that can come next or be taken back next on its
-    /// transaction's list, it would be of one more unfinished transaction than there may be, or the index is not so far;
-    /// else `NoMemory`. After a refusal the cells are as before.
+    /// Sets what the record says. `Unfit` where it can't follow the records before it: its number is not the next one,
+    /// its place is in none of the store's pages, its change is not the one that can come next or be taken back next on
+    /// its transaction's list, it would be of one more unfinished transaction than there may be, or the index is not so
+    /// far; else `NoMemory`. After a refusal the cells are as before.
     pub fn redo(&mut self, next: &Record) -> Result<(), Refusal>
         ensures fit { OnOk result (CanRedo self.old next.now) }
         ensures ok { OnOk result (self.new ≡ after_record self.old next.now) }
@@ -87,11 +87,14 @@ impl<A: Allocator + Copy> StoreCells<A> {
 
     /// Redoes these records, the first of them first, up to one that is refused, which is named by its index.
     pub fn redo_all(&mut self, records: &[Record]) -> Result<(), Stopped>
-        ensures following { OnOk result (AreFollowing self.old.geometry.pages self.old.last self.old.cells records.now) }
+        ensures following { OnOk result
+            (AreFollowing self.old.geometry.pages self.old.last self.old.cells records.now) }
         ensures ok { OnOk result (self.new ≡ after_records self.old records.now) }
         ensures inside { IfErr result (λ s. s.index < length records.now) }
-        ensures unfit { IfErr result (λ s. s.why ≡ Refusal.Unfit → IsFirstUnfit self.old.geometry.pages self.old.last self.old.cells records.now s.index) }
-        ensures no_memory { IfErr result (λ s. s.why ≡ Refusal.NoMemory → AreFollowing self.old.geometry.pages self.old.last self.old.cells (take (s.index + 1) records.now)) }
+        ensures unfit { IfErr result (λ s. s.why ≡ Refusal.Unfit
+            → IsFirstUnfit self.old.geometry.pages self.old.last self.old.cells records.now s.index) }
+        ensures no_memory { IfErr result (λ s. s.why ≡ Refusal.NoMemory
+            → AreFollowing self.old.geometry.pages self.old.last self.old.cells (take (s.index + 1) records.now)) }
         ensures before { IfErr result (λ s. self.new ≡ after_records self.old (take s.index records.now)) }
     {
         for (index, record) in records.iter().enumerate() {

@@ -17,7 +17,11 @@ rises_later a b c le later rises = λ below. ⊎_elim
 -- a call after others that succeeded
 pub counts_later : {T E : Type 0} (a b c : ℕ) (result : Result T E) → b ≡ a → CountsFailure b c result → CountsFailure a c result
 counts_later a b c (Ok x) same counts = record { later = omega (arith, same, counts.later); none = counts.none ∙ same; failed = tt }
-counts_later a b c (Err e) same counts = record { later = omega (arith, same, counts.later); none = tt; failed = rises_later a b c (omega (arith, same)) counts.later counts.failed }
+counts_later a b c (Err e) same counts = record {
+  later = omega (arith, same, counts.later);
+  none = tt;
+  failed = rises_later a b c (omega (arith, same)) counts.later counts.failed;
+}
 
 -- a call that failed after others gives its failure
 pub counts_failed : {T E : Type 0} (a b c : ℕ) (e : E) → a ≤ b → b ≤ c → Rises b c → CountsFailure {T = T} a c (Err e)

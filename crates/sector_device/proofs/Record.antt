@@ -1,5 +1,7 @@
 -- What one call more makes of a disk in memory and its record.
-use Rattle.std.proofs.Common.{◌≡◌, inl, inr, ⊎_elim, ℕ, zero, suc, ◌+◌, ◌<◌, ◌≤◌, nat_lt, nat_le, if◌then◌else◌, Bool, true, false, ◌||◌, ◌==◌, List, [], ◌∷◌, ◌++◌, length, take, drop, replicate, slice_set, slice_index, slice_index_or, refl, sym, ◌∙◌, ap, subst, arith, add-one, length-set, length-append}
+use Rattle.std.proofs.Common.{◌≡◌, inl, inr, ⊎_elim, ℕ, zero, suc, ◌+◌, ◌<◌, ◌≤◌, nat_lt, nat_le, if◌then◌else◌, Bool, true, false, ◌||◌, ◌==◌, List, [], ◌∷◌}
+use Rattle.std.proofs.Common.{◌++◌, length, take, drop, replicate, slice_set, slice_index, slice_index_or, refl, sym, ◌∙◌, ap, subst, arith, add-one}
+use Rattle.std.proofs.Common.{length-set, length-append}
 use Rattle.std.specs.List.{count_by}
 use Rattle.std.proofs.Math.Path.{fun_ext}
 use Rattle.std.proofs.lemmas.Bool.{cases_lt, cases_eq}
@@ -24,13 +26,15 @@ state_after-push s (c ∷ calls) call = state_after-push (step s c) calls call
 past : Image → List Call → Disk
 past first calls = disk_of (state_after (initial_state first) calls)
 
-module _ (first : Image) (calls later : List Call) (whole : IsDiskWhole (state_after (initial_state first) calls).content) (later_whole : IsDiskWhole (state_after (initial_state first) later).content) where
+module _ (first : Image) (calls later : List Call) (whole : IsDiskWhole (state_after (initial_state first) calls).content)
+    (later_whole : IsDiskWhole (state_after (initial_state first) later).content) where
   -- no time passes
   pub elapses_same : later ≡ calls → Elapses (memory_history first calls whole) (memory_history first later later_whole)
   elapses_same is = record {
     later = omega (arith, ap length is);
     kept = λ t le. ap (λ (l : List Call). disk_of (state_after (initial_state first) (take t l))) is;
-    during = λ t from to. inl (ap (λ (l : List Call). disk_of (state_after (initial_state first) (take t l))) is ∙ ap (λ (l : List Call). disk_of (state_after (initial_state first) l)) (take_all t calls from));
+    during = λ t from to. inl (ap (λ (l : List Call). disk_of (state_after (initial_state first) (take t l))) is
+        ∙ ap (λ (l : List Call). disk_of (state_after (initial_state first) l)) (take_all t calls from));
   }
 
   -- time goes on by a call
@@ -47,8 +51,10 @@ module _ (first : Image) (calls later : List Call) (whole : IsDiskWhole (state_a
       size : length later ≡ length calls + 1
       size = ap length is ∙ length-append calls (call ∷ [])
 
-      earlier : (t : ℕ) → t ≤ length calls → disk_of (state_after (initial_state first) (take t later)) ≡ disk_of (state_after (initial_state first) (take t calls))
-      earlier t le = ap (λ (l : List Call). disk_of (state_after (initial_state first) (take t l))) is ∙ ap (λ (l : List Call). disk_of (state_after (initial_state first) l)) (take-append-le t calls (call ∷ []) le)
+      earlier : (t : ℕ) → t ≤ length calls → disk_of (state_after (initial_state first) (take t later))
+          ≡ disk_of (state_after (initial_state first) (take t calls))
+      earlier t le = ap (λ (l : List Call). disk_of (state_after (initial_state first) (take t l))) is
+          ∙ ap (λ (l : List Call). disk_of (state_after (initial_state first) l)) (take-append-le t calls (call ∷ []) le)
 
 -- ---- which sectors are unsynced
 
@@ -56,22 +62,26 @@ pub length-unsynced : (synced_at : ℕ) (written_at : List ℕ) → length (unsy
 length-unsynced synced_at [] = refl
 length-unsynced synced_at (at ∷ written_at) = ap suc (length-unsynced synced_at written_at)
 
-pub is_unsynced : (synced_at : ℕ) (written_at : List ℕ) (k : ℕ) → k < length written_at → synced_at < slice_index written_at k → slice_index_or (unsynced_since synced_at written_at) k false ≡ true
+pub is_unsynced : (synced_at : ℕ) (written_at : List ℕ) (k : ℕ) → k < length written_at → synced_at < slice_index written_at k
+    → slice_index_or (unsynced_since synced_at written_at) k false ≡ true
 is_unsynced synced_at [] k below after = absurd (omega (arith, below))
 is_unsynced synced_at (at ∷ written_at) zero below after = grind (arith, nat_tests, after)
 is_unsynced synced_at (at ∷ written_at) (suc k) below after = is_unsynced synced_at written_at k (omega (arith, below)) after
 
-pub is_synced : (synced_at : ℕ) (written_at : List ℕ) (k : ℕ) → slice_index written_at k ≤ synced_at → slice_index_or (unsynced_since synced_at written_at) k false ≡ false
+pub is_synced : (synced_at : ℕ) (written_at : List ℕ) (k : ℕ) → slice_index written_at k ≤ synced_at
+    → slice_index_or (unsynced_since synced_at written_at) k false ≡ false
 is_synced synced_at [] k before = refl
 is_synced synced_at (at ∷ written_at) zero before = grind (arith, nat_tests, before)
 is_synced synced_at (at ∷ written_at) (suc k) before = is_synced synced_at written_at k before
 
-unsynced-set : (synced_at : ℕ) (written_at : List ℕ) (n now : ℕ) → synced_at < now → unsynced_since synced_at (slice_set written_at n now) ≡ slice_set (unsynced_since synced_at written_at) n true
+unsynced-set : (synced_at : ℕ) (written_at : List ℕ) (n now : ℕ) → synced_at < now
+    → unsynced_since synced_at (slice_set written_at n now) ≡ slice_set (unsynced_since synced_at written_at) n true
 unsynced-set synced_at [] n now after = refl
 unsynced-set synced_at (at ∷ written_at) zero now after = ap (λ (b : Bool). b ∷ unsynced_since synced_at written_at) (grind (arith, nat_tests, after))
 unsynced-set synced_at (at ∷ written_at) (suc n) now after = ap (λ (l : List Bool). nat_lt synced_at at ∷ l) (unsynced-set synced_at written_at n now after)
 
-none_unsynced : (synced_at : ℕ) (written_at : List ℕ) → ((k : ℕ) → slice_index written_at k ≤ synced_at) → unsynced_since synced_at written_at ≡ replicate (length written_at) false
+none_unsynced : (synced_at : ℕ) (written_at : List ℕ) → ((k : ℕ) → slice_index written_at k ≤ synced_at)
+    → unsynced_since synced_at written_at ≡ replicate (length written_at) false
 none_unsynced synced_at [] before = refl
 none_unsynced synced_at (at ∷ written_at) before =
     ap (λ (b : Bool). b ∷ unsynced_since synced_at written_at) (let le : at ≤ synced_at = before 0 in grind (arith, nat_tests, le))
@@ -98,7 +108,8 @@ pub synced_count_at_most : (synced_at : ℕ) (written_at : List ℕ) → synced_
 synced_count_at_most synced_at written_at = count_by-le-length (λ at. nat_le at synced_at) written_at
 
 -- one fewer after a write of a sector that was synced
-pub synced_count-set : (synced_at : ℕ) (written_at : List ℕ) (n now : ℕ) → n < length written_at → slice_index written_at n ≤ synced_at → synced_at < now → synced_count synced_at (slice_set written_at n now) + 1 ≡ synced_count synced_at written_at
+pub synced_count-set : (synced_at : ℕ) (written_at : List ℕ) (n now : ℕ) → n < length written_at → slice_index written_at n ≤ synced_at → synced_at < now
+    → synced_count synced_at (slice_set written_at n now) + 1 ≡ synced_count synced_at written_at
 synced_count-set synced_at [] n now below own after = absurd (omega (arith, below))
 synced_count-set synced_at (at ∷ written_at) zero now below own after =
     let no_more : nat_le now synced_at ≡ false = grind (arith, nat_tests, after) in
@@ -106,21 +117,29 @@ synced_count-set synced_at (at ∷ written_at) zero now below own after =
     rw (sum_by-cons, sum_by-cons, no_more, before) (omega arith)
 synced_count-set synced_at (at ∷ written_at) (suc n) now below own after =
     let rest = synced_count-set synced_at written_at n now (omega (arith, below)) own after in
-    omega (arith, sum_by-cons (λ at. if nat_le at synced_at then 1 else 0) at written_at, sum_by-cons (λ at. if nat_le at synced_at then 1 else 0) at (slice_set written_at n now), rest)
+    omega (
+      arith,
+      sum_by-cons (λ at. if nat_le at synced_at then 1 else 0) at written_at,
+      sum_by-cons (λ at. if nat_le at synced_at then 1 else 0) at (slice_set written_at n now),
+      rest,
+    )
 
 -- ---- one call more
 
-module _ (s : MemoryState) (calls : ℕ) (content before : Image) (written_at : List ℕ) (synced_at : ℕ) (represents : Represents s calls content before written_at synced_at) where
+module _ (s : MemoryState) (calls : ℕ) (content before : Image) (written_at : List ℕ) (synced_at : ℕ)
+    (represents : Represents s calls content before written_at synced_at) where
   sizes : length s.content ≡ length content
   sizes = ap length represents.content_is
 
   flags : length s.unsynced ≡ length content
   flags = ap length represents.unsynced_is ∙ length-unsynced synced_at written_at ∙ represents.written_size
 
-  pub represents_write : (n : ℕ) (bytes old : List ℕ) (now : ℕ) → n < length content → IsSector bytes → old ≡ sector s.synced n → now ≡ calls + 1 → Represents (step s (Write n bytes)) (calls + 1) (slice_set content n bytes) (slice_set before n old) (slice_set written_at n now) synced_at
+  pub represents_write : (n : ℕ) (bytes old : List ℕ) (now : ℕ) → n < length content → IsSector bytes → old ≡ sector s.synced n → now ≡ calls + 1
+      → Represents (step s (Write n bytes)) (calls + 1) (slice_set content n bytes) (slice_set before n old) (slice_set written_at n now) synced_at
   represents_write n bytes old now below all_bytes is_old is_now = record {
     content_is = ap (λ (c : Image). slice_set c n bytes) represents.content_is;
-    unsynced_is = ap (λ (f : List Bool). slice_set f n true) represents.unsynced_is ∙ sym (unsynced-set synced_at written_at n now (omega (arith, represents.last_sync, is_now)));
+    unsynced_is = ap (λ (f : List Bool). slice_set f n true) represents.unsynced_is
+        ∙ sym (unsynced-set synced_at written_at n now (omega (arith, represents.last_sync, is_now)));
     before_is = kept;
     same = same;
     before_size = length-set before n old ∙ represents.before_size ∙ sym (length-set content n bytes);
@@ -152,13 +171,15 @@ module _ (s : MemoryState) (calls : ℕ) (content before : Image) (written_at : 
       whole : IsDiskWhole (slice_set s.content n bytes)
       whole k lt = elim (cases_eq k n) [
         | inl equal ↦ subst IsSector (sym (get_or-set_at s.content n k bytes [] equal (omega (arith, below, sizes)))) all_bytes
-        | inr other ↦ subst IsSector (sym (get_or-set_other s.content n k bytes [] other)) (represents.whole k (omega (arith, lt, length-set s.content n bytes)))
+        | inr other ↦ subst IsSector (sym (get_or-set_other s.content n k bytes [] other))
+            (represents.whole k (omega (arith, lt, length-set s.content n bytes)))
       ]
 
   pub represents_sync : (now : ℕ) → now ≡ calls + 1 → Represents (step s Sync) (calls + 1) content before written_at now
   represents_sync now is_now = record {
     content_is = represents.content_is;
-    unsynced_is = sym (none_unsynced now written_at (λ k. omega (arith, represents.last_writes k, is_now)) ∙ ap (λ (n : ℕ). replicate n false) (represents.written_size ∙ sym sizes));
+    unsynced_is = sym (none_unsynced now written_at (λ k. omega (arith, represents.last_writes k, is_now))
+        ∙ ap (λ (n : ℕ). replicate n false) (represents.written_size ∙ sym sizes));
     before_is = λ k is. absurd (let none = no_flag (length s.content) k in cc (none, is));
     same = λ k is. ap (λ (c : Image). sector c k) represents.content_is;
     before_size = represents.before_size;
@@ -182,20 +203,25 @@ module _ (s : MemoryState) (calls : ℕ) (content before : Image) (written_at : 
       flagged = fun_ext (λ k. no_flag (length s.content) k)
 
 -- the call is recorded
-pub state_push : (first : Image) (calls later : List Call) (call : Call) → later ≡ calls ++ call ∷ [] → state_after (initial_state first) later ≡ step (state_after (initial_state first) calls) call
+pub state_push : (first : Image) (calls later : List Call) (call : Call) → later ≡ calls ++ call ∷ []
+    → state_after (initial_state first) later ≡ step (state_after (initial_state first) calls) call
 state_push first calls later call is = ap (state_after (initial_state first)) is ∙ state_after-push (initial_state first) calls call
 
-pub represents_push : (first : Image) (calls later : List Call) (call : Call) (content before : Image) (written_at : List ℕ) (synced_at : ℕ) → later ≡ calls ++ call ∷ [] → Represents (step (state_after (initial_state first) calls) call) (length calls + 1) content before written_at synced_at
+pub represents_push : (first : Image) (calls later : List Call) (call : Call) (content before : Image) (written_at : List ℕ) (synced_at : ℕ)
+    → later ≡ calls ++ call ∷ [] → Represents (step (state_after (initial_state first) calls) call) (length calls + 1) content before written_at synced_at
     → Represents (state_after (initial_state first) later) (length later) content before written_at synced_at
 represents_push first calls later call content before written_at synced_at is represents =
     subst (λ s. Represents s (length later) content before written_at synced_at) (sym (state_push first calls later call is))
-    (subst (λ m. Represents (step (state_after (initial_state first) calls) call) m content before written_at synced_at) (sym (ap length is ∙ length-append calls (call ∷ []))) represents)
+    (subst (λ m. Represents (step (state_after (initial_state first) calls) call) m content before written_at synced_at)
+    (sym (ap length is ∙ length-append calls (call ∷ []))) represents)
 
-pub disk_push : (first : Image) (calls later : List Call) (call : Call) → later ≡ calls ++ call ∷ [] → disk_of (state_after (initial_state first) later) ≡ disk_of (step (state_after (initial_state first) calls) call)
+pub disk_push : (first : Image) (calls later : List Call) (call : Call) → later ≡ calls ++ call ∷ []
+    → disk_of (state_after (initial_state first) later) ≡ disk_of (step (state_after (initial_state first) calls) call)
 disk_push first calls later call is = ap disk_of (state_push first calls later call is)
 
 -- the record begins anew
-pub represents_initial : (image before : Image) (written_at : List ℕ) → IsDiskWhole image → length before ≡ length image → length written_at ≡ length image → ((k : ℕ) → slice_index written_at k ≡ 0) → Represents (initial_state image) 0 image before written_at 0
+pub represents_initial : (image before : Image) (written_at : List ℕ) → IsDiskWhole image → length before ≡ length image → length written_at ≡ length image
+    → ((k : ℕ) → slice_index written_at k ≡ 0) → Represents (initial_state image) 0 image before written_at 0
 represents_initial image before written_at whole before_size written_size zeros = record {
   content_is = refl;
   unsynced_is = sym (none_unsynced 0 written_at (λ k. omega (arith, zeros k)) ∙ ap (λ (n : ℕ). replicate n false) written_size);
@@ -217,11 +243,13 @@ written_back new old n same size =
     ∙ take_all n new (omega (arith, same, size))
 
 -- the record begins anew after a crash
-pub represents_crashed : (first image before : Image) (calls : List Call) (written_at : List ℕ) → first ≡ image → calls ≡ [] → IsDiskWhole image → length before ≡ length image → length written_at ≡ length image → ((k : ℕ) → slice_index written_at k ≡ 0)
+pub represents_crashed : (first image before : Image) (calls : List Call) (written_at : List ℕ) → first ≡ image → calls ≡ [] → IsDiskWhole image
+    → length before ≡ length image → length written_at ≡ length image → ((k : ℕ) → slice_index written_at k ≡ 0)
     → Represents (state_after (initial_state first) calls) (length calls) image before written_at 0
 represents_crashed first image before calls written_at is no_calls whole before_size written_size zeros =
     subst (λ l. Represents (state_after (initial_state first) l) (length l) image before written_at 0) (sym no_calls)
-    (subst (λ f. Represents (initial_state f) 0 image before written_at 0) (sym is) (represents_initial image before written_at whole before_size written_size zeros))
+    (subst (λ f. Represents (initial_state f) 0 image before written_at 0) (sym is)
+    (represents_initial image before written_at whole before_size written_size zeros))
 
 -- ---- zeros
 
@@ -242,7 +270,12 @@ unfolding zero_sector
 zeros_are_sector = filled 512 refl
   where
     filled : (n : ℕ) → n ≡ 512 → IsSector (replicate n 0)
-    filled n is = record { size = length-replicate n 0 ∙ is; are_bytes = λ i. ⊎_elim (λ below. rw (get_or-replicate {A = ℕ} n i 0 0 below) (omega arith)) (λ past. rw (get_or_past {X = ℕ} (replicate n 0) i 0 (omega (arith, past, length-replicate {A = ℕ} n 0))) (omega arith)) (cases_lt i n) }
+    filled n is = record {
+      size = length-replicate n 0
+          ∙ is;
+      are_bytes = λ i. ⊎_elim (λ below. rw (get_or-replicate {A = ℕ} n i 0 0 below) (omega arith)) (λ past.
+          rw (get_or_past {X = ℕ} (replicate n 0) i 0 (omega (arith, past, length-replicate {A = ℕ} n 0))) (omega arith)) (cases_lt i n);
+    }
 
 pub zeros_are_whole : (n : ℕ) → IsDiskWhole (replicate n zero_sector)
 zeros_are_whole n k below = subst IsSector (sym (get_or-replicate n k zero_sector [] (omega (arith, below, length-replicate n zero_sector)))) zeros_are_sector

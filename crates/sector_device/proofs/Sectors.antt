@@ -1,22 +1,26 @@
 -- What calls of a device change, sector by sector.
-use Rattle.std.proofs.Common.{Result, Ok, Err, OnOk, OnErr, ◌≡◌, ◌≢◌, ◌⊎◌, inl, inr, ℕ, ◌+◌, ◌-◌, ◌<◌, ◌≤◌, Bool, true, false, List, [], ◌∷◌, ◌++◌, length, slice_set, take, drop, slice_range, refl, sym, ◌∙◌, ap, subst, arith, length-set, length-take, length-drop}
+use Rattle.std.proofs.Common.{Result, Ok, Err, OnOk, OnErr, ◌≡◌, ◌≢◌, ◌⊎◌, inl, inr, ℕ, ◌+◌, ◌-◌, ◌<◌, ◌≤◌, Bool, true, false, List, [], ◌∷◌, ◌++◌, length}
+use Rattle.std.proofs.Common.{slice_set, take, drop, slice_range, refl, sym, ◌∙◌, ap, subst, arith, length-set, length-take, length-drop}
 use Rattle.std.specs.List.{concat}
 use Rattle.std.proofs.lemmas.Bool.{cases_eq, cases_lt}
 use Rattle.std.proofs.lemmas.Bool.Decides.{nat_tests}
 use Rattle.std.proofs.lemmas.List.{get_or-set_same, get_or-set_other, get_or-take, get_or-drop, ext_get_or, take_more, append-nil, append_assoc, get_or_past}
 use Rattle.std.proofs.lemmas.Grind.{get_or-set_at}
 use Rattle.sector_device.specs.declared.device.Failed.{Failed}
-use Rattle.sector_device.specs.Disk.{Image, sector, IsSector, IsDiskWhole, Disk, after_write, after_sync, IsFailedWrite, IsSynced, IsCrashImage, SameOutside, SyncedOutside}
+use Rattle.sector_device.specs.Disk.{Image, sector, IsSector, IsDiskWhole, Disk, after_write, after_sync, IsFailedWrite, IsSynced, IsCrashImage, SameOutside}
+use Rattle.sector_device.specs.Disk.{SyncedOutside}
 
 -- ---- one call
 
 -- what holds after each write of the sector holds after one that was done or failed
-pub holds_after_write : (Q : Disk → Type 0) (old : Disk) (n : ℕ) (bytes : List ℕ) (new : Disk) (result : Result Unit Failed) → OnOk result (new ≡ after_write old n bytes) → OnErr result (IsFailedWrite old n new) → ((b : List ℕ) → Q (after_write old n b)) → Q new
+pub holds_after_write : (Q : Disk → Type 0) (old : Disk) (n : ℕ) (bytes : List ℕ) (new : Disk) (result : Result Unit Failed)
+    → OnOk result (new ≡ after_write old n bytes) → OnErr result (IsFailedWrite old n new) → ((b : List ℕ) → Q (after_write old n b)) → Q new
 holds_after_write Q old n bytes new (Ok x) ok err after = subst Q (sym ok) (after bytes)
 holds_after_write Q old n bytes new (Err e) ok err after = subst Q (sym err.2) (after err.0)
 
 -- what holds before and after a sync holds after one that was done or failed
-pub holds_after_sync : (Q : Disk → Type 0) (old new : Disk) (result : Result Unit Failed) → OnOk result (new ≡ after_sync old) → OnErr result (new ≡ old) → Q old → Q (after_sync old) → Q new
+pub holds_after_sync : (Q : Disk → Type 0) (old new : Disk) (result : Result Unit Failed) → OnOk result (new ≡ after_sync old) → OnErr result (new ≡ old)
+    → Q old → Q (after_sync old) → Q new
 holds_after_sync Q old new (Ok x) ok err before after = subst Q (sym ok) after
 holds_after_sync Q old new (Err e) ok err before after = subst Q (sym err) before
 
@@ -35,7 +39,8 @@ pub same_image : (a b : Image) → length a ≡ length b → ((k : ℕ) → k < 
 same_image a b long same = ext_get_or [] a b long same
 
 -- two images with the same sectors from low up to high have the same part there
-pub same_part : (a b : Image) (low high : ℕ) → length a ≡ length b → ((k : ℕ) → low ≤ k → k < high → sector a k ≡ sector b k) → slice_range a low high ≡ slice_range b low high
+pub same_part : (a b : Image) (low high : ℕ) → length a ≡ length b → ((k : ℕ) → low ≤ k → k < high → sector a k ≡ sector b k)
+    → slice_range a low high ≡ slice_range b low high
 same_part a b low high long same = ext_get_or [] (slice_range a low high) (slice_range b low high) sizes each
   where
     sizes : length (slice_range a low high) ≡ length (slice_range b low high)
@@ -51,7 +56,8 @@ same_part a b low high long same = ext_get_or [] (slice_range a low high) (slice
         ∙ sym (get_or-take (high - low) (drop low b) i [] inside)
 
 -- a part of an image, sector by sector
-pub part_is : (image rows : Image) (low high : ℕ) → high ≤ length image → low + length rows ≡ high → ((k : ℕ) → k < length rows → sector image (low + k) ≡ sector rows k) → slice_range image low high ≡ rows
+pub part_is : (image rows : Image) (low high : ℕ) → high ≤ length image → low + length rows ≡ high
+    → ((k : ℕ) → k < length rows → sector image (low + k) ≡ sector rows k) → slice_range image low high ≡ rows
 part_is image rows low high room size each = ext_get_or [] (slice_range image low high) rows long at
   where
     long : length (slice_range image low high) ≡ length rows
@@ -63,7 +69,8 @@ part_is image rows low high room size each = ext_get_or [] (slice_range image lo
         get_or-take (high - low) (drop low image) i [] inside ∙ get_or-drop low image i [] ∙ each i (omega (arith, long))
 
 -- the bytes of a part of an image, and of one sector more
-pub part_more : (image : Image) (low n high : ℕ) → low + n < length image → high ≡ low + n + 1 → concat (slice_range image low high) ≡ concat (slice_range image low (low + n)) ++ sector image (low + n)
+pub part_more : (image : Image) (low n high : ℕ) → low + n < length image → high ≡ low + n + 1
+    → concat (slice_range image low high) ≡ concat (slice_range image low (low + n)) ++ sector image (low + n)
 part_more image low n high lt is =
     ap (λ m. concat (take m (drop low image))) longer
     ∙ ap concat (take_more (drop low image) n [] (omega (arith, length-drop low image)))
@@ -103,7 +110,8 @@ pub crash_synced : (disk : Disk) (c : Image) → IsSynced disk → IsCrashImage 
 crash_synced disk c all crash = ext_get_or [] c disk.content crash.sectors (λ k below. crash.kept k (all k))
 
 -- a crash image after a write is one from before it, but for the sector
-pub image_before_write : (disk : Disk) (n : ℕ) (bytes : List ℕ) (c : Image) → IsDiskWhole disk.content → IsCrashImage (after_write disk n bytes) c → IsCrashImage disk (slice_set c n (sector disk.content n)) × SameOutside (λ k. k ≡ n) (slice_set c n (sector disk.content n)) c
+pub image_before_write : (disk : Disk) (n : ℕ) (bytes : List ℕ) (c : Image) → IsDiskWhole disk.content → IsCrashImage (after_write disk n bytes) c
+    → IsCrashImage disk (slice_set c n (sector disk.content n)) × SameOutside (λ k. k ≡ n) (slice_set c n (sector disk.content n)) c
 image_before_write disk n bytes c whole crash = (
   record { sectors = long; kept = kept; torn = torn },
   record { sectors = sym (length-set c n there); same = λ k other. sym (get_or-set_other c n k there [] other) },
@@ -122,15 +130,19 @@ image_before_write disk n bytes c whole crash = (
     kept k is = elim (cases_eq k n) [
       | inl same ↦ elim (cases_lt n (length c)) [
         | inl below ↦ get_or-set_at c n k there [] same below ∙ ap (sector disk.content) (sym same)
-        | inr past ↦ sector_past (slice_set c n there) k (omega (arith, same, past, length-set c n there)) ∙ sym (sector_past disk.content k (omega (arith, same, past, sizes)))
+        | inr past ↦ sector_past (slice_set c n there) k (omega (arith, same, past, length-set c n there))
+            ∙ sym (sector_past disk.content k (omega (arith, same, past, sizes)))
       ]
-      | inr other ↦ get_or-set_other c n k there [] other ∙ crash.kept k (grind (arith, nat_tests, is, other)) ∙ get_or-set_other disk.content n k bytes [] other
+      | inr other ↦ get_or-set_other c n k there [] other ∙ crash.kept k (grind (arith, nat_tests, is, other))
+          ∙ get_or-set_other disk.content n k bytes [] other
     ]
 
     torn : (k : ℕ) → k < length (slice_set c n there) → disk.unsynced k ≡ true → IsSector (sector (slice_set c n there) k)
     torn k below is = elim (cases_eq k n) [
-      | inl same ↦ subst IsSector (sym (get_or-set_at c n k there [] same (omega (arith, same, below, length-set c n there)))) (whole n (omega (arith, same, below, long)))
-      | inr other ↦ subst IsSector (sym (get_or-set_other c n k there [] other)) (crash.torn k (omega (arith, below, length-set c n there)) (grind (arith, nat_tests, is, other)))
+      | inl same ↦ subst IsSector (sym (get_or-set_at c n k there [] same (omega (arith, same, below, length-set c n there))))
+          (whole n (omega (arith, same, below, long)))
+      | inr other ↦ subst IsSector (sym (get_or-set_other c n k there [] other))
+          (crash.torn k (omega (arith, below, length-set c n there)) (grind (arith, nat_tests, is, other)))
     ]
 
 -- ---- outside a set of sectors
@@ -141,7 +153,11 @@ outside_synced S disk all = record { content = record { sectors = refl; same = �
 
 -- any disk, and its unsynced sectors
 pub outside_unsynced : (S : ℕ → Type 0) (disk : Disk) → SyncedOutside (λ n. S n ⊎ (disk.unsynced n ≡ true)) disk.content disk
-outside_unsynced S disk = record { content = record { sectors = refl; same = λ k out. refl }; synced = λ k out. not_true (disk.unsynced k) (λ is. out (inr is)) }
+outside_unsynced S disk = record {
+  content = record { sectors = refl; same = λ k out. refl };
+  synced = λ k out.
+      not_true (disk.unsynced k) (λ is. out (inr is));
+}
   where
     not_true : (b : Bool) → ¬ (b ≡ true) → b ≡ false
     not_true true other = absurd (other refl)
@@ -155,9 +171,14 @@ crash_outside S image disk c held crash = record {
 }
 
 -- a write within S
-pub written_outside : (S : ℕ → Type 0) (image : Image) (disk : Disk) (n : ℕ) (bytes : List ℕ) → S n → SyncedOutside S image disk → SyncedOutside S image (after_write disk n bytes)
+pub written_outside : (S : ℕ → Type 0) (image : Image) (disk : Disk) (n : ℕ) (bytes : List ℕ) → S n → SyncedOutside S image disk
+    → SyncedOutside S image (after_write disk n bytes)
 written_outside S image disk n bytes within held = record {
-  content = record { sectors = length-set disk.content n bytes ∙ held.content.sectors; same = λ k out. get_or-set_other disk.content n k bytes [] (other k out) ∙ held.content.same k out };
+  content = record {
+    sectors = length-set disk.content n bytes ∙ held.content.sectors;
+    same = λ k out. get_or-set_other disk.content n k bytes [] (other k out)
+        ∙ held.content.same k out;
+  };
   synced = λ k out. grind (arith, nat_tests, held.synced k out, other k out);
 }
   where
@@ -165,10 +186,16 @@ written_outside S image disk n bytes within held = record {
     other k out is = out (subst S (sym is) within)
 
 -- a write within S, done or failed, changes the content within S
-pub content_after : (S : ℕ → Type 0) (image : Image) (old : Disk) (n : ℕ) (bytes : List ℕ) (new : Disk) (result : Result Unit Failed) → OnOk result (new ≡ after_write old n bytes) → OnErr result (IsFailedWrite old n new) → S n → SameOutside S image old.content → SameOutside S image new.content
+pub content_after : (S : ℕ → Type 0) (image : Image) (old : Disk) (n : ℕ) (bytes : List ℕ) (new : Disk) (result : Result Unit Failed)
+    → OnOk result (new ≡ after_write old n bytes) → OnErr result (IsFailedWrite old n new) → S n → SameOutside S image old.content
+    → SameOutside S image new.content
 content_after S image old n bytes new result ok err inside held =
     holds_after_write (λ d. SameOutside S image d.content) old n bytes new result ok err
-    (λ b. record { sectors = length-set old.content n b ∙ held.sectors; same = λ k out. sector_other old n k b (λ is. out (subst S (sym is) inside)) ∙ held.same k out })
+    (λ b. record {
+      sectors = length-set old.content n b ∙ held.sectors;
+      same = λ k out. sector_other old n k b (λ is. out (subst S (sym is) inside))
+          ∙ held.same k out;
+    })
 
 -- a sync
 pub synced_outside : (S : ℕ → Type 0) (image : Image) (disk : Disk) → SyncedOutside S image disk → SyncedOutside S image (after_sync disk)

@@ -26,12 +26,16 @@ module _ (S : ℕ → Type 0) (image : Image) (old mid new : History) (so_far : 
   within_now now = record { now = now; run = goes_on old mid new (SameOutside S image) so_far.run time (λ c crash. crash_outside S image new.disk c now crash) }
 
   -- one write more, done or failed
-  pub within_write : (n : ℕ) (bytes : List ℕ) (result : Result Unit Failed) → S n → OnOk result (new.disk ≡ after_write mid.disk n bytes) → OnErr result (IsFailedWrite mid.disk n new.disk) → RunsWithin S image old new
-  within_write n bytes result inside ok err = within_now (holds_after_write (SyncedOutside S image) mid.disk n bytes new.disk result ok err (λ b. written_outside S image mid.disk n b inside so_far.now))
+  pub within_write : (n : ℕ) (bytes : List ℕ) (result : Result Unit Failed) → S n → OnOk result (new.disk ≡ after_write mid.disk n bytes)
+      → OnErr result (IsFailedWrite mid.disk n new.disk) → RunsWithin S image old new
+  within_write n bytes result inside ok err = within_now
+      (holds_after_write (SyncedOutside S image) mid.disk n bytes new.disk result ok err (λ b. written_outside S image mid.disk n b inside so_far.now))
 
   -- one sync more, done or failed
-  pub within_sync : (result : Result Unit Failed) → OnOk result (new.disk ≡ after_sync mid.disk) → OnErr result (new.disk ≡ mid.disk) → RunsWithin S image old new
-  within_sync result ok err = within_now (holds_after_sync (SyncedOutside S image) mid.disk new.disk result ok err so_far.now (synced_outside S image mid.disk so_far.now))
+  pub within_sync : (result : Result Unit Failed) → OnOk result (new.disk ≡ after_sync mid.disk) → OnErr result (new.disk ≡ mid.disk)
+      → RunsWithin S image old new
+  within_sync result ok err = within_now (holds_after_sync (SyncedOutside S image) mid.disk new.disk result ok err so_far.now
+      (synced_outside S image mid.disk so_far.now))
 
   -- one read more
   pub within_same : new.disk ≡ mid.disk → RunsWithin S image old new
@@ -39,7 +43,15 @@ module _ (S : ℕ → Type 0) (image : Image) (old mid new : History) (so_far : 
 
 -- no call
 pub reads_none : (h : History) → OnlyReads h h
-reads_none h = record { disk = refl; time = record { later = omega arith; kept = λ t le. refl; during = λ t from to. inl (let same : t ≡ h.moment = omega arith in subst (λ u. h.disk_at u ≡ h.disk) (sym same) h.now) } }
+reads_none h = record {
+  disk = refl;
+  time = record {
+    later = omega arith;
+    kept = λ t le. refl;
+    during = λ t from to.
+        inl (let same : t ≡ h.moment = omega arith in subst (λ u. h.disk_at u ≡ h.disk) (sym same) h.now);
+  };
+}
 
 -- one run of reads after another
 pub reads_then : (a b c : History) → OnlyReads a b → OnlyReads b c → OnlyReads a c

@@ -1,5 +1,6 @@
 -- What a crash of a disk in memory leaves, as the fates name it.
-use Rattle.std.specs.Prelude.{◌≡◌, ℕ, ◌+◌, ◌*◌, ◌%◌, ◌<◌, Bool, true, false, List, length, take, slice_index, slice_index_or, count_by}
+use Rattle.std.specs.Prelude.{◌≡◌, ℕ, ◌+◌, ◌*◌, ◌%◌, ◌<◌, Bool, true, false, List, length, take, slice_index}
+use Rattle.std.specs.Prelude.{slice_index_or, count_by}
 use Rattle.sector_device.specs.declared.call.Fate.{Fate}
 use Rattle.sector_device.specs.declared.call.Fate.TheVariants.{Old, New, Zero, Gate, Junk}
 use Rattle.sector_device.specs.declared.values.TheConstants.{MARK}
@@ -16,7 +17,8 @@ pub record IsFilled (byte : ℕ) (bytes : List ℕ) : Type 0 where
   pub size : length bytes ≡ 512
   pub each : (i : ℕ) → i < 512 → slice_index bytes i ≡ byte
 
--- an unsynced sector after the crash: what it held at the last sync, what it held last, zeros, the mark everywhere, or junk
+-- an unsynced sector after the crash: what it held at the last sync, what it held last, zeros, the mark everywhere, or
+-- junk
 abbrev pub HasFate : Fate → List ℕ → List ℕ → List ℕ → Type 0
 HasFate Old old new bytes = bytes ≡ old
 HasFate New old new bytes = bytes ≡ new
@@ -36,4 +38,5 @@ unsynced_below unsynced k = count_by (λ is. is) (take k unsynced)
 pub record IsCrashed (fates : List Fate) (s : MemoryState) (image : Image) : Type 0 where
   pub sectors : length image ≡ length s.content
   pub synced : (k : ℕ) → slice_index_or s.unsynced k false ≡ false → sector image k ≡ sector s.content k
-  pub unsynced : (k : ℕ) → k < length s.content → slice_index_or s.unsynced k false ≡ true → HasFate (fate_at fates (unsynced_below s.unsynced k)) (sector s.synced k) (sector s.content k) (sector image k)
+  pub unsynced : (k : ℕ) → k < length s.content → slice_index_or s.unsynced k false ≡ true
+      → HasFate (fate_at fates (unsynced_below s.unsynced k)) (sector s.synced k) (sector s.content k) (sector image k)

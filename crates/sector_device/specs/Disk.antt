@@ -1,5 +1,6 @@
 -- A disk of sectors: what it holds, which sectors are unsynced, and what a crash leaves of it.
-use Rattle.std.specs.Prelude.{◌≡◌, ℕ, ◌<◌, Bool, true, false, ◌||◌, ◌==◌, List, [], length, slice_index, slice_index_or, slice_set}
+use Rattle.std.specs.Prelude.{◌≡◌, ℕ, ◌<◌, Bool, true, false, ◌||◌, ◌==◌, List, [], length, slice_index, slice_index_or}
+use Rattle.std.specs.Prelude.{slice_set}
 
 -- the bytes of each sector: the content of a disk, or a crash state, which is what a crash leaves of one
 abbrev pub Image : Type 0
@@ -25,7 +26,11 @@ pub record Disk : Type 0 where
 
 -- after a write of sector n, which is then unsynced
 abbrev pub after_write : Disk → ℕ → List ℕ → Disk
-after_write disk n bytes = record { content = slice_set disk.content n bytes; unsynced = λ k. (k == n) || disk.unsynced k }
+after_write disk n bytes = record {
+  content = slice_set disk.content n bytes;
+  unsynced = λ k.
+      (k == n) || disk.unsynced k;
+}
 
 -- after a sync: the content stays
 abbrev pub after_sync : Disk → Disk

@@ -29,10 +29,11 @@ pub record LeavesOnly (old new : History) (P : Image → Type 0) : Type 0 where
 -- The borders rise from the one moment to the other, and each crash state from the j-th to the next has P j.
 abbrev pub Spans : (ℕ → Disk) → (ℕ → Image → Type 0) → ℕ → ℕ → List ℕ → ℕ → Type 0
 Spans disk_at P j from [] to = from ≡ to
-Spans disk_at P j from (next ∷ borders) to = (from ≤ next) × Between disk_at from next (P j) × Spans disk_at P (j + 1) next borders to
+Spans disk_at P j from (next ∷ borders) to = (from ≤ next) × Between disk_at from next (P j)
+    × Spans disk_at P (j + 1) next borders to
 
--- Calls were made that write only sectors of S: a crash at any moment since leaves this content outside S, and outside S
--- the disk holds it, synced.
+-- Calls were made that write only sectors of S: a crash at any moment since leaves this content outside S, and outside
+-- S the disk holds it, synced.
 pub record RunsWithin (S : ℕ → Type 0) (image : Image) (old new : History) : Type 0 where
   pub now : SyncedOutside S image new.disk
   pub run : LeavesOnly old new (SameOutside S image)

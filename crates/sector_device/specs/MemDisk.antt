@@ -32,4 +32,5 @@ module _ {A : Type 0} where
 
   -- there is room to record a write of sector n: it is synced, for which room is kept, or there is room for more
   abbrev pub HasRoom : MemDisk A → ℕ → Type 0
-  HasRoom d n = (slice_index d.written_at.items n ≤ d.synced_at) ⊎ (vec_len d.calls + length d.content.items + 1 ≤ vec_capacity d.calls)
+  HasRoom d n = (slice_index d.written_at.items n ≤ d.synced_at)
+      ⊎ (vec_len d.calls + length d.content.items + 1 ≤ vec_capacity d.calls)

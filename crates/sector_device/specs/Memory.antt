@@ -1,5 +1,6 @@
 -- A disk in memory: what its record of writes and syncs makes of what it held when the record began.
-use Rattle.std.specs.Prelude.{◌≡◌, ℕ, Bool, true, false, ◌<◌, ◌≤◌, nat_lt, List, [], ◌∷◌, length, map, take, replicate, slice_index, slice_index_or, slice_set}
+use Rattle.std.specs.Prelude.{◌≡◌, ℕ, Bool, true, false, ◌<◌, ◌≤◌, nat_lt, List, [], ◌∷◌, length, map, take, replicate}
+use Rattle.std.specs.Prelude.{slice_index, slice_index_or, slice_set}
 use Rattle.std.proofs.Common.{ap}
 use Rattle.std.proofs.Math.Nat.{le_refl}
 use Rattle.std.proofs.lemmas.List.{take_all}
@@ -20,7 +21,11 @@ initial_state image = record { content = image; synced = image; unsynced = repli
 
 -- after one call more
 abbrev pub step : MemoryState → Call → MemoryState
-step s (Write n bytes) = record { content = slice_set s.content n bytes; synced = s.synced; unsynced = slice_set s.unsynced n true }
+step s (Write n bytes) = record {
+  content = slice_set s.content n bytes;
+  synced = s.synced;
+  unsynced = slice_set s.unsynced n true;
+}
 step s Sync = record { content = s.content; synced = s.content; unsynced = replicate (length s.content) false }
 
 -- after these calls
@@ -33,12 +38,14 @@ abbrev pub disk_of : MemoryState → Disk
 disk_of s = record { content = s.content; unsynced = λ k. slice_index_or s.unsynced k false }
 
 -- the disk after each number of the calls
-abbrev pub memory_history : (first : Image) (calls : List Call) → IsDiskWhole (state_after (initial_state first) calls).content → History
+abbrev pub memory_history : (first : Image) (calls : List Call)
+    → IsDiskWhole (state_after (initial_state first) calls).content → History
 memory_history first calls whole = record {
   disk = disk_of (state_after (initial_state first) calls);
   moment = length calls;
   disk_at = λ t. disk_of (state_after (initial_state first) (take t calls));
-  now = ap (λ (l : List Call). disk_of (state_after (initial_state first) l)) (take_all (length calls) calls (le_refl (length calls)));
+  now = ap (λ (l : List Call). disk_of (state_after (initial_state first) l))
+      (take_all (length calls) calls (le_refl (length calls)));
   whole = whole;
 }
 
@@ -48,7 +55,8 @@ unsynced_since synced_at written_at = map (λ at. nat_lt synced_at at) written_a
 
 -- This is how a disk in memory keeps a state that so many calls made: the content; of each unsynced sector also what it
 -- held at the last sync; and after how many calls each sector was written last, and the disk synced last.
-pub record Represents (s : MemoryState) (calls : ℕ) (content before : Image) (written_at : List ℕ) (synced_at : ℕ) : Type 0 where
+pub record Represents (s : MemoryState) (calls : ℕ) (content before : Image) (written_at : List ℕ)
+    (synced_at : ℕ) : Type 0 where
   pub content_is : s.content ≡ content
   pub unsynced_is : s.unsynced ≡ unsynced_since synced_at written_at
   pub before_is : (k : ℕ) → slice_index_or s.unsynced k false ≡ true → sector s.synced k ≡ sector before k

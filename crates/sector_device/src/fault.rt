@@ -1,7 +1,9 @@
 // A device that fails once.
-ghost use Rattle.std.specs.Prelude.{◌≡◌, ◌+◌, ◌-◌, ◌^◌, ◌⊎◌, ◌↔◌, ◌<◌, length, if◌then◌else◌, IsTrue, IsErr, OnErr, OnOk};
+ghost use Rattle.std.specs.Prelude.{◌≡◌, ◌+◌, ◌-◌, ◌^◌, ◌⊎◌, ◌↔◌, ◌<◌, length, if◌then◌else◌, IsTrue, IsErr, OnErr};
+ghost use Rattle.std.specs.Prelude.{OnOk};
 ghost use Rattle.sector_device.specs.Fault.{fault_count};
-ghost use Rattle.sector_device.specs.FaultDisk.{IsFailureDue, CountsCall, CountsNone, device_of, which_of, fails_at_of, made_of};
+ghost use Rattle.sector_device.specs.FaultDisk.{IsFailureDue, CountsCall, CountsNone, device_of, which_of, fails_at_of};
+ghost use Rattle.sector_device.specs.FaultDisk.{made_of};
 ghost use Rattle.sector_device.specs.Disk.{sector, after_write, after_sync, IsFailedWrite};
 ghost use Rattle.sector_device.specs.History.{Elapses, Rises, CountsFailure};
 

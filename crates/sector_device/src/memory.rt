@@ -1,6 +1,7 @@
 // A disk in memory. It keeps what it held at first and each write and sync since, which tell what a crash at any
 // moment might have left.
-ghost use Rattle.std.specs.Prelude.{◌≡◌, ◌+◌, ◌-◌, ◌^◌, ◌<◌, ◌≤◌, length, min, replicate, nat_le, count_by, vec_len, vec_capacity, IfOk, IsOk, OnOk, OnErr};
+ghost use Rattle.std.specs.Prelude.{◌≡◌, ◌+◌, ◌-◌, ◌^◌, ◌<◌, ◌≤◌, length, min, replicate, nat_le, count_by, vec_len};
+ghost use Rattle.std.specs.Prelude.{vec_capacity, IfOk, IsOk, OnOk, OnErr};
 ghost use Rattle.sector_device.specs.Disk.{sector, after_write, after_sync, IsCrashImage, IsSynced, IsFailedWrite};
 ghost use Rattle.sector_device.specs.History.{Elapses, CountsFailure};
 ghost use Rattle.sector_device.specs.Memory.{initial_state, state_after, Represents};
@@ -66,7 +67,8 @@ fn make_room<A: Allocator>(
 }
 
 impl<A: Allocator + Copy> MemDisk<A> {
-    ghost use Rattle.sector_device.specs.MemDisk.{history_of, failures_of, state_of, last_synced_of, record_room, calls_left, HasRoom};
+    ghost use Rattle.sector_device.specs.MemDisk.{history_of, failures_of, state_of, last_synced_of, record_room};
+    ghost use Rattle.sector_device.specs.MemDisk.{calls_left, HasRoom};
     ghost use Rattle.sector_device.specs.Crash.{IsCrashed};
 
     /// A disk of zeros, with room to record this many writes and syncs.

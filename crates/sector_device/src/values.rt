@@ -1,5 +1,6 @@
 //! Sectors of a known value: of zeros, or with a mark in front.
-ghost use Rattle.std.specs.Prelude.{◌≡◌, ◌⊎◌, ◌↔◌, ◌+◌, ◌*◌, ◌^◌, ◌≤◌, ◌<◌, ℕ, true, length, slice_index, All, IsTrue, OnOk};
+ghost use Rattle.std.specs.Prelude.{◌≡◌, ◌⊎◌, ◌↔◌, ◌+◌, ◌*◌, ◌^◌, ◌≤◌, ◌<◌, ℕ, true, length, slice_index, All, IsTrue};
+ghost use Rattle.std.specs.Prelude.{OnOk};
 ghost use Rattle.sector_device.specs.Disk.{SameOutside};
 ghost use Rattle.sector_device.specs.History.{RunsWithin, CountsFailure};
 ghost use Rattle.sector_device.specs.Values.{zero_sector, marked_sector, IsMarked, InRow, AreZeroSectors};
@@ -51,7 +52,8 @@ pub fn write_zeros<D: Device>(
     requires inside { first + step * count ≤ length (D.history device.old).disk.content }
     requires number { first + step * count < 2 ^ 64 }
     ensures zeros { OnOk result (AreZeroSectors (D.history device.new).disk.content first step count) }
-    ensures outside { SameOutside (InRow first step count) (D.history device.old).disk.content (D.history device.new).disk.content }
+    ensures outside { SameOutside (InRow first step count) (D.history device.old).disk.content
+        (D.history device.new).disk.content }
     ensures within { RunsWithin (λ n. InRow first step count n ⊎ ((D.history device.old).disk.unsynced n ≡ true))
         (D.history device.old).disk.content (D.history device.old) (D.history device.new) }
     ensures counts { CountsFailure (D.failures device.old) (D.failures device.new) result }

@@ -14,18 +14,25 @@ pub refused_since : (before mid now : ℕ) (e : Error) → mid ≡ before → Re
 refused_since before mid now e same refuses = subst (λ n. Refuses n now e) same refuses
 
 module _ (old mid : History) where
-  pub synced_first : (result : Result Unit Failed) → Elapses old mid → OnOk result (mid.disk ≡ after_sync old.disk) → OnErr result (mid.disk ≡ old.disk) → LeavesOnly old mid (ReopeningLeaves old.disk)
-  synced_first result time ok err = sync_goes_on old old mid (ReopeningLeaves old.disk) (started old (ReopeningLeaves old.disk) (λ c crash. inl crash)) time result ok err
+  pub synced_first : (result : Result Unit Failed) → Elapses old mid → OnOk result (mid.disk ≡ after_sync old.disk) → OnErr result (mid.disk ≡ old.disk)
+      → LeavesOnly old mid (ReopeningLeaves old.disk)
+  synced_first result time ok err = sync_goes_on old old mid (ReopeningLeaves old.disk)
+      (started old (ReopeningLeaves old.disk) (λ c crash. inl crash)) time result ok err
 
   -- behind the sync the device was only read
-  pub only_read : (new : History) (result : Result Unit Failed) → Elapses old mid → OnOk result (mid.disk ≡ after_sync old.disk) → OnErr result (mid.disk ≡ old.disk) → OnlyReads mid new → LeavesOnly old new (IsCrashImage old.disk)
+  pub only_read : (new : History) (result : Result Unit Failed) → Elapses old mid → OnOk result (mid.disk ≡ after_sync old.disk)
+      → OnErr result (mid.disk ≡ old.disk) → OnlyReads mid new → LeavesOnly old new (IsCrashImage old.disk)
   only_read new result time ok err reads =
-      let first : LeavesOnly old mid (IsCrashImage old.disk) = sync_goes_on old old mid (IsCrashImage old.disk) (started old (IsCrashImage old.disk) (λ c crash. crash)) time result ok err in
+      let first : LeavesOnly old mid (IsCrashImage old.disk) =
+      sync_goes_on old old mid (IsCrashImage old.disk) (started old (IsCrashImage old.disk) (λ c crash. crash)) time result ok err in
       joined old mid new (IsCrashImage old.disk) first (reads_leave mid new (IsCrashImage old.disk) reads (at_end old mid (IsCrashImage old.disk) first))
 
   module _ (new : History) (first : LeavesOnly old mid (ReopeningLeaves old.disk)) where
     pub then_reads : OnlyReads mid new → LeavesOnly old new (ReopeningLeaves old.disk)
-    then_reads reads = joined old mid new (ReopeningLeaves old.disk) first (reads_leave mid new (ReopeningLeaves old.disk) reads (at_end old mid (ReopeningLeaves old.disk) first))
+    then_reads reads = joined old mid new (ReopeningLeaves old.disk) first
+        (reads_leave mid new (ReopeningLeaves old.disk) reads (at_end old mid (ReopeningLeaves old.disk) first))
 
     pub then_writes : mid.disk.content ≡ old.disk.content → LeavesOnly mid new (IsWrittenBack mid.disk.content) → LeavesOnly old new (ReopeningLeaves old.disk)
-    then_writes same written = joined old mid new (ReopeningLeaves old.disk) first (weaker mid new (IsWrittenBack mid.disk.content) (ReopeningLeaves old.disk) (λ c back. inr (subst (λ (i : Image). IsWrittenBack i c) same back)) written)
+    then_writes same written = joined old mid new (ReopeningLeaves old.disk) first
+        (weaker mid new (IsWrittenBack mid.disk.content) (ReopeningLeaves old.disk) (λ c back.
+        inr (subst (λ (i : Image). IsWrittenBack i c) same back)) written)

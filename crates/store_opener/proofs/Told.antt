@@ -30,12 +30,14 @@ pub record SameHalf (g : GeometryValue) (half : Half) (image c : Image) : Type 0
 
 module _ (g : GeometryValue) (half : Half) (image c : Image) (same : SameHalf g half image c) where
   pub imaged_told : (base : ℕ) (cells : Cells) → HoldsImage g half image base cells → HoldsImage g half c base cells
-  imaged_told base cells held = images.told_by_its_sectors Two g (header_sector g half) image c (λ n inside. same.same n (image_inside g half n inside)) base cells held
+  imaged_told base cells held = images.told_by_its_sectors Two g (header_sector g half) image c (λ n inside.
+      same.same n (image_inside g half n inside)) base cells held
 
   pub groups_told : (groups : List (List RecordValue)) → HoldsGroups (log_area g half) image groups → HoldsGroups (log_area g half) c groups
   groups_told groups held = log.told_by_its_sectors (log_area g half) image c groups same.sectors (λ n inside. same.same n (log_inside g half n inside)) held
 
-  holds_told : IsStore g half c → (base : ℕ) (cells : Cells) (records : List RecordValue) → HoldsStore image g half base cells records → HoldsStore c g half base cells records
+  holds_told : IsStore g half c → (base : ℕ) (cells : Cells) (records : List RecordValue) → HoldsStore image g half base cells records
+      → HoldsStore c g half base cells records
   holds_told store base cells records holds = record {
     store = store;
     imaged = imaged_told base cells holds.imaged;
@@ -52,13 +54,16 @@ module _ (g : GeometryValue) (half : Half) (image c : Image) (same : SameHalf g 
     base = gives.base;
     cells = gives.cells;
     records = gives.records;
-    holds = holds_told store gives.base gives.cells gives.records (subst (λ (h : Half). HoldsStore image g h gives.base gives.cells gives.records) (one_half Two g g gives.half half image gives.holds.store before) gives.holds);
+    holds = holds_told store gives.base gives.cells gives.records
+        (subst (λ (h : Half). HoldsStore image g h gives.base gives.cells gives.records)
+        (one_half Two g g gives.half half image gives.holds.store before) gives.holds);
     recovered = gives.recovered;
     room = gives.room;
   }
 
 -- the image of what was given, with an empty log, gives it again
-pub gives_image : (image : Image) (g : GeometryValue) (half : Half) (given : Given) → IsStore g half image → HoldsImage g half image given.last (opening_cells given) → HoldsGroups (log_area g half) image [] → len given.entries ≤ g.entries → Gives image g given
+pub gives_image : (image : Image) (g : GeometryValue) (half : Half) (given : Given) → IsStore g half image
+    → HoldsImage g half image given.last (opening_cells given) → HoldsGroups (log_area g half) image [] → len given.entries ≤ g.entries → Gives image g given
 gives_image image g half given store imaged held room = record {
   half = half;
   base = given.last;
@@ -75,14 +80,17 @@ still_gives before image back g given gave =
     subst (λ (h : GeometryValue). Gives image h given) (one_geometry Two before back.geometry g back.given given back.gave gave)
     (subst (λ (x : Given). Gives image back.geometry x) (one_given Two before back.geometry g back.given given back.gave gave) back.gives)
 
-pub around : (before image : Image) → IsWrittenBack before image → (g : GeometryValue) (half : Half) → IsStore g half before → SameOutside (IsSpare g half) before image
+pub around : (before image : Image) → IsWrittenBack before image → (g : GeometryValue) (half : Half) → IsStore g half before
+    → SameOutside (IsSpare g half) before image
 around before image back g half store =
     subst (λ (h : GeometryValue). SameOutside (IsSpare h half) before image) (stores.one_geometry Two back.geometry g back.half half before back.store store)
-    (subst (λ (h : Half). SameOutside (IsSpare back.geometry h) before image) (one_half Two back.geometry g back.half half before back.store store) back.outside)
+    (subst (λ (h : Half). SameOutside (IsSpare back.geometry h) before image)
+    (one_half Two back.geometry g back.half half before back.store store) back.outside)
 
 pub spared : (before image : Image) (e : Error) → IsUnreadable before e → ¬ IsWrittenBack before image
 spared before image e unreadable back = readable Two before back.geometry back.given e back.gave unreadable
 
-pub synced_gives : (before : Disk) (image : Image) → IsSynced before → ReopeningLeaves before image → (g : GeometryValue) (given : Given) → Gives before.content g given → Gives image g given
+pub synced_gives : (before : Disk) (image : Image) → IsSynced before → ReopeningLeaves before image → (g : GeometryValue) (given : Given)
+    → Gives before.content g given → Gives image g given
 synced_gives before image all (inl crash) g given gave = subst (λ (c : Image). Gives c g given) (sym (crash_synced before image all crash)) gave
 synced_gives before image all (inr back) g given gave = still_gives before.content image back g given gave

@@ -14,15 +14,15 @@ use Rattle.store_reader.specs.Contents.{Gives}
 abbrev pub IsSpare : GeometryValue → Half → ℕ → Type 0
 IsSpare geometry current n = InHalf geometry (other current) n ⊎ (n ≡ FLIP_SECTOR)
 
--- What a crash leaves while this is written into the half of a store that isn't current, and that half made current: no sector
--- but those of that half and the flip sector has changed; and the store's current half is still current, or the store gives
--- what is written.
+-- What a crash leaves while this is written into the half of a store that isn't current, and that half made current: no
+-- sector but those of that half and the flip sector has changed; and the store's current half is still current, or the
+-- store gives what is written.
 pub record IsOverwritten (geometry : GeometryValue) (half : Half) (given : Given) (before image : Image) : Type 0 where
   pub outside : SameOutside (IsSpare geometry half) before image
   pub either : IsStore geometry half image ⊎ Gives image geometry given
 
--- The second content differs from the first one in the half that wasn't current, and in the flip sector, at most; and it gives
--- what the first one gives.
+-- The second content differs from the first one in the half that wasn't current, and in the flip sector, at most; and
+-- it gives what the first one gives.
 pub record IsWrittenBack (before image : Image) : Type 0 where
   pub geometry : GeometryValue
   pub half : Half

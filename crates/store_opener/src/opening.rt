@@ -37,39 +37,48 @@ pub struct Reopened<A: Allocator> {
     pub restored: Restored<A>,
 }
 
-/// Opens the store on the device: syncs it, reads it, and takes back what the transactions did that neither committed nor
-/// ended. What is left is written as an image into the half that isn't current, whose log is emptied first; and then that half
-/// is made current. The half that is read is never written.
+/// Opens the store on the device: syncs it, reads it, and takes back what the transactions did that neither committed
+/// nor ended. What is left is written as an image into the half that isn't current, whose log is emptied first; and
+/// then that half is made current. The half that is read is never written.
 ///
-/// `DeviceTooSmall`, `NotFormatted`, `OldVersion` and `Damaged` where the device holds no store, one of version 1, or one that
-/// was harmed. `NoMemory` comes only
-/// where it holds a store whose current half begins with a header (`memory`). With each of these the device is synced and holds what
-/// it held (`unwritten`), and a crash at any moment of the call leaves what one before it could (`untouched`). `DeviceFailed` comes
-/// where the device failed in the call, and only then.
+/// `DeviceTooSmall`, `NotFormatted`, `OldVersion` and `Damaged` where the device holds no store, one of version 1, or
+/// one that was harmed. `NoMemory` comes only where it holds a store whose current half begins with a header
+/// (`memory`). With each of these the device is synced and holds what it held (`unwritten`), and a crash at any moment
+/// of the call leaves what one before it could (`untouched`). `DeviceFailed` comes where the device failed in the call,
+/// and only then.
 ///
-/// At each moment of the call a crash leaves what one before it might have left, or what gives the same as the device did
-/// (`images`). So the device does, whatever the answer (`written`): after `DeviceFailed` it can be opened again, and gives the
-/// same. What that says of a device, the law `written_back` tells.
+/// At each moment of the call a crash leaves what one before it might have left, or what gives the same as the device
+/// did (`images`). So the device does, whatever the answer (`written`): after `DeviceFailed` it can be opened again,
+/// and gives the same. What that says of a device, the law `written_back` tells.
 pub fn reopen<D: Device, A: Allocator + Copy>(
     alloc: A,
     device: &mut D,
 ) -> Result<Reopened<A>, Error>
-    ensures given { IfOk result (λ r. Gives (D.history device.old).disk.content r.halves.geometry (given_in r.restored)) }
+    ensures given { IfOk result (λ r. Gives (D.history device.old).disk.content r.halves.geometry
+        (given_in r.restored)) }
     ensures geometry { IfOk result (λ r. r.restored.geometry ≡ r.halves.geometry) }
-    ensures flipped { IfOk result (λ r. IsStore r.halves.geometry (other r.halves.current) (D.history device.old).disk.content) }
-    ensures opened { IfOk result (λ r. IsOpenedAt (D.history device.new) r.halves r.log r.restored.last (opening_cells (given_in r.restored))) }
+    ensures flipped { IfOk result (λ r. IsStore r.halves.geometry (other r.halves.current)
+        (D.history device.old).disk.content) }
+    ensures opened { IfOk result (λ r. IsOpenedAt (D.history device.new) r.halves r.log r.restored.last
+        (opening_cells (given_in r.restored))) }
     ensures empty { IfOk result (λ r. r.log.open_slots ≡ 0) }
 
     // What a crash at any moment of the call leaves, and what the device holds behind it, whatever it answers.
-    ensures images { LeavesOnly (D.history device.old) (D.history device.new) (ReopeningLeaves (D.history device.old).disk) }
-    ensures written { ((D.history device.new).disk.content ≡ (D.history device.old).disk.content) ⊎ IsWrittenBack (D.history device.old).disk.content (D.history device.new).disk.content }
+    ensures images { LeavesOnly (D.history device.old) (D.history device.new)
+        (ReopeningLeaves (D.history device.old).disk) }
+    ensures written { ((D.history device.new).disk.content ≡ (D.history device.old).disk.content)
+        ⊎ IsWrittenBack (D.history device.old).disk.content (D.history device.new).disk.content }
 
-    ensures accepted { (geometry : GeometryValue) (given : Given) → Gives (D.history device.old).disk.content geometry given
+    ensures accepted { (geometry : GeometryValue) (given : Given)
+        → Gives (D.history device.old).disk.content geometry given
         → IfErr result (Refuses (D.failures device.old) (D.failures device.new)) }
-    ensures refused { IfErr result (λ e. Refuses (D.failures device.old) (D.failures device.new) e ⊎ IsUnreadable (D.history device.old).disk.content e) }
+    ensures refused { IfErr result (λ e. Refuses (D.failures device.old) (D.failures device.new) e
+        ⊎ IsUnreadable (D.history device.old).disk.content e) }
     ensures memory { IfErr result (λ e. e ≡ Error.NoMemory → HasHeader (D.history device.old).disk.content) }
-    ensures unwritten { IfErr result (λ e. e ≢ Error.DeviceFailed → (D.history device.new).disk.content ≡ (D.history device.old).disk.content) }
-    ensures untouched { IfErr result (λ e. e ≢ Error.DeviceFailed → LeavesOnly (D.history device.old) (D.history device.new) (IsCrashImage (D.history device.old).disk)) }
+    ensures unwritten { IfErr result (λ e. e ≢ Error.DeviceFailed
+        → (D.history device.new).disk.content ≡ (D.history device.old).disk.content) }
+    ensures untouched { IfErr result (λ e. e ≢ Error.DeviceFailed
+        → LeavesOnly (D.history device.old) (D.history device.new) (IsCrashImage (D.history device.old).disk)) }
     ensures settled { IfErr result (λ e. e ≢ Error.DeviceFailed → IsSynced (D.history device.new).disk) }
     ensures quiet { OnOk result (D.failures device.new ≡ D.failures device.old) }
     ensures told { IfErr result (λ e. e ≢ Error.DeviceFailed → D.failures device.new ≡ D.failures device.old) }
@@ -98,19 +107,24 @@ fn write_back<D: Device, A: Allocator + Copy>(
     requires geometry { restored.geometry ≡ halves.geometry }
     ensures given { IfOk result (λ r. given_in r.restored ≡ given_in restored) }
     ensures geometry { IfOk result (λ r. r.restored.geometry ≡ halves.geometry) }
-    ensures halves { IfOk result (λ r. r.halves ≡ record { geometry = halves.geometry; current = other halves.current }) }
-    ensures opened { IfOk result (λ r. IsOpenedAt (D.history device.new) r.halves r.log r.restored.last (opening_cells (given_in r.restored))) }
+    ensures halves { IfOk result (λ r. r.halves ≡ record {
+      geometry = halves.geometry;
+      current = other halves.current;
+    }) }
+    ensures opened { IfOk result (λ r. IsOpenedAt (D.history device.new) r.halves r.log r.restored.last
+        (opening_cells (given_in r.restored))) }
     ensures empty { IfOk result (λ r. r.log.open_slots ≡ 0) }
-    ensures images { LeavesOnly (D.history device.old) (D.history device.new) (IsWrittenBack (D.history device.old).disk.content) }
+    ensures images { LeavesOnly (D.history device.old) (D.history device.new)
+        (IsWrittenBack (D.history device.old).disk.content) }
     ensures counts { CountsFailure (D.failures device.old) (D.failures device.new) result }
 {
     room_for_given();
     write_over(alloc, device, halves, restored)
 }
 
-/// Writes what was restored, of this store or another one, as an image into the half that isn't current, with an empty log, and
-/// makes that half current. The store then gives that, whatever it gave before, and is synced (`gives`, `opened`). The half
-/// that was current is never written (`images`).
+/// Writes what was restored, of this store or another one, as an image into the half that isn't current, with an empty
+/// log, and makes that half current. The store then gives that, whatever it gave before, and is synced (`gives`,
+/// `opened`). The half that was current is never written (`images`).
 pub fn write_over<D: Device, A: Allocator + Copy>(
     alloc: A,
     device: &mut D,
@@ -123,11 +137,16 @@ pub fn write_over<D: Device, A: Allocator + Copy>(
     requires geometry { restored.geometry ≡ halves.geometry }
     ensures given { IfOk result (λ r. given_in r.restored ≡ given_in restored) }
     ensures geometry { IfOk result (λ r. r.restored.geometry ≡ halves.geometry) }
-    ensures halves { IfOk result (λ r. r.halves ≡ record { geometry = halves.geometry; current = other halves.current }) }
-    ensures opened { IfOk result (λ r. IsOpenedAt (D.history device.new) r.halves r.log r.restored.last (opening_cells (given_in r.restored))) }
+    ensures halves { IfOk result (λ r. r.halves ≡ record {
+      geometry = halves.geometry;
+      current = other halves.current;
+    }) }
+    ensures opened { IfOk result (λ r. IsOpenedAt (D.history device.new) r.halves r.log r.restored.last
+        (opening_cells (given_in r.restored))) }
     ensures gives { OnOk result (Gives (D.history device.new).disk.content halves.geometry (given_in restored)) }
     ensures empty { IfOk result (λ r. r.log.open_slots ≡ 0) }
-    ensures images { LeavesOnly (D.history device.old) (D.history device.new) (IsOverwritten halves.geometry halves.current (given_in restored) (D.history device.old).disk.content) }
+    ensures images { LeavesOnly (D.history device.old) (D.history device.new)
+        (IsOverwritten halves.geometry halves.current (given_in restored) (D.history device.old).disk.content) }
     ensures counts { CountsFailure (D.failures device.old) (D.failures device.new) result }
 {
     let (log, restored) = write_restored(alloc, device, halves, restored)?;
@@ -142,8 +161,8 @@ pub fn write_over<D: Device, A: Allocator + Copy>(
     }
 }
 
-// Empties the log of the half that isn't current, and writes what was restored as an image into that half. The answer is the
-// log, and what was restored.
+// Empties the log of the half that isn't current, and writes what was restored as an image into that half. The answer
+// is the log, and what was restored.
 fn write_restored<D: Device, A: Allocator + Copy>(
     alloc: A,
     device: &mut D,
@@ -156,12 +175,16 @@ fn write_restored<D: Device, A: Allocator + Copy>(
     requires geometry { restored.geometry ≡ halves.geometry }
     ensures given { IfOk result (λ r. given_in r.1 ≡ given_in restored) }
     ensures geometry { IfOk result (λ r. r.1.geometry ≡ halves.geometry) }
-    ensures imaged { OnOk result (HoldsImage halves.geometry (other halves.current) (D.history device.new).disk.content restored.last (opening_cells (given_in restored))) }
+    ensures imaged { OnOk result (HoldsImage halves.geometry (other halves.current)
+        (D.history device.new).disk.content restored.last (opening_cells (given_in restored))) }
     ensures area { IfOk result (λ r. r.0.area ≡ log_area halves.geometry (other halves.current)) }
     ensures empty { IfOk result (λ r. Stands r.0 (D.history device.new).disk.content []) }
-    ensures loose { OnOk result ((n : ℕ) → (D.history device.new).disk.unsynced n ≡ true → InHalfImage halves.geometry (other halves.current) n) }
-    ensures outside { SameOutside (InHalf halves.geometry (other halves.current)) (D.history device.old).disk.content (D.history device.new).disk.content }
-    ensures any_moment { LeavesOnly (D.history device.old) (D.history device.new) (SameOutside (InHalf halves.geometry (other halves.current)) (D.history device.old).disk.content) }
+    ensures loose { OnOk result ((n : ℕ) → (D.history device.new).disk.unsynced n ≡ true
+        → InHalfImage halves.geometry (other halves.current) n) }
+    ensures outside { SameOutside (InHalf halves.geometry (other halves.current)) (D.history device.old).disk.content
+        (D.history device.new).disk.content }
+    ensures any_moment { LeavesOnly (D.history device.old) (D.history device.new)
+        (SameOutside (InHalf halves.geometry (other halves.current)) (D.history device.old).disk.content) }
     ensures counts { CountsFailure (D.failures device.old) (D.failures device.new) result }
 {
     let (geometry, last) = (restored.geometry, restored.last);

@@ -1,5 +1,6 @@
 -- What an image holds lies in the store's pages, and its lists are as those of records that follow one another.
-use Rattle.std.proofs.Common.{◌≡◌, ◌≢◌, ◌⊎◌, inl, inr, ℕ, suc, ◌+◌, ◌<◌, ◌≤◌, Bool, true, false, cond, List, [], ◌∷◌, All, length, Option, Some, None, unwrap_or, refl, sym, ap, subst, ◌∙◌, arith}
+use Rattle.std.proofs.Common.{◌≡◌, ◌≢◌, ◌⊎◌, inl, inr, ℕ, suc, ◌+◌, ◌<◌, ◌≤◌, Bool, true, false, cond, List, [], ◌∷◌, All, length, Option, Some, None}
+use Rattle.std.proofs.Common.{unwrap_or, refl, sym, ap, subst, ◌∙◌, arith}
 use Rattle.std.specs.Prelude.{slice_get}
 use Rattle.std.specs.Option.{option_map}
 use Rattle.std.proofs.lemmas.List.{length-map}
@@ -34,7 +35,8 @@ module _ {K X : Type 0} {R : K → K → Ordering} (o : IsExact R) where
   found_in [] q x is = absurd (none-some x is)
   found_in (e ∷ es) q x is = by_key (λ there. found_in es q x there) (eq_by_cmp R q e.0) refl
     where
-      by_key : (find R q es ≡ Some x → (i : ℕ) × (slice_get es i ≡ Some (q, x))) → (b : Bool) → eq_by_cmp R q e.0 ≡ b → (i : ℕ) × (slice_get (e ∷ es) i ≡ Some (q, x))
+      by_key : (find R q es ≡ Some x → (i : ℕ) × (slice_get es i ≡ Some (q, x))) → (b : Bool) → eq_by_cmp R q e.0 ≡ b → (i : ℕ)
+          × (slice_get (e ∷ es) i ≡ Some (q, x))
       by_key later true same =
           let key : q ≡ e.0 = key_is o q e.0 same in
           let value : e.1 ≡ x = same_Some e.1 x (sym (ap (λ b. cond b (Some e.1) (find R q es)) same) ∙ is) in
@@ -48,7 +50,8 @@ module _ {K X : Type 0} {R : K → K → Ordering} (o : IsExact R) where
 
 -- ---- a list of changes
 
-placed : (pages n : ℕ) (changes : List ChangeValue) → ((p : ℕ) (c : ChangeValue) → slice_get changes p ≡ Some c → (c.position ≡ n + p) × (c.rid.page < pages)) → ArePlaced pages n changes
+placed : (pages n : ℕ) (changes : List ChangeValue) → ((p : ℕ) (c : ChangeValue) → slice_get changes p ≡ Some c → (c.position ≡ n + p) × (c.rid.page < pages))
+    → ArePlaced pages n changes
 placed pages n [] each = tt
 placed pages n (c ∷ changes) each =
     let here = each 0 c refl in
@@ -64,9 +67,11 @@ slotted : (changes : List ChangeValue) → ((p : ℕ) (c : ChangeValue) → slic
 slotted [] each = All-nil Slotted
 slotted (c ∷ changes) each = All-cons Slotted c changes (each 0 c refl) (slotted changes (λ p d is. each (suc p) d is))
 
-within : (pages : ℕ) (changes : List ChangeValue) → ((p : ℕ) (c : ChangeValue) → slice_get changes p ≡ Some c → c.rid.page < pages) → AreChangesWithin pages changes
+within : (pages : ℕ) (changes : List ChangeValue) → ((p : ℕ) (c : ChangeValue) → slice_get changes p ≡ Some c → c.rid.page < pages)
+    → AreChangesWithin pages changes
 within pages [] each = All-nil (λ (c : ChangeValue). c.rid.page < pages)
-within pages (c ∷ changes) each = All-cons (λ (d : ChangeValue). d.rid.page < pages) c changes (each 0 c refl) (within pages changes (λ p d is. each (suc p) d is))
+within pages (c ∷ changes) each = All-cons (λ (d : ChangeValue). d.rid.page < pages) c changes (each 0 c refl)
+    (within pages changes (λ p d is. each (suc p) d is))
 
 -- ---- the image
 
@@ -79,7 +84,8 @@ module _ (v : Version) (g : GeometryValue) (first : ℕ) (image : Image) (base :
 
   -- each transaction's list is that of a head, or empty
   module _ (txn : ℕ) where
-    by_list : (P : List ChangeValue → Type 0) → P [] → ((h : ℕ) (list : List ChangeValue) → slice_get (finite.entries cells.pending) h ≡ Some (txn, list) → P list) → P (list_of cells.pending txn)
+    by_list : (P : List ChangeValue → Type 0) → P [] → ((h : ℕ) (list : List ChangeValue) → slice_get (finite.entries cells.pending) h ≡ Some (txn, list)
+        → P list) → P (list_of cells.pending txn)
     by_list P none some = elim (option_cases (finite.get cells.pending txn)) [
       | inl absent ↦ subst P (ap (λ (o : Option (List ChangeValue)). unwrap_or o []) (sym absent)) none
       | inr there ↦
@@ -88,19 +94,25 @@ module _ (v : Version) (g : GeometryValue) (first : ℕ) (image : Image) (base :
     ]
 
     pub lists_placed : ArePlaced g.pages 0 (list_of cells.pending txn)
-    lists_placed = by_list (ArePlaced g.pages 0) tt (λ h list at. placed g.pages 0 list (λ p c at_p. (from_front p c ((is.lists h (txn, list) at).positions p c at_p), ((is.lists h (txn, list) at).items p c at_p).inside)))
+    lists_placed = by_list (ArePlaced g.pages 0) tt (λ h list at.
+        placed g.pages 0 list (λ p c at_p. (
+          from_front p c ((is.lists h (txn, list) at).positions p c at_p),
+          ((is.lists h (txn, list) at).items p c at_p).inside,
+        )))
       where
         from_front : (p : ℕ) (c : ChangeValue) → c.position ≡ p → c.position ≡ 0 + p
         from_front p c e = omega (arith, e)
 
     lists_within : AreChangesWithin g.pages (list_of cells.pending txn)
-    lists_within = by_list (AreChangesWithin g.pages) (All-nil (λ (c : ChangeValue). c.rid.page < g.pages)) (λ h list at. within g.pages list (λ p c at_p. ((is.lists h (txn, list) at).items p c at_p).inside))
+    lists_within = by_list (AreChangesWithin g.pages) (All-nil (λ (c : ChangeValue). c.rid.page < g.pages)) (λ h list at.
+        within g.pages list (λ p c at_p. ((is.lists h (txn, list) at).items p c at_p).inside))
 
     pub lists_slotted : All Slotted (list_of cells.pending txn)
     lists_slotted = by_list (All Slotted) (All-nil Slotted) (λ h list at. slotted list (λ p c at_p. ((is.lists h (txn, list) at).items p c at_p).fits.rid.slot))
 
     pub lists_short : length (list_of cells.pending txn) ≤ CHANGES_MAX
-    lists_short = by_list (λ list. length list ≤ CHANGES_MAX) (omega arith) (λ h list at. (is.heads-are.fits h (head_of (txn, list)) (slice_get-map head_of (finite.entries cells.pending) h ∙ ap (option_map head_of) at)).changes)
+    lists_short = by_list (λ list. length list ≤ CHANGES_MAX) (omega arith) (λ h list at.
+        (is.heads-are.fits h (head_of (txn, list)) (slice_get-map head_of (finite.entries cells.pending) h ∙ ap (option_map head_of) at)).changes)
 
   entries_within : (p : Pair) → finite.get cells.entries p ≢ None → p.rid.page < g.pages
   entries_within p there = elim (option_cases (finite.get cells.entries p)) [

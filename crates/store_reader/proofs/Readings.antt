@@ -1,5 +1,6 @@
 -- What an image gives, for proofs in the crates above: one answer at most, and then no refusal.
-use Rattle.std.proofs.Common.{◌≡◌, ◌⊎◌, ◌↔◌, ⊎_elim, inl, inr, Bool, IsTrue, ℕ, ◌+◌, ◌<◌, ◌≤◌, List, [], ◌++◌, length, take, take-take, drop, refl, sym, ap, subst, ◌∙◌, arith, length-append}
+use Rattle.std.proofs.Common.{◌≡◌, ◌⊎◌, ◌↔◌, ⊎_elim, inl, inr, Bool, IsTrue, ℕ, ◌+◌, ◌<◌, ◌≤◌, List, [], ◌++◌, length, take, take-take, drop, refl, sym, ap}
+use Rattle.std.proofs.Common.{subst, ◌∙◌, arith, length-append}
 use Rattle.std.proofs.lemmas.Bool.{cases_lt}
 use Rattle.std.proofs.lemmas.List.{take-append-drop}
 use Rattle.std.proofs.lemmas.Grind.{flat_map-append}
@@ -29,7 +30,8 @@ use Rattle.flip_image.specs.Layout.{header_sector, header_sector_in}
 use Rattle.flip_image.specs.Store.{AreGatesClosed, HoldsImage, HoldsImageIn, IsFormatted, IsStore, IsStoreIn}
 use Rattle.flip_image.proofs.Sides as sides
 use Rattle.flip_image.proofs.Stores as stores
-use Rattle.store_reader.specs.Contents.{log_area, log_area_in, given_over, Gives, GivesIn, HoldsStoreIn, IsFoundIn, IsUntouched, IsUntouchedIn, IsMisplacedAtIn, IsOverfullIn, IsLogDamagedIn, IsHalfDamagedIn, IsStoreDamagedAtIn, IsUnreadable, IsUnreadableIn}
+use Rattle.store_reader.specs.Contents.{log_area, log_area_in, given_over, Gives, GivesIn, HoldsStoreIn, IsFoundIn, IsUntouched, IsUntouchedIn, IsMisplacedAtIn}
+use Rattle.store_reader.specs.Contents.{IsOverfullIn, IsLogDamagedIn, IsHalfDamagedIn, IsStoreDamagedAtIn, IsUnreadable, IsUnreadableIn}
 
 -- one image, and one list of records behind it
 pub record AreOne (m n : ℕ) (x y : Cells) (rs ss : List RecordValue) : Type 0 where
@@ -38,7 +40,8 @@ pub record AreOne (m n : ℕ) (x y : Cells) (rs ss : List RecordValue) : Type 0 
   pub records : rs ≡ ss
 
 -- what is restored of records that were redone over an image's cells, and for which store
-pub restored : (geometry : GeometryValue) (records : List RecordValue) (begun mid : StoreValue) (given : Given) → begun.geometry ≡ geometry → AreFollowing begun.geometry.pages begun.last begun.cells records
+pub restored : (geometry : GeometryValue) (records : List RecordValue) (begun mid : StoreValue) (given : Given) → begun.geometry ≡ geometry
+    → AreFollowing begun.geometry.pages begun.last begun.cells records
     → mid ≡ after_records begun records → given ≡ recovered mid.cells mid.last
     → AreFollowing geometry.pages begun.last begun.cells records × (given ≡ given_over begun.last begun.cells records) × (mid.geometry ≡ geometry)
 restored geometry records begun mid given is following redone given_is = (
@@ -56,14 +59,17 @@ first_unfit geometry records read begun index is same first =
 
 records_rise : (groups : List (List RecordValue)) (m n : ℕ) → m ≤ n → length (records_of (take m groups)) ≤ length (records_of (take n groups))
 records_rise groups m n less =
-    let parts : take n groups ≡ take m groups ++ drop m (take n groups) = sym (take-append-drop m (take n groups)) ∙ ap (λ l. l ++ drop m (take n groups)) (take-take m n groups less) in
-    let all : records_of (take n groups) ≡ records_of (take m groups) ++ records_of (drop m (take n groups)) = ap records_of parts ∙ flat_map-append (λ (group : List RecordValue). group) (take m groups) (drop m (take n groups)) in
+    let parts : take n groups ≡ take m groups ++ drop m (take n groups) = sym (take-append-drop m (take n groups))
+    ∙ ap (λ l. l ++ drop m (take n groups)) (take-take m n groups less) in
+    let all : records_of (take n groups) ≡ records_of (take m groups) ++ records_of (drop m (take n groups)) = ap records_of parts
+    ∙ flat_map-append (λ (group : List RecordValue). group) (take m groups) (drop m (take n groups)) in
     omega (arith, ap length all, length-append (records_of (take m groups)) (records_of (drop m (take n groups))))
 
 one_gate : (area : Area) (groups : List (List RecordValue)) (index m n : ℕ) → IsGateOf area groups index m → IsGateOf area groups index n → m ≡ n
 one_gate area groups index m n p q =
     ⊎_elim (λ less. absurd (apart p.slot q.slot less p.before q.behind))
-    (λ up. ⊎_elim (λ less. absurd (apart q.slot p.slot less q.before p.behind)) (λ down. p.gate-is ∙ omega (arith, up, down, q.gate-is)) (cases_lt q.slot p.slot))
+    (λ up. ⊎_elim (λ less. absurd (apart q.slot p.slot less q.before p.behind)) (λ down. p.gate-is
+    ∙ omega (arith, up, down, q.gate-is)) (cases_lt q.slot p.slot))
     (cases_lt p.slot q.slot)
   where
     apart : (i j : ℕ) → i < j → index < length (records_of (take (i + 1) groups)) → ¬ (length (records_of (take j groups)) ≤ index)
@@ -75,7 +81,8 @@ module _ (v : Version) where
   pub one_geometry : (image : Image) (g h : GeometryValue) (x y : Given) → GivesIn v image g x → GivesIn v image h y → g ≡ h
   one_geometry image g h x y p q = stores.one_geometry v g h p.half q.half image p.holds.store q.holds.store
 
-  one_held : (image : Image) (g : GeometryValue) (half : Half) (m n : ℕ) (x y : Cells) (rs ss : List RecordValue) → HoldsStoreIn v image g half m x rs → HoldsStoreIn v image g half n y ss → AreOne m n x y rs ss
+  one_held : (image : Image) (g : GeometryValue) (half : Half) (m n : ℕ) (x y : Cells) (rs ss : List RecordValue) → HoldsStoreIn v image g half m x rs
+      → HoldsStoreIn v image g half n y ss → AreOne m n x y rs ss
   one_held image g half m n x y rs ss p q = record {
     base = images.one_base v g (header_sector_in v g half) image m n x y p.imaged q.imaged;
     cells = images.one_image v g (header_sector_in v g half) image m n x y p.imaged q.imaged;
@@ -83,18 +90,22 @@ module _ (v : Version) where
   }
 
   -- of whatever geometry and half
-  pub one_store : (image : Image) (g h : GeometryValue) (a b : Half) (m n : ℕ) (x y : Cells) (rs ss : List RecordValue) → HoldsStoreIn v image g a m x rs → HoldsStoreIn v image h b n y ss → AreOne m n x y rs ss
+  pub one_store : (image : Image) (g h : GeometryValue) (a b : Half) (m n : ℕ) (x y : Cells) (rs ss : List RecordValue) → HoldsStoreIn v image g a m x rs
+      → HoldsStoreIn v image h b n y ss → AreOne m n x y rs ss
   one_store image g h a b m n x y rs ss p q =
       one_held image g a m n x y rs ss p
-      (subst (λ (k : GeometryValue). HoldsStoreIn v image k a n y ss) (sym (stores.one_geometry v g h a b image p.store q.store)) (subst (λ (k : Half). HoldsStoreIn v image h k n y ss) (sym (stores.one_half v g h a b image p.store q.store)) q))
+      (subst (λ (k : GeometryValue). HoldsStoreIn v image k a n y ss) (sym (stores.one_geometry v g h a b image p.store q.store))
+      (subst (λ (k : Half). HoldsStoreIn v image h k n y ss) (sym (stores.one_half v g h a b image p.store q.store)) q))
 
   pub one_given : (image : Image) (g h : GeometryValue) (x y : Given) → GivesIn v image g x → GivesIn v image h y → x ≡ y
   one_given image g h x y p q =
       let same = one_store image g h p.half q.half p.base q.base p.cells q.cells p.records q.records p.holds q.holds in
       p.recovered ∙ (λ i. given_over (same.base i) (same.cells i) (same.records i)) ∙ sym q.recovered
 
-  pub holds : (image : Image) (g : GeometryValue) (half : Half) (base : ℕ) (cells : Cells) (area : Log) (groups : List (List RecordValue)) (records : List RecordValue)
-      → IsStoreIn v g half image → HoldsImageIn v g half image base cells → area.area ≡ log_area_in v g half → StandsIn v area image groups → records ≡ records_of groups
+  pub holds : (image : Image) (g : GeometryValue) (half : Half) (base : ℕ) (cells : Cells) (area : Log) (groups : List (List RecordValue))
+      (records : List RecordValue)
+      → IsStoreIn v g half image → HoldsImageIn v g half image base cells → area.area ≡ log_area_in v g half → StandsIn v area image groups
+      → records ≡ records_of groups
       → AreFollowing g.pages base cells records → HoldsStoreIn v image g half base cells records
   holds image g half base cells area groups records store imaged is stands all following = record {
     store = store;
@@ -105,8 +116,10 @@ module _ (v : Version) where
     following = following;
   }
 
-  pub found : (image : Image) (g : GeometryValue) (half : Half) (base : ℕ) (cells : Cells) (area : Log) (groups : List (List RecordValue)) (records : List RecordValue) (given : Given)
-      → IsStoreIn v g half image → HoldsImageIn v g half image base cells → area.area ≡ log_area_in v g half → StandsIn v area image groups → records ≡ records_of groups
+  pub found : (image : Image) (g : GeometryValue) (half : Half) (base : ℕ) (cells : Cells) (area : Log) (groups : List (List RecordValue))
+      (records : List RecordValue) (given : Given)
+      → IsStoreIn v g half image → HoldsImageIn v g half image base cells → area.area ≡ log_area_in v g half → StandsIn v area image groups
+      → records ≡ records_of groups
       → AreFollowing g.pages base cells records → given ≡ given_over base cells records → len given.entries ≤ g.entries → IsFoundIn v image g area given
   unfolding holds
   found image g half base cells area groups records given store imaged is stands all following recovered room = record {
@@ -137,7 +150,8 @@ module _ (v : Version) where
       same_area = p.area ∙ (λ i. log_area_in v (same_geometry i) (same_half i)) ∙ sym q.area
 
       same_groups : p.gives.holds.groups ≡ q.gives.holds.groups
-      same_groups = log.one_reading v b.area image p.gives.holds.groups q.gives.holds.groups (subst (λ (r : Area). HoldsGroupsIn v r image p.gives.holds.groups) same_area p.stands.held) q.stands.held
+      same_groups = log.one_reading v b.area image p.gives.holds.groups q.gives.holds.groups
+          (subst (λ (r : Area). HoldsGroupsIn v r image p.gives.holds.groups) same_area p.stands.held) q.stands.held
 
       same_count : a.open_slots ≡ b.open_slots
       same_count = p.stands.counted ∙ ap length same_groups ∙ sym q.stands.counted
@@ -145,7 +159,8 @@ module _ (v : Version) where
   -- ---- a store that holds nothing
 
   -- over the image of no cells whose base is 0, a log with no record
-  untouched : (image : Image) (g : GeometryValue) (half : Half) (base : ℕ) (cells : Cells) (records : List RecordValue) → HoldsStoreIn v image g half base cells records → base ≡ 0 → cells ≡ no_cells → records ≡ [] → IsUntouchedIn v image g
+  untouched : (image : Image) (g : GeometryValue) (half : Half) (base : ℕ) (cells : Cells) (records : List RecordValue)
+      → HoldsStoreIn v image g half base cells records → base ≡ 0 → cells ≡ no_cells → records ≡ [] → IsUntouchedIn v image g
   untouched image g half base cells records is zero bare none = (
     half,
     record {
@@ -159,11 +174,13 @@ module _ (v : Version) where
   )
 
   -- which is the only way to hold nothing
-  touched_so : (image : Image) (g : GeometryValue) (half : Half) (base : ℕ) (cells : Cells) (records : List RecordValue) → HoldsStoreIn v image g half base cells records → IsUntouchedIn v image g → AreOne base 0 cells no_cells records []
+  touched_so : (image : Image) (g : GeometryValue) (half : Half) (base : ℕ) (cells : Cells) (records : List RecordValue)
+      → HoldsStoreIn v image g half base cells records → IsUntouchedIn v image g → AreOne base 0 cells no_cells records []
   touched_so image g half base cells records is none = one_store image g g half none.0 base 0 cells no_cells records [] is none.1
 
   -- so a reader tells it by the image and the records that it found
-  pub told_untouched : (image : Image) (g : GeometryValue) (half : Half) (base : ℕ) (cells : Cells) (records : List RecordValue) (bare result : Bool) → HoldsStoreIn v image g half base cells records
+  pub told_untouched : (image : Image) (g : GeometryValue) (half : Half) (base : ℕ) (cells : Cells) (records : List RecordValue) (bare result : Bool)
+      → HoldsStoreIn v image g half base cells records
       → (IsTrue bare ↔ (base ≡ 0) × (cells ≡ no_cells)) → (IsTrue result ↔ IsTrue bare × (records ≡ [])) → IsTrue result ↔ IsUntouchedIn v image g
   told_untouched image g half base cells records bare result is bare_is result_is = (
     (λ yes. let both = result_is.0 yes in let none = bare_is.0 both.0 in untouched image g half base cells records is none.0 none.1 both.1),
@@ -183,8 +200,10 @@ module _ (v : Version) where
 
   -- ---- no refusal
 
-  not_damaged : (image : Image) (g : GeometryValue) (half : Half) (base : ℕ) (cells : Cells) (records : List RecordValue) (sector : ℕ) → HoldsStoreIn v image g half base cells records → len (given_over base cells records).entries ≤ g.entries → ¬ IsHalfDamagedIn v g half image sector
-  not_damaged image g half base cells records sector holds room (inl damaged) = images.not_damaged v g (header_sector_in v g half) image base cells sector damaged holds.imaged
+  not_damaged : (image : Image) (g : GeometryValue) (half : Half) (base : ℕ) (cells : Cells) (records : List RecordValue) (sector : ℕ)
+      → HoldsStoreIn v image g half base cells records → len (given_over base cells records).entries ≤ g.entries → ¬ IsHalfDamagedIn v g half image sector
+  not_damaged image g half base cells records sector holds room (inl damaged) =
+      images.not_damaged v g (header_sector_in v g half) image base cells sector damaged holds.imaged
   not_damaged image g half base cells records sector holds room (inr at) = ⊎_elim
       (λ slot. log.not_damaged v (log_area_in v g half) image sector holds.groups slot holds.held)
       (λ later. ⊎_elim misplaced overfull later)
@@ -198,14 +217,19 @@ module _ (v : Version) where
 
       misplaced : ¬ IsMisplacedAtIn v g half image at.base at.cells sector
       misplaced there =
-          let same : records_of there.groups ≡ records = ap records_of (log.one_reading v (log_area_in v g half) image there.groups holds.groups there.held holds.held) ∙ sym holds.all in
-          let first : IsFirstUnfit g.pages at.base at.cells records there.index = subst (λ (l : List RecordValue). IsFirstUnfit g.pages at.base at.cells l there.index) same there.first in
-          not_following g.pages base cells records there.index (subst (λ n. IsFirstUnfit g.pages n cells records there.index) same_base (subst (λ (c : Cells). IsFirstUnfit g.pages at.base c records there.index) same_cells first)) holds.following
+          let same : records_of there.groups ≡ records = ap records_of
+          (log.one_reading v (log_area_in v g half) image there.groups holds.groups there.held holds.held) ∙ sym holds.all in
+          let first : IsFirstUnfit g.pages at.base at.cells records there.index =
+          subst (λ (l : List RecordValue). IsFirstUnfit g.pages at.base at.cells l there.index) same there.first in
+          not_following g.pages base cells records there.index
+          (subst (λ n. IsFirstUnfit g.pages n cells records there.index) same_base
+          (subst (λ (c : Cells). IsFirstUnfit g.pages at.base c records there.index) same_cells first)) holds.following
 
       overfull : ¬ IsOverfullIn v g half image at.base at.cells sector
       overfull over =
           let same = one_held image g half at.base base at.cells cells over.records records over.holds holds in
-          let given : given_over at.base at.cells over.records ≡ given_over base cells records = λ i. given_over (same.base i) (same.cells i) (same.records i) in
+          let given : given_over at.base at.cells over.records ≡ given_over base cells records = λ i.
+          given_over (same.base i) (same.cells i) (same.records i) in
           let crowded : g.entries < len (given_over base cells records).entries = subst (λ (x : Given). g.entries < len x.entries) given over.crowded in
           omega (arith, room, crowded)
 
@@ -214,8 +238,10 @@ module _ (v : Version) where
   readable image g given e gives (inr (sector, is, damaged)) =
       let same_geometry = stores.one_geometry v damaged.geometry g damaged.half gives.half image damaged.store gives.holds.store in
       let same_half = stores.one_half v damaged.geometry g damaged.half gives.half image damaged.store gives.holds.store in
-      let here = subst (λ (k : Half). IsHalfDamagedIn v g k image sector) same_half (subst (λ (k : GeometryValue). IsHalfDamagedIn v k damaged.half image sector) same_geometry damaged.damaged) in
-      not_damaged image g gives.half gives.base gives.cells gives.records sector gives.holds (subst (λ (x : Given). len x.entries ≤ g.entries) gives.recovered gives.room) here
+      let here = subst (λ (k : Half). IsHalfDamagedIn v g k image sector) same_half
+      (subst (λ (k : GeometryValue). IsHalfDamagedIn v k damaged.half image sector) same_geometry damaged.damaged) in
+      not_damaged image g gives.half gives.base gives.cells gives.records sector gives.holds
+      (subst (λ (x : Given). len x.entries ≤ g.entries) gives.recovered gives.room) here
 
   -- so a reader of an image that gives something can only want for memory, or fail with the device
   pub accepted_one : (image : Image) (g : GeometryValue) (given : Given) (before now : ℕ) (e : Error) → GivesIn v image g given
@@ -235,13 +261,17 @@ module _ (v : Version) where
         let same = log.one_reading v (log_area_in v g half) image q.groups p.groups q.held p.held in
         let first = subst (λ (l : List (List RecordValue)). IsFirstUnfit g.pages base cells (records_of l) q.index) same q.first in
         let gate = subst (λ (l : List (List RecordValue)). IsGateOf (log_area_in v g half) l q.index n) same q.gate-is in
-        one_gate (log_area_in v g half) p.groups p.index m n p.gate-is (subst (λ i. IsGateOf (log_area_in v g half) p.groups i n) (sym (one_unfit g.pages base cells (records_of p.groups) p.index q.index p.first first)) gate)
+        one_gate (log_area_in v g half) p.groups p.index m n p.gate-is
+        (subst (λ i. IsGateOf (log_area_in v g half) p.groups i n)
+        (sym (one_unfit g.pages base cells (records_of p.groups) p.index q.index p.first first)) gate)
 
     -- a record that can't follow, and records that all can, aren't in one log
     apart : (m n : ℕ) → IsMisplacedAtIn v g half image base cells m → ¬ IsOverfullIn v g half image base cells n
     apart m n p q =
-        let same : records_of p.groups ≡ q.records = ap records_of (log.one_reading v (log_area_in v g half) image p.groups q.holds.groups p.held q.holds.held) ∙ sym q.holds.all in
-        not_following g.pages base cells q.records p.index (subst (λ (l : List RecordValue). IsFirstUnfit g.pages base cells l p.index) same p.first) q.holds.following
+        let same : records_of p.groups ≡ q.records = ap records_of (log.one_reading v (log_area_in v g half) image p.groups q.holds.groups p.held q.holds.held)
+        ∙ sym q.holds.all in
+        not_following g.pages base cells q.records p.index
+        (subst (λ (l : List RecordValue). IsFirstUnfit g.pages base cells l p.index) same p.first) q.holds.following
 
     one_behind : (m n : ℕ) → Behind g half image base cells m → Behind g half image base cells n → m ≡ n
     one_behind m n (inl p) (inl q) = one_misplacement m n p q
@@ -255,8 +285,11 @@ module _ (v : Version) where
 
   one_log_damage : (g : GeometryValue) (half : Half) (image : Image) (m n : ℕ) → IsLogDamagedIn v g half image m → IsLogDamagedIn v g half image n → m ≡ n
   one_log_damage g half image m n p q = ⊎_elim
-      (λ slot. ⊎_elim (λ other. log.one_damage v (log_area_in v g half) image m n slot other) (λ behind. let held = held_of g half image q.base q.cells n behind in absurd (log.not_damaged v (log_area_in v g half) image m held.0 slot held.1)) q.first)
-      (λ behind. ⊎_elim (λ slot. let held = held_of g half image p.base p.cells m behind in absurd (log.not_damaged v (log_area_in v g half) image n held.0 slot held.1)) (λ other. one_behind g half image p.base p.cells m n behind (here other)) q.first)
+      (λ slot. ⊎_elim (λ other. log.one_damage v (log_area_in v g half) image m n slot other) (λ behind.
+      let held = held_of g half image q.base q.cells n behind in absurd (log.not_damaged v (log_area_in v g half) image m held.0 slot held.1)) q.first)
+      (λ behind. ⊎_elim (λ slot. let held = held_of g half image p.base p.cells m behind in
+      absurd (log.not_damaged v (log_area_in v g half) image n held.0 slot held.1)) (λ other.
+      one_behind g half image p.base p.cells m n behind (here other)) q.first)
       p.first
     where
       same_base : p.base ≡ q.base
@@ -279,7 +312,8 @@ module _ (v : Version) where
       let same_geometry = stores.one_geometry v q.geometry p.geometry q.half p.half image q.store p.store in
       let same_half = stores.one_half v q.geometry p.geometry q.half p.half image q.store p.store in
       one_half_damage p.geometry p.half image m n p.damaged
-      (subst (λ (k : Half). IsHalfDamagedIn v p.geometry k image n) same_half (subst (λ (k : GeometryValue). IsHalfDamagedIn v k q.half image n) same_geometry q.damaged))
+      (subst (λ (k : Half). IsHalfDamagedIn v p.geometry k image n) same_half
+      (subst (λ (k : GeometryValue). IsHalfDamagedIn v k q.half image n) same_geometry q.damaged))
 
   pub one_refusal : (image : Image) (d e : Error) → IsUnreadableIn v image d → IsUnreadableIn v image e → d ≡ e
   one_refusal image d e (inl p) (inl q) = stores.one_refusal v image d e p q
@@ -290,8 +324,10 @@ module _ (v : Version) where
 -- ---- of version 2, which is written
 
 -- while only the log of the current half is written
-pub log_gives : (g : GeometryValue) (half : Half) (frame image : Image) (base : ℕ) (cells : Cells) (groups : List (List RecordValue)) (records : List RecordValue) → IsStore g half frame → HoldsImage g half frame base cells
-    → SameOutside (InArea (log_area g half)) frame image → HoldsGroups (log_area g half) image groups → records ≡ records_of groups → AreFollowing g.pages base cells records → len (given_over base cells records).entries ≤ g.entries
+pub log_gives : (g : GeometryValue) (half : Half) (frame image : Image) (base : ℕ) (cells : Cells) (groups : List (List RecordValue))
+    (records : List RecordValue) → IsStore g half frame → HoldsImage g half frame base cells
+    → SameOutside (InArea (log_area g half)) frame image → HoldsGroups (log_area g half) image groups → records ≡ records_of groups
+    → AreFollowing g.pages base cells records → len (given_over base cells records).entries ≤ g.entries
     → Gives image g (given_over base cells records)
 log_gives g half frame image base cells groups records store imaged outside held all following room = record {
   half = half;
@@ -300,7 +336,8 @@ log_gives g half frame image base cells groups records store imaged outside held
   records = records;
   holds = record {
     store = stores.store_apart g half frame image outside store;
-    imaged = images.told_by_its_sectors Two g (header_sector g half) frame image (λ n inside. outside.same n (sides.parts_apart g half n inside)) base cells imaged;
+    imaged = images.told_by_its_sectors Two g (header_sector g half) frame image (λ n inside.
+        outside.same n (sides.parts_apart g half n inside)) base cells imaged;
     groups = groups;
     held = held;
     all = all;
@@ -311,7 +348,8 @@ log_gives g half frame image base cells groups records store imaged outside held
 }
 
 -- what is formatted holds no group
-pub formatted_untouched : (g : GeometryValue) (image : Image) → HoldsImage g A image 0 no_cells → IsFormatted g image → AreGatesClosed g A image → IsUntouched image g
+pub formatted_untouched : (g : GeometryValue) (image : Image) → HoldsImage g A image 0 no_cells → IsFormatted g image → AreGatesClosed g A image
+    → IsUntouched image g
 formatted_untouched g image bare formatted closed = (
   A,
   record {

@@ -41,19 +41,24 @@ module _ (v : Version) where
       image_unread (inr (n, is, damaged)) = damaged_at e n is (inl (subst (λ (i : Image). IsFirstDamagedIn v g (header_sector_in v g half) i n) same damaged))
 
       module _ (base : ℕ) (cells : Cells) (imaged : HoldsImageIn v g half image base cells) where
-        pub slot_damaged : (area : Area) → area ≡ log_area_in v g half → Refuses b c e ⊎ ((n : ℕ) × (e ≡ Damaged n) × IsFirstDamagedSlotIn v area now n) → Why image a c e
+        pub slot_damaged : (area : Area) → area ≡ log_area_in v g half → Refuses b c e ⊎ ((n : ℕ) × (e ≡ Damaged n) × IsFirstDamagedSlotIn v area now n)
+            → Why image a c e
         slot_damaged area is (inl refused) = inl (refused_later a b c e quiet refused)
         slot_damaged area is (inr (n, named, damaged)) =
-            let first = subst (λ (i : Image). IsFirstDamagedSlotIn v (log_area_in v g half) i n) same (subst (λ (x : Area). IsFirstDamagedSlotIn v x now n) is damaged) in
+            let first = subst (λ (i : Image). IsFirstDamagedSlotIn v (log_area_in v g half) i n) same
+            (subst (λ (x : Area). IsFirstDamagedSlotIn v x now n) is damaged) in
             damaged_at e n named (inr (record { base = base; cells = cells; imaged = imaged; first = inl first }))
 
-        pub record_misplaced : (log : Log) (groups : List (List RecordValue)) (index : ℕ) → log.area ≡ log_area_in v g half → StandsIn v log now groups → IsFirstUnfit g.pages base cells (records_of groups) index
-            → Refuses b c e ⊎ ((n : ℕ) × (e ≡ Damaged n) × ((held : List (List RecordValue)) → StandsIn v log now held → IsGateOf log.area held index n)) → Why image a c e
+        pub record_misplaced : (log : Log) (groups : List (List RecordValue)) (index : ℕ) → log.area ≡ log_area_in v g half → StandsIn v log now groups
+            → IsFirstUnfit g.pages base cells (records_of groups) index
+            → Refuses b c e ⊎ ((n : ℕ) × (e ≡ Damaged n) × ((held : List (List RecordValue)) → StandsIn v log now held → IsGateOf log.area held index n))
+            → Why image a c e
         record_misplaced log groups index is stands first (inl refused) = inl (refused_later a b c e quiet refused)
         record_misplaced log groups index is stands first (inr (n, named, at)) =
             let misplaced : IsMisplacedAtIn v g half image base cells n = record {
               groups = groups;
-              held = subst (λ (i : Image). HoldsGroupsIn v (log_area_in v g half) i groups) same (subst (λ (x : Area). HoldsGroupsIn v x now groups) is stands.held);
+              held = subst (λ (i : Image). HoldsGroupsIn v (log_area_in v g half) i groups) same
+                  (subst (λ (x : Area). HoldsGroupsIn v x now groups) is stands.held);
               index = index;
               first = first;
               gate-is = subst (λ (x : Area). IsGateOf x groups index n) is (at groups stands);
@@ -61,11 +66,19 @@ module _ (v : Version) where
             damaged_at e n named (inr (record { base = base; cells = cells; imaged = imaged; first = inr (inl misplaced) }))
 
   -- the records of a log leave too many entries
-  pub overfull : (image : Image) (g : GeometryValue) (half : Half) (base : ℕ) (cells : Cells) (records : List RecordValue) (sector a c : ℕ) → HoldsStoreIn v image g half base cells records → g.entries < len (given_over base cells records).entries
+  pub overfull : (image : Image) (g : GeometryValue) (half : Half) (base : ℕ) (cells : Cells) (records : List RecordValue) (sector a c : ℕ)
+      → HoldsStoreIn v image g half base cells records → g.entries < len (given_over base cells records).entries
       → sector ≡ header_sector_in v g half → Why image a c (Damaged sector)
   overfull image g half base cells records sector a c holds crowded is =
       damaged_at image g half a c holds.store (Damaged sector) sector refl
-      (inr (record { base = base; cells = cells; imaged = holds.imaged; first = inr (inr (record { records = records; holds = holds; crowded = crowded; sector-is = is })) }))
+      (inr (record {
+        base = base;
+        cells = cells;
+        imaged = holds.imaged;
+        first = inr (inr (record { records = records; holds = holds; crowded = crowded; sector-is = is }));
+      }))
 
-  pub area_is : (first slots : ℕ) (g : GeometryValue) (half : Half) → first ≡ log_first_in v g half → slots ≡ g.slots → record { first = first; slots = slots } ≡ log_area_in v g half
-  area_is first slots g half p q = ap (λ (n : ℕ). let area : Area = record { first = n; slots = slots } in area) p ∙ ap (λ (n : ℕ). let area : Area = record { first = log_first_in v g half; slots = n } in area) q
+  pub area_is : (first slots : ℕ) (g : GeometryValue) (half : Half) → first ≡ log_first_in v g half → slots ≡ g.slots
+      → record { first = first; slots = slots } ≡ log_area_in v g half
+  area_is first slots g half p q = ap (λ (n : ℕ). let area : Area = record { first = n; slots = slots } in area) p
+      ∙ ap (λ (n : ℕ). let area : Area = record { first = log_first_in v g half; slots = n } in area) q

@@ -33,7 +33,8 @@ module _ (v : Version) (image : Image) (g : GeometryValue) (given : Given) (give
 
   given_inside : IsGivenInside g.pages given
   given_inside = subst (IsGivenInside g.pages) (sym gives.recovered)
-      (recovered_inside g.pages left (gives.base + length gives.records) (after_inside g.pages gives.base gives.cells gives.records gives.holds.following (inside v g first image gives.base gives.cells gives.holds.imaged)))
+      (recovered_inside g.pages left (gives.base + length gives.records)
+      (after_inside g.pages gives.base gives.cells gives.records gives.holds.following (inside v g first image gives.base gives.cells gives.holds.imaged)))
 
   pub fits : FitsImage g no_cells → FitsImage g (opening_cells given)
   fits none = record {

@@ -1,5 +1,6 @@
 -- Rows and changes are of slots that a page has: after the records of a log, and with changes taken back.
-use Rattle.std.proofs.Common.{get_or, ◌≡◌, ℕ, suc, ◌<◌, Bool, true, false, cond, List, [], ◌∷◌, All, length, slice_index_or, Option, Some, unwrap_or, inl, inr, refl, sym, ap, subst, ◌∙◌, arith}
+use Rattle.std.proofs.Common.{get_or, ◌≡◌, ℕ, suc, ◌<◌, Bool, true, false, cond, List, [], ◌∷◌, All, length, slice_index_or, Option, Some, unwrap_or, inl, inr}
+use Rattle.std.proofs.Common.{refl, sym, ap, subst, ◌∙◌, arith}
 use Rattle.std.proofs.lemmas.Bool.{cases_eq}
 use Rattle.std.proofs.lemmas.List.Elements.{All-nil, All-head, All-tail, All-append, All-cons, All-take, All-same}
 use Rattle.std.specs.List.{AllByRecursion}
@@ -62,13 +63,16 @@ taken_slotted : (changes : List ChangeValue) (last : Bool) → All Slotted chang
 taken_slotted changes true slotted = All-take Slotted _ changes slotted
 taken_slotted changes false slotted = slotted
 
-list_slotted : (action : TxnAction) (changes : List ChangeValue) → TxnActionFits action → All Slotted changes → All Slotted (unwrap_or (list_by changes action) [])
-list_slotted (Forward part c) changes fits slotted = All-append Slotted _ _ (All-take Slotted c.position changes slotted) (All-cons Slotted c [] fits.rid.slot (All-nil Slotted))
+list_slotted : (action : TxnAction) (changes : List ChangeValue) → TxnActionFits action → All Slotted changes
+    → All Slotted (unwrap_or (list_by changes action) [])
+list_slotted (Forward part c) changes fits slotted =
+    All-append Slotted _ _ (All-take Slotted c.position changes slotted) (All-cons Slotted c [] fits.rid.slot (All-nil Slotted))
 list_slotted (Undo part c last) changes fits slotted = taken_slotted changes last slotted
 list_slotted Commit changes fits slotted = All-nil Slotted
 list_slotted End changes fits slotted = All-nil Slotted
 
-with_list_slotted : (pending : Pending) (txn : ℕ) (list : Option (List ChangeValue)) → All Slotted (unwrap_or list []) → AreListsSlotted pending → AreListsSlotted (with_list pending txn list)
+with_list_slotted : (pending : Pending) (txn : ℕ) (list : Option (List ChangeValue)) → All Slotted (unwrap_or list []) → AreListsSlotted pending
+    → AreListsSlotted (with_list pending txn list)
 with_list_slotted pending txn list new slotted other =
     elim (cases_eq other txn) [
       | inl is ↦ subst (λ n. All Slotted (list_of (with_list pending txn list) n)) (sym is) (All-same Slotted _ _ (list_of-with_list pending txn list) new)
@@ -84,21 +88,26 @@ step_slotted cells (OfIndex action) fits is = is
 
 pub after_slotted : (cells : Cells) (records : List RecordValue) → All Fits records → AreSlotted cells → AreSlotted (cells_after cells records)
 after_slotted cells [] fits is = is
-after_slotted cells (r ∷ records) fits is = after_slotted (set_by cells r.action) records (All-tail Fits r records fits) (step_slotted cells r.action (All-head Fits r records fits).action is)
+after_slotted cells (r ∷ records) fits is = after_slotted (set_by cells r.action) records (All-tail Fits r records fits)
+    (step_slotted cells r.action (All-head Fits r records fits).action is)
 
 -- the records of groups, where those of each group fit
-pub groups_fit : (v : Version) (groups : List (List RecordValue)) → ((slot : ℕ) → slot < length groups → All (FitsIn v) (slice_index_or groups slot [])) → All Fits (records_of groups)
+pub groups_fit : (v : Version) (groups : List (List RecordValue)) → ((slot : ℕ) → slot < length groups → All (FitsIn v) (slice_index_or groups slot []))
+    → All Fits (records_of groups)
 groups_fit v [] each = All-nil Fits
-groups_fit v (group ∷ groups) each = All-append Fits group (records_of groups) (λ k d below. wide v (get_or group k d) (each 0 (omega arith) k d below)) (groups_fit v groups (λ slot below. each (suc slot) (omega (arith, below))))
+groups_fit v (group ∷ groups) each = All-append Fits group (records_of groups) (λ k d below. wide v (get_or group k d) (each 0 (omega arith) k d below))
+    (groups_fit v groups (λ slot below. each (suc slot) (omega (arith, below))))
 
 -- ---- changes taken back
 
 reverted_slotted : (rows : Table) (changes : List ChangeValue) → All Slotted changes → AreRowsSlotted rows → AreRowsSlotted (reverted rows changes)
 reverted_slotted rows [] slotted is = is
 reverted_slotted rows (c ∷ changes) slotted is =
-    set_slotted (reverted rows changes) c.rid (old_row c.rows) (All-head Slotted c changes slotted) (reverted_slotted rows changes (All-tail Slotted c changes slotted) is)
+    set_slotted (reverted rows changes) c.rid (old_row c.rows) (All-head Slotted c changes slotted)
+    (reverted_slotted rows changes (All-tail Slotted c changes slotted) is)
 
-all_reverted_slotted : (pending : Pending) (part : List (ℕ × List ChangeValue)) (rows : Table) → AreListsSlotted pending → AllByRecursion (λ e. list_of pending e.0 ≡ e.1) part → AreRowsSlotted rows → AreRowsSlotted (all_reverted rows part)
+all_reverted_slotted : (pending : Pending) (part : List (ℕ × List ChangeValue)) (rows : Table) → AreListsSlotted pending
+    → AllByRecursion (λ e. list_of pending e.0 ≡ e.1) part → AreRowsSlotted rows → AreRowsSlotted (all_reverted rows part)
 all_reverted_slotted pending [] rows slotted names is = is
 all_reverted_slotted pending (e ∷ part) rows slotted names is =
     all_reverted_slotted pending part (reverted rows e.1) slotted names.1 (reverted_slotted rows e.1 (All-same Slotted _ _ (sym names.0) (slotted e.0)) is)

@@ -28,9 +28,11 @@ log_area_in v geometry half = record { first = log_first_in v geometry half; slo
 abbrev pub given_over : ℕ → Cells → List RecordValue → Given
 given_over base cells records = recovered (cells_after cells records) (base + length records)
 
--- The content is of a store of this geometry. Its current half, this one, holds the image of these cells, which record `base`
--- left; and its log holds these records, each of which can follow the one before, the first of them record `base`.
-pub record HoldsStoreIn (v : Version) (image : Image) (geometry : GeometryValue) (half : Half) (base : ℕ) (cells : Cells) (records : List RecordValue) : Type 0 where
+-- The content is of a store of this geometry. Its current half, this one, holds the image of these cells, which record
+-- `base` left; and its log holds these records, each of which can follow the one before, the first of them record
+-- `base`.
+pub record HoldsStoreIn (v : Version) (image : Image) (geometry : GeometryValue) (half : Half) (base : ℕ)
+    (cells : Cells) (records : List RecordValue) : Type 0 where
   pub store : IsStoreIn v geometry half image
   pub imaged : HoldsImageIn v geometry half image base cells
   pub groups : List (List RecordValue)
@@ -38,7 +40,8 @@ pub record HoldsStoreIn (v : Version) (image : Image) (geometry : GeometryValue)
   pub all : records ≡ records_of groups
   pub following : AreFollowing geometry.pages base cells records
 
--- The content gives what is recovered of its current half's image and log; the geometry has a place for each entry of it.
+-- The content gives what is recovered of its current half's image and log; the geometry has a place for each entry of
+-- it.
 pub record GivesIn (v : Version) (image : Image) (geometry : GeometryValue) (given : Given) : Type 0 where
   pub half : Half
   pub base : ℕ
@@ -62,10 +65,12 @@ IsUntouchedIn v image geometry = (half : Half) × HoldsStoreIn v image geometry 
 
 -- the content is of a store, whose current half begins with a header
 abbrev pub HasHeaderIn : Version → Image → Type 0
-HasHeaderIn v image = (geometry : GeometryValue) × (half : Half) × IsStoreIn v geometry half image × IsSoundIn v geometry (header_sector_in v geometry half) image TheHeader
+HasHeaderIn v image = (geometry : GeometryValue) × (half : Half) × IsStoreIn v geometry half image
+    × IsSoundIn v geometry (header_sector_in v geometry half) image TheHeader
 
 -- the gate of the group of the first record that can't follow the ones before it, over these cells
-pub record IsMisplacedAtIn (v : Version) (geometry : GeometryValue) (half : Half) (image : Image) (base : ℕ) (cells : Cells) (sector : ℕ) : Type 0 where
+pub record IsMisplacedAtIn (v : Version) (geometry : GeometryValue) (half : Half) (image : Image) (base : ℕ)
+    (cells : Cells) (sector : ℕ) : Type 0 where
   pub groups : List (List RecordValue)
   pub held : HoldsGroupsIn v (log_area_in v geometry half) image groups
   pub index : ℕ
@@ -73,23 +78,27 @@ pub record IsMisplacedAtIn (v : Version) (geometry : GeometryValue) (half : Half
   pub gate-is : IsGateOf (log_area_in v geometry half) groups index sector
 
 -- the sector of the half's header, where the records of its log leave more entries than the geometry has places
-pub record IsOverfullIn (v : Version) (geometry : GeometryValue) (half : Half) (image : Image) (base : ℕ) (cells : Cells) (sector : ℕ) : Type 0 where
+pub record IsOverfullIn (v : Version) (geometry : GeometryValue) (half : Half) (image : Image) (base : ℕ)
+    (cells : Cells) (sector : ℕ) : Type 0 where
   pub records : List RecordValue
   pub holds : HoldsStoreIn v image geometry half base cells records
   pub crowded : geometry.entries < len (given_over base cells records).entries
   pub sector-is : sector ≡ header_sector_in v geometry half
 
--- the half holds an image; and this is the gate of its log's first slot that can't be, else that of the group of the first
--- record that can't follow, else the header, where there are too many entries
-pub record IsLogDamagedIn (v : Version) (geometry : GeometryValue) (half : Half) (image : Image) (sector : ℕ) : Type 0 where
+-- the half holds an image; and this is the gate of its log's first slot that can't be, else that of the group of the
+-- first record that can't follow, else the header, where there are too many entries
+pub record IsLogDamagedIn (v : Version) (geometry : GeometryValue) (half : Half) (image : Image)
+    (sector : ℕ) : Type 0 where
   pub base : ℕ
   pub cells : Cells
   pub imaged : HoldsImageIn v geometry half image base cells
-  pub first : IsFirstDamagedSlotIn v (log_area_in v geometry half) image sector ⊎ (IsMisplacedAtIn v geometry half image base cells sector ⊎ IsOverfullIn v geometry half image base cells sector)
+  pub first : IsFirstDamagedSlotIn v (log_area_in v geometry half) image sector
+      ⊎ (IsMisplacedAtIn v geometry half image base cells sector ⊎ IsOverfullIn v geometry half image base cells sector)
 
 -- the first sector of a half's image that says nothing; else the first damage of its log
 abbrev pub IsHalfDamagedIn : Version → GeometryValue → Half → Image → ℕ → Type 0
-IsHalfDamagedIn v geometry half image sector = IsFirstDamagedIn v geometry (header_sector_in v geometry half) image sector ⊎ IsLogDamagedIn v geometry half image sector
+IsHalfDamagedIn v geometry half image sector = IsFirstDamagedIn v geometry
+    (header_sector_in v geometry half) image sector ⊎ IsLogDamagedIn v geometry half image sector
 
 -- the store's current half is damaged at this sector
 pub record IsStoreDamagedAtIn (v : Version) (image : Image) (sector : ℕ) : Type 0 where
@@ -100,7 +109,8 @@ pub record IsStoreDamagedAtIn (v : Version) (image : Image) (sector : ℕ) : Typ
 
 -- why the content gives nothing: it is refused as a store, or its current half is damaged
 abbrev pub IsUnreadableIn : Version → Image → Error → Type 0
-IsUnreadableIn v image e = IsRefusedIn v image e ⊎ ((sector : ℕ) × (e ≡ Damaged sector) × IsStoreDamagedAtIn v image sector)
+IsUnreadableIn v image e = IsRefusedIn v image e ⊎ ((sector : ℕ) × (e ≡ Damaged sector)
+    × IsStoreDamagedAtIn v image sector)
 
 -- ---- in version 2, which is written
 

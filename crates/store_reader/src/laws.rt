@@ -21,7 +21,8 @@ ghost use Rattle.image_half.specs.Source.{FitsImage};
 ghost use Rattle.flip_image.specs.declared.half.Half.{Half};
 ghost use Rattle.flip_image.specs.declared.half.Half.TheVariants.{A};
 ghost use Rattle.flip_image.specs.Store.{IsStore, IsFormatted, AreGatesClosed, HoldsImage};
-ghost use Rattle.store_reader.specs.Contents.{log_area, given_over, Gives, GivesIn, IsFound, IsUnreadable, IsUnreadableIn, IsUntouched};
+ghost use Rattle.store_reader.specs.Contents.{log_area, given_over, Gives, GivesIn, IsFound, IsUnreadable};
+ghost use Rattle.store_reader.specs.Contents.{IsUnreadableIn, IsUntouched};
 
 use flip_image::fresh_image;
 use image_half::fitting_cells;
@@ -32,24 +33,33 @@ use model::beginnings;
 pub fn one_answer()
     ensures geometry { (image : Image) (g h : GeometryValue) (x y : Given) → Gives image g x → Gives image h y → g ≡ h }
     ensures given { (image : Image) (g h : GeometryValue) (x y : Given) → Gives image g x → Gives image h y → x ≡ y }
-    ensures log { (image : Image) (g h : GeometryValue) (a b : Log) (x y : Given) → IsFound image g a x → IsFound image h b y → a ≡ b }
-    ensures readable { (image : Image) (g : GeometryValue) (given : Given) (e : Error) → Gives image g given → ¬ IsUnreadable image e }
+    ensures log { (image : Image) (g h : GeometryValue) (a b : Log) (x y : Given) → IsFound image g a x
+        → IsFound image h b y → a ≡ b }
+    ensures readable { (image : Image) (g : GeometryValue) (given : Given) (e : Error) → Gives image g given
+        → ¬ IsUnreadable image e }
     ensures refusal { (image : Image) (d e : Error) → IsUnreadable image d → IsUnreadable image e → d ≡ e }
 {}
 
-/// A law: the same of an image read by version 1; and what gives something by version 1 a reader of version 2 refuses as old.
+/// A law: the same of an image read by version 1; and what gives something by version 1 a reader of version 2 refuses
+/// as old.
 pub fn one_old_answer()
-    ensures geometry { (image : Image) (g h : GeometryValue) (x y : Given) → GivesIn One image g x → GivesIn One image h y → g ≡ h }
-    ensures given { (image : Image) (g h : GeometryValue) (x y : Given) → GivesIn One image g x → GivesIn One image h y → x ≡ y }
-    ensures readable { (image : Image) (g : GeometryValue) (given : Given) (e : Error) → GivesIn One image g given → ¬ IsUnreadableIn One image e }
+    ensures geometry { (image : Image) (g h : GeometryValue) (x y : Given) → GivesIn One image g x
+        → GivesIn One image h y → g ≡ h }
+    ensures given { (image : Image) (g h : GeometryValue) (x y : Given) → GivesIn One image g x → GivesIn One image h y
+        → x ≡ y }
+    ensures readable { (image : Image) (g : GeometryValue) (given : Given) (e : Error) → GivesIn One image g given
+        → ¬ IsUnreadableIn One image e }
     ensures refusal { (image : Image) (d e : Error) → IsUnreadableIn One image d → IsUnreadableIn One image e → d ≡ e }
-    ensures older { (image : Image) (g : GeometryValue) (given : Given) → GivesIn One image g given → IsUnreadable image OldVersion }
+    ensures older { (image : Image) (g : GeometryValue) (given : Given) → GivesIn One image g given
+        → IsUnreadable image OldVersion }
 {}
 
 /// A law: what `format` leaves gives nothing, and is told to be untouched.
 pub fn format_gives_nothing()
-    ensures gives { (g : GeometryValue) (image : Image) → IsDiskWhole image → IsFormatted g image → AreGatesClosed g A image → Gives image g nothing }
-    ensures untouched { (g : GeometryValue) (image : Image) → IsDiskWhole image → IsFormatted g image → AreGatesClosed g A image → IsUntouched image g }
+    ensures gives { (g : GeometryValue) (image : Image) → IsDiskWhole image → IsFormatted g image
+        → AreGatesClosed g A image → Gives image g nothing }
+    ensures untouched { (g : GeometryValue) (image : Image) → IsDiskWhole image → IsFormatted g image
+        → AreGatesClosed g A image → IsUntouched image g }
 {
     beginnings();
     fresh_image();
@@ -58,31 +68,41 @@ pub fn format_gives_nothing()
 /// A law: over the image of no cells with base 0, which a fresh half holds, records leave what they leave of nothing.
 pub fn over_no_cells()
     ensures given { (records : List RecordValue) → given_over 0 no_cells records ≡ given_after nothing records }
-    ensures following { (pages : ℕ) (records : List RecordValue) → AreFollowing pages 0 (opening_cells nothing) records → AreFollowing pages 0 no_cells records }
+    ensures following { (pages : ℕ) (records : List RecordValue) → AreFollowing pages 0 (opening_cells nothing) records
+        → AreFollowing pages 0 no_cells records }
 {}
 
-/// A law: which store an image is of, and the image in its current half, the log of that half doesn't touch. So where only
-/// that log is written, the groups that it holds say what the image gives.
+/// A law: which store an image is of, and the image in its current half, the log of that half doesn't touch. So where
+/// only that log is written, the groups that it holds say what the image gives.
 pub fn log_alone()
-    ensures { (g : GeometryValue) (half : Half) (frame image : Image) (base : ℕ) (cells : Cells) (groups : List (List RecordValue)) → IsStore g half frame → HoldsImage g half frame base cells → SameOutside (InArea (log_area g half)) frame image
-        → HoldsGroups (log_area g half) image groups → AreFollowing g.pages base cells (records_of groups) → len (given_over base cells (records_of groups)).entries ≤ g.entries
+    ensures { (g : GeometryValue) (half : Half) (frame image : Image) (base : ℕ) (cells : Cells)
+        (groups : List (List RecordValue)) → IsStore g half frame → HoldsImage g half frame base cells
+        → SameOutside (InArea (log_area g half)) frame image
+        → HoldsGroups (log_area g half) image groups → AreFollowing g.pages base cells (records_of groups)
+        → len (given_over base cells (records_of groups)).entries ≤ g.entries
         → Gives image g (given_over base cells (records_of groups)) }
 {}
 
-/// A law: what the image of a half holds lies in the store's pages, and its base is the number of a record or 0; there are no
-/// more unfinished transactions than may be, with no more changes each than may be, which have their positions.
+/// A law: what the image of a half holds lies in the store's pages, and its base is the number of a record or 0; there
+/// are no more unfinished transactions than may be, with no more changes each than may be, which have their positions.
 pub fn image_inside()
-    ensures inside { (g : GeometryValue) (half : Half) (image : Image) (base : ℕ) (cells : Cells) → HoldsImage g half image base cells → AreInside g.pages cells }
-    ensures numbered { (g : GeometryValue) (half : Half) (image : Image) (base : ℕ) (cells : Cells) → HoldsImage g half image base cells → base ≤ LAST_NUMBER }
-    ensures few { (g : GeometryValue) (half : Half) (image : Image) (base : ℕ) (cells : Cells) → HoldsImage g half image base cells → length (entries cells.pending) ≤ TXNS_MAX }
-    ensures short { (g : GeometryValue) (half : Half) (image : Image) (base : ℕ) (cells : Cells) → HoldsImage g half image base cells → (txn : ℕ) → length (list_of cells.pending txn) ≤ CHANGES_MAX }
-    ensures placed { (g : GeometryValue) (half : Half) (image : Image) (base : ℕ) (cells : Cells) → HoldsImage g half image base cells → (txn : ℕ) → ArePlaced g.pages 0 (list_of cells.pending txn) }
+    ensures inside { (g : GeometryValue) (half : Half) (image : Image) (base : ℕ) (cells : Cells)
+        → HoldsImage g half image base cells → AreInside g.pages cells }
+    ensures numbered { (g : GeometryValue) (half : Half) (image : Image) (base : ℕ) (cells : Cells)
+        → HoldsImage g half image base cells → base ≤ LAST_NUMBER }
+    ensures few { (g : GeometryValue) (half : Half) (image : Image) (base : ℕ) (cells : Cells)
+        → HoldsImage g half image base cells → length (entries cells.pending) ≤ TXNS_MAX }
+    ensures short { (g : GeometryValue) (half : Half) (image : Image) (base : ℕ) (cells : Cells)
+        → HoldsImage g half image base cells → (txn : ℕ) → length (list_of cells.pending txn) ≤ CHANGES_MAX }
+    ensures placed { (g : GeometryValue) (half : Half) (image : Image) (base : ℕ) (cells : Cells)
+        → HoldsImage g half image base cells → (txn : ℕ) → ArePlaced g.pages 0 (list_of cells.pending txn) }
 {}
 
-/// A law: an image of a store has room for what the store gives, and so has one of version 2 for what a store of version 1
-/// gives.
+/// A law: an image of a store has room for what the store gives, and so has one of version 2 for what a store of
+/// version 1 gives.
 pub fn room_for_given()
-    ensures { (v : Version) (image : Image) (g : GeometryValue) (given : Given) → GivesIn v image g given → FitsImage g (opening_cells given) }
+    ensures { (v : Version) (image : Image) (g : GeometryValue) (given : Given) → GivesIn v image g given
+        → FitsImage g (opening_cells given) }
 {
     fitting_cells();
 }

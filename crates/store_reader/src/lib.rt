@@ -1,10 +1,9 @@
-//! What a store on a device gives: what the records of its current half's log make of the cells of that half's image, with
-//! every unfinished transaction taken back.
+//! What a store on a device gives: what the records of its current half's log make of the cells of that half's image,
+//! with every unfinished transaction taken back.
 //!
-//! Proved: `read_store_in` answers what the image gives by a version of the format, with its log (`found`, `GivesIn`), or names
-//! the first thing that is wrong (`refused`). It writes nothing (`reads`). An image gives one thing at most, and is refused in
-//! one way at most (the law `one_answer`).
-//! Only tested: that it succeeds where there is memory.
+//! Proved: `read_store_in` answers what the image gives by a version of the format, with its log (`found`, `GivesIn`),
+//! or names the first thing that is wrong (`refused`). It writes nothing (`reads`). An image gives one thing at most,
+//! and is refused in one way at most (the law `one_answer`). Only tested: that it succeeds where there is memory.
 #![tactic(auto)]
 
 mod laws;

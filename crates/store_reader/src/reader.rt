@@ -11,7 +11,8 @@ ghost use Rattle.image_half.specs.Image.{no_cells};
 ghost use Rattle.image_half.specs.Damage.{IsSoundIn, TheHeader, IsUnreadIn};
 ghost use Rattle.flip_image.specs.Layout.{header_sector_in};
 ghost use Rattle.flip_image.specs.Store.{IsStore, IsStoreIn, HoldsImageIn};
-ghost use Rattle.store_reader.specs.Contents.{Gives, GivesIn, HasHeader, HasHeaderIn, IsFound, IsFoundIn, IsUnreadable, IsUnreadableIn, IsUntouched, IsUntouchedIn};
+ghost use Rattle.store_reader.specs.Contents.{Gives, GivesIn, HasHeader, HasHeaderIn, IsFound, IsFoundIn, IsUnreadable};
+ghost use Rattle.store_reader.specs.Contents.{IsUnreadableIn, IsUntouched, IsUntouchedIn};
 
 use flip_image::Halves;
 use gate_log::LogArea;
@@ -27,7 +28,8 @@ pub struct Found<A: Allocator> {
     pub halves: Halves,
     /// The log of its current half, with as many open slots as there are groups in it.
     pub log: LogArea,
-    /// What the log's records make of the cells of its current half's image, with every unfinished transaction taken back.
+    /// What the log's records make of the cells of its current half's image, with every unfinished transaction taken
+    /// back.
     pub restored: Restored<A>,
     /// Whether it holds nothing: no record, and an image of no cells whose base is 0, as `format` leaves it.
     pub untouched: bool,
@@ -42,13 +44,18 @@ fn read_cells<D: Device, A: Allocator + Copy>(
 ) -> Result<(StoreCells<A>, bool), Error>
     requires { IsStoreIn version halves.now.geometry halves.now.current (D.history device.old).disk.content }
     ensures geometry { IfOk result (λ r. r.0.geometry ≡ halves.now.geometry) }
-    ensures imaged { IfOk result (λ r. HoldsImageIn version halves.now.geometry halves.now.current (D.history device.old).disk.content r.0.last r.0.cells) }
+    ensures imaged { IfOk result (λ r. HoldsImageIn version halves.now.geometry halves.now.current
+        (D.history device.old).disk.content r.0.last r.0.cells) }
     ensures bare { IfOk result (λ r. IsTrue r.1 ↔ (r.0.last ≡ 0) × (r.0.cells ≡ no_cells)) }
-    ensures refused { IfErr result (IsUnreadIn version halves.now.geometry (header_sector_in version halves.now.geometry halves.now.current) (D.history device.old).disk.content (D.failures device.old) (D.failures device.new)) }
+    ensures refused { IfErr result (IsUnreadIn version halves.now.geometry
+        (header_sector_in version halves.now.geometry halves.now.current) (D.history device.old).disk.content
+        (D.failures device.old) (D.failures device.new)) }
     ensures reads { OnlyReads (D.history device.old) (D.history device.new) }
     ensures quiet { OnOk result (D.failures device.new ≡ D.failures device.old) }
     ensures told { IfErr result (λ e. e ≢ Error.DeviceFailed → D.failures device.new ≡ D.failures device.old) }
-    ensures memory { IfErr result (λ e. e ≡ Error.NoMemory → IsSoundIn version halves.now.geometry (header_sector_in version halves.now.geometry halves.now.current) (D.history device.old).disk.content TheHeader) }
+    ensures memory { IfErr result (λ e. e ≡ Error.NoMemory
+        → IsSoundIn version halves.now.geometry (header_sector_in version halves.now.geometry halves.now.current)
+        (D.history device.old).disk.content TheHeader) }
     ensures later { D.failures device.old ≤ D.failures device.new }
 {
     let mut image = ImageCells::new(alloc);
@@ -65,9 +72,11 @@ fn open_store<D: Device, A: Allocator + Copy>(
 ) -> Result<(Halves, StoreCells<A>, bool), Error>
     ensures opened { IfOk result (λ r. IsStoreIn version r.0.geometry r.0.current (D.history device.old).disk.content) }
     ensures geometry { IfOk result (λ r. r.1.geometry ≡ r.0.geometry) }
-    ensures imaged { IfOk result (λ r. HoldsImageIn version r.0.geometry r.0.current (D.history device.old).disk.content r.1.last r.1.cells) }
+    ensures imaged { IfOk result (λ r. HoldsImageIn version r.0.geometry r.0.current
+        (D.history device.old).disk.content r.1.last r.1.cells) }
     ensures bare { IfOk result (λ r. IsTrue r.2 ↔ (r.1.last ≡ 0) × (r.1.cells ≡ no_cells)) }
-    ensures refused { IfErr result (λ e. Refuses (D.failures device.old) (D.failures device.new) e ⊎ IsUnreadableIn version (D.history device.old).disk.content e) }
+    ensures refused { IfErr result (λ e. Refuses (D.failures device.old) (D.failures device.new) e
+        ⊎ IsUnreadableIn version (D.history device.old).disk.content e) }
     ensures memory { IfErr result (λ e. e ≡ Error.NoMemory → HasHeaderIn version (D.history device.old).disk.content) }
     ensures reads { OnlyReads (D.history device.old) (D.history device.new) }
     ensures quiet { OnOk result (D.failures device.new ≡ D.failures device.old) }
@@ -95,9 +104,12 @@ fn misplaced<D: Device, A: Allocator + Copy>(
     index: usize,
 ) -> Error
     requires inside { IsAreaInside log.now.area (D.history device.old).disk.content }
-    requires stands { (groups : List (List RecordValue)) × StandsIn version log.now (D.history device.old).disk.content groups × (index < length (records_of groups)) }
+    requires stands { (groups : List (List RecordValue))
+        × StandsIn version log.now (D.history device.old).disk.content groups × (index < length (records_of groups)) }
     ensures told { Refuses (D.failures device.old) (D.failures device.new) result
-        ⊎ ((sector : ℕ) × (result ≡ Error.Damaged sector) × ((groups : List (List RecordValue)) → StandsIn version log.now (D.history device.old).disk.content groups → IsGateOf log.now.area groups index sector)) }
+        ⊎ ((sector : ℕ) × (result ≡ Error.Damaged sector) × ((groups : List (List RecordValue))
+        → StandsIn version log.now (D.history device.old).disk.content groups
+        → IsGateOf log.now.area groups index sector)) }
     ensures reads { OnlyReads (D.history device.old) (D.history device.new) }
     ensures quiet { result ≢ Error.DeviceFailed → D.failures device.new ≡ D.failures device.old }
     ensures later { D.failures device.old ≤ D.failures device.new }
@@ -109,31 +121,37 @@ fn misplaced<D: Device, A: Allocator + Copy>(
     }
 }
 
-/// Reads the store of a version on the device, as it is: its superblock, its flip sector, and the current half. The records of that
-/// half's log are redone over its image, and what is unfinished then is taken back. Nothing is written, and the caller has
-/// synced. Each sector is read once at most, but for those of the log's groups where a record can't follow, whose gate is
-/// then looked for.
+/// Reads the store of a version on the device, as it is: its superblock, its flip sector, and the current half. The
+/// records of that half's log are redone over its image, and what is unfinished then is taken back. Nothing is written,
+/// and the caller has synced. Each sector is read once at most, but for those of the log's groups where a record can't
+/// follow, whose gate is then looked for.
 ///
-/// The refusals, the first that fits: `DeviceTooSmall`, `NotFormatted`, `OldVersion` and `Damaged` with the superblock's
-/// sector, as `Halves::open_in` answers them; `Damaged` with the first sector of the image that says nothing, as `Halves::read_image`
-/// names it; `Damaged` with the gate of the log's first slot that can't be; `Damaged` with the gate of the group of the
-/// first record that can't follow the ones before it; `Damaged` with the header's sector where there are more entries in the
-/// end than the geometry has places. `DeviceFailed` comes at any of these, where the device failed in the call and only then
-/// (`told`). `NoMemory` comes behind those of `Halves::open_in`, and behind the header of the image: of a device that holds no
-/// store, or a damaged header in its current half, it is never answered (`memory`).
+/// The refusals, the first that fits: `DeviceTooSmall`, `NotFormatted`, `OldVersion` and `Damaged` with the
+/// superblock's sector, as `Halves::open_in` answers them; `Damaged` with the first sector of the image that says
+/// nothing, as `Halves::read_image` names it; `Damaged` with the gate of the log's first slot that can't be; `Damaged`
+/// with the gate of the group of the first record that can't follow the ones before it; `Damaged` with the header's
+/// sector where there are more entries in the end than the geometry has places. `DeviceFailed` comes at any of these,
+/// where the device failed in the call and only then (`told`). `NoMemory` comes behind those of `Halves::open_in`, and
+/// behind the header of the image: of a device that holds no store, or a damaged header in its current half, it is
+/// never answered (`memory`).
 pub fn read_store_in<D: Device, A: Allocator + Copy>(
     alloc: A,
     version: Version,
     device: &mut D,
 ) -> Result<Found<A>, Error>
-    ensures found { IfOk result (λ found. IsFoundIn version (D.history device.old).disk.content found.restored.geometry found.log (given_in found.restored)) }
-    ensures halves { IfOk result (λ found. IsStoreIn version found.halves.geometry found.halves.current (D.history device.old).disk.content) }
-    ensures untouched { IfOk result (λ found. IsTrue found.untouched ↔ IsUntouchedIn version (D.history device.old).disk.content found.restored.geometry) }
+    ensures found { IfOk result (λ found. IsFoundIn version
+        (D.history device.old).disk.content found.restored.geometry found.log (given_in found.restored)) }
+    ensures halves { IfOk result (λ found. IsStoreIn version found.halves.geometry found.halves.current
+        (D.history device.old).disk.content) }
+    ensures untouched { IfOk result (λ found. IsTrue found.untouched
+        ↔ IsUntouchedIn version (D.history device.old).disk.content found.restored.geometry) }
     ensures area { IfOk result (λ found. IsAreaInside found.log.area (D.history device.old).disk.content) }
     ensures numbered { IfOk result (λ found. found.restored.last ≤ LAST_NUMBER) }
-    ensures accepted { (geometry : GeometryValue) (given : Given) → GivesIn version (D.history device.old).disk.content geometry given
+    ensures accepted { (geometry : GeometryValue) (given : Given)
+        → GivesIn version (D.history device.old).disk.content geometry given
         → IfErr result (Refuses (D.failures device.old) (D.failures device.new)) }
-    ensures refused { IfErr result (λ e. Refuses (D.failures device.old) (D.failures device.new) e ⊎ IsUnreadableIn version (D.history device.old).disk.content e) }
+    ensures refused { IfErr result (λ e. Refuses (D.failures device.old) (D.failures device.new) e
+        ⊎ IsUnreadableIn version (D.history device.old).disk.content e) }
     ensures memory { IfErr result (λ e. e ≡ Error.NoMemory → HasHeaderIn version (D.history device.old).disk.content) }
     ensures reads { OnlyReads (D.history device.old) (D.history device.new) }
     ensures quiet { OnOk result (D.failures device.new ≡ D.failures device.old) }
@@ -171,14 +189,19 @@ pub fn read_store<D: Device, A: Allocator + Copy>(
     alloc: A,
     device: &mut D,
 ) -> Result<Found<A>, Error>
-    ensures found { IfOk result (λ found. IsFound (D.history device.old).disk.content found.restored.geometry found.log (given_in found.restored)) }
-    ensures halves { IfOk result (λ found. IsStore found.halves.geometry found.halves.current (D.history device.old).disk.content) }
-    ensures untouched { IfOk result (λ found. IsTrue found.untouched ↔ IsUntouched (D.history device.old).disk.content found.restored.geometry) }
+    ensures found { IfOk result (λ found. IsFound (D.history device.old).disk.content found.restored.geometry found.log
+        (given_in found.restored)) }
+    ensures halves { IfOk result (λ found. IsStore found.halves.geometry found.halves.current
+        (D.history device.old).disk.content) }
+    ensures untouched { IfOk result (λ found. IsTrue found.untouched
+        ↔ IsUntouched (D.history device.old).disk.content found.restored.geometry) }
     ensures area { IfOk result (λ found. IsAreaInside found.log.area (D.history device.old).disk.content) }
     ensures numbered { IfOk result (λ found. found.restored.last ≤ LAST_NUMBER) }
-    ensures accepted { (geometry : GeometryValue) (given : Given) → Gives (D.history device.old).disk.content geometry given
+    ensures accepted { (geometry : GeometryValue) (given : Given)
+        → Gives (D.history device.old).disk.content geometry given
         → IfErr result (Refuses (D.failures device.old) (D.failures device.new)) }
-    ensures refused { IfErr result (λ e. Refuses (D.failures device.old) (D.failures device.new) e ⊎ IsUnreadable (D.history device.old).disk.content e) }
+    ensures refused { IfErr result (λ e. Refuses (D.failures device.old) (D.failures device.new) e
+        ⊎ IsUnreadable (D.history device.old).disk.content e) }
     ensures memory { IfErr result (λ e. e ≡ Error.NoMemory → HasHeader (D.history device.old).disk.content) }
     ensures reads { OnlyReads (D.history device.old) (D.history device.new) }
     ensures quiet { OnOk result (D.failures device.new ≡ D.failures device.old) }

@@ -17,7 +17,8 @@ loop-pair-init g c =
     let is = c.all_above-rest.ensures in
     record {
       sorted = subst (λ (xs : List (Pair × Mark)). T (map.is_sorted pair_cmp xs)) (sym is) (map.entries_sorted entries);
-      loaded = subst (λ (left : Index). AreEntriesLoaded entries left (value_of c.args.core.now) (value_of c.args.core.now)) (sym (ap map.from_sorted is ∙ all_in_order pair_exact entries)) (no_entry entries (value_of c.args.core.now) c.requires.none c.requires.room);
+      loaded = subst (λ (left : Index). AreEntriesLoaded entries left (value_of c.args.core.now) (value_of c.args.core.now))
+          (sym (ap map.from_sorted is ∙ all_in_order pair_exact entries)) (no_entry entries (value_of c.args.core.now) c.requires.none c.requires.room);
     }
 
 pub load_entry-requires-clause-quiet : goal.load_entry-requires-clause-quiet
@@ -42,8 +43,10 @@ loop-pair-preserved g c =
     let sorted = c.loop-pair.invariant.sorted in
     record {
       sorted = next_sorted pair_exact left e c.next.new.self is sorted;
-      loaded = one_entry c.args.entries.now _ (value_of c.args.core.now) (value_of c.loop-pair.core) c.loop-pair.invariant.loaded e.0 e.1 (next_there pair_exact left e c.next.new.self is sorted)
-          (map.from_sorted c.next.new.self) (value_of c.load_entry.new.self) (next_left pair_exact left e c.next.new.self is sorted) c.in_ok-load_entry.ensures.ok;
+      loaded = one_entry c.args.entries.now _ (value_of c.args.core.now) (value_of c.loop-pair.core) c.loop-pair.invariant.loaded e.0 e.1
+          (next_there pair_exact left e c.next.new.self is sorted)
+          (map.from_sorted c.next.new.self) (value_of c.load_entry.new.self)
+          (next_left pair_exact left e c.next.new.self is sorted) c.in_ok-load_entry.ensures.ok;
     }
 
 pub returns-in_err-load_entry-clause-no_memory : goal.returns-in_err-load_entry-clause-no_memory
@@ -57,4 +60,5 @@ returns-in_err-load_entry-clause-no_memory g c =
 pub returns-clause-ok : goal.returns-clause-ok
 returns-clause-ok g c =
     let left : List (Pair × Mark) = c.loop-pair.rest in
-    all_entries c.args.entries.now _ (value_of c.args.core.now) (value_of c.loop-pair.core) c.loop-pair.invariant.loaded (none_in_order pair_exact left c.in_default.ensures.steps.0)
+    all_entries c.args.entries.now _ (value_of c.args.core.now) (value_of c.loop-pair.core) c.loop-pair.invariant.loaded
+    (none_in_order pair_exact left c.in_default.ensures.steps.0)

@@ -18,11 +18,13 @@ loop-entry-init g c =
     let is = c.deref-entry-items.ensures.value ∙ c.in_ok-entries.ensures in
     record {
       sorted = subst (λ (xs : List (Place × Row)). T (map.is_sorted rid_cmp xs)) (sym is) (map.entries_sorted rows);
-      loaded = subst (λ (left : Table). AreRowsLoaded rows left (value_of c.args.core.now) (value_of c.args.core.now)) (sym (ap map.from_sorted is ∙ all_in_order rid_exact rows)) (no_row rows (value_of c.args.core.now) c.requires.none);
+      loaded = subst (λ (left : Table). AreRowsLoaded rows left (value_of c.args.core.now) (value_of c.args.core.now))
+          (sym (ap map.from_sorted is ∙ all_in_order rid_exact rows)) (no_row rows (value_of c.args.core.now) c.requires.none);
     }
 
 pub load_row-requires-clause-quiet : goal.load_row-requires-clause-quiet
-load_row-requires-clause-quiet g c = rows_quiet c.args.rows.now _ (value_of c.args.core.now) (value_of c.loop-entry.core) c.loop-entry.invariant.loaded c.requires.quiet
+load_row-requires-clause-quiet g c = rows_quiet c.args.rows.now _ (value_of c.args.core.now)
+    (value_of c.loop-entry.core) c.loop-entry.invariant.loaded c.requires.quiet
 
 pub load_row-requires-clause-inside : goal.load_row-requires-clause-inside
 load_row-requires-clause-inside g c =
@@ -30,7 +32,8 @@ load_row-requires-clause-inside g c =
     let i = c.loop-entry.entry-index in
     let e = c.entry-item.result in
     let is : drop i xs ≡ e ∷ drop (i + 1) xs = drop_more xs i e c.loop-entry-test.true ∙ ap (λ (x : Place × Row). x ∷ drop (i + 1) xs) (sym c.entry-item.is) in
-    row_within c.args.rows.now _ (value_of c.args.core.now) (value_of c.loop-entry.core) c.loop-entry.invariant.loaded e.0 e.1 (next_there rid_exact (drop i xs) e (drop (i + 1) xs) is c.loop-entry.invariant.sorted) c.requires.within
+    row_within c.args.rows.now _ (value_of c.args.core.now) (value_of c.loop-entry.core) c.loop-entry.invariant.loaded e.0 e.1
+    (next_there rid_exact (drop i xs) e (drop (i + 1) xs) is c.loop-entry.invariant.sorted) c.requires.within
 
 pub loop-entry-preserved : goal.loop-entry-preserved
 loop-entry-preserved g c =
@@ -41,7 +44,8 @@ loop-entry-preserved g c =
     let sorted = c.loop-entry.invariant.sorted in
     record {
       sorted = next_sorted rid_exact (drop i xs) e (drop (i + 1) xs) is sorted;
-      loaded = one_row c.args.rows.now _ (value_of c.args.core.now) (value_of c.loop-entry.core) c.loop-entry.invariant.loaded e.0 e.1 (next_there rid_exact (drop i xs) e (drop (i + 1) xs) is sorted)
+      loaded = one_row c.args.rows.now _ (value_of c.args.core.now) (value_of c.loop-entry.core) c.loop-entry.invariant.loaded e.0 e.1
+          (next_there rid_exact (drop i xs) e (drop (i + 1) xs) is sorted)
           (map.from_sorted (drop (i + 1) xs)) (value_of c.load_row.new.self) (next_left rid_exact (drop i xs) e (drop (i + 1) xs) is sorted) c.load_row.ensures;
     }
 
@@ -49,4 +53,5 @@ pub returns-clause-ok : goal.returns-clause-ok
 returns-clause-ok g c =
     let xs : List (Place × Row) = c.deref-entry-items.result.now in
     let i = c.loop-entry.entry-index in
-    all_rows c.args.rows.now _ (value_of c.args.core.now) (value_of c.loop-entry.core) c.loop-entry.invariant.loaded (none_in_order rid_exact (drop i xs) (drop_all i xs c.loop-entry-test.false))
+    all_rows c.args.rows.now _ (value_of c.args.core.now) (value_of c.loop-entry.core) c.loop-entry.invariant.loaded
+    (none_in_order rid_exact (drop i xs) (drop_all i xs c.loop-entry-test.false))

@@ -10,7 +10,8 @@ pub returns-in_err-check_zeros-2-clause-refused : goal.returns-in_err-check_zero
 returns-in_err-check_zeros-2-clause-refused g c =
     let image : Image = (g.D.Device.history c.args.device.now).disk.content in
     let same = ap (λ (d : Disk). d.content) c.check_zeros.ensures.reads.disk in
-    let told = heads_refused c.args.geometry c.args.half image _ _ _ _ _ _ _ c.header_sector-header.ensures c.heads_sector-heads.ensures same c.in_ok-check_zeros.ensures.zeros c.in_ok-check_zeros.ensures.quiet c.in_err-check_zeros-2.ensures.refused in
+    let told = heads_refused c.args.geometry c.args.half image _ _ _ _ _ _ _ c.header_sector-header.ensures c.heads_sector-heads.ensures same
+    c.in_ok-check_zeros.ensures.zeros c.in_ok-check_zeros.ensures.quiet c.in_err-check_zeros-2.ensures.refused in
     let p = err_from_is_err_and c.from_residual-in_err-check_zeros-2.result c.from_residual-in_err-check_zeros-2.ensures.1 in
     rw p.1 (subst (Refusal c.args.geometry c.args.half image _ _) (sym p.2) told)
 
@@ -22,7 +23,8 @@ returns-clause-refused g c =
     let heads = subst (λ (x : Image). AreZeros x c.heads_sector-heads.result 1) first c.in_ok-check_zeros-2.ensures.zeros in
     let pages = c.from.ensures ∙ ap (λ (x : GeometryValue). x.pages) c.geometry.view_is in
     if_err_weaker _ _ c.check_pages.result
-    (λ e is. pages_refused c.args.geometry c.args.half image _ _ _ _ _ _ _ _ e c.header_sector-header.ensures c.heads_sector-heads.ensures c.pages_first-pages.ensures pages same c.in_ok-check_zeros.ensures.zeros heads
+    (λ e is. pages_refused c.args.geometry c.args.half image _ _ _ _ _ _ _ _ e c.header_sector-header.ensures c.heads_sector-heads.ensures
+    c.pages_first-pages.ensures pages same c.in_ok-check_zeros.ensures.zeros heads
     (c.in_ok-check_zeros-2.ensures.quiet ∙ c.in_ok-check_zeros.ensures.quiet) is)
     c.check_pages.ensures.refused
 

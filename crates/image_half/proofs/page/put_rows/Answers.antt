@@ -31,12 +31,14 @@ loop-slot-preserved c =
           (λ (same : k ≡ slot).
           let this : row ≡ o = same_Some row o (sym here ∙ subst (λ n. slice_get rows n ≡ Some o) same at_k) in
           subst (λ n. IsRow (row_of Two c.put_row.new.page n) o) (sym same)
-          (subst (λ (x : Option Row). IsRow (row_of Two c.put_row.new.page slot) x) this (record { spelled = c.put_row.ensures.put ∙ c.spell_row.ensures.spelled; fits = c.spell_row.ensures.fits })))
+          (subst (λ (x : Option Row). IsRow (row_of Two c.put_row.new.page slot) x) this
+          (record { spelled = c.put_row.ensures.put ∙ c.spell_row.ensures.spelled; fits = c.spell_row.ensures.fits })))
           (λ other.
           let below : k < slot = omega (arith, less, other) in
           subst (λ (b : List ℕ). IsRow b o) (sym (c.put_row.ensures.before k below)) (c.loop-slot.invariant.rows k o below at_k))
           (cases_eq k slot);
-      rest = λ k above low. subst (λ (b : List ℕ). IsRow b None) (sym (c.put_row.ensures.behind k (omega (arith, above)))) (c.loop-slot.invariant.rest k (omega (arith, above)) low);
+      rest = λ k above low. subst (λ (b : List ℕ). IsRow b None) (sym (c.put_row.ensures.behind k (omega (arith, above))))
+          (c.loop-slot.invariant.rest k (omega (arith, above)) low);
     }
 
 pub loop-slot-preserved-then-is_none : goal.loop-slot-preserved-then-is_none
@@ -52,7 +54,8 @@ loop-slot-preserved-then-is_none c =
           (λ (same : k ≡ slot).
           let this : row ≡ o = same_Some row o (sym here ∙ subst (λ n. slice_get rows n ≡ Some o) same at_k) in
           subst (λ n. IsRow (row_of Two c.loop-slot.page n) o) (sym same)
-          (subst (λ (x : Option Row). IsRow (row_of Two c.loop-slot.page slot) x) (sym none ∙ this) (c.loop-slot.invariant.rest slot (omega arith) (omega (arith, c.loop-slot-test.true, c.requires.count)))))
+          (subst (λ (x : Option Row). IsRow (row_of Two c.loop-slot.page slot) x) (sym none
+          ∙ this) (c.loop-slot.invariant.rest slot (omega arith) (omega (arith, c.loop-slot-test.true, c.requires.count)))))
           (λ other. c.loop-slot.invariant.rows k o (omega (arith, less, other)) at_k)
           (cases_eq k slot);
       rest = λ k above low. c.loop-slot.invariant.rest k (omega (arith, above)) low;
@@ -62,4 +65,5 @@ pub returns-clause-edges : goal.returns-clause-edges
 returns-clause-edges c = c.loop-slot.invariant.edges
 
 pub returns-clause-rows : goal.returns-clause-rows
-returns-clause-rows c = λ slot o there. c.loop-slot.invariant.rows slot o (omega (arith, slice_get_within c.args.rows.now slot o there, c.loop-slot-test.false)) there
+returns-clause-rows c = λ slot o there. c.loop-slot.invariant.rows slot o
+    (omega (arith, slice_get_within c.args.rows.now slot o there, c.loop-slot-test.false)) there

@@ -26,7 +26,8 @@ loop-k-preserved g c =
     let so_far = c.loop-k.invariant in
     let buffer : List ℕ = c.read.new.buffer in
     let items = c.in_ok-extend_from_slice.ensures.items in
-    let there : buffer ≡ sector content (at + k) = from_ok _ c.read.result (sym c.is_err.ensures.value ∙ c.if-is_err.false) c.read.ensures.ok ∙ ap (λ (d : Disk). sector d.content (at + k)) so_far.reads.disk in
+    let there : buffer ≡ sector content (at + k) = from_ok _ c.read.result (sym c.is_err.ensures.value ∙ c.if-is_err.false) c.read.ensures.ok
+    ∙ ap (λ (d : Disk). sector d.content (at + k)) so_far.reads.disk in
     record {
       value = items ∙ ap (λ (t : List ℕ). t ++ buffer) so_far.value ∙ ap (λ (t : List ℕ). bytes_of content at k ++ t) there ∙ sym (bytes_more content at k);
       size = omega (arith, ap length items, length-append {A = ℕ} c.loop-k.bytes.items buffer, so_far.size, c.read.array_long);

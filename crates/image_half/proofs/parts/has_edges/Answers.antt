@@ -8,16 +8,19 @@ use Rattle.image_half.proofs.Zeros.{zeros_found, zeros_tested}
 use Rattle.image_half.proofs.parts.has_edges.Goals as goal
 
 pub slice_bounds-are_zeros-end : goal.slice_bounds-are_zeros-end
-slice_bounds-are_zeros-end c = let room : 64 ≤ length c.args.page.now = omega (arith, c.requires, rows_room c.args.version) in sym (length-take-le 64 c.args.page.now room)
+slice_bounds-are_zeros-end c = let room : 64 ≤ length c.args.page.now = omega (arith, c.requires, rows_room c.args.version) in
+    sym (length-take-le 64 c.args.page.now room)
 
 pub returns-then-are_zeros : goal.returns-then-are_zeros
 returns-then-are_zeros c =
     let v = c.args.version in
     let page : List ℕ = c.args.page.now in
     let room : 64 ≤ length page = omega (arith, c.requires, rows_room v) in
-    let size : length (drop (row_start v 63) page) ≡ 512 * page_sectors v - row_start v 63 = length-drop (row_start v 63) page ∙ ap (λ n. n - row_start v 63) c.requires in
+    let size : length (drop (row_start v 63) page) ≡ 512 * page_sectors v - row_start v 63 = length-drop (row_start v 63) page
+    ∙ ap (λ n. n - row_start v 63) c.requires in
     let end = c.row_start-end.result in
-    let whole : take (length page - end) (drop end page) ≡ drop (row_start v 63) page = take_all (length page - end) (drop end page) (omega (arith, length-drop end page)) ∙ ap (λ k. drop k page) c.row_start-end.ensures in (
+    let whole : take (length page - end) (drop end page) ≡ drop (row_start v 63) page =
+    take_all (length page - end) (drop end page) (omega (arith, length-drop end page)) ∙ ap (λ k. drop k page) c.row_start-end.ensures in (
       (λ are. record {
         front = zeros_found 64 (take 64 page) (c.are_zeros.ensures.0 c.if-are_zeros.true) (length-take-le 64 page room);
         behind = zeros_found _ (drop (row_start v 63) page) (subst (All (λ (b : ℕ). b ≡ 0)) whole (c.are_zeros-then-are_zeros.ensures.0 are)) size;

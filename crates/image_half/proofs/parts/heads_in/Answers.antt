@@ -16,7 +16,8 @@ returns-then-not-is_next-clause-none g c = λ none xs are.
     let h = c.in-Some-found.head in
     let is = sym c.piece_of-piece.ensures ∙ c.in-Some.ensures.found ∙ ap head c.in-Some-found.is in
     let fits = subst HeadFitsIfSome c.in-Some-found.is c.in-Some.ensures.fits in
-    iff_false c.is_next.ensures c.if-not-is_next.true (subst (λ (l : List Head). IsNextHead l k h) (sym c.deref.ensures.value) (must_follow bytes k hs c.loop-k.invariant h xs c.loop-k-test.true is fits are))
+    iff_false c.is_next.ensures c.if-not-is_next.true (subst (λ (l : List Head). IsNextHead l k h) (sym c.deref.ensures.value)
+    (must_follow bytes k hs c.loop-k.invariant h xs c.loop-k-test.true is fits are))
 
 pub loop-k-preserved : goal.loop-k-preserved
 loop-k-preserved g c =
@@ -29,7 +30,8 @@ loop-k-preserved g c =
           let is = sym c.piece_of-piece.ensures ∙ c.in-Some.ensures.found ∙ ap head w.in-Some-found.is in
           let fits = subst HeadFitsIfSome w.in-Some-found.is c.in-Some.ensures.fits in
           let next = subst (λ (l : List Head). IsNextHead l k h) w.deref.ensures.value (w.is_next.ensures.0 w.if-not-is_next.false) in
-          subst (AreFirstHeads bytes (k + 1)) (sym (ap (λ (v : Vec Head g.row.A.Denot). v.items) w.heads-is ∙ w.in_ok-push.ensures.items)) (head_more bytes k hs c.loop-k.invariant h is fits next)
+          subst (AreFirstHeads bytes (k + 1)) (sym (ap (λ (v : Vec Head g.row.A.Denot). v.items) w.heads-is ∙ w.in_ok-push.ensures.items))
+          (head_more bytes k hs c.loop-k.invariant h is fits next)
       | in_default-found w ↦
           subst (AreFirstHeads bytes (k + 1)) (sym (ap (λ (v : Vec Head g.row.A.Denot). v.items) w.heads-is))
           (no_head_more bytes k hs c.loop-k.invariant (sym c.piece_of-piece.ensures ∙ c.in-Some.ensures.found ∙ ap head w.in_default-found.is))

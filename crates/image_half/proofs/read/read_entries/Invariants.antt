@@ -14,7 +14,8 @@ invariant-loop-n g l =
     record {
       held : HoldsEntries l.version l.geometry l.first content l.n index;
       last : IsLastPair index l.n l.last;
-      buffered : 0 < l.n % entries_per_sector l.version → l.buffer ≡ sector content (sector_of_piece (entries_at_in l.version l.geometry l.first) (entries_per_sector l.version) l.n);
+      buffered : 0 < l.n % entries_per_sector l.version → l.buffer
+          ≡ sector content (sector_of_piece (entries_at_in l.version l.geometry l.first) (entries_per_sector l.version) l.n);
       reads : OnlyReads (h l.initial.device) (h l.device);
       quiet : g.D.Device.failures l.device ≡ g.D.Device.failures l.initial.device;
     }

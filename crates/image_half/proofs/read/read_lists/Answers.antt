@@ -18,7 +18,8 @@ loop-h-init g c =
     let h = g.D.Device.history in
     let content = (h c.args.device.now).disk.content in
     record {
-      held = subst (λ (p : Pending). HoldsLists c.args.version c.args.geometry c.args.first content [] p) (sym c.requires.empty) (no_lists c.args.version c.args.geometry c.args.first content);
+      held = subst (λ (p : Pending). HoldsLists c.args.version c.args.geometry c.args.first content [] p) (sym c.requires.empty)
+          (no_lists c.args.version c.args.geometry c.args.first content);
       rest = refl;
       reads = reads_none (h c.args.device.now);
       quiet = refl;
@@ -27,7 +28,8 @@ loop-h-init g c =
 pub read_list-requires-clause-count : goal.read_list-requires-clause-count
 read_list-requires-clause-count g c =
     let heads = c.args.heads.now in
-    (c.requires.heads.fits c.loop-h.h c.index-heads-h.result (slice_get_read heads (length heads) c.loop-h.h c.index-heads-h.result refl c.loop-h-test.true c.index-heads-h.is)).changes
+    (c.requires.heads.fits c.loop-h.h c.index-heads-h.result
+    (slice_get_read heads (length heads) c.loop-h.h c.index-heads-h.result refl c.loop-h-test.true c.index-heads-h.is)).changes
 
 pub returns-in_err-changes-clause-refused : goal.returns-in_err-changes-clause-refused
 returns-in_err-changes-clause-refused g c =
@@ -35,7 +37,8 @@ returns-in_err-changes-clause-refused g c =
     let image : Image = (h c.args.device.now).disk.content in
     let heads = c.args.heads.now in
     let at = slice_get_read heads (length heads) c.loop-h.h c.index-heads-h.result refl c.loop-h-test.true c.index-heads-h.is in
-    let told = list_refused c.args.version c.args.geometry c.args.first image (h c.loop-h.device).disk.content _ _ _ c.in_err-changes.field-0.0 (ap (λ (d : Disk). d.content) c.loop-h.invariant.reads.disk) c.loop-h.invariant.quiet
+    let told = list_refused c.args.version c.args.geometry c.args.first image (h c.loop-h.device).disk.content _ _ _ c.in_err-changes.field-0.0
+    (ap (λ (d : Disk). d.content) c.loop-h.invariant.reads.disk) c.loop-h.invariant.quiet
     heads (g.S.CellSink.cells c.loop-h.sink).pending c.loop-h.h c.index-heads-h.result at c.loop-h.invariant.held c.in_err-changes.ensures.refused in
     let p = err_from_is_err_and c.from_residual.result c.from_residual.ensures.1 in
     rw p.1 (subst (AreListsRefused c.args.version c.args.geometry c.args.first image heads _ _) (sym p.2) told)
@@ -52,11 +55,15 @@ loop-h-preserved g c =
     let n = c.loop-h.h in
     let at = slice_get_read heads (length heads) n head refl c.loop-h-test.true c.index-heads-h.is in
     let list : List ChangeValue = c.in_ok-changes.changes.items in
-    let is = subst (λ (x : Image). HoldsListIn c.args.version c.args.geometry c.args.first x n list) (ap (λ (d : Disk). d.content) c.loop-h.invariant.reads.disk) c.in_ok-changes.ensures.held in
-    let pending : new.pending ≡ insert old.pending head.txn list = ap (λ (x : Cells). x.pending) c.in_ok-set_list.ensures ∙ ap (λ (l : List ChangeValue). insert old.pending head.txn l) c.deref.ensures.value in
+    let is = subst (λ (x : Image). HoldsListIn c.args.version c.args.geometry c.args.first x n list)
+    (ap (λ (d : Disk). d.content) c.loop-h.invariant.reads.disk) c.in_ok-changes.ensures.held in
+    let pending : new.pending ≡ insert old.pending head.txn list = ap (λ (x : Cells). x.pending) c.in_ok-set_list.ensures
+    ∙ ap (λ (l : List ChangeValue). insert old.pending head.txn l) c.deref.ensures.value in
     record {
       held = subst (λ (p : Pending). HoldsLists c.args.version c.args.geometry c.args.first image (take (n + 1) heads) p) (sym pending)
-          (lists_more c.args.version c.args.geometry c.args.first image (sector image (heads_at c.args.first)) heads c.requires.heads old.pending n head at c.loop-h.invariant.held list c.in_ok-changes.ensures.count is);
+          (lists_more c.args.version c.args.geometry c.args.first image
+          (sector image (heads_at c.args.first)) heads c.requires.heads old.pending n head at c.loop-h.invariant.held list c.in_ok-changes.ensures.count
+          is);
       rest = only_lists start old new _ c.in_ok-set_list.ensures c.loop-h.invariant.rest;
       reads = reads_then _ _ _ c.loop-h.invariant.reads c.read_list.ensures.reads;
       quiet = c.in_ok-changes.ensures.quiet ∙ c.loop-h.invariant.quiet;

@@ -15,7 +15,8 @@ loop-page-init g c =
     let h = g.D.Device.history in
     let content = (h c.args.device.now).disk.content in
     record {
-      held = subst (λ (rows : List (Place × Row)). HoldsPages c.args.version c.args.geometry c.args.first content 0 (table_of rows)) (sym c.new-rows.ensures.items) (no_pages c.args.version c.args.geometry c.args.first content);
+      held = subst (λ (rows : List (Place × Row)). HoldsPages c.args.version c.args.geometry c.args.first content 0 (table_of rows))
+          (sym c.new-rows.ensures.items) (no_pages c.args.version c.args.geometry c.args.first content);
       reads = reads_none (h c.args.device.now);
       quiet = refl;
     }
@@ -24,8 +25,10 @@ pub returns-in_err-read_page-clause-refused : goal.returns-in_err-read_page-clau
 returns-in_err-read_page-clause-refused g c =
     let h = g.D.Device.history in
     let image : Image = (h c.args.device.now).disk.content in
-    let below : c.loop-page.page < c.args.geometry.pages = subst (λ k. c.loop-page.page < k) (ap (λ (x : GeometryValue). x.pages) c.geometry.view_is) c.loop-page-test.true in
-    let told = page_refused c.args.version c.args.geometry c.args.first image (h c.loop-page.device).disk.content _ _ _ c.in_err-read_page.field-0.0 (ap (λ (d : Disk). d.content) c.loop-page.invariant.reads.disk) c.loop-page.invariant.quiet
+    let below : c.loop-page.page < c.args.geometry.pages =
+    subst (λ k. c.loop-page.page < k) (ap (λ (x : GeometryValue). x.pages) c.geometry.view_is) c.loop-page-test.true in
+    let told = page_refused c.args.version c.args.geometry c.args.first image (h c.loop-page.device).disk.content _ _ _ c.in_err-read_page.field-0.0
+    (ap (λ (d : Disk). d.content) c.loop-page.invariant.reads.disk) c.loop-page.invariant.quiet
     c.loop-page.page (table_of c.loop-page.rows.items) below c.loop-page.invariant.held c.in_err-read_page.ensures.refused in
     let p = err_from_is_err_and c.from_residual.result c.from_residual.ensures.1 in
     rw p.1 (subst (ArePagesRefused c.args.version c.args.geometry c.args.first image _ _) (sym p.2) told)

@@ -11,6 +11,7 @@ overflow_cast-result g c =
     let cells = g.S.CellSource.cells c.args.source.now in
     let n : ℕ = c.requires.reached.0 in
     let list : ℕ × List ChangeValue = (c.in-Some.list.0, c.in-Some.list.1.now) in
-    let there : slice_get (entries cells.pending) n ≡ Some list = sym (c.requires.reached.1 _ c.list_behind.ensures) ∙ ap (option_map (λ l. (l.0, l.1.now))) c.in-Some.is in
+    let there : slice_get (entries cells.pending) n ≡ Some list = sym (c.requires.reached.1 _ c.list_behind.ensures)
+    ∙ ap (option_map (λ l. (l.0, l.1.now))) c.in-Some.is in
     let short : length list.1 ≤ 64 = list_short c.args.geometry cells c.requires.fits n list there in
     omega (arith, short)

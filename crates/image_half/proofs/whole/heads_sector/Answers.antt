@@ -29,14 +29,17 @@ loop-k-preserved g c =
     let is : found ≡ option_map head_of (slice_get lists k) = c.head_behind-found.ensures k c.loop-k.invariant.reached in
     record {
       reached = elim (option_cases (slice_get lists k)) [
-        | inl none ↦ subst (IsReached lists (k + 1)) (sym (c.go_on.ensures.other (is ∙ ap (option_map head_of) none))) (reached_past lists k c.loop-k.last c.loop-k.invariant.reached none)
-        | inr some ↦ subst (IsReached lists (k + 1)) (sym (c.go_on.ensures.head (head_of some.0) (is ∙ ap (option_map head_of) some.1))) (reached_at lists k some.0 some.1)
+        | inl none ↦ subst (IsReached lists (k + 1)) (sym (c.go_on.ensures.other (is ∙ ap (option_map head_of) none)))
+            (reached_past lists k c.loop-k.last c.loop-k.invariant.reached none)
+        | inr some ↦ subst (IsReached lists (k + 1)) (sym (c.go_on.ensures.head (head_of some.0) (is ∙ ap (option_map head_of) some.1)))
+            (reached_at lists k some.0 some.1)
       ];
       spelled = λ i less. ⊎_elim
           (λ (lower : i < k). c.put_piece.ensures.before i lower ∙ c.loop-k.invariant.spelled i lower)
           (λ higher.
           let same : k ≡ i = omega (arith, less, higher) in
-          subst (λ n. cut c.put_piece.new.buffer 32 n ≡ head (option_map head_of (slice_get lists n))) same (c.put_piece.ensures.put ∙ c.spell_head-piece.ensures.spelled ∙ ap head is))
+          subst (λ n. cut c.put_piece.new.buffer 32 n ≡ head (option_map head_of (slice_get lists n))) same (c.put_piece.ensures.put
+          ∙ c.spell_head-piece.ensures.spelled ∙ ap head is))
           (cases_lt i k);
       txns = λ i list less at_i. ⊎_elim
           (λ (lower : i < k). c.loop-k.invariant.txns i list lower at_i)
@@ -51,13 +54,19 @@ pub returns : goal.returns
 returns g c =
     let cells = g.S.CellSource.cells c.args.source.now in
     let lists : List (ℕ × List ChangeValue) = entries cells.pending in
-    let found : (k : ℕ) (h : Head) → slice_get (map head_of lists) k ≡ Some h → (x : ℕ × List ChangeValue) × (slice_get lists k ≡ Some x) × (head_of x ≡ h) = λ k h at. mapped head_of (slice_get lists k) h (sym (slice_get-map head_of lists k) ∙ at) in
+    let found : (k : ℕ) (h : Head) → slice_get (map head_of lists) k ≡ Some h → (x : ℕ × List ChangeValue) × (slice_get lists k ≡ Some x)
+    × (head_of x ≡ h) = λ k h at. mapped head_of (slice_get lists k) h (sym (slice_get-map head_of lists k) ∙ at) in
     record {
       count = omega (arith, length-map lists head_of, c.requires.txns);
       spelled = λ k below. c.loop-k.invariant.spelled k (omega (arith, below, c.loop-k-test.false)) ∙ ap head (sym (slice_get-map head_of lists k));
       fits = λ k h at_k.
           let x = found k h at_k in
-          subst HeadFits x.2 (record { txn = c.loop-k.invariant.txns k x.0 (omega (arith, slice_get_within lists k x.0 x.1, c.requires.txns, c.loop-k-test.false)) x.1; changes = list_short c.args.geometry cells c.requires k x.0 x.1 });
+          subst HeadFits x.2 (record {
+            txn = c.loop-k.invariant.txns k x.0
+                (omega (arith, slice_get_within lists k x.0 x.1, c.requires.txns, c.loop-k-test.false)) x.1;
+            changes =
+                list_short c.args.geometry cells c.requires k x.0 x.1;
+          });
       rising = λ k a b at_a at_b.
           let x = found k a at_a in
           let y = found (k + 1) b at_b in

@@ -16,7 +16,8 @@ loop-j-preserved c = λ i o less at_i.
     (λ (lower : i < j). subst (λ (b : List ℕ). IsEntryPlace b o) (sym (c.put_piece.ensures.before i lower)) (c.loop-j.invariant i o lower at_i))
     (λ higher.
     let same : i ≡ j = omega (arith, less, higher) in
-    let at_j : slice_get c.args.entries.now j ≡ Some entry = slice_get-get_or c.args.entries.now j entry (omega (arith, c.loop-j-test.true, c.type_inv.entries)) ∙ ap Some (sym c.index-entries-j.is) in
+    let at_j : slice_get c.args.entries.now j ≡ Some entry = slice_get-get_or c.args.entries.now j entry (omega (arith, c.loop-j-test.true, c.type_inv.entries))
+    ∙ ap Some (sym c.index-entries-j.is) in
     let is : entry ≡ o = same_Some _ _ (sym at_j ∙ subst (λ n. slice_get c.args.entries.now n ≡ Some o) same at_i) in
     subst (λ n. IsEntryPlace (cut c.put_piece.new.buffer 64 n) o) (sym same)
     (subst (λ (b : List ℕ). IsEntryPlace b o) (sym c.put_piece.ensures.put)

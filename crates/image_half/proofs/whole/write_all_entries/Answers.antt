@@ -20,11 +20,13 @@ pub returns-in_err-write-clause-part : goal.returns-in_err-write-clause-part
 returns-in_err-write-clause-part g c =
     let hist = g.D.Device.history in
     let k = c.loop-k.k in
-    let at_is : c.page_at-at.result ≡ entries_at c.args.geometry c.args.first = c.page_at-at.ensures ∙ ap (page_at c.args.first) (c.from.ensures ∙ ap (λ (x : GeometryValue). x.pages) c.geometry.view_is) in
+    let at_is : c.page_at-at.result ≡ entries_at c.args.geometry c.args.first = c.page_at-at.ensures
+    ∙ ap (page_at c.args.first) (c.from.ensures ∙ ap (λ (x : GeometryValue). x.pages) c.geometry.view_is) in
     let some : k < (c.args.count + 7) / 8 = omega (arith, c.div_ceil-k-end.ensures, c.from-2.ensures, c.loop-k-test.true) in
     let at = c.page_at-at.result + k in
     let inside : InEntries c.args.geometry c.args.first 0 c.args.count at = (omega (arith, at_is), omega (arith, at_is, some)) in
-    writes_one (InEntries c.args.geometry c.args.first 0 c.args.count) (hist c.args.device.now) (hist c.loop-k.device) (hist c.write.new.self) at _ c.write.result inside c.write.ensures.time c.write.ensures.ok c.write.ensures.err c.loop-k.invariant.part
+    writes_one (InEntries c.args.geometry c.args.first 0 c.args.count) (hist c.args.device.now) (hist c.loop-k.device)
+    (hist c.write.new.self) at _ c.write.result inside c.write.ensures.time c.write.ensures.ok c.write.ensures.err c.loop-k.invariant.part
 
 pub loop-k-preserved : goal.loop-k-preserved
 loop-k-preserved g c =
@@ -35,7 +37,8 @@ loop-k-preserved g c =
     let all : List (Pair × Mark) = entries cells.entries in
     let k = c.loop-k.k in
     let first_entry = entries_at c.args.geometry c.args.first in
-    let at_is : c.page_at-at.result ≡ first_entry = c.page_at-at.ensures ∙ ap (page_at c.args.first) (c.from.ensures ∙ ap (λ (x : GeometryValue). x.pages) c.geometry.view_is) in
+    let at_is : c.page_at-at.result ≡ first_entry = c.page_at-at.ensures
+    ∙ ap (page_at c.args.first) (c.from.ensures ∙ ap (λ (x : GeometryValue). x.pages) c.geometry.view_is) in
     let some : k < (c.args.count + 7) / 8 = omega (arith, c.div_ceil-k-end.ensures, c.from-2.ensures, c.loop-k-test.true) in
     let at = c.page_at-at.result + k in
     let bytes : List ℕ = c.entries_sector-bytes.result in
@@ -45,33 +48,50 @@ loop-k-preserved g c =
     let ok : new ≡ after_write mid at bytes = c.in_ok-write.ensures.ok in
     let room : at < length mid.content = omega (arith, inside.1, c.requires.inside, c.requires.count, c.requires.fits.room, so_far.part.outside.sectors) in
     record {
-      passed = λ more. subst (λ n. IsPassed all n c.entries_sector-bytes.new.last) (let e : 8 * k + 8 ≡ 8 * (k + 1) = omega arith in e) (c.entries_sector-bytes.ensures.passed (8 * k) passed (omega (arith, more, c.requires.count)));
+      passed = λ more. subst (λ n. IsPassed all n c.entries_sector-bytes.new.last) (let e : 8 * k + 8 ≡ 8 * (k + 1) = omega arith in e)
+          (c.entries_sector-bytes.ensures.passed (8 * k) passed (omega (arith, more, c.requires.count)));
       placed = λ i less. ⊎_elim
           (λ (lower : i < 8 * k).
           let n = first_entry + i / 8 in
-          let same : sector new.content n ≡ sector mid.content n = ap (λ (d : Disk). sector d.content n) ok ∙ sector_other mid at n bytes (omega (arith, at_is, lower)) in
+          let same : sector new.content n ≡ sector mid.content n = ap (λ (d : Disk). sector d.content n) ok
+          ∙ sector_other mid at n bytes (omega (arith, at_is, lower)) in
           subst (λ (b : List ℕ). IsEntryPlace (cut b 64 (i % 8)) (slice_get all i)) (sym same) (so_far.placed i lower))
           (λ higher.
           let n = first_entry + i / 8 in
           let which : n ≡ at = omega (arith, at_is, less, higher) in
-          let there : sector new.content n ≡ bytes = ap (λ m. sector new.content m) which ∙ ap (λ (d : Disk). sector d.content at) ok ∙ sector_written mid at bytes room in
+          let there : sector new.content n ≡ bytes = ap (λ m. sector new.content m) which ∙ ap (λ (d : Disk). sector d.content at) ok
+          ∙ sector_written mid at bytes room in
           let nth : i ≡ 8 * k + i % 8 = omega (arith, less, higher) in
           let piece = c.entries_sector-bytes.ensures.spelled (8 * k) passed (i % 8) (omega arith) in
           subst (λ (b : List ℕ). IsEntryPlace (cut b 64 (i % 8)) (slice_get all i)) (sym there)
           (subst (λ m. IsEntryPlace (cut bytes 64 (i % 8)) (slice_get all m)) (sym nth) piece))
           (cases_lt i (8 * k));
-      part = writes_one (InEntries c.args.geometry c.args.first 0 c.args.count) (hist c.args.device.now) (hist c.loop-k.device) (hist c.write.new.self) at _ c.write.result inside c.write.ensures.time c.write.ensures.ok c.write.ensures.err so_far.part;
+      part = writes_one (InEntries c.args.geometry c.args.first 0 c.args.count) (hist c.args.device.now) (hist c.loop-k.device)
+          (hist c.write.new.self) at _ c.write.result inside c.write.ensures.time c.write.ensures.ok c.write.ensures.err so_far.part;
       failures = c.in_ok-write.ensures.counts.none ∙ so_far.failures;
     }
 
 pub returns-clause-written : goal.returns-clause-written
 returns-clause-written g c = λ i e at_i.
     let bytes = entry_bytes c.args.geometry (g.D.Device.history c.loop-k.device).disk.content c.args.first i in
-    let piece : IsEntryPiece bytes e = subst (IsEntryPlace bytes) at_i (c.loop-k.invariant.placed i (omega (arith, slice_get_within _ i e at_i, c.requires.count, c.div_ceil-k-end.ensures, c.from-2.ensures, c.loop-k-test.false))) in
-    record { spelled = piece.spelled; fits = piece.fits; inside = entry_inside c.args.geometry (g.S.CellSource.cells c.args.source.now) c.requires.fits i e at_i }
+    let piece : IsEntryPiece bytes e = subst (IsEntryPlace bytes) at_i
+    (c.loop-k.invariant.placed i (omega (
+      arith,
+      slice_get_within _ i e at_i,
+      c.requires.count,
+      c.div_ceil-k-end.ensures,
+      c.from-2.ensures,
+      c.loop-k-test.false,
+    ))) in
+    record {
+      spelled = piece.spelled;
+      fits = piece.fits;
+      inside = entry_inside c.args.geometry (g.S.CellSource.cells c.args.source.now) c.requires.fits i e at_i;
+    }
 
 pub returns-clause-rest : goal.returns-clause-rest
 returns-clause-rest g c = λ i behind below.
     let all : List (Pair × Mark) = entries (g.S.CellSource.cells c.args.source.now).entries in
-    subst (IsEntryPlace (entry_bytes c.args.geometry (g.D.Device.history c.loop-k.device).disk.content c.args.first i)) (slice_get_past all i (omega (arith, behind, c.requires.count)))
+    subst (IsEntryPlace (entry_bytes c.args.geometry (g.D.Device.history c.loop-k.device).disk.content c.args.first i))
+    (slice_get_past all i (omega (arith, behind, c.requires.count)))
     (c.loop-k.invariant.placed i (omega (arith, below, c.div_ceil-k-end.ensures, c.from-2.ensures, c.loop-k-test.false)))

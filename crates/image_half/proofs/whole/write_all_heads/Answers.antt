@@ -6,4 +6,6 @@ use Rattle.image_half.proofs.whole.write_all_heads.Goals as goal
 pub returns-clause-part : goal.returns-clause-part
 returns-clause-part g c =
     let old = g.D.Device.history c.args.device.now in
-    writes_one (λ n. n ≡ heads_at c.args.first) old old (g.D.Device.history c.write.new.self) (heads_at c.args.first) _ c.write.result refl c.write.ensures.time c.write.ensures.ok c.write.ensures.err (writes_none (λ n. n ≡ heads_at c.args.first) old)
+    writes_one (λ n. n ≡ heads_at c.args.first) old old (g.D.Device.history c.write.new.self)
+    (heads_at c.args.first) _ c.write.result refl c.write.ensures.time c.write.ensures.ok c.write.ensures.err
+    (writes_none (λ n. n ≡ heads_at c.args.first) old)

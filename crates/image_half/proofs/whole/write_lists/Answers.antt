@@ -16,21 +16,26 @@ use Rattle.image_half.proofs.whole.write_lists.Goals as goal
 pub write_list-requires-clause-count : goal.write_list-requires-clause-count
 write_list-requires-clause-count g c =
     let cells = g.S.CellSource.cells c.args.source.now in
-    let there : slice_get (entries cells.pending) c.loop-h.h ≡ Some (c.in-Some.list.0, c.in-Some.list.1.now) = sym (c.loop-h.invariant.reached _ c.list_behind.ensures) ∙ ap (option_map (λ l. (l.0, l.1.now))) c.in-Some.is in
+    let there : slice_get (entries cells.pending) c.loop-h.h ≡ Some (c.in-Some.list.0, c.in-Some.list.1.now) =
+    sym (c.loop-h.invariant.reached _ c.list_behind.ensures) ∙ ap (option_map (λ l. (l.0, l.1.now))) c.in-Some.is in
     list_short c.args.geometry cells c.requires.fits c.loop-h.h _ there
 
 pub write_list-requires-clause-positions : goal.write_list-requires-clause-positions
 write_list-requires-clause-positions g c = λ p d at_p.
     let cells = g.S.CellSource.cells c.args.source.now in
-    let there : slice_get (entries cells.pending) c.loop-h.h ≡ Some (c.in-Some.list.0, c.in-Some.list.1.now) = sym (c.loop-h.invariant.reached _ c.list_behind.ensures) ∙ ap (option_map (λ l. (l.0, l.1.now))) c.in-Some.is in
-    let at : (d.position ≡ 0 + p) × (d.rid.page < c.args.geometry.pages) = change_at c.args.geometry.pages 0 p _ d (list_placed c.args.geometry cells c.requires.fits c.loop-h.h _ there) at_p in
+    let there : slice_get (entries cells.pending) c.loop-h.h ≡ Some (c.in-Some.list.0, c.in-Some.list.1.now) =
+    sym (c.loop-h.invariant.reached _ c.list_behind.ensures) ∙ ap (option_map (λ l. (l.0, l.1.now))) c.in-Some.is in
+    let at : (d.position ≡ 0 + p) × (d.rid.page < c.args.geometry.pages) =
+    change_at c.args.geometry.pages 0 p _ d (list_placed c.args.geometry cells c.requires.fits c.loop-h.h _ there) at_p in
     omega (arith, at.0)
 
 pub write_list-requires-clause-pages : goal.write_list-requires-clause-pages
 write_list-requires-clause-pages g c = λ p d at_p.
     let cells = g.S.CellSource.cells c.args.source.now in
-    let there : slice_get (entries cells.pending) c.loop-h.h ≡ Some (c.in-Some.list.0, c.in-Some.list.1.now) = sym (c.loop-h.invariant.reached _ c.list_behind.ensures) ∙ ap (option_map (λ l. (l.0, l.1.now))) c.in-Some.is in
-    let at : (d.position ≡ 0 + p) × (d.rid.page < c.args.geometry.pages) = change_at c.args.geometry.pages 0 p _ d (list_placed c.args.geometry cells c.requires.fits c.loop-h.h _ there) at_p in
+    let there : slice_get (entries cells.pending) c.loop-h.h ≡ Some (c.in-Some.list.0, c.in-Some.list.1.now) =
+    sym (c.loop-h.invariant.reached _ c.list_behind.ensures) ∙ ap (option_map (λ l. (l.0, l.1.now))) c.in-Some.is in
+    let at : (d.position ≡ 0 + p) × (d.rid.page < c.args.geometry.pages) =
+    change_at c.args.geometry.pages 0 p _ d (list_placed c.args.geometry cells c.requires.fits c.loop-h.h _ there) at_p in
     at.1
 
 pub returns-in_err-write_list-clause-part : goal.returns-in_err-write_list-clause-part
@@ -39,7 +44,8 @@ returns-in_err-write_list-clause-part g c =
     let cells = g.S.CellSource.cells c.args.source.now in
     let first = c.args.first in
     let list : ℕ × List ChangeValue = (c.in-Some.list.0, c.in-Some.list.1.now) in
-    let there : slice_get (entries cells.pending) c.loop-h.h ≡ Some list = sym (c.loop-h.invariant.reached _ c.list_behind.ensures) ∙ ap (option_map (λ l. (l.0, l.1.now))) c.in-Some.is in
+    let there : slice_get (entries cells.pending) c.loop-h.h ≡ Some list = sym (c.loop-h.invariant.reached _ c.list_behind.ensures)
+    ∙ ap (option_map (λ l. (l.0, l.1.now))) c.in-Some.is in
     writes_then (InLists first cells) (InList first c.loop-h.h (length list.1)) (hist c.args.device.now) (hist c.loop-h.device) (hist c.write_list.new.device)
     (λ n is. (c.loop-h.h, list, there, is)) c.loop-h.invariant.part (record { outside = c.write_list.ensures.outside; within = c.write_list.ensures.within })
 
@@ -59,8 +65,10 @@ loop-h-preserved g c =
           (λ (same : k ≡ h).
           let this : list ≡ l = same_Some list l (sym there ∙ subst (λ n. slice_get lists n ≡ Some l) same at_k) in
           subst (λ n. HoldsList c.args.geometry first (hist c.write_list.new.device).disk.content n l.1) (sym same)
-          (subst (λ (x : ℕ × List ChangeValue). HoldsList c.args.geometry first (hist c.write_list.new.device).disk.content h x.1) this c.in_ok-write_list.ensures.written))
-          (λ other. list_kept (InList first h (length list.1)) _ _ c.write_list.ensures.outside c.args.geometry first k l.1 (λ p low is. omega (arith, is.0, less, other, low))
+          (subst (λ (x : ℕ × List ChangeValue). HoldsList c.args.geometry first (hist c.write_list.new.device).disk.content h x.1) this
+          c.in_ok-write_list.ensures.written))
+          (λ other. list_kept (InList first h (length list.1)) _ _ c.write_list.ensures.outside c.args.geometry first k l.1 (λ p low is.
+          omega (arith, is.0, less, other, low))
           (list_short c.args.geometry cells c.requires.fits k l at_k) (c.loop-h.invariant.written k l (omega (arith, less, other)) at_k))
           (cases_eq k h);
       part = writes_then (InLists first cells) (InList first h (length list.1)) (hist c.args.device.now) (hist c.loop-h.device) (hist c.write_list.new.device)
@@ -71,7 +79,8 @@ loop-h-preserved g c =
 pub returns-in_default-clause-written : goal.returns-in_default-clause-written
 returns-in_default-clause-written g c = λ h list at_h.
     let lists = entries (g.S.CellSource.cells c.args.source.now).pending in
-    let none : slice_get lists c.loop-h.h ≡ None = sym (c.loop-h.invariant.reached _ c.list_behind.ensures) ∙ ap (option_map (λ l. (l.0, l.1.now))) c.in_default.is in
+    let none : slice_get lists c.loop-h.h ≡ None = sym (c.loop-h.invariant.reached _ c.list_behind.ensures)
+    ∙ ap (option_map (λ l. (l.0, l.1.now))) c.in_default.is in
     c.loop-h.invariant.written h list (before_end lists c.loop-h.h h list none at_h) at_h
 
 pub returns-clause-written : goal.returns-clause-written

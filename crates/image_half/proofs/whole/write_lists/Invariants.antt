@@ -12,7 +12,8 @@ invariant-loop-h g l =
     let lists = entries (g.S.CellSource.cells l.source).pending in
     record {
       reached : IsReached lists l.h l.last;
-      written : (k : ℕ) (list : ℕ × List ChangeValue) → k < l.h → slice_get lists k ≡ Some list → HoldsList l.fn.geometry l.fn.first (hist l.device).disk.content k list.1;
+      written : (k : ℕ) (list : ℕ × List ChangeValue) → k < l.h → slice_get lists k ≡ Some list
+          → HoldsList l.fn.geometry l.fn.first (hist l.device).disk.content k list.1;
       part : WritesIn (InLists l.fn.first (g.S.CellSource.cells l.source)) (hist l.initial.device) (hist l.device);
       failures : g.D.Device.failures l.device ≡ g.D.Device.failures l.initial.device;
     }

@@ -14,7 +14,8 @@ returns-in_err-write_rows-clause-part g c =
     let page = c.loop-page.page in
     let below : page < c.args.geometry.pages = omega (arith, c.loop-page-test.true, ap (λ (x : GeometryValue). x.pages) c.geometry.view_is) in
     writes_then (InPages c.args.geometry first) (InPage first page) (hist c.args.device.now) (hist c.loop-page.device) (hist c.write_rows.new.device)
-    (λ n is. (omega (arith, is.0), omega (arith, is.1, below))) c.loop-page.invariant.part (record { outside = c.write_rows.ensures.outside; within = c.write_rows.ensures.within })
+    (λ n is. (omega (arith, is.0), omega (arith, is.1, below))) c.loop-page.invariant.part
+    (record { outside = c.write_rows.ensures.outside; within = c.write_rows.ensures.within })
 
 pub loop-page-preserved : goal.loop-page-preserved
 loop-page-preserved g c =
@@ -26,12 +27,15 @@ loop-page-preserved g c =
     record {
       written = λ p less. ⊎_elim
           (λ (same : p ≡ page). subst (λ n. HasPage first (hist c.write_rows.new.device).disk.content n all) (sym same) c.in_ok-write_rows.ensures.written)
-          (λ other. page_kept (InPage first page) _ _ c.write_rows.ensures.outside first p all (λ k low is. omega (arith, is.0, less, other, low)) (c.loop-page.invariant.written p (omega (arith, less, other))))
+          (λ other. page_kept (InPage first page) _ _ c.write_rows.ensures.outside first p all (λ k low is. omega (arith, is.0, less, other, low))
+          (c.loop-page.invariant.written p (omega (arith, less, other))))
           (cases_eq p page);
       part = writes_then (InPages c.args.geometry first) (InPage first page) (hist c.args.device.now) (hist c.loop-page.device) (hist c.write_rows.new.device)
-          (λ n is. (omega (arith, is.0), omega (arith, is.1, below))) c.loop-page.invariant.part (record { outside = c.write_rows.ensures.outside; within = c.write_rows.ensures.within });
+          (λ n is. (omega (arith, is.0), omega (arith, is.1, below))) c.loop-page.invariant.part
+          (record { outside = c.write_rows.ensures.outside; within = c.write_rows.ensures.within });
       failures = c.in_ok-write_rows.ensures.counts.none ∙ c.loop-page.invariant.failures;
     }
 
 pub returns-clause-written : goal.returns-clause-written
-returns-clause-written g c = λ page below. c.loop-page.invariant.written page (omega (arith, below, c.loop-page-test.false, ap (λ (x : GeometryValue). x.pages) c.geometry.view_is))
+returns-clause-written g c = λ page below. c.loop-page.invariant.written page
+    (omega (arith, below, c.loop-page-test.false, ap (λ (x : GeometryValue). x.pages) c.geometry.view_is))

@@ -9,7 +9,8 @@ pub loop-j-preserved : goal.loop-j-preserved
 loop-j-preserved c = λ i less.
     let j = c.loop-j.j in
     ⊎_elim
-    (λ (lower : i < j). subst (λ (b : List ℕ). IsEntryPlace b (slice_get c.args.entries.now (8 * c.args.k + i))) (sym (c.put_piece.ensures.before i lower)) (c.loop-j.invariant i lower))
+    (λ (lower : i < j). subst (λ (b : List ℕ). IsEntryPlace b (slice_get c.args.entries.now (8 * c.args.k + i))) (sym (c.put_piece.ensures.before i lower))
+    (c.loop-j.invariant i lower))
     (λ higher.
     let same : i ≡ j = omega (arith, less, higher) in
     subst (λ n. IsEntryPlace (cut c.put_piece.new.buffer 64 n) (slice_get c.args.entries.now (8 * c.args.k + n))) (sym same)

@@ -16,10 +16,12 @@ pub returns-in_err-write-clause-within : goal.returns-in_err-write-clause-within
 returns-in_err-write-clause-within g c =
     let k = c.loop-k.k in
     let first_entry = entries_at c.args.geometry c.args.first in
-    let at_is : c.page_at.result ≡ first_entry = c.page_at.ensures ∙ ap (page_at c.args.first) (c.from.ensures ∙ ap (λ (x : GeometryValue). x.pages) c.geometry.view_is) in
+    let at_is : c.page_at.result ≡ first_entry = c.page_at.ensures
+    ∙ ap (page_at c.args.first) (c.from.ensures ∙ ap (λ (x : GeometryValue). x.pages) c.geometry.view_is) in
     let count : c.div_ceil-sectors.result ≡ (length c.args.entries.now + 7) / 8 = omega (arith, c.div_ceil-sectors.ensures) in
     let at = c.page_at.result + c.from-2.result / 8 + k in
-    let inside : InEntries c.args.geometry c.args.first c.args.start (length c.args.entries.now) at = (omega (arith, at_is, c.from-2.ensures), omega (arith, at_is, c.from-2.ensures, count, c.loop-k-test.true, c.requires.start)) in
+    let inside : InEntries c.args.geometry c.args.first c.args.start (length c.args.entries.now) at =
+    (omega (arith, at_is, c.from-2.ensures), omega (arith, at_is, c.from-2.ensures, count, c.loop-k-test.true, c.requires.start)) in
     within_write _ _ _ _ _ c.loop-k.invariant.within c.write.ensures.time at _ c.write.result (inl inside) c.write.ensures.ok c.write.ensures.err
 
 pub loop-k-preserved : goal.loop-k-preserved
@@ -30,11 +32,13 @@ loop-k-preserved g c =
     let k = c.loop-k.k in
     let start = c.args.start in
     let first_entry = entries_at c.args.geometry c.args.first in
-    let at_is : c.page_at.result ≡ first_entry = c.page_at.ensures ∙ ap (page_at c.args.first) (c.from.ensures ∙ ap (λ (x : GeometryValue). x.pages) c.geometry.view_is) in
+    let at_is : c.page_at.result ≡ first_entry = c.page_at.ensures
+    ∙ ap (page_at c.args.first) (c.from.ensures ∙ ap (λ (x : GeometryValue). x.pages) c.geometry.view_is) in
     let count : c.div_ceil-sectors.result ≡ (length c.args.entries.now + 7) / 8 = omega (arith, c.div_ceil-sectors.ensures) in
     let at = c.page_at.result + c.from-2.result / 8 + k in
     let bytes : List ℕ = c.entries_sector-bytes.result in
-    let inside : InEntries c.args.geometry c.args.first start (length c.args.entries.now) at = (omega (arith, at_is, c.from-2.ensures), omega (arith, at_is, c.from-2.ensures, count, c.loop-k-test.true, c.requires.start)) in
+    let inside : InEntries c.args.geometry c.args.first start (length c.args.entries.now) at =
+    (omega (arith, at_is, c.from-2.ensures), omega (arith, at_is, c.from-2.ensures, count, c.loop-k-test.true, c.requires.start)) in
     let so_far = c.loop-k.invariant in
     let ok : new ≡ after_write mid at bytes = c.in_ok-write.ensures.ok in
     let room : at < length mid.content = omega (arith, inside.1, c.requires.inside, c.requires.room, so_far.outside.sectors) in
@@ -42,12 +46,14 @@ loop-k-preserved g c =
       placed = λ i less. ⊎_elim
           (λ (lower : i < 8 * k).
           let n = first_entry + (start + i) / 8 in
-          let same : sector new.content n ≡ sector mid.content n = ap (λ (d : Disk). sector d.content n) ok ∙ sector_other mid at n bytes (omega (arith, at_is, c.from-2.ensures, c.requires.start, lower)) in
+          let same : sector new.content n ≡ sector mid.content n = ap (λ (d : Disk). sector d.content n) ok
+          ∙ sector_other mid at n bytes (omega (arith, at_is, c.from-2.ensures, c.requires.start, lower)) in
           subst (λ (b : List ℕ). IsEntryPlace (cut b 64 ((start + i) % 8)) (slice_get c.args.entries.now i)) (sym same) (so_far.placed i lower))
           (λ higher.
           let n = first_entry + (start + i) / 8 in
           let which : n ≡ at = omega (arith, at_is, c.from-2.ensures, c.requires.start, less, higher) in
-          let there : sector new.content n ≡ bytes = ap (λ m. sector new.content m) which ∙ ap (λ (d : Disk). sector d.content at) ok ∙ sector_written mid at bytes room in
+          let there : sector new.content n ≡ bytes = ap (λ m. sector new.content m) which ∙ ap (λ (d : Disk). sector d.content at) ok
+          ∙ sector_written mid at bytes room in
           let nth : i ≡ 8 * k + (start + i) % 8 = omega (arith, less, higher, c.requires.start) in
           let piece = c.entries_sector-bytes.ensures ((start + i) % 8) (omega arith) in
           subst (λ (b : List ℕ). IsEntryPlace (cut b 64 ((start + i) % 8)) (slice_get c.args.entries.now i)) (sym there)
@@ -62,7 +68,8 @@ pub returns-clause-written : goal.returns-clause-written
 returns-clause-written g c = λ i e at_i.
     let count : c.div_ceil-sectors.result ≡ (length c.args.entries.now + 7) / 8 = omega (arith, c.div_ceil-sectors.ensures) in
     let bytes = entry_bytes c.args.geometry (g.D.Device.history c.loop-k.device).disk.content c.args.first (c.args.start + i) in
-    let piece : IsEntryPiece bytes e = subst (IsEntryPlace bytes) at_i (c.loop-k.invariant.placed i (omega (arith, slice_get_within c.args.entries.now i e at_i, count, c.loop-k-test.false))) in
+    let piece : IsEntryPiece bytes e = subst (IsEntryPlace bytes) at_i
+    (c.loop-k.invariant.placed i (omega (arith, slice_get_within c.args.entries.now i e at_i, count, c.loop-k-test.false))) in
     record { spelled = piece.spelled; fits = piece.fits; inside = c.requires.pages i e at_i }
 
 pub returns-clause-rest : goal.returns-clause-rest

@@ -14,6 +14,7 @@ invariant-loop-k g l =
     record {
       placed : (i : ℕ) → i < 8 * l.k → IsEntryPlace (entry_bytes l.fn.geometry (h l.device).disk.content l.fn.first (l.fn.start + i)) (slice_get l.entries i);
       outside : SameOutside (InEntries l.fn.geometry l.fn.first l.fn.start (length l.entries)) old.disk.content (h l.device).disk.content;
-      within : RunsWithin (λ n. InEntries l.fn.geometry l.fn.first l.fn.start (length l.entries) n ⊎ (old.disk.unsynced n ≡ true)) old.disk.content old (h l.device);
+      within : RunsWithin (λ n. InEntries l.fn.geometry l.fn.first l.fn.start (length l.entries) n
+          ⊎ (old.disk.unsynced n ≡ true)) old.disk.content old (h l.device);
       failures : g.D.Device.failures l.device ≡ g.D.Device.failures l.initial.device;
     }

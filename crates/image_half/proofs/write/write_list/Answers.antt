@@ -33,21 +33,30 @@ loop-position-preserved g c =
     let ok : new ≡ after_write mid at bytes = c.in_ok-write.ensures.ok in
     let room : at < length mid.content = omega (arith, inside.1, c.requires.inside, c.requires.count, c.requires.head, so_far.outside.sectors) in
     let change : ChangeValue = c.index-changes-position.result in
-    let here : slice_get changes k ≡ Some change = slice_get_read changes (length changes) k change refl c.loop-position-test.true c.index-changes-position.is in
+    let here : slice_get changes k ≡ Some change = slice_get_read changes
+    (length changes) k change refl c.loop-position-test.true c.index-changes-position.is in
     record {
       placed = λ p d less at_p.
           let n = start + (64 * h + p) / 1 in
           ⊎_elim
           (λ (same : p ≡ k).
           let which : n ≡ at = omega (arith, same) in
-          let there : sector new.content n ≡ bytes = ap (λ m. sector new.content m) which ∙ ap (λ (e : Disk). sector e.content at) ok ∙ sector_written mid at bytes room in
-          let whole : item_bytes new.content c.args.first h p ≡ bytes = ap (λ (b : List ℕ). cut b 512 ((64 * h + p) % 1)) there ∙ cut_whole bytes 512 ((64 * h + p) % 1) (omega arith) (omega arith) in
+          let there : sector new.content n ≡ bytes = ap (λ m. sector new.content m) which ∙ ap (λ (e : Disk). sector e.content at) ok
+          ∙ sector_written mid at bytes room in
+          let whole : item_bytes new.content c.args.first h p ≡ bytes = ap (λ (b : List ℕ). cut b 512 ((64 * h + p) % 1)) there
+          ∙ cut_whole bytes 512 ((64 * h + p) % 1) (omega arith) (omega arith) in
           let this : change ≡ d = same_Some change d (sym here ∙ subst (λ m. slice_get changes m ≡ Some d) same at_p) in
           subst (λ (e : ChangeValue). IsItem c.args.geometry (item_bytes new.content c.args.first h p) (item_of e)) (c.change.view_is ∙ this)
-          (record { spelled = whole ∙ c.spell_item-bytes.ensures.spelled; fits = c.spell_item-bytes.ensures.fits; inside = subst (λ (e : ChangeValue). e.rid.page < c.args.geometry.pages) (sym c.change.view_is) (c.requires.pages k change here) }))
+          (record {
+            spelled = whole ∙ c.spell_item-bytes.ensures.spelled;
+            fits = c.spell_item-bytes.ensures.fits;
+            inside = subst (λ (e : ChangeValue). e.rid.page < c.args.geometry.pages) (sym c.change.view_is) (c.requires.pages k change here);
+          }))
           (λ other.
-          let same : sector new.content n ≡ sector mid.content n = ap (λ (e : Disk). sector e.content n) ok ∙ sector_other mid at n bytes (omega (arith, other)) in
-          subst (λ (b : List ℕ). IsItem c.args.geometry (cut b 512 ((64 * h + p) % 1)) (item_of d)) (sym same) (so_far.placed p d (omega (arith, less, other)) at_p))
+          let same : sector new.content n ≡ sector mid.content n = ap (λ (e : Disk). sector e.content n) ok
+          ∙ sector_other mid at n bytes (omega (arith, other)) in
+          subst (λ (b : List ℕ). IsItem c.args.geometry (cut b 512 ((64 * h + p) % 1)) (item_of d)) (sym same)
+          (so_far.placed p d (omega (arith, less, other)) at_p))
           (cases_eq p k);
       outside = content_after _ _ mid at _ _ c.write.result c.write.ensures.ok c.write.ensures.err inside so_far.outside;
       within = within_write _ _ _ _ _ so_far.within c.write.ensures.time at _ c.write.result (inl inside) c.write.ensures.ok c.write.ensures.err;

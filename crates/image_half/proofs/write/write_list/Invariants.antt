@@ -12,7 +12,8 @@ invariant-loop-position g l =
     let h = g.D.Device.history in
     let old = h l.initial.device in
     record {
-      placed : (p : ℕ) (c : ChangeValue) → p < l.position → slice_get l.changes p ≡ Some c → IsItem l.fn.geometry (item_bytes (h l.device).disk.content l.fn.first l.fn.h p) (item_of c);
+      placed : (p : ℕ) (c : ChangeValue) → p < l.position → slice_get l.changes p ≡ Some c
+          → IsItem l.fn.geometry (item_bytes (h l.device).disk.content l.fn.first l.fn.h p) (item_of c);
       outside : SameOutside (InList l.fn.first l.fn.h (length l.changes)) old.disk.content (h l.device).disk.content;
       within : RunsWithin (λ n. InList l.fn.first l.fn.h (length l.changes) n ⊎ (old.disk.unsynced n ≡ true)) old.disk.content old (h l.device);
       failures : g.D.Device.failures l.device ≡ g.D.Device.failures l.initial.device;

@@ -24,7 +24,10 @@ returns-in_err-write-clause-outside g c =
     let at = c.page_at-at.result in
     let at_is : at ≡ page_at c.args.first c.args.page = c.page_at-at.ensures ∙ ap (page_at c.args.first) c.from.ensures in
     let few : c.loop-k.k < 16 = omega (arith, c.as_chunks.ensures.front_len, c.loop-k-test.true) in
-    content_after _ _ _ (at + c.loop-k.k) _ _ c.write.result c.write.ensures.ok c.write.ensures.err (omega (arith, at_is), omega (arith, at_is, few)) c.loop-k.invariant.outside
+    content_after _ _ _ (at + c.loop-k.k) _ _ c.write.result c.write.ensures.ok c.write.ensures.err (
+      omega (arith, at_is),
+      omega (arith, at_is, few),
+    ) c.loop-k.invariant.outside
 
 pub loop-k-preserved : goal.loop-k-preserved
 loop-k-preserved g c =
@@ -56,7 +59,8 @@ returns-clause-edges g c =
     let image : Image = (g.D.Device.history c.loop-k.device).disk.content in
     let rows : Image = c.as_chunks.result.0.now in
     let size : length rows ≡ 16 = omega (arith, c.as_chunks.ensures.front_len) in
-    let bytes = bytes_written image rows c.put_rows.new.page (length c.put_rows.new.page / 512) (page_at c.args.first c.args.page) 16 (omega (arith, c.requires.inside, c.requires.page, c.loop-k.invariant.outside.sectors)) (omega arith) (omega arith) c.as_chunks.ensures.front size
+    let bytes = bytes_written image rows c.put_rows.new.page (length c.put_rows.new.page / 512) (page_at c.args.first c.args.page) 16
+    (omega (arith, c.requires.inside, c.requires.page, c.loop-k.invariant.outside.sectors)) (omega arith) (omega arith) c.as_chunks.ensures.front size
     (λ j less. c.loop-k.invariant.written j (omega (arith, size, less, c.loop-k-test.false))) in
     subst (HasEdges Two) (sym bytes) (c.put_rows.ensures.edges c.zero_page-bytes.ensures.edges)
 
@@ -65,6 +69,7 @@ returns-clause-written g c = λ slot o there.
     let image : Image = (g.D.Device.history c.loop-k.device).disk.content in
     let rows : Image = c.as_chunks.result.0.now in
     let size : length rows ≡ 16 = omega (arith, c.as_chunks.ensures.front_len) in
-    let bytes = bytes_written image rows c.put_rows.new.page (length c.put_rows.new.page / 512) (page_at c.args.first c.args.page) 16 (omega (arith, c.requires.inside, c.requires.page, c.loop-k.invariant.outside.sectors)) (omega arith) (omega arith) c.as_chunks.ensures.front size
+    let bytes = bytes_written image rows c.put_rows.new.page (length c.put_rows.new.page / 512) (page_at c.args.first c.args.page) 16
+    (omega (arith, c.requires.inside, c.requires.page, c.loop-k.invariant.outside.sectors)) (omega arith) (omega arith) c.as_chunks.ensures.front size
     (λ j less. c.loop-k.invariant.written j (omega (arith, size, less, c.loop-k-test.false))) in
     subst (λ (b : List ℕ). IsRow (row_of Two b slot) o) (sym bytes) (c.put_rows.ensures.rows slot o there)

@@ -14,8 +14,11 @@ returns-then-word-other_word c =
     let rest = rest_cmp (i + 1) some other in
     let few : i < length some / 8 = omega (arith, c.loop-i-test.true, c.as_chunks.ensures.front_len) in
     let room : 8 * i + 8 ≤ length some = omega (arith, few) in
-    let first_word : x ≡ word i some = c.from_be_bytes-word.ensures ∙ ap (from_be_bytes w64) (ap (λ (ps : List (List ℕ)). get_or ps i []) c.as_chunks.ensures.front ∙ nth_chunk 8 (length some / 8) i some [] few) in
-    let second_word : y ≡ word i other = c.from_be_bytes-other_word.ensures ∙ ap (from_be_bytes w64) (ap (λ (ps : List (List ℕ)). get_or ps i []) c.as_chunks-2.ensures.front ∙ nth_chunk 8 (length other / 8) i other [] (omega (arith, few, c.requires))) in
+    let first_word : x ≡ word i some = c.from_be_bytes-word.ensures
+    ∙ ap (from_be_bytes w64) (ap (λ (ps : List (List ℕ)). get_or ps i []) c.as_chunks.ensures.front ∙ nth_chunk 8 (length some / 8) i some [] few) in
+    let second_word : y ≡ word i other = c.from_be_bytes-other_word.ensures
+    ∙ ap (from_be_bytes w64) (ap (λ (ps : List (List ℕ)). get_or ps i []) c.as_chunks-2.ensures.front
+    ∙ nth_chunk 8 (length other / 8) i other [] (omega (arith, few, c.requires))) in
     c.cmp.ensures
     ∙ sym (other_word x y rest c.if-word-other_word.true)
     ∙ ap (λ (k : ℕ). ordering_then (nat_cmp k y) rest) first_word
@@ -33,8 +36,11 @@ loop-i-preserved c =
     let rest = rest_cmp (i + 1) some other in
     let few : i < length some / 8 = omega (arith, c.loop-i-test.true, c.as_chunks.ensures.front_len) in
     let room : 8 * i + 8 ≤ length some = omega (arith, few) in
-    let first_word : x ≡ word i some = c.from_be_bytes-word.ensures ∙ ap (from_be_bytes w64) (ap (λ (ps : List (List ℕ)). get_or ps i []) c.as_chunks.ensures.front ∙ nth_chunk 8 (length some / 8) i some [] few) in
-    let second_word : y ≡ word i other = c.from_be_bytes-other_word.ensures ∙ ap (from_be_bytes w64) (ap (λ (ps : List (List ℕ)). get_or ps i []) c.as_chunks-2.ensures.front ∙ nth_chunk 8 (length other / 8) i other [] (omega (arith, few, c.requires))) in
+    let first_word : x ≡ word i some = c.from_be_bytes-word.ensures
+    ∙ ap (from_be_bytes w64) (ap (λ (ps : List (List ℕ)). get_or ps i []) c.as_chunks.ensures.front ∙ nth_chunk 8 (length some / 8) i some [] few) in
+    let second_word : y ≡ word i other = c.from_be_bytes-other_word.ensures
+    ∙ ap (from_be_bytes w64) (ap (λ (ps : List (List ℕ)). get_or ps i []) c.as_chunks-2.ensures.front
+    ∙ nth_chunk 8 (length other / 8) i other [] (omega (arith, few, c.requires))) in
     c.loop-i.invariant
     ∙ word_cmp some other i c.requires room (λ k. omega (arith, c.type_inv.some k)) (λ k. omega (arith, c.type_inv.other k))
     ∙ sym (ap (λ (k : ℕ). ordering_then (nat_cmp k (word i other)) rest) first_word)

@@ -21,7 +21,8 @@ loop-k-preserved c =
     elim c.if-synced_at-written_at.branch [
       | then-synced_at-written_at w ↦
           let fate = subst (λ f. HasFate f (sector c.args.before.now k) (sector c.loop-k.content k) w.torn.result) w.fate.ensures w.torn.ensures in
-          let step = torn_unsynced _ _ _ _ _ c.loop-k.invariant below flag w.torn.result (is_unsynced synced_at written_at k there w.if-synced_at-written_at.true) fate in
+          let step = torn_unsynced _ _ _ _ _ c.loop-k.invariant below flag w.torn.result
+          (is_unsynced synced_at written_at k there w.if-synced_at-written_at.true) fate in
           rw (w.content-is, w.next-is) step
       | else-synced_at-written_at w ↦
           let step = torn_synced _ _ _ _ _ c.loop-k.invariant below flag (is_synced synced_at written_at k w.if-synced_at-written_at.false) in

@@ -6,4 +6,5 @@ use Rattle.sector_device.proofs.memory.zeros.Goals as goal
 pub loop-preserved : goal.loop-preserved
 loop-preserved g c =
     let pushed = c.in_ok-push.ensures.items in
-    pushed ∙ ap (λ (x : List ℕ). c.loop.image.items ++ x ∷ []) c.zero_sector.ensures ∙ ap (λ (l : List (List ℕ)). l ++ zero_sector ∷ []) c.loop.invariant ∙ replicate_push c.loop.counter zero_sector
+    pushed ∙ ap (λ (x : List ℕ). c.loop.image.items ++ x ∷ []) c.zero_sector.ensures ∙ ap (λ (l : List (List ℕ)). l ++ zero_sector ∷ []) c.loop.invariant
+    ∙ replicate_push c.loop.counter zero_sector

@@ -26,21 +26,29 @@ loop-i-preserved g c =
     let room : at < length mid.content = omega (arith, c.requires.inside, below, so_far.outside.sectors) in
     record {
       zeros = λ k less. ⊎_elim
-          (λ same. ap (λ d. sector d.content (c.args.first + c.args.step * k)) ok ∙ get_or-set_at mid.content at (c.args.first + c.args.step * k) _ [] same room ∙ c.zero_sector-zeros.ensures)
-          (λ other. ap (λ d. sector d.content (c.args.first + c.args.step * k)) ok ∙ sector_other mid at (c.args.first + c.args.step * k) _ other ∙ so_far.zeros k (omega (arith, less, λ (is : k ≡ c.loop-i.i). other (ap (λ n. c.args.first + c.args.step * n) is))))
+          (λ same. ap (λ d. sector d.content (c.args.first + c.args.step * k)) ok ∙ get_or-set_at mid.content at (c.args.first + c.args.step * k) _ [] same room
+          ∙ c.zero_sector-zeros.ensures)
+          (λ other. ap (λ d. sector d.content (c.args.first + c.args.step * k)) ok ∙ sector_other mid at (c.args.first + c.args.step * k) _ other
+          ∙ so_far.zeros k (omega (arith, less, λ (is : k ≡ c.loop-i.i). other (ap (λ n. c.args.first + c.args.step * n) is))))
           (cases_eq (c.args.first + c.args.step * k) at);
       outside = content_after _ _ mid at _ _ c.write.result c.write.ensures.ok c.write.ensures.err (c.loop-i.i, c.loop-i-test.true, refl) so_far.outside;
-      within = within_write _ _ _ _ _ so_far.within c.write.ensures.time at _ c.write.result (inl (c.loop-i.i, c.loop-i-test.true, refl)) c.write.ensures.ok c.write.ensures.err;
+      within = within_write _ _ _ _ _ so_far.within c.write.ensures.time at _ c.write.result
+          (inl (c.loop-i.i, c.loop-i-test.true, refl)) c.write.ensures.ok c.write.ensures.err;
       failures = c.in_ok-write.ensures.counts.none ∙ so_far.failures;
     }
 
 pub returns-in_err-write-clause-within : goal.returns-in_err-write-clause-within
 returns-in_err-write-clause-within g c =
-    within_write _ _ _ _ _ c.loop-i.invariant.within c.write.ensures.time (c.args.first + c.args.step * c.loop-i.i) _ c.write.result (inl (c.loop-i.i, c.loop-i-test.true, refl)) c.write.ensures.ok c.write.ensures.err
+    within_write _ _ _ _ _ c.loop-i.invariant.within c.write.ensures.time (c.args.first + c.args.step * c.loop-i.i) _ c.write.result
+    (inl (c.loop-i.i, c.loop-i-test.true, refl)) c.write.ensures.ok c.write.ensures.err
 
 pub returns-in_err-write-clause-outside : goal.returns-in_err-write-clause-outside
 returns-in_err-write-clause-outside g c =
-    content_after _ _ _ (c.args.first + c.args.step * c.loop-i.i) _ _ c.write.result c.write.ensures.ok c.write.ensures.err (c.loop-i.i, c.loop-i-test.true, refl) c.loop-i.invariant.outside
+    content_after _ _ _ (c.args.first + c.args.step * c.loop-i.i) _ _ c.write.result c.write.ensures.ok c.write.ensures.err (
+      c.loop-i.i,
+      c.loop-i-test.true,
+      refl,
+    ) c.loop-i.invariant.outside
 
 pub overflow_mul-step : goal.overflow_mul-step
 overflow_mul-step g c =

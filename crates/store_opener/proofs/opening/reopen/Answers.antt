@@ -21,25 +21,29 @@ returns-in_err-found-clause-accepted g c geometry given gives =
     let p = err_from_is_err_and c.from_residual.result c.from_residual.ensures.1 in
     let content : (h c.sync.new.self).disk.content ≡ (h c.args.device.now).disk.content = ap (λ (d : Disk). d.content) c.in-Ok.ensures.ok in
     rw p.1 (refused_since (f c.args.device.now) (f c.sync.new.self) (f c.read_store.new.device) _ c.in-Ok.ensures.counts.none
-    (subst (λ e. Refuses (f c.sync.new.self) (f c.read_store.new.device) e) (sym p.2) (c.in_err-found.ensures.accepted geometry given (subst (λ (i : Image). Gives i geometry given) (sym content) gives))))
+    (subst (λ e. Refuses (f c.sync.new.self) (f c.read_store.new.device) e) (sym p.2)
+    (c.in_err-found.ensures.accepted geometry given (subst (λ (i : Image). Gives i geometry given) (sym content) gives))))
 
 pub returns-in_err-found-clause-untouched : goal.returns-in_err-found-clause-untouched
 returns-in_err-found-clause-untouched g c =
     let h = g.D.Device.history in
     let p = err_from_is_err_and c.from_residual.result c.from_residual.ensures.1 in
-    rw p.1 (λ other. only_read (h c.args.device.now) (h c.sync.new.self) (h c.read_store.new.device) c.sync.result c.sync.ensures.time c.sync.ensures.ok c.sync.ensures.err c.read_store.ensures.reads)
+    rw p.1 (λ other. only_read (h c.args.device.now) (h c.sync.new.self)
+    (h c.read_store.new.device) c.sync.result c.sync.ensures.time c.sync.ensures.ok c.sync.ensures.err c.read_store.ensures.reads)
 
 pub write_back-requires-clause-geometry : goal.write_back-requires-clause-geometry
 write_back-requires-clause-geometry g c =
     let at = c.in_ok-found in
-    one_geometry Two at.found.restored.geometry at.found.halves.geometry at.ensures.found.gives.half at.found.halves.current (g.D.Device.history c.sync.new.self).disk.content at.ensures.found.gives.holds.store at.ensures.halves
+    one_geometry Two at.found.restored.geometry at.found.halves.geometry at.ensures.found.gives.half at.found.halves.current
+    (g.D.Device.history c.sync.new.self).disk.content at.ensures.found.gives.holds.store at.ensures.halves
 
 pub write_back-requires-clause-gives : goal.write_back-requires-clause-gives
 write_back-requires-clause-gives g c =
     let at = c.in_ok-found in
     let given = given_in at.found.restored in
     subst (λ (d : Disk). Gives d.content at.found.halves.geometry given) (sym at.ensures.reads.disk)
-    (subst (λ (x : GeometryValue). Gives (g.D.Device.history c.sync.new.self).disk.content x given) (write_back-requires-clause-geometry g c) at.ensures.found.gives)
+    (subst (λ (x : GeometryValue). Gives (g.D.Device.history c.sync.new.self).disk.content x given)
+    (write_back-requires-clause-geometry g c) at.ensures.found.gives)
 
 pub returns-in-Ok-write_back-clause-given : goal.returns-in-Ok-write_back-clause-given
 returns-in-Ok-write_back-clause-given g c =
@@ -48,7 +52,8 @@ returns-in-Ok-write_back-clause-given g c =
     let done = c.in-Ok-write_back in
     let content : (h c.sync.new.self).disk.content ≡ (h c.args.device.now).disk.content = ap (λ (d : Disk). d.content) c.in-Ok.ensures.ok in
     let geometry : at.found.restored.geometry ≡ done.reopened.halves.geometry =
-    one_geometry Two at.found.restored.geometry at.found.halves.geometry at.ensures.found.gives.half at.found.halves.current (h c.sync.new.self).disk.content at.ensures.found.gives.holds.store at.ensures.halves
+    one_geometry Two at.found.restored.geometry at.found.halves.geometry at.ensures.found.gives.half at.found.halves.current
+    (h c.sync.new.self).disk.content at.ensures.found.gives.holds.store at.ensures.halves
     ∙ sym (ap (λ (x : HalvesValue). x.geometry) done.ensures.halves) in
     subst (λ (i : Image). Gives i done.reopened.halves.geometry (given_in done.reopened.restored)) content
     (subst (λ (x : Given). Gives (h c.sync.new.self).disk.content done.reopened.halves.geometry x) (sym done.ensures.given)
@@ -59,7 +64,8 @@ returns-in-Ok-write_back-clause-images g c =
     let h = g.D.Device.history in
     let reads = c.in_ok-found.ensures.reads in
     then_writes (h c.args.device.now) (h c.read_store.new.device) (h c.write_back.new.device)
-    (then_reads (h c.args.device.now) (h c.sync.new.self) (h c.read_store.new.device) (synced_first (h c.args.device.now) (h c.sync.new.self) c.sync.result c.sync.ensures.time c.sync.ensures.ok c.sync.ensures.err) reads)
+    (then_reads (h c.args.device.now) (h c.sync.new.self) (h c.read_store.new.device)
+    (synced_first (h c.args.device.now) (h c.sync.new.self) c.sync.result c.sync.ensures.time c.sync.ensures.ok c.sync.ensures.err) reads)
     (ap (λ (d : Disk). d.content) (reads.disk ∙ c.in-Ok.ensures.ok)) c.write_back.ensures.images
 
 pub returns-in-Err-clause-images : goal.returns-in-Err-clause-images
@@ -67,7 +73,8 @@ returns-in-Err-clause-images g c =
     let h = g.D.Device.history in
     let reads = c.in_ok-found.ensures.reads in
     then_writes (h c.args.device.now) (h c.read_store.new.device) (h c.write_back.new.device)
-    (then_reads (h c.args.device.now) (h c.sync.new.self) (h c.read_store.new.device) (synced_first (h c.args.device.now) (h c.sync.new.self) c.sync.result c.sync.ensures.time c.sync.ensures.ok c.sync.ensures.err) reads)
+    (then_reads (h c.args.device.now) (h c.sync.new.self) (h c.read_store.new.device)
+    (synced_first (h c.args.device.now) (h c.sync.new.self) c.sync.result c.sync.ensures.time c.sync.ensures.ok c.sync.ensures.err) reads)
     (ap (λ (d : Disk). d.content) (reads.disk ∙ c.in-Ok.ensures.ok)) c.write_back.ensures.images
 
 pub returns-in-Ok-write_back-clause-written : goal.returns-in-Ok-write_back-clause-written

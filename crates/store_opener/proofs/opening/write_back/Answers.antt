@@ -5,11 +5,13 @@ use Rattle.store_opener.proofs.WrittenBack.{back_of}
 use Rattle.store_opener.proofs.opening.write_back.Goals as goal
 
 pub write_over-requires-clause-fits : goal.write_over-requires-clause-fits
-write_over-requires-clause-fits g c = c.room_for_given.ensures Two (g.D.Device.history c.args.device.now).disk.content c.args.halves.geometry (given_in c.args.restored) c.requires.gives
+write_over-requires-clause-fits g c = c.room_for_given.ensures Two (g.D.Device.history c.args.device.now).disk.content c.args.halves.geometry
+    (given_in c.args.restored) c.requires.gives
 
 pub returns-clause-images : goal.returns-clause-images
 returns-clause-images g c =
     let h = g.D.Device.history in
     let halves = c.args.halves in
     weaker (h c.args.device.now) (h c.write_over.new.device) _ _
-    (back_of halves.geometry halves.current (h c.args.device.now).disk.content c.requires.store (given_in c.args.restored) c.requires.gives) c.write_over.ensures.images
+    (back_of halves.geometry halves.current (h c.args.device.now).disk.content c.requires.store (given_in c.args.restored) c.requires.gives)
+    c.write_over.ensures.images

@@ -16,7 +16,8 @@ pub returns-clause-imaged : goal.returns-clause-imaged
 returns-clause-imaged g c =
     let halves = c.args.halves in
     let content = (g.D.Device.history c.write_whole.new.device).disk.content in
-    subst (λ (x : Cells). HoldsImage halves.geometry (other halves.current) content c.args.restored.last x) c.into_cells-cells.ensures c.in_ok-log.ensures.written
+    subst (λ (x : Cells). HoldsImage halves.geometry (other halves.current) content c.args.restored.last x) c.into_cells-cells.ensures
+    c.in_ok-log.ensures.written
 
 pub returns-clause-given : goal.returns-clause-given
 returns-clause-given g c =

@@ -4,4 +4,5 @@ use Rattle.store_reader.proofs.Readings.{log_gives}
 use Rattle.store_reader.proofs.laws.log_alone.Goals as goal
 
 pub returns : goal.returns
-returns c g half frame image base cells groups store imaged outside held following room = log_gives g half frame image base cells groups (records_of groups) store imaged outside held refl following room
+returns c g half frame image base cells groups store imaged outside held following room =
+    log_gives g half frame image base cells groups (records_of groups) store imaged outside held refl following room

@@ -10,7 +10,8 @@ pub over-requires-clause-inside : goal.over-requires-clause-inside
 over-requires-clause-inside g c =
     let image : Image = (g.D.Device.history c.args.device.now).disk.content in
     let h = c.args.halves.now in
-    subst (λ (x : GeometryValue). AreInside x.pages c.read_image.new.sink) (sym c.geometry.ensures) (inside c.args.version h.geometry (header_sector_in c.args.version h.geometry h.current) image _ _ c.in_ok-base.ensures.read)
+    subst (λ (x : GeometryValue). AreInside x.pages c.read_image.new.sink) (sym c.geometry.ensures)
+    (inside c.args.version h.geometry (header_sector_in c.args.version h.geometry h.current) image _ _ c.in_ok-base.ensures.read)
 
 pub returns-clause-imaged : goal.returns-clause-imaged
 returns-clause-imaged g c = search rules

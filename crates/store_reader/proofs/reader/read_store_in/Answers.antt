@@ -16,7 +16,8 @@ pub returns-in_err-halves-clause-accepted : goal.returns-in_err-halves-clause-ac
 returns-in_err-halves-clause-accepted g c x given gives =
     let image : Image = (g.D.Device.history c.args.device.now).disk.content in
     let p = err_from_is_err_and c.from_residual.result c.from_residual.ensures.1 in
-    accepted c.args.version c.from_residual.result image x given _ _ gives (rw p.1 (subst (Why c.args.version image _ _) (sym p.2) c.in_err-halves.ensures.refused))
+    accepted c.args.version c.from_residual.result image x given _ _ gives
+    (rw p.1 (subst (Why c.args.version image _ _) (sym p.2) c.in_err-halves.ensures.refused))
 
 pub returns-in_err-records-clause-refused : goal.returns-in_err-records-clause-refused
 returns-in_err-records-clause-refused g c =
@@ -25,14 +26,17 @@ returns-in_err-records-clause-refused g c =
     let at = c.in_ok-halves in
     let area : c.new-log.result.area ≡ log_area_in c.args.version at.halves.geometry at.halves.current =
     c.new-log.ensures.area
-    ∙ area_is c.args.version c.log_first_in.result c.from.result _ _ c.log_first_in.ensures.value (c.from.ensures ∙ ap (λ (x : GeometryValue). x.slots) (c.geometry.view_is ∙ c.geometry-geometry.ensures)) in
-    let told = slot_damaged c.args.version image at.halves.geometry at.halves.current _ _ at.ensures.opened _ _ _ same at.ensures.quiet at.cells.last at.cells.cells at.ensures.imaged c.new-log.result.area area c.in_err-records.ensures.refused in
+    ∙ area_is c.args.version c.log_first_in.result c.from.result _ _ c.log_first_in.ensures.value (c.from.ensures
+    ∙ ap (λ (x : GeometryValue). x.slots) (c.geometry.view_is ∙ c.geometry-geometry.ensures)) in
+    let told = slot_damaged c.args.version image at.halves.geometry at.halves.current _ _ at.ensures.opened _ _ _ same at.ensures.quiet at.cells.last
+    at.cells.cells at.ensures.imaged c.new-log.result.area area c.in_err-records.ensures.refused in
     let p = err_from_is_err_and c.from_residual-in_err-records.result c.from_residual-in_err-records.ensures.1 in
     rw p.1 (subst (Why c.args.version image _ _) (sym p.2) told)
 
 pub returns-in_err-records-clause-accepted : goal.returns-in_err-records-clause-accepted
 returns-in_err-records-clause-accepted g c x given gives =
-    accepted c.args.version c.from_residual-in_err-records.result (g.D.Device.history c.args.device.now).disk.content x given _ _ gives (returns-in_err-records-clause-refused g c)
+    accepted c.args.version c.from_residual-in_err-records.result (g.D.Device.history c.args.device.now).disk.content x given _ _ gives
+    (returns-in_err-records-clause-refused g c)
 
 pub returns-in-Ok-clause-found : goal.returns-in-Ok-clause-found
 returns-in-Ok-clause-found g c =
@@ -44,15 +48,18 @@ returns-in-Ok-clause-found g c =
     let log = c.read_all.new.self in
     let area : log.area ≡ log_area_in c.args.version geometry half =
     c.read_all.ensures.area ∙ c.new-log.ensures.area
-    ∙ area_is c.args.version c.log_first_in.result c.from.result geometry half c.log_first_in.ensures.value (c.from.ensures ∙ ap (λ (x : GeometryValue). x.slots) (c.geometry.view_is ∙ c.geometry-geometry.ensures)) in
+    ∙ area_is c.args.version c.log_first_in.result c.from.result geometry half c.log_first_in.ensures.value (c.from.ensures
+    ∙ ap (λ (x : GeometryValue). x.slots) (c.geometry.view_is ∙ c.geometry-geometry.ensures)) in
     let read = c.in_ok-records.ensures.read in
     let stands = subst (λ (d : Disk). StandsIn c.args.version log d.content read.0) at.ensures.reads.disk read.1 in
     let given = given_in c.in_ok-restored-in-Ok.restored in
-    let made = restored geometry c.deref.result.now at.cells c.redo_all.new.self given at.ensures.geometry c.in-Ok.ensures.following c.in-Ok.ensures.ok c.in_ok-restored-in-Ok.ensures.given in
+    let made = restored geometry c.deref.result.now at.cells c.redo_all.new.self given at.ensures.geometry c.in-Ok.ensures.following c.in-Ok.ensures.ok
+    c.in_ok-restored-in-Ok.ensures.given in
     let room : len given.entries ≤ geometry.entries =
     omega (arith, c.if-len-geometry.false, c.len.ensures, ap (λ (x : GeometryValue). x.entries) (c.geometry.view_is ∙ c.geometry-geometry.ensures)) in
     subst (λ (x : GeometryValue). IsFoundIn c.args.version image x log given) (sym (c.in_ok-restored-in-Ok.ensures.geometry ∙ made.2))
-    (found c.args.version image geometry half at.cells.last at.cells.cells log read.0 c.deref.result.now given at.ensures.opened at.ensures.imaged area stands (c.deref.ensures.value ∙ read.2) made.0 made.1 room)
+    (found c.args.version image geometry half at.cells.last at.cells.cells log read.0 c.deref.result.now given at.ensures.opened at.ensures.imaged area stands
+    (c.deref.ensures.value ∙ read.2) made.0 made.1 room)
 
 pub returns-in-Ok-clause-untouched : goal.returns-in-Ok-clause-untouched
 returns-in-Ok-clause-untouched g c =
@@ -64,15 +71,19 @@ returns-in-Ok-clause-untouched g c =
     let log = c.read_all.new.self in
     let area : log.area ≡ log_area_in c.args.version geometry half =
     c.read_all.ensures.area ∙ c.new-log.ensures.area
-    ∙ area_is c.args.version c.log_first_in.result c.from.result geometry half c.log_first_in.ensures.value (c.from.ensures ∙ ap (λ (x : GeometryValue). x.slots) (c.geometry.view_is ∙ c.geometry-geometry.ensures)) in
+    ∙ area_is c.args.version c.log_first_in.result c.from.result geometry half c.log_first_in.ensures.value (c.from.ensures
+    ∙ ap (λ (x : GeometryValue). x.slots) (c.geometry.view_is ∙ c.geometry-geometry.ensures)) in
     let read = c.in_ok-records.ensures.read in
     let stands = subst (λ (d : Disk). StandsIn c.args.version log d.content read.0) at.ensures.reads.disk read.1 in
-    let made = restored geometry c.deref.result.now at.cells c.redo_all.new.self (given_in c.in_ok-restored-in-Ok.restored) at.ensures.geometry c.in-Ok.ensures.following c.in-Ok.ensures.ok c.in_ok-restored-in-Ok.ensures.given in
+    let made = restored geometry c.deref.result.now at.cells c.redo_all.new.self
+    (given_in c.in_ok-restored-in-Ok.restored) at.ensures.geometry c.in-Ok.ensures.following c.in-Ok.ensures.ok c.in_ok-restored-in-Ok.ensures.given in
     let told : IsTrue c.is_untouched.result ↔ IsTrue at.bare × (c.deref.result.now ≡ []) =
-    subst (λ (l : List RecordValue). IsTrue c.is_untouched.result ↔ IsTrue at.bare × (l ≡ [])) (c.deref-in-Ok.ensures.value ∙ sym c.deref.ensures.value) c.is_untouched.ensures in
+    subst (λ (l : List RecordValue). IsTrue c.is_untouched.result ↔ IsTrue at.bare × (l ≡ [])) (c.deref-in-Ok.ensures.value
+    ∙ sym c.deref.ensures.value) c.is_untouched.ensures in
     subst (λ (x : GeometryValue). IsTrue c.is_untouched.result ↔ IsUntouchedIn c.args.version image x) (sym (c.in_ok-restored-in-Ok.ensures.geometry ∙ made.2))
     (told_untouched c.args.version image geometry half at.cells.last at.cells.cells c.deref.result.now at.bare c.is_untouched.result
-    (holds c.args.version image geometry half at.cells.last at.cells.cells log read.0 c.deref.result.now at.ensures.opened at.ensures.imaged area stands (c.deref.ensures.value ∙ read.2) made.0) at.ensures.bare told)
+    (holds c.args.version image geometry half at.cells.last at.cells.cells log read.0 c.deref.result.now at.ensures.opened at.ensures.imaged area stands
+    (c.deref.ensures.value ∙ read.2) made.0) at.ensures.bare told)
 
 pub returns-then-len-geometry-clause-refused : goal.returns-then-len-geometry-clause-refused
 returns-then-len-geometry-clause-refused g c =
@@ -84,15 +95,18 @@ returns-then-len-geometry-clause-refused g c =
     let log = c.read_all.new.self in
     let area : log.area ≡ log_area_in c.args.version geometry half =
     c.read_all.ensures.area ∙ c.new-log.ensures.area
-    ∙ area_is c.args.version c.log_first_in.result c.from.result geometry half c.log_first_in.ensures.value (c.from.ensures ∙ ap (λ (x : GeometryValue). x.slots) (c.geometry.view_is ∙ c.geometry-geometry.ensures)) in
+    ∙ area_is c.args.version c.log_first_in.result c.from.result geometry half c.log_first_in.ensures.value (c.from.ensures
+    ∙ ap (λ (x : GeometryValue). x.slots) (c.geometry.view_is ∙ c.geometry-geometry.ensures)) in
     let read = c.in_ok-records.ensures.read in
     let stands = subst (λ (d : Disk). StandsIn c.args.version log d.content read.0) at.ensures.reads.disk read.1 in
     let given = given_in c.in_ok-restored-in-Ok.restored in
-    let made = restored geometry c.deref.result.now at.cells c.redo_all.new.self given at.ensures.geometry c.in-Ok.ensures.following c.in-Ok.ensures.ok c.in_ok-restored-in-Ok.ensures.given in
+    let made = restored geometry c.deref.result.now at.cells c.redo_all.new.self given at.ensures.geometry c.in-Ok.ensures.following c.in-Ok.ensures.ok
+    c.in_ok-restored-in-Ok.ensures.given in
     let crowded : geometry.entries < len given.entries =
     omega (arith, c.if-len-geometry.true, c.len.ensures, ap (λ (x : GeometryValue). x.entries) (c.geometry.view_is ∙ c.geometry-geometry.ensures)) in
     overfull c.args.version image geometry half at.cells.last at.cells.cells c.deref.result.now c.header_sector_in.result _ _
-    (holds c.args.version image geometry half at.cells.last at.cells.cells log read.0 c.deref.result.now at.ensures.opened at.ensures.imaged area stands (c.deref.ensures.value ∙ read.2) made.0)
+    (holds c.args.version image geometry half at.cells.last at.cells.cells log read.0 c.deref.result.now at.ensures.opened at.ensures.imaged area stands
+    (c.deref.ensures.value ∙ read.2) made.0)
     (subst (λ (x : Given). geometry.entries < len x.entries) made.1 crowded) c.header_sector_in.ensures.value
 
 pub returns-then-len-geometry-clause-accepted : goal.returns-then-len-geometry-clause-accepted
@@ -111,12 +125,15 @@ returns-in-Unfit-clause-refused g c =
     let same = ap (λ (d : Disk). d.content) (c.in_ok-records.ensures.reads.disk ∙ at.ensures.reads.disk) in
     let area : log.area ≡ log_area_in c.args.version geometry half =
     c.read_all.ensures.area ∙ c.new-log.ensures.area
-    ∙ area_is c.args.version c.log_first_in.result c.from.result geometry half c.log_first_in.ensures.value (c.from.ensures ∙ ap (λ (x : GeometryValue). x.slots) (c.geometry.view_is ∙ c.geometry-geometry.ensures)) in
+    ∙ area_is c.args.version c.log_first_in.result c.from.result geometry half c.log_first_in.ensures.value (c.from.ensures
+    ∙ ap (λ (x : GeometryValue). x.slots) (c.geometry.view_is ∙ c.geometry-geometry.ensures)) in
     let read = c.in_ok-records.ensures.read in
     let stands = subst (λ (d : Disk). StandsIn c.args.version log d.content read.0) (sym c.in_ok-records.ensures.reads.disk) read.1 in
     let index = c.in-Err.stopped.index in
-    let first = first_unfit geometry c.deref.result.now (records_of read.0) at.cells index at.ensures.geometry (c.deref.ensures.value ∙ read.2) (c.in-Err.ensures.unfit c.in-Unfit.is) in
-    record_misplaced c.args.version image geometry half _ _ at.ensures.opened now _ _ same (c.in_ok-records.ensures.quiet ∙ at.ensures.quiet) at.cells.last at.cells.cells at.ensures.imaged
+    let first = first_unfit geometry c.deref.result.now (records_of read.0) at.cells index at.ensures.geometry (c.deref.ensures.value
+    ∙ read.2) (c.in-Err.ensures.unfit c.in-Unfit.is) in
+    record_misplaced c.args.version image geometry half _ _ at.ensures.opened now _ _ same (c.in_ok-records.ensures.quiet
+    ∙ at.ensures.quiet) at.cells.last at.cells.cells at.ensures.imaged
     log read.0 index area stands first c.misplaced.ensures.told
 
 pub returns-in-Unfit-clause-accepted : goal.returns-in-Unfit-clause-accepted

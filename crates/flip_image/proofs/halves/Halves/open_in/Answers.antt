@@ -14,8 +14,16 @@ returns-in_err-geometry-clause-accepted g c x half store =
 
 pub returns-then-sectors-sectors_in-clause-accepted : goal.returns-then-sectors-sectors_in-clause-accepted
 returns-then-sectors-sectors_in-clause-accepted g c x half store =
-    let small : length (g.D.Device.history c.args.device.now).disk.content < sectors_in c.args.version c.in_ok-geometry.geometry = omega (arith, c.if-sectors-sectors_in.true, c.sectors-2.ensures, c.sectors_in.ensures, ap (λ (d : Disk). length d.content) c.read_superblock.ensures.reads.disk) in
-    absurd (accepted c.args.version x half (g.D.Device.history c.args.device.now).disk.content DeviceTooSmall store (inl (refl, inr (c.in_ok-geometry.geometry, c.in_ok-geometry.ensures.limits, c.in_ok-geometry.ensures.found, small))))
+    let small : length (g.D.Device.history c.args.device.now).disk.content < sectors_in c.args.version c.in_ok-geometry.geometry =
+    omega (
+      arith,
+      c.if-sectors-sectors_in.true,
+      c.sectors-2.ensures,
+      c.sectors_in.ensures,
+      ap (λ (d : Disk). length d.content) c.read_superblock.ensures.reads.disk,
+    ) in
+    absurd (accepted c.args.version x half (g.D.Device.history c.args.device.now).disk.content DeviceTooSmall store
+    (inl (refl, inr (c.in_ok-geometry.geometry, c.in_ok-geometry.ensures.limits, c.in_ok-geometry.ensures.found, small))))
 
 pub returns-clause-store : goal.returns-clause-store
 returns-clause-store g c x half store =

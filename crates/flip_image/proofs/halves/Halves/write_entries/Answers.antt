@@ -13,7 +13,8 @@ pub returns-clause-within : goal.returns-clause-within
 returns-clause-within g c =
     let h = c.args.self.now in
     let pages : c.geometry.result.pages ≡ h.geometry.pages = ap (λ (x : GeometryValue). x.pages) c.geometry.ensures in
-    within_more (InEntries c.geometry.result c.idle_first-first.result c.args.start (length c.args.entries.now)) (InHalfImage h.geometry (other h.current)) _ _ _
+    within_more (InEntries c.geometry.result c.idle_first-first.result c.args.start (length c.args.entries.now))
+    (InHalfImage h.geometry (other h.current)) _ _ _
     (λ n is. (omega (arith, is.0, c.idle_first-first.ensures.value, pages), omega (arith, is.1, c.idle_first-first.ensures.value, pages, c.requires.room)))
     c.write_entries.ensures.within
 
@@ -21,5 +22,7 @@ pub returns-clause-written : goal.returns-clause-written
 returns-clause-written g c =
     let h = c.args.self.now in
     let image = (g.D.Device.history c.write_entries.new.device).disk.content in
-    subst (λ f. OnOk c.write_entries.result ((i : ℕ) (e : Pair × Mark) → slice_get c.args.entries.now i ≡ Some e → IsEntry h.geometry (entry_bytes h.geometry image f (c.args.start + i)) e)) c.idle_first-first.ensures.value
-    (subst (λ (x : GeometryValue). OnOk c.write_entries.result ((i : ℕ) (e : Pair × Mark) → slice_get c.args.entries.now i ≡ Some e → IsEntry x (entry_bytes x image c.idle_first-first.result (c.args.start + i)) e)) c.geometry.ensures c.write_entries.ensures.written)
+    subst (λ f. OnOk c.write_entries.result ((i : ℕ) (e : Pair × Mark) → slice_get c.args.entries.now i ≡ Some e
+    → IsEntry h.geometry (entry_bytes h.geometry image f (c.args.start + i)) e)) c.idle_first-first.ensures.value
+    (subst (λ (x : GeometryValue). OnOk c.write_entries.result ((i : ℕ) (e : Pair × Mark) → slice_get c.args.entries.now i ≡ Some e
+    → IsEntry x (entry_bytes x image c.idle_first-first.result (c.args.start + i)) e)) c.geometry.ensures c.write_entries.ensures.written)

@@ -23,4 +23,5 @@ returns-clause-edges g c =
 pub returns-clause-written : goal.returns-clause-written
 returns-clause-written g c =
     let image = (g.D.Device.history c.write_page.new.device).disk.content in
-    subst (λ f. OnOk c.write_page.result ((slot : ℕ) (o : Option Row) → slice_get c.args.rows.now slot ≡ Some o → IsRow (row_bytes image f c.args.page slot) o)) c.idle_first-first.ensures.value c.write_page.ensures.written
+    subst (λ f. OnOk c.write_page.result ((slot : ℕ) (o : Option Row) → slice_get c.args.rows.now slot ≡ Some o → IsRow (row_bytes image f c.args.page slot) o))
+    c.idle_first-first.ensures.value c.write_page.ensures.written

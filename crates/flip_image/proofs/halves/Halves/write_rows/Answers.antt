@@ -15,4 +15,5 @@ returns-clause-within g c =
 pub returns-clause-written : goal.returns-clause-written
 returns-clause-written g c =
     let image = (g.D.Device.history c.write_rows.new.device).disk.content in
-    subst (λ f. OnOk c.write_rows.result (HasPage f image c.args.page (g.S.CellSource.cells c.args.source.now).rows)) c.idle_first-first.ensures.value c.write_rows.ensures.written
+    subst (λ f. OnOk c.write_rows.result (HasPage f image c.args.page (g.S.CellSource.cells c.args.source.now).rows)) c.idle_first-first.ensures.value
+    c.write_rows.ensures.written

@@ -24,7 +24,8 @@ loop-place-preserved g c =
     record {
       count = length-set found place new ∙ c.loop-place.invariant.count;
       found = λ i less. ⊎_elim
-          (λ (same : i ≡ place). get_or-set_at found place i new None same (omega (arith, c.loop-place-test.true, c.loop-place.invariant.count)) ∙ c.copied.ensures ∙ step.0 ∙ ap (slice_get all) (sym same))
+          (λ (same : i ≡ place). get_or-set_at found place i new None same (omega (arith, c.loop-place-test.true, c.loop-place.invariant.count))
+          ∙ c.copied.ensures ∙ step.0 ∙ ap (slice_get all) (sym same))
           (λ other. get_or-set_other found place i new None other ∙ c.loop-place.invariant.found i (omega (arith, less, other)))
           (cases_eq i place);
       rest = step.1;
@@ -33,4 +34,5 @@ loop-place-preserved g c =
 pub returns : goal.returns
 returns g c = λ n j passed below.
     slice_get-get_or c.loop-place.found j None (omega (arith, below, c.loop-place.invariant.count))
-    ∙ ap Some (c.loop-place.invariant.found j (omega (arith, below, c.loop-place-test.false)) ∙ passed_above pair_exact.total c.args.self.now.entries c.args.pair n j passed)
+    ∙ ap Some (c.loop-place.invariant.found j (omega (arith, below, c.loop-place-test.false))
+    ∙ passed_above pair_exact.total c.args.self.now.entries c.args.pair n j passed)

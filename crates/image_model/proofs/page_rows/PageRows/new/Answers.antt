@@ -6,13 +6,15 @@ use Rattle.image_model.proofs.page_rows.PageRows.new.Goals as goal
 
 pub invariant_of-result : goal.invariant_of-result
 invariant_of-result g c =
-    let kept : c.extend_from_slice.new.self.items ≡ c.args.slots.now = c.in_ok-extend_from_slice.ensures.items ∙ ap (λ (xs : List (Option Row)). xs ++ c.args.slots.now) c.in_ok-kept.ensures.items in
+    let kept : c.extend_from_slice.new.self.items ≡ c.args.slots.now = c.in_ok-extend_from_slice.ensures.items
+    ∙ ap (λ (xs : List (Option Row)). xs ++ c.args.slots.now) c.in_ok-kept.ensures.items in
     inr (omega (arith, ap length kept))
 
 pub returns-clause-there : goal.returns-clause-there
 returns-clause-there g c = λ slot low.
     let items : List (Option Row) = c.extend_from_slice.new.self.items in
-    let kept : items ≡ c.args.slots.now = c.in_ok-extend_from_slice.ensures.items ∙ ap (λ (xs : List (Option Row)). xs ++ c.args.slots.now) c.in_ok-kept.ensures.items in
+    let kept : items ≡ c.args.slots.now = c.in_ok-extend_from_slice.ensures.items
+    ∙ ap (λ (xs : List (Option Row)). xs ++ c.args.slots.now) c.in_ok-kept.ensures.items in
     let long : length items ≡ SLOTS_PER_PAGE = omega (arith, ap length kept) in
     ap (λ (xs : List (Option Row)). slice_get xs slot) (sym kept) ∙ slots_shown c.args.page items long slot low
 
@@ -22,6 +24,7 @@ returns-clause-elsewhere g c = λ q apart. none_elsewhere c.args.page 0 c.extend
 pub returns-clause-slots : goal.returns-clause-slots
 returns-clause-slots g c = λ q r is.
     let items : List (Option Row) = c.extend_from_slice.new.self.items in
-    let kept : items ≡ c.args.slots.now = c.in_ok-extend_from_slice.ensures.items ∙ ap (λ (xs : List (Option Row)). xs ++ c.args.slots.now) c.in_ok-kept.ensures.items in
+    let kept : items ≡ c.args.slots.now = c.in_ok-extend_from_slice.ensures.items
+    ∙ ap (λ (xs : List (Option Row)). xs ++ c.args.slots.now) c.in_ok-kept.ensures.items in
     let long : length items ≡ SLOTS_PER_PAGE = omega (arith, ap length kept) in
     slot_within c.args.page items long q r is

@@ -9,7 +9,8 @@ use Rattle.model.proofs.cell_maps.CellMaps.follow.Goals as goal
 pub returns-then-not-can_follow : goal.returns-then-not-can_follow
 returns-then-not-can_follow g c =
     let is = c.loop-index.invariant in
-    first_unfit c.args.pages c.args.last (cells_of c.args.self) c.args.records.now c.loop-index.index c.index-records-index.result (omega arith) c.index-records-index.is is.following (λ can.
+    first_unfit c.args.pages c.args.last (cells_of c.args.self) c.args.records.now c.loop-index.index c.index-records-index.result
+    (omega arith) c.index-records-index.is is.following (λ can.
     let here = subst (λ n. CanFollow c.args.pages n (cells_of c.loop-index.self) c.index-records-index.result) (sym is.number)
     (subst (λ (x : Cells). CanFollow c.args.pages (c.args.last + c.loop-index.index) x c.index-records-index.result) (sym is.cells) can) in
     let yes : IsTrue c.can_follow.result = c.can_follow.ensures.1 here in
@@ -28,7 +29,9 @@ loop-index-preserved g c =
           c.in_ok-redo_one.ensures.ok
           ∙ ap (λ (x : RecordValue). set_by (cells_of c.loop-index.self) x.action) c.record.view_is
           ∙ ap (λ (x : Cells). set_by x r.action) is.cells
-          ∙ sym (cells_one_more c.args.pages c.args.last (cells_of c.args.self) c.args.records.now c.loop-index.index r (omega arith) c.index-records-index.is is.following);
-      following = following_one_more c.args.pages c.args.last (cells_of c.args.self) c.args.records.now c.loop-index.index r (omega arith) c.index-records-index.is is.following can;
+          ∙ sym (cells_one_more c.args.pages c.args.last (cells_of c.args.self) c.args.records.now c.loop-index.index r
+          (omega arith) c.index-records-index.is is.following);
+      following = following_one_more c.args.pages c.args.last (cells_of c.args.self) c.args.records.now c.loop-index.index r
+          (omega arith) c.index-records-index.is is.following can;
       number = c.get-before.ensures.value ∙ ap (λ (x : RecordValue). x.number) c.record.view_is ∙ here.number ∙ omega (arith, is.number);
     }

@@ -17,5 +17,6 @@ returns-in-Err-clause-err g c =
     let other : Option (List ChangeValue) = list_by (list_of lists c.args.txn) c.args.action.now in
     let err = c.in-Err.ensures.err in
     let is : c.set_part.new.self.lists ≡ with_list lists c.args.txn other = ap (λ (x : Cells). x.pending) err ∙ c.in_ok-was.ensures.ok in
-    let back : c.put_back.new.self ≡ lists = put_back_again lists c.set_part.new.self.lists c.put_back.new.self c.args.txn other _ c.in_ok-was.ensures.was is c.put_back.ensures in
+    let back : c.put_back.new.self ≡ lists =
+    put_back_again lists c.set_part.new.self.lists c.put_back.new.self c.args.txn other _ c.in_ok-was.ensures.was is c.put_back.ensures in
     λ i. record { rows = (err i).rows; entries = (err i).entries; pending = back i; life = (err i).life }

@@ -13,8 +13,10 @@ pub returns : goal.returns
 returns g c =
     let entries = c.args.entries.now in
     let ran = c.in_ok-others.ensures.ran in
-    let road = YieldsList-at ran.2 (YieldsList-from_copied {s = c.copied.result} (YieldsList-at c.copied.ensures.source (YieldsList-from_slice {s = c.iter.result} entries c.iter.ensures.rest))) in
+    let road = YieldsList-at ran.2 (YieldsList-from_copied {s = c.copied.result}
+    (YieldsList-at c.copied.ensures.source (YieldsList-from_slice {s = c.iter.result} entries c.iter.ensures.rest))) in
     let items = sym (map-id ran.1) ∙ items_from_drains ran.1 ran.3 road in
     let made = subst (λ xs. IsFromIterResult pair_cmp xs c.in_ok-others.others) items ran.4 in
-    extended_map pair_exact c.self.inside.marks.entries c.in_ok-others.others.entries c.append.new.self.entries entries made.0 made.1 c.in_ok-append.ensures.inserts_all.0
+    extended_map pair_exact c.self.inside.marks.entries c.in_ok-others.others.entries c.append.new.self.entries entries made.0 made.1
+    c.in_ok-append.ensures.inserts_all.0
     ∙ ap (λ m. extended m entries) c.self.view_is

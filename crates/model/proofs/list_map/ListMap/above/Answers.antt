@@ -7,9 +7,13 @@ use Rattle.model.proofs.list_map.ListMap.above.Goals as goal
 pub returns-in_err-txn : goal.returns-in_err-txn
 returns-in_err-txn g c =
     ap (option_map (λ l. (l.0, l.1.now))) c.from_residual.ensures
-    ∙ ap (λ es. slice_get es 0) (sym (listed_above c.self.inside.lists.entries c.args.self.now c.args.txn c.in-Some.start c.range.ensures.ordered c.self.view_is c.in-Some.is ∙ ap listed (sym (c.range.ensures.between tt) ∙ c.in_err-txn.ensures.steps.0)))
+    ∙ ap (λ es. slice_get es 0) (sym
+    (listed_above c.self.inside.lists.entries c.args.self.now c.args.txn c.in-Some.start c.range.ensures.ordered c.self.view_is c.in-Some.is
+    ∙ ap listed (sym (c.range.ensures.between tt) ∙ c.in_err-txn.ensures.steps.0)))
 
 pub returns : goal.returns
 returns g c =
     ap (λ items. Some (c.in_ok-txn.txn.now, items)) c.deref.ensures.value
-    ∙ ap (λ es. slice_get es 0) (sym (listed_above c.self.inside.lists.entries c.args.self.now c.args.txn c.in-Some.start c.range.ensures.ordered c.self.view_is c.in-Some.is ∙ ap listed (sym (c.range.ensures.between tt) ∙ c.in_ok-txn.ensures.steps)))
+    ∙ ap (λ es. slice_get es 0) (sym
+    (listed_above c.self.inside.lists.entries c.args.self.now c.args.txn c.in-Some.start c.range.ensures.ordered c.self.view_is c.in-Some.is
+    ∙ ap listed (sym (c.range.ensures.between tt) ∙ c.in_ok-txn.ensures.steps)))

@@ -21,4 +21,5 @@ loop-rid-preserved g c =
 
 pub returns : goal.returns
 returns g c =
-    sym (ap (λ (es : List (Place × Row)). c.loop-rid.entries.items ++ es) c.in-None.ensures.steps.0 ∙ append-nil c.loop-rid.entries.items) ∙ c.loop-rid.invariant
+    sym (ap (λ (es : List (Place × Row)). c.loop-rid.entries.items ++ es) c.in-None.ensures.steps.0 ∙ append-nil c.loop-rid.entries.items)
+    ∙ c.loop-rid.invariant

@@ -29,17 +29,21 @@ loop-rid-preserved g c =
     let steps = c.in-Some.ensures.steps in
     let was = c.loop-rid.invariant in
     let slot-is : c.from.result ≡ e.0.slot = c.from.ensures ∙ ap (λ (q : Place). q.slot) c.rid.view_is in
-    let row = subst (λ (xs : List (Place × Row)). IsRowOf page all (get_or xs 0 e)) steps (was.inside 0 e (subst (λ (xs : List (Place × Row)). 0 < length xs) (sym steps) (omega arith))) in
+    let row = subst (λ (xs : List (Place × Row)). IsRowOf page all (get_or xs 0 e)) steps
+    (was.inside 0 e (subst (λ (xs : List (Place × Row)). 0 < length xs) (sym steps) (omega arith))) in
     record {
       count = length-set c.loop-rid.rows c.from.result (Some c.in-Some.row.now) ∙ was.count;
-      inside = λ k d low. subst (λ (xs : List (Place × Row)). IsRowOf page all (get_or xs (suc k) d)) steps (was.inside (suc k) d (subst (λ (xs : List (Place × Row)). suc k < length xs) (sym steps) (omega (arith, low))));
+      inside = λ k d low. subst (λ (xs : List (Place × Row)). IsRowOf page all (get_or xs (suc k) d)) steps
+          (was.inside (suc k) d (subst (λ (xs : List (Place × Row)). suc k < length xs) (sym steps) (omega (arith, low))));
       shown = λ slot low.
           subst (λ n. IsShown all rest (set c.loop-rid.rows n (Some c.in-Some.row.now)) (place page slot)) (sym slot-is)
-          (shown_next all e rest c.loop-rid.rows page slot row (omega (arith, low, was.count)) (omega (arith, c.rid.invariant, ap (λ (q : Place). q.slot) c.rid.view_is, was.count))
+          (shown_next all e rest c.loop-rid.rows page slot row (omega (arith, low, was.count))
+          (omega (arith, c.rid.invariant, ap (λ (q : Place). q.slot) c.rid.view_is, was.count))
           (subst (λ (xs : List (Place × Row)). IsShown all xs c.loop-rid.rows (place page slot)) steps (was.shown slot low)));
     }
 
 pub returns : goal.returns
 returns g c = λ slot low.
     slice_get-get_or c.loop-rid.rows slot None (omega (arith, low, c.loop-rid.invariant.count))
-    ∙ ap Some (shown_last c.args.self.now c.loop-rid.rid-iterator c.loop-rid.rows (place c.args.page slot) c.in-None.ensures.steps.0 (c.loop-rid.invariant.shown slot low))
+    ∙ ap Some (shown_last c.args.self.now c.loop-rid.rid-iterator c.loop-rid.rows (place c.args.page slot) c.in-None.ensures.steps.0
+    (c.loop-rid.invariant.shown slot low))

@@ -19,9 +19,11 @@ invariant_of-result g c =
     let empty : vec_len c.in_ok-with_capacity.field-0 ≡ 0 = c.in_ok-with_capacity.ensures.len in
     let fewer = synced_count_at_most 0 c.in_ok-vec.field-0.items in
     let fits : length c.in_ok-zeros-2.field-0.items ≤ vec_capacity c.in_ok-with_capacity.field-0 = omega (arith, size, wide) in
-    let room : vec_len c.in_ok-with_capacity.field-0 + synced_count 0 c.in_ok-vec.field-0.items ≤ vec_capacity c.in_ok-with_capacity.field-0 = omega (arith, fewer, stamps_size, wide, empty) in
+    let room : vec_len c.in_ok-with_capacity.field-0 + synced_count 0 c.in_ok-vec.field-0.items ≤ vec_capacity c.in_ok-with_capacity.field-0 =
+    omega (arith, fewer, stamps_size, wide, empty) in
     record {
-      represents = represents_crashed _ _ _ _ _ (first ∙ sym content) c.in_ok-with_capacity.ensures.items whole (ap length (before ∙ sym content)) (stamps_size ∙ sym size) none;
+      represents = represents_crashed _ _ _ _ _ (first ∙ sym content) c.in_ok-with_capacity.ensures.items whole (ap length (before ∙ sym content)) (stamps_size
+          ∙ sym size) none;
       first_size = ap length (first ∙ sym content);
       size = fits;
       room = room;

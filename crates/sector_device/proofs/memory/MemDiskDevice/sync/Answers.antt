@@ -17,7 +17,8 @@ invariant_of-self-2 g c =
     let sectors : c.len-sectors.result ≡ length d.content.items = omega (arith, c.len-sectors.ensures, d.content.ok.0) in
     let fewer = synced_count_at_most c.len-calls.result d.written_at.items in
     let size : length d.content.items ≤ vec_capacity c.push.new.self = omega (arith, d.size, roomy, grown) in
-    let room : vec_len c.push.new.self + synced_count c.len-calls.result d.written_at.items ≤ vec_capacity c.push.new.self = omega (arith, fewer, made, same_len, sectors, d.represents.written_size, longer, roomy) in
+    let room : vec_len c.push.new.self + synced_count c.len-calls.result d.written_at.items ≤ vec_capacity c.push.new.self =
+    omega (arith, fewer, made, same_len, sectors, d.represents.written_size, longer, roomy) in
     let done = represents_sync _ _ _ _ _ _ d.represents c.len-calls.result now in
     record {
       represents = represents_push _ _ _ Sync _ _ _ _ pushed done;
