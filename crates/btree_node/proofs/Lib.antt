@@ -13,3 +13,4 @@ pub mod Splice
 pub mod Mending
 pub mod Remove
 pub mod Path
+pub mod Descending

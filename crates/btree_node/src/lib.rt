@@ -2,12 +2,13 @@
 //!
 //! Proved, for every allocator: the tree is the finite map of its entries (`contents`). `find_way` and `plan` only read: a way
 //! tells the mark of a pair (`mark`) and serves its insertion (`way`), and `plan` answers `NoMemory` alone (`no_memory`).
-//! `insert`, `set_mark`, `remove`, `clear` and `take` can't fail; the first three change the named pair alone, and `take` answers
-//! what the tree held (`taken`). A look-up answers the tree's height as what it visited (`visited`), at most four (`few_visited`).
+//! `insert`, `set_mark`, `remove` and `take` can't fail; the first three change the named pair alone, and `take` answers what the
+//! tree held (`taken`). A look-up goes down by a `Descent`, which counts each node that it visits. It visits as many as the tree is
+//! high (`visited`), at most four (`few_visited`).
 //! `run_above` answers entries that follow one another (`run`), and none only where none is above (`none`).
 //! Only tested (`table_tests`): plans with each allocation refused in turn; heights of full trees, and how many runs a walk over
-//! one takes. Neither: that the count of visits is what the code did, and that a way is one walk down; when memory is freed; speed;
-//! stack. By hand: the `unsafe impl` of an allocator that always refuses.
+//! one takes. Neither: that a way is one walk down; when memory is freed; speed; stack. By hand: the `unsafe impl` of an allocator
+//! that always refuses.
 #![tactic(auto)]
 
 ghost use Rattle.std.specs.Prelude.{◌≡◌, ◌<◌, ◌≤◌, ◌↔◌, None, IfOk, IfErr, IsSome, IsTrue};
@@ -30,10 +31,11 @@ mod walk;
 
 use inline::Inline;
 use insertion::insert_top;
-use lookup::{get_in, levels, way_to};
+use lookup::{levels, mark_below, way_to};
 use marking::set_mark_in;
 pub use node_parts::Entry;
 use node_parts::Node;
+use node_parts::descent::Descent;
 use records::{Error, Mark, Pair};
 use removal::{remove_below, shrink};
 use smallvec::SmallVec;
@@ -184,7 +186,11 @@ impl<A: Allocator + Clone> BTree<A> {
     {
         match &self.root {
             None => (None, 0),
-            Some(root) => get_in(root, pair),
+            Some(root) => {
+                let mut way = Descent::new(root);
+                let mark = mark_below(&mut way, pair);
+                (mark, way.visits())
+            }
         }
     }
 
@@ -283,15 +289,6 @@ impl<A: Allocator + Clone> BTree<A> {
         if let Some(root) = &mut self.root {
             set_mark_in(root, pair, mark);
         }
-    }
-
-    /// Takes every entry out, and frees every node. It takes no memory and succeeds.
-    pub fn clear(&mut self)
-        ensures empty { contents self.new ≡ map.empty }
-        ensures height { height_of self.new ≡ 0 }
-    {
-        self.root = None;
-        self.len = 0;
     }
 
     /// Takes every entry out at once, in nodes that are not freed yet. It takes no memory and succeeds.

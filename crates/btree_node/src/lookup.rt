@@ -10,7 +10,9 @@ ghost use Rattle.std.specs.List.{prefix_len};
 
 use crate::LEVELS_MAX;
 use crate::inline::Inline;
+use node_parts::descent::Descent;
 use node_parts::rows::FULL;
+use node_parts::search::entry_place;
 use node_parts::{Entry, Node, Parts};
 use records::{Mark, Pair, compare_pairs};
 use smallvec::SmallVec;
@@ -29,23 +31,20 @@ fn mark_at(row: &[Entry], at: usize, pair: &Pair) -> Option<Mark>
         .then_some(entry.mark)
 }
 
-/// The mark of a pair in a subtree, and how many nodes were visited.
-pub fn get_in<A: Allocator>(node: &Node<A>, pair: &Pair) -> (Option<Mark>, u32)
-    requires ascending { IsAscending (entries node.now) }
-    requires tree { IsTree (depth node.now) node.now }
-    requires some { 0 < length (entries node.now) }
-    requires low { depth node.now ≤ LEVELS_MAX }
-    ensures found { result.0 ≡ mark_in (entries node.now) pair.now }
-    ensures visited { result.1 ≡ depth node.now }
+/// The mark of a pair in the subtree that a way has reached. The way goes on to the leaf where the pair belongs.
+pub fn mark_below<A: Allocator>(way: &mut Descent<'_, A>, pair: &Pair) -> Option<Mark>
+    requires ascending { IsAscending (entries way.old.node) }
+    requires tree { IsTree (depth way.old.node) way.old.node }
+    requires some { 0 < length (entries way.old.node) }
+    requires low { way.old.visits + depth way.old.node ≤ LEVELS_MAX + 1 }
+    ensures found { result ≡ mark_in (entries way.old.node) pair.now }
+    ensures visits { way.new.visits + 1 ≡ way.old.visits + depth way.old.node }
 {
-    let at = node.place(pair);
-    match &node.parts {
-        Parts::Leaf(row) => (mark_at(row, at, pair), 1),
-        Parts::Inner(row) => {
-            let (found, visited) = get_in(&row[at].node, pair);
-            (found, visited + 1)
-        }
+    if way.descend(pair) {
+        return mark_below(way, pair);
     }
+    let row = way.row();
+    mark_at(row, entry_place(row, pair), pair)
 }
 
 /// How many levels a subtree has.

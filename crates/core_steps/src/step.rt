@@ -34,8 +34,12 @@ pub fn forward(change: &Change, indexed: bool, made: usize) -> Option<Step>
     ensures { result ≡ slice_get (forward_steps indexed change.now) made }
 {
     let first = mark_old(change, indexed);
-    let last = put_new(change, indexed);
-    nth_step(first, set_new(change), last, made)
+    match (first, made) {
+        (Some(_), 0) => first,
+        (Some(_), 1) | (None, 0) => Some(set_new(change)),
+        (Some(_), 2) | (None, 1) => put_new(change, indexed),
+        _ => None,
+    }
 }
 
 /// The step that the undo of a change makes after the first `made` ones, and none
@@ -49,18 +53,10 @@ pub fn undo(change: &Change, indexed: bool, made: usize) -> Option<Step>
     ensures { result ≡ slice_get (undo_steps indexed change.now) made }
 {
     let first = mark_new(change, indexed);
-    let last = put_old(change, indexed);
-    nth_step(first, set_old(change, last.is_none()), last, made)
-}
-
-// The step after the first `made` ones of these.
-fn nth_step(first: Option<Step>, row: Step, last: Option<Step>, made: usize) -> Option<Step>
-    ensures { result ≡ slice_get (some_step first ++ row ∷ some_step last) made }
-{
     match (first, made) {
-        (Some(step), 0) => Some(step),
-        (Some(_), 1) | (None, 0) => Some(row),
-        (Some(_), 2) | (None, 1) => last,
+        (Some(_), 0) => first,
+        (Some(_), 1) | (None, 0) => Some(set_old(change, put_old(change, indexed).is_none())),
+        (Some(_), 2) | (None, 1) => put_old(change, indexed),
         _ => None,
     }
 }
@@ -90,8 +86,8 @@ fn moved_pair(change: &Change, indexed: bool, row: Option<Row>) -> Option<Pair>
     }
 }
 
-/// The step that marks the entry of the old row, where the change has it.
-pub fn mark_old(change: &Change, indexed: bool) -> Option<Step>
+// The step that marks the entry of the old row, where the change has it.
+fn mark_old(change: &Change, indexed: bool) -> Option<Step>
     ensures { result ≡ marks_old indexed change.now }
 {
     let pair = moved_pair(change, indexed, change.rows.old())?;
@@ -102,8 +98,8 @@ pub fn mark_old(change: &Change, indexed: bool) -> Option<Step>
     })
 }
 
-/// The step that sets the row of a change.
-pub fn set_new(change: &Change) -> Step
+// The step that sets the row of a change.
+fn set_new(change: &Change) -> Step
     ensures { result ≡ sets_new change.now }
 {
     let rid = change.rid;
@@ -114,8 +110,8 @@ pub fn set_new(change: &Change) -> Step
     }
 }
 
-/// The step that puts the entry of the new row, where the change has it.
-pub fn put_new(change: &Change, indexed: bool) -> Option<Step>
+// The step that puts the entry of the new row, where the change has it.
+fn put_new(change: &Change, indexed: bool) -> Option<Step>
     ensures { result ≡ puts_new indexed change.now }
 {
     let pair = moved_pair(change, indexed, change.rows.new())?;
@@ -126,8 +122,8 @@ pub fn put_new(change: &Change, indexed: bool) -> Option<Step>
     })
 }
 
-/// The undo's step that marks the entry of the new row, where the change has it.
-pub fn mark_new(change: &Change, indexed: bool) -> Option<Step>
+// The undo's step that marks the entry of the new row, where the change has it.
+fn mark_new(change: &Change, indexed: bool) -> Option<Step>
     ensures { result ≡ marks_new indexed change.now }
 {
     let pair = moved_pair(change, indexed, change.rows.new())?;
@@ -138,9 +134,9 @@ pub fn mark_new(change: &Change, indexed: bool) -> Option<Step>
     })
 }
 
-/// The undo's step that sets the old row, or none; `last` where it takes the change off its
-/// transaction's list.
-pub fn set_old(change: &Change, last: bool) -> Step
+// The undo's step that sets the old row, or none; `last` where it takes the change off its
+// transaction's list.
+fn set_old(change: &Change, last: bool) -> Step
     ensures { result ≡ sets_old change.now last }
 {
     let rid = change.rid;
@@ -151,8 +147,8 @@ pub fn set_old(change: &Change, last: bool) -> Step
     }
 }
 
-/// The undo's step that puts the entry of the old row, where the change has it. It is the last.
-pub fn put_old(change: &Change, indexed: bool) -> Option<Step>
+// The undo's step that puts the entry of the old row, where the change has it. It is the last.
+fn put_old(change: &Change, indexed: bool) -> Option<Step>
     ensures { result ≡ puts_old indexed change.now }
 {
     let pair = moved_pair(change, indexed, change.rows.old())?;

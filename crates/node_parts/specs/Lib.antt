@@ -5,3 +5,4 @@ pub mod Falls
 pub mod Balance
 pub mod Rows
 pub mod Place
+pub mod Descents

@@ -1,8 +1,8 @@
 //! Nodes of a B-tree whose room is taken as they are made, so that no later change takes memory.
 //!
 //! Proved: what each change of a node leaves of its entries, and that a node has at most 32 items and room for 32. No change of a
-//! node that was made takes memory.
-//! Neither: speed.
+//! node that was made takes memory. A way down (`Descent`) visits the child where a pair belongs, and counts each node that it visits.
+//! Neither: speed. That a way shows no other node is a matter of its type, which has one private reference, and no way back.
 #![tactic(auto)]
 
 ghost use Rattle.std.specs.Prelude.{◌≡◌, ℕ, ◌+◌, ◌<◌, ◌≤◌, ◌++◌, length, Some, IfOk, IfErr};
@@ -13,6 +13,7 @@ ghost use Rattle.node_parts.specs.Order.{IsAscending};
 ghost use Rattle.node_parts.specs.Seen.{least_of};
 ghost use Rattle.node_parts.specs.Place.{place_in};
 
+pub mod descent;
 pub mod rows;
 pub mod search;
 

@@ -23,4 +23,5 @@ mod Skipping
 mod Refusing
 mod Checking
 mod Steps
+mod Ordered
 pub mod Offered

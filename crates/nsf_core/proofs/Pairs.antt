@@ -12,12 +12,9 @@ use Rattle.records.specs.declared.pair.Pair.{Pair}
 use Rattle.records.specs.declared.row.Row.{Row}
 use Rattle.model.proofs.PairLaws.{key_test}
 use Rattle.model.specs.Pairs.{new_pair, old_pair, pair_of}
-use Rattle.std.specs.Option.{option_map}
 use Rattle.core_steps.specs.Keys.{moved_pair}
 use Rattle.core_steps.specs.Steps.{marks_new, marks_old, puts_new, puts_old}
-use Rattle.core_steps.specs.declared.step.Step.{Step}
-use Rattle.txn_table.specs.declared.progress.Progress.TheVariants.{OwesEntry, Ready}
-use Rattle.nsf_core.specs.Private.{entry_in, row_progress}
+use Rattle.nsf_core.specs.Private.{entry_in}
 use Rattle.std.specs.Prelude.{option_and_then}
 use Rattle.records.specs.declared.record.Part.TheVariants.{NewEntry, OldEntry}
 use Rattle.records.specs.declared.record.TxnAction.{TxnAction}
@@ -63,21 +60,6 @@ old_moves b c = old_by b c.position c.rid c.rows
 
 pub new_moves : (b : Bool) (c : ChangeValue) → moved_pair b c (new_row c.rows) ≡ new_pair b c
 new_moves b c = new_by b c.position c.rid c.rows
-
--- ---- how far a transaction is once its row is set
-owes_by : (f : Pair → Step) (o : Option Pair) (step : Step) → option_map f o ≡ Some step → OwesEntry ≡ row_progress o
-owes_by f None step e = absurd cc
-owes_by f (Some p) step e = refl
-
-ready_by : (f : Pair → Step) (o : Option Pair) → option_map f o ≡ None → Ready ≡ row_progress o
-ready_by f None e = refl
-ready_by f (Some p) e = absurd cc
-
-pub owes_entry : (b : Bool) (c : ChangeValue) (step : Step) → puts_new b c ≡ Some step → OwesEntry ≡ row_progress (new_pair b c)
-owes_entry b c step e = owes_by _ (moved_pair b c (new_row c.rows)) step e ∙ ap row_progress (new_moves b c)
-
-pub owes_nothing : (b : Bool) (c : ChangeValue) → puts_new b c ≡ None → Ready ≡ row_progress (new_pair b c)
-owes_nothing b c e = ready_by _ (moved_pair b c (new_row c.rows)) e ∙ ap row_progress (new_moves b c)
 
 -- ---- the entry of a step
 none_by : (o : Option Pair) (mark : Mark) (action : TxnAction) → None ≡ option_and_then entry_in (entry_step o mark action) → o ≡ None

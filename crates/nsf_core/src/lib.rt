@@ -10,6 +10,7 @@
 #![tactic(auto)]
 
 mod build;
+mod change_steps;
 mod clean;
 mod create;
 mod drop;

@@ -8,7 +8,8 @@ ghost use Rattle.nsf_core.specs.Private.{HasRecord};
 ghost use Rattle.nsf_core.specs.Replies.{reply_by};
 ghost use Rattle.nsf_core.specs.Parts.{parts_of};
 
-use crate::parts::{Parts, entry_of, progress_after_row};
+use crate::change_steps::{new_entry, new_row};
+use crate::parts::{Parts, progress_after_row};
 use records::{Change, Error, Mark, RecordNumber, Txn};
 use std::alloc::Allocator;
 use txn_table::Progress;
@@ -40,11 +41,11 @@ impl<A: Allocator + Copy> Parts<A> {
         match self.txns.progress(txn) {
             Some(Progress::OwesRow) => {
                 let progress = progress_after_row(&change, indexed);
-                let action = core_steps::set_new(&change).action;
+                let action = new_row(&change, indexed);
                 self.set_row(number, txn, progress, change.rid, change.rows.new(), action)?
             }
             Some(Progress::OwesEntry) => {
-                let Some(put) = entry_of(core_steps::put_new(&change, indexed)) else {
+                let Some(put) = new_entry(&change, indexed) else {
                     unreachable!()
                 };
                 self.set_entry(number, txn, Progress::Ready, Mark::Live, put)?

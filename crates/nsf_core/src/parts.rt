@@ -20,8 +20,8 @@ ghost use Rattle.nsf_core.specs.Private.{IsUnchangeable, entry_in, first_made, m
 ghost use Rattle.txn_table.specs.Sound.{IsSound};
 ghost use Rattle.nsf_core.specs.Parts.{parts_of};
 
+use crate::change_steps::{new_entry, new_row, old_mark};
 use btree_node::Cleared;
-use core_steps::{Cell, Step};
 use heap_pages::Heap;
 use marked_index::{MarkedIndex, Stepped};
 use model::Life;
@@ -99,7 +99,7 @@ fn may_reserve<A: Allocator + Clone>(index: &MarkedIndex<A>, indexed: bool) -> b
 pub(crate) fn progress_after_row(change: &Change, indexed: bool) -> Progress
     ensures { result ≡ row_progress (pairs.new_pair indexed change.now) }
 {
-    match core_steps::put_new(change, indexed) {
+    match new_entry(change, indexed) {
         Some(_) => Progress::OwesEntry,
         None => Progress::Ready,
     }
@@ -160,18 +160,6 @@ fn reserve<A: Allocator + Copy>(
         unreachable!()
     };
     txns.put(txn, progress, reserved + PLACES_PER_CHANGE as usize);
-}
-
-// The entry that a step sets, and what its record says; none where it sets a row, or where there is
-// no step.
-pub(crate) fn entry_of(step: Option<Step>) -> Option<(Pair, TxnAction)>
-    ensures { result ≡ option_and_then entry_in step }
-{
-    let Step { cell, action } = step?;
-    match cell {
-        Cell::Slot { .. } => None,
-        Cell::Entry { pair, .. } => Some((pair, action)),
-    }
 }
 
 // Reserves the places of one more change and marks the entry of its old row, in one of them where
@@ -348,7 +336,7 @@ impl<A: Allocator + Copy> Parts<A> {
         let indexed = self.indexed();
         let reserved = self.reserved(txn);
         let progress = progress_after_row(&change, indexed);
-        let made = record_of(number, txn, core_steps::set_new(&change).action);
+        let made = record_of(number, txn, new_row(&change, indexed));
         note(&mut self.txns, &mut self.outbox, made, txn, change)?;
         reserve(
             &mut self.index,
@@ -406,7 +394,7 @@ impl<A: Allocator + Copy> Parts<A> {
         ensures unchanged { OnErr result (parts_of self.new ≡ parts_of self.old) }
         ensures no_memory { IfErr result (λ e. e ≡ Error.NoMemory) }
     {
-        match entry_of(core_steps::mark_old(&change, self.indexed())) {
+        match old_mark(&change, self.indexed()) {
             None => self.set_first(number, txn, change),
             Some(marked) => self.mark_first(number, txn, change, marked),
         }

@@ -11,7 +11,8 @@ ghost use Rattle.nsf_core.specs.Replies.{reply_by};
 ghost use Rattle.nsf_core.specs.Undoing.{undone_reply};
 ghost use Rattle.nsf_core.specs.Parts.{parts_of};
 
-use crate::parts::{Parts, entry_of};
+use crate::change_steps::{new_mark, old_entry, old_row};
+use crate::parts::Parts;
 use crate::reply::Undone;
 use records::{Change, Error, Mark, Part, RecordNumber, Txn};
 use std::alloc::Allocator;
@@ -40,14 +41,12 @@ impl<A: Allocator + Copy> Parts<A> {
         ensures unchanged { OnErr result (parts_of self.new ≡ parts_of self.old) }
         ensures no_memory { IfErr result (λ e. e ≡ Error.NoMemory) }
     {
+        let indexed = self.indexed();
         let row = change.rows.old();
-        match entry_of(core_steps::put_old(&change, self.indexed())) {
-            Some(_) => {
-                let action = core_steps::set_old(&change, false).action;
-                self.set_row(number, txn, Progress::UndoesEntry, change.rid, row, action)
-            }
+        let action = old_row(&change, indexed);
+        match old_entry(&change, indexed) {
+            Some(_) => { self.set_row(number, txn, Progress::UndoesEntry, change.rid, row, action) }
             None => {
-                let action = core_steps::set_old(&change, true).action;
                 self.set_row(number, txn, Progress::Rolling, change.rid, row, action)?;
                 self.txns.pop_undo(txn);
                 Ok(())
@@ -65,7 +64,7 @@ impl<A: Allocator + Copy> Parts<A> {
         ensures unchanged { OnErr result (parts_of self.new ≡ parts_of self.old) }
         ensures no_memory { IfErr result (λ e. e ≡ Error.NoMemory) }
     {
-        let Some(put) = entry_of(core_steps::put_old(&change, self.indexed())) else {
+        let Some(put) = old_entry(&change, self.indexed()) else {
             unreachable!()
         };
         self.set_entry(number, txn, Progress::Rolling, Mark::Live, put)?;
@@ -82,7 +81,7 @@ impl<A: Allocator + Copy> Parts<A> {
         ensures unchanged { OnErr result (parts_of self.new ≡ parts_of self.old) }
         ensures no_memory { IfErr result (λ e. e ≡ Error.NoMemory) }
     {
-        match entry_of(core_steps::mark_new(&change, self.indexed())) {
+        match new_mark(&change, self.indexed()) {
             Some(marked) => {
                 self.set_entry(number, txn, Progress::UndoesRow, Mark::Marked, marked)
             }

@@ -18,8 +18,8 @@ fn can_plan<A: Allocator + Copy>(
     Ok(())
 }
 
-// Puts a pair in that is absent.
-fn put<A: Allocator + Copy>(
+/// Puts a pair in that is absent.
+pub(crate) fn put<A: Allocator + Copy>(
     rt: &impl Abort,
     tree: &mut BTree<A>,
     number: u32,

@@ -74,11 +74,6 @@ abbrev pub holds_rows : Option TxnState → Bool
 holds_rows None = false
 holds_rows (Some s) = has_any s.rows
 
--- whether a transaction in this state is rolling back
-abbrev pub is_rolling : Option TxnState → Bool
-is_rolling None = false
-is_rolling (Some s) = rolls s.progress
-
 -- the transactions, with the state of one changed
 abbrev pub with_state : (TxnState → TxnState) → ℕ → List (ℕ × TxnState) → List (ℕ × TxnState)
 with_state f txn [] = []

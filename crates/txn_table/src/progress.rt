@@ -1,6 +1,4 @@
 //! How far a transaction is.
-ghost use Rattle.std.specs.Prelude.{◌≡◌};
-ghost use Rattle.txn_table.specs.Table.{rolls};
 
 /// How far a transaction is with its newest change, and whether it is rolling back.
 #[derive(Clone, Copy, Debug, PartialEq, Eq)]
@@ -17,16 +15,4 @@ pub enum Progress {
     UndoesRow,
     /// Rolling back: the old row is set, and the old entry is owed.
     UndoesEntry,
-}
-
-impl Progress {
-    /// Whether the transaction is rolling back.
-    pub fn is_rolling(self) -> bool
-        ensures { result ≡ rolls self }
-    {
-        match self {
-            Progress::Ready | Progress::OwesRow | Progress::OwesEntry => false,
-            Progress::Rolling | Progress::UndoesRow | Progress::UndoesEntry => true,
-        }
-    }
 }

@@ -2,7 +2,7 @@
 ghost use Rattle.std.specs.Prelude.{◌≡◌, ◌≢◌, ◌+◌, ◌<◌, ◌≤◌, ◌↔◌, ◌⊎◌, ℕ, [], length, not, filter, Contains, Some, None, is_some, slice_get, option_map, option_and_then, IsTrue, IsErr, IsSome, IfOk, IfErr, OnOk, OnErr, IsOkUnless};
 ghost use Rattle.std.specs.Result.{result_err};
 ghost use Rattle.records.specs.Values.{Place};
-ghost use Rattle.txn_table.specs.Table.{TxnState, holds_rows, is_among, with_rid, holder_of, state_of, is_rolling, with_state, with_next, without, change_noted, without_last, put_at, last_change, change_refusal, touch_refusal};
+ghost use Rattle.txn_table.specs.Table.{TxnState, holds_rows, is_among, with_rid, holder_of, state_of, with_state, with_next, without, change_noted, without_last, put_at, last_change, change_refusal, touch_refusal};
 ghost use Rattle.txn_table.specs.Sound.{IsSound};
 
 use crate::active::ActiveTxn;
@@ -129,16 +129,6 @@ impl<A: Allocator + Copy> TxnTable<A> {
         ensures { result ≡ option_and_then last_change (state_of txn self.now.active) }
     {
         self.active.get(&txn)?.newest()
-    }
-
-    /// Whether the transaction is active and rolling back: `pop_undo` was called for it.
-    pub fn is_rolling_back(&self, txn: Txn) -> bool
-        ensures { result ≡ is_rolling (state_of txn self.now.active) }
-    {
-        match self.active.get(&txn) {
-            Some(active) => active.progress().is_rolling(),
-            None => false,
-        }
     }
 
     /// How far an active transaction is.

@@ -7,16 +7,18 @@ use Rattle.btree_node.proofs.Top.{root_some}
 use Rattle.btree_node.proofs.Contents.{get-contents}
 use Rattle.btree_node.proofs.BTree.get.Goals as goal
 
-pub get_in-requires-clause-some : goal.get_in-requires-clause-some
-get_in-requires-clause-some g c =
+pub mark_below-mark-requires-clause-some : goal.mark_below-mark-requires-clause-some
+mark_below-mark-requires-clause-some g c =
     let whole = subst IsWholeTree c.in-Some.is c.self.invariant.whole in
-    rw c.deref.ensures (root_some _ _ whole)
+    let node = ap (λ r. r.node) c.new-way.ensures ∙ c.deref.ensures in
+    rw node (root_some _ _ whole)
 
-pub get_in-requires-clause-low : goal.get_in-requires-clause-low
-get_in-requires-clause-low g c =
+pub mark_below-mark-requires-clause-low : goal.mark_below-mark-requires-clause-low
+mark_below-mark-requires-clause-low g c =
     let whole = subst IsWholeTree c.in-Some.is c.self.invariant.whole in
     let few = at_most_four _ _ whole (omega (arith, c.self.invariant.counted, c.self.invariant.few, ap (λ r. length (entries (tree_at r))) c.in-Some.is)) in
-    rw c.deref.ensures few
+    let node = ap (λ r. r.node) c.new-way.ensures ∙ c.deref.ensures in
+    omega (arith, few, ap depth node, ap (λ r. r.visits) c.new-way.ensures)
 
 pub returns-in-None-clause-found : goal.returns-in-None-clause-found
 returns-in-None-clause-found g c =
@@ -24,10 +26,12 @@ returns-in-None-clause-found g c =
 
 pub returns-in-Some-clause-found : goal.returns-in-Some-clause-found
 returns-in-Some-clause-found g c =
-    c.get_in.ensures.found ∙ ap (λ t. mark_in (entries t) c.args.pair.now) (c.deref.ensures ∙ sym (ap tree_at c.in-Some.is) ∙ c.self.view_is) ∙ sym (get-contents _ _)
+    let node = ap (λ r. r.node) c.new-way.ensures ∙ c.deref.ensures in
+    c.mark_below-mark.ensures.found ∙ ap (λ t. mark_in (entries t) c.args.pair.now) (node ∙ sym (ap tree_at c.in-Some.is) ∙ c.self.view_is) ∙ sym (get-contents _ _)
 
 pub returns-in-Some-clause-few_visited : goal.returns-in-Some-clause-few_visited
 returns-in-Some-clause-few_visited g c =
     let whole = subst IsWholeTree c.in-Some.is c.self.invariant.whole in
     let few = at_most_four _ _ whole (omega (arith, c.self.invariant.counted, c.self.invariant.few, ap (λ r. length (entries (tree_at r))) c.in-Some.is)) in
-    omega (arith, few, c.get_in.ensures.visited, ap depth c.deref.ensures)
+    let node = ap (λ r. r.node) c.new-way.ensures ∙ c.deref.ensures in
+    omega (arith, few, c.visits.ensures, c.mark_below-mark.ensures.visits, ap depth node, ap (λ r. r.visits) c.new-way.ensures)

@@ -1,9 +1,10 @@
-use Rattle.std.proofs.Common.{sym}
-use Rattle.nsf_core.proofs.Pairs.{owes_entry, owes_nothing}
+use Rattle.std.proofs.Common.{ap, sym}
+use Rattle.nsf_core.specs.Private.{row_progress}
+use Rattle.nsf_core.proofs.Pairs.{new_none, new_some}
 use Rattle.nsf_core.proofs.parts.progress_after_row.Goals as goal
 
 pub returns-in-Some : goal.returns-in-Some
-returns-in-Some c = owes_entry c.args.indexed c.args.change.now _ (sym c.in-Some.ensures)
+returns-in-Some c = sym (ap row_progress (new_some c.args.indexed c.args.change.now _ c.in-Some.ensures).0)
 
 pub returns-in-None : goal.returns-in-None
-returns-in-None c = owes_nothing c.args.indexed c.args.change.now (sym c.in-None.ensures)
+returns-in-None c = sym (ap row_progress (new_none c.args.indexed c.args.change.now c.in-None.ensures))

@@ -8,7 +8,6 @@ use mathlib.Core.HLevel.{⊥_prop}
 use Rattle.std.specs.Prelude.{option_and_then}
 use Rattle.records.specs.Spelling.{new_row}
 use Rattle.model.specs.Pairs.{is_indexed, new_pair}
-use Rattle.core_steps.specs.declared.step.Step.{Step}
 use Rattle.core_steps.specs.Steps.{puts_new}
 use Rattle.nsf_core.specs.Private.{entry_in, row_progress}
 use Rattle.nsf_core.specs.Parts.{parts_of}
@@ -24,12 +23,12 @@ returns-in_err-set_row-in-Some-OwesRow g c =
 
 pub unreachable-requires : goal.unreachable-requires
 unreachable-requires g c =
-    let none = new_none (is_indexed c.args.self.now.life) c.args.change (sym c.in_default-entry_of.is ∙ (c.entry_of.ensures ∙ ap (option_and_then entry_in) (c.put_new.ensures ∙ ap (λ b. puts_new b c.args.change) c.indexed-indexed.ensures))) in
+    let none = new_none (is_indexed c.args.self.now.life) c.args.change (sym c.in_default-new_entry.is ∙ (c.new_entry.ensures ∙ ap (λ b. option_and_then entry_in (puts_new b c.args.change)) c.indexed-indexed.ensures)) in
     ∥∥₁_elim c.requires.safe ⊥_prop (no_entry (parts_of c.args.self.now) c.args.txn c.args.change c.requires.newest _ c.in-Some-OwesEntry.ensures c.in-Some-OwesEntry.field-0-is none)
 
 pub set_entry-requires-clause-places : goal.set_entry-requires-clause-places
 set_entry-requires-clause-places g c =
-    let some = new_some (is_indexed c.args.self.now.life) c.args.change c.in-Some.put (sym c.in-Some.is ∙ (c.entry_of.ensures ∙ ap (option_and_then entry_in) (c.put_new.ensures ∙ ap (λ b. puts_new b c.args.change) c.indexed-indexed.ensures))) in
+    let some = new_some (is_indexed c.args.self.now.life) c.args.change c.in-Some.put (sym c.in-Some.is ∙ (c.new_entry.ensures ∙ ap (λ b. option_and_then entry_in (puts_new b c.args.change)) c.indexed-indexed.ensures)) in
     ∥∥₁_elim c.requires.safe le_prop (entry_enough (parts_of c.args.self.now) c.args.txn c.args.change c.requires.newest c.in-Some.put.0 some.0)
 
 pub returns-in_err-set_entry-in-Some-OwesEntry : goal.returns-in_err-set_entry-in-Some-OwesEntry
@@ -44,13 +43,13 @@ returns-in_ok-set_row-in-Some-OwesRow g c =
     (c.progress_after_row-progress.ensures ∙ ap (λ b. row_progress (new_pair b c.args.change)) c.indexed-indexed.ensures)
     (ap (λ (w : ChangeValue). w.rid) c.change.view_is)
     (c.new.ensures ∙ ap (λ (w : ChangeValue). new_row w.rows) c.change.view_is)
-    (ap (λ (step : Step). step.action) c.set_new-action.ensures)
+    c.new_row-action.ensures
     in
     row_carried v c.args.txn c.args.change c.requires.newest _ c.in-Some-OwesRow.ensures c.requires.asked c.requires.has c.in-Some-OwesRow.field-0-is _ (c.in_ok-set_row-in-Some-OwesRow.ensures.ok ∙ same)
 
 pub returns-in_ok-set_entry-in-Some-OwesEntry : goal.returns-in_ok-set_entry-in-Some-OwesEntry
 returns-in_ok-set_entry-in-Some-OwesEntry g c =
-    let some = new_some (is_indexed c.args.self.now.life) c.args.change c.in-Some.put (sym c.in-Some.is ∙ (c.entry_of.ensures ∙ ap (option_and_then entry_in) (c.put_new.ensures ∙ ap (λ b. puts_new b c.args.change) c.indexed-indexed.ensures))) in
+    let some = new_some (is_indexed c.args.self.now.life) c.args.change c.in-Some.put (sym c.in-Some.is ∙ (c.new_entry.ensures ∙ ap (λ b. option_and_then entry_in (puts_new b c.args.change)) c.indexed-indexed.ensures)) in
     entry_carried (parts_of c.args.self.now) c.args.txn c.args.change c.requires.newest _ c.in-Some-OwesEntry.ensures c.requires.asked c.requires.has c.in-Some-OwesEntry.field-0-is c.in-Some.put some.0 some.1 _ c.in_ok-set_entry-in-Some-OwesEntry.ensures.ok
 
 pub set_row-requires-clause-inside : goal.set_row-requires-clause-inside
