@@ -36,7 +36,8 @@ above_insert p (x ∷ xs) e h b = pick (above_insert p xs e h.1 b) (is_below x.p
 
 pub ascending_insert : (xs : List Entry) (e : Entry) → IsAscending xs → mark_in xs e.pair ≡ None → IsAscending (insert_entry xs e)
 ascending_insert [] e h a = (tt, tt)
-ascending_insert (x ∷ xs) e h a = pick (ascending_insert xs e h.1 (absent_tail (is_eq (order x.pair e.pair)) x.mark (mark_in xs e.pair) a)) (is_below x.pair e.pair) refl
+ascending_insert (x ∷ xs) e h a = pick (ascending_insert xs e h.1 (absent_tail (is_eq (order x.pair e.pair)) x.mark (mark_in xs e.pair) a))
+    (is_below x.pair e.pair) refl
   where
     pick : IsAscending (insert_entry xs e) → (v : Bool) → is_below x.pair e.pair ≡ v → IsAscending (cond v (x ∷ insert_entry xs e) (e ∷ x ∷ xs))
     pick r true b = (above_insert x.pair xs e h.0 b, r)

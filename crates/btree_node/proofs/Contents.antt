@@ -72,7 +72,8 @@ one_more false n m e f = omega (arith, f)
 len-marks : (es : List Entry) → IsAscending es → map.len (map.from_entries {R = pair_cmp} (marks_of es)) ≡ length es
 len-marks [] h = len-empty pair_cmp Mark
 len-marks (e ∷ es) h =
-    let absent : map.get (map.from_entries {R = pair_cmp} (marks_of es)) e.pair ≡ None = get-from_entries pair_cmp_total (marks_of es) e.pair ∙ find-mark_in es e.pair ∙ mark_in-above es e.pair h.0 in
+    let absent : map.get (map.from_entries {R = pair_cmp} (marks_of es)) e.pair ≡ None = get-from_entries pair_cmp_total (marks_of es) e.pair
+    ∙ find-mark_in es e.pair ∙ mark_in-above es e.pair h.0 in
     len-insert pair_cmp_total (map.from_entries (marks_of es)) e.pair e.mark ∙ one_more _ _ _ (ap is_some absent) (len-marks es h.1)
 
 pub len-contents : (t : Tree) → IsAscending (entries t) → map.len (contents t) ≡ length (entries t)
@@ -90,7 +91,8 @@ pub length_of-empty : (t : Tree) → IsAscending (entries t) → contents t ≡ 
 length_of-empty t h e = sym (len-contents t h) ∙ ap map.len e ∙ len-empty pair_cmp Mark
 
 -- ---- one entry more
-mark_in-insert : (es : List Entry) (e : Entry) (q : Pair) → mark_in es e.pair ≡ None → mark_in (insert_entry es e) q ≡ cond (is_eq (order e.pair q)) (Some e.mark) (mark_in es q)
+mark_in-insert : (es : List Entry) (e : Entry) (q : Pair) → mark_in es e.pair ≡ None
+    → mark_in (insert_entry es e) q ≡ cond (is_eq (order e.pair q)) (Some e.mark) (mark_in es q)
 mark_in-insert [] e q h = refl
 mark_in-insert (x ∷ xs) e q h = pick (mark_in-insert xs e q) (is_below x.pair e.pair)
   where
@@ -98,19 +100,23 @@ mark_in-insert (x ∷ xs) e q h = pick (mark_in-insert xs e q) (is_below x.pair 
     not_here true m r h = cc
     not_here false m r h = (refl, h)
 
-    skip : (mark_in xs e.pair ≡ None → mark_in (insert_entry xs e) q ≡ cond (is_eq (order e.pair q)) (Some e.mark) (mark_in xs q)) → mark_in (x ∷ insert_entry xs e) q ≡ cond (is_eq (order e.pair q)) (Some e.mark) (mark_in (x ∷ xs) q)
+    skip : (mark_in xs e.pair ≡ None → mark_in (insert_entry xs e) q ≡ cond (is_eq (order e.pair q)) (Some e.mark) (mark_in xs q))
+        → mark_in (x ∷ insert_entry xs e) q ≡ cond (is_eq (order e.pair q)) (Some e.mark) (mark_in (x ∷ xs) q)
     skip rest =
         let n : (is_eq (order x.pair e.pair) ≡ false) × (mark_in xs e.pair ≡ None) = not_here (is_eq (order x.pair e.pair)) x.mark (mark_in xs e.pair) h in
         ap (cond (is_eq (order x.pair q)) (Some x.mark)) (rest n.1)
-        ∙ by_tie (λ b. cond b (Some x.mark) (cond (is_eq (order e.pair q)) (Some e.mark) (mark_in xs q)) ≡ cond (is_eq (order e.pair q)) (Some e.mark) (cond b (Some x.mark) (mark_in xs q))) x.pair q
+        ∙ by_tie (λ b. cond b (Some x.mark) (cond (is_eq (order e.pair q)) (Some e.mark) (mark_in xs q))
+        ≡ cond (is_eq (order e.pair q)) (Some e.mark) (cond b (Some x.mark) (mark_in xs q))) x.pair q
         (λ s. by_tie (λ c. Some x.mark ≡ cond c (Some e.mark) (Some x.mark)) e.pair q (λ f. absurd (differ x.pair e.pair n.0 (s ∙ sym f))) (λ _. refl))
         (λ _. refl)
 
-    pick : (mark_in xs e.pair ≡ None → mark_in (insert_entry xs e) q ≡ cond (is_eq (order e.pair q)) (Some e.mark) (mark_in xs q)) → (b : Bool) → mark_in (cond b (x ∷ insert_entry xs e) (e ∷ x ∷ xs)) q ≡ cond (is_eq (order e.pair q)) (Some e.mark) (mark_in (x ∷ xs) q)
+    pick : (mark_in xs e.pair ≡ None → mark_in (insert_entry xs e) q ≡ cond (is_eq (order e.pair q)) (Some e.mark) (mark_in xs q)) → (b : Bool)
+        → mark_in (cond b (x ∷ insert_entry xs e) (e ∷ x ∷ xs)) q ≡ cond (is_eq (order e.pair q)) (Some e.mark) (mark_in (x ∷ xs) q)
     pick rest true = skip rest
     pick rest false = refl
 
-pub contents-insert : (t u : Tree) (p : Pair) (m : Mark) → map.get (contents t) p ≡ None → entries u ≡ insert_entry (entries t) (record { pair = p; mark = m }) → contents u ≡ map.insert (contents t) p m
+pub contents-insert : (t u : Tree) (p : Pair) (m : Mark) → map.get (contents t) p ≡ None → entries u ≡ insert_entry (entries t) (record { pair = p; mark = m })
+    → contents u ≡ map.insert (contents t) p m
 contents-insert t u p m h e =
     let absent : mark_in (entries t) p ≡ None = sym (get-contents t p) ∙ h in
     same_map pair_cmp_total pair_cmp-IsAntisymmetric (contents u) (map.insert (contents t) p m) (λ q.
@@ -120,11 +126,14 @@ contents-insert t u p m h e =
     ∙ sym (get-insert pair_cmp_total (contents t) p m q))
 
 -- ---- another mark
-mark_in-with_mark : (es : List Entry) (p : Pair) (m : Mark) (q : Pair) → mark_in (with_mark es p m) q ≡ cond (is_eq (order p q)) (cond (is_some (mark_in es q)) (Some m) None) (mark_in es q)
+mark_in-with_mark : (es : List Entry) (p : Pair) (m : Mark) (q : Pair)
+    → mark_in (with_mark es p m) q ≡ cond (is_eq (order p q)) (cond (is_some (mark_in es q)) (Some m) None) (mark_in es q)
 mark_in-with_mark [] p m q = neither (is_eq (order p q))
 mark_in-with_mark (e ∷ es) p m q =
     rw (ap (λ (x : Pair). is_eq (order x q)) (kept (is_eq (order e.pair p))), mark_in-with_mark es p m q)
-    (by_tie (λ b. cond b (Some (cond (is_eq (order e.pair p)) (record { pair = e.pair; mark = m }) e).mark) (cond (is_eq (order p q)) (cond (is_some (mark_in es q)) (Some m) None) (mark_in es q)) ≡ cond (is_eq (order p q)) (cond (is_some (cond b (Some e.mark) (mark_in es q))) (Some m) None) (cond b (Some e.mark) (mark_in es q))) e.pair q
+    (by_tie (λ b. cond b (Some (cond (is_eq (order e.pair p)) (record { pair = e.pair; mark = m }) e).mark)
+    (cond (is_eq (order p q)) (cond (is_some (mark_in es q)) (Some m) None) (mark_in es q))
+    ≡ cond (is_eq (order p q)) (cond (is_some (cond b (Some e.mark) (mark_in es q))) (Some m) None) (cond b (Some e.mark) (mark_in es q))) e.pair q
     (λ s. here (is_eq (order e.pair p)) (is_eq (order p q)) (ap (λ x. is_eq (order x p)) s ∙ tie-sym q p))
     (λ _. refl))
   where
@@ -142,12 +151,14 @@ present_mark : (o : Option Mark) (m : Mark) → IsSome o → cond (is_some o) (S
 present_mark None m h = cc
 present_mark (Some n) m h = refl
 
-pub contents-with_mark : (t u : Tree) (p : Pair) (m : Mark) → IsSome (map.get (contents t) p) → entries u ≡ with_mark (entries t) p m → contents u ≡ map.insert (contents t) p m
+pub contents-with_mark : (t u : Tree) (p : Pair) (m : Mark) → IsSome (map.get (contents t) p) → entries u ≡ with_mark (entries t) p m
+    → contents u ≡ map.insert (contents t) p m
 contents-with_mark t u p m h e =
     let present : IsSome (mark_in (entries t) p) = subst IsSome (get-contents t p) h in
     same_map pair_cmp_total pair_cmp-IsAntisymmetric (contents u) (map.insert (contents t) p m) (λ q.
     get-contents u q ∙ ap (λ es. mark_in es q) e ∙ mark_in-with_mark (entries t) p m q
-    ∙ by_tie (λ b. cond b (cond (is_some (mark_in (entries t) q)) (Some m) None) (mark_in (entries t) q) ≡ cond b (Some m) (mark_in (entries t) q)) p q (λ s. present_mark (mark_in (entries t) q) m (subst (λ x. IsSome (mark_in (entries t) x)) s present)) (λ _. refl)
+    ∙ by_tie (λ b. cond b (cond (is_some (mark_in (entries t) q)) (Some m) None) (mark_in (entries t) q) ≡ cond b (Some m) (mark_in (entries t) q)) p q (λ s.
+    present_mark (mark_in (entries t) q) m (subst (λ x. IsSome (mark_in (entries t) x)) s present)) (λ _. refl)
     ∙ ap (λ b. cond b (Some m) (mark_in (entries t) q)) (tie-sym p q ∙ sym (tie-cmp q p))
     ∙ ap (cond (eq_by_cmp pair_cmp q p) (Some m)) (sym (get-contents t q))
     ∙ sym (get-insert pair_cmp_total (contents t) p m q))
@@ -156,9 +167,11 @@ contents-with_mark t u p m h e =
 mark_in-without : (es : List Entry) (p q : Pair) → mark_in (without es p) q ≡ cond (is_eq (order p q)) None (mark_in es q)
 mark_in-without [] p q = neither (is_eq (order p q))
 mark_in-without (e ∷ es) p q =
-    by_tie (λ b. mark_in (cond b (without es p) (e ∷ without es p)) q ≡ cond (is_eq (order p q)) None (cond (is_eq (order e.pair q)) (Some e.mark) (mark_in es q))) e.pair p
+    by_tie (λ b. mark_in (cond b (without es p) (e ∷ without es p)) q
+    ≡ cond (is_eq (order p q)) None (cond (is_eq (order e.pair q)) (Some e.mark) (mark_in es q))) e.pair p
     (λ s. mark_in-without es p q ∙ gone (is_eq (order p q)) (is_eq (order e.pair q)) (ap (λ x. is_eq (order x q)) (sym s)))
-    (λ d. ap (cond (is_eq (order e.pair q)) (Some e.mark)) (mark_in-without es p q) ∙ stays (is_eq (order e.pair q)) (is_eq (order p q)) (λ a b. differ e.pair p d (tied e.pair q a ∙ sym (tied p q b))))
+    (λ d. ap (cond (is_eq (order e.pair q)) (Some e.mark)) (mark_in-without es p q)
+    ∙ stays (is_eq (order e.pair q)) (is_eq (order p q)) (λ a b. differ e.pair p d (tied e.pair q a ∙ sym (tied p q b))))
   where
     gone : (a b : Bool) → a ≡ b → cond a None (mark_in es q) ≡ cond a None (cond b (Some e.mark) (mark_in es q))
     gone true b f = refl
@@ -232,14 +245,16 @@ first_after (x ∷ xs) p e a h = pick (first_after xs p e a.1) (is_below p x.pai
       between = λ q c d. by_tie (λ f. cond f (Some x.mark) (mark_in xs q) ≡ None) x.pair q (λ s. absurd (apart b q c s)) (λ _. r.between q c d);
     }
 
-    pick : (first_above xs p ≡ Some e → IsFirstAfter xs p e) → (b : Bool) → is_below p x.pair ≡ b → cond b (Some x) (first_above xs p) ≡ Some e → IsFirstAfter (x ∷ xs) p e
+    pick : (first_above xs p ≡ Some e → IsFirstAfter xs p e) → (b : Bool) → is_below p x.pair ≡ b → cond b (Some x) (first_above xs p) ≡ Some e
+        → IsFirstAfter (x ∷ xs) p e
     pick r true b f = here b (same_entry f)
     pick r false b f = later b (r f)
 
 pub least-none : (t : Tree) (p : Pair) → first_above (entries t) p ≡ None → IsLeastAbove (contents t) (Some p) None
 least-none t p h = λ q b. get-contents t q ∙ none_after (entries t) p q h (below_of p q b)
 
-pub least-after : (t : Tree) (p : Pair) (e : Entry) → IsAscending (entries t) → first_above (entries t) p ≡ Some e → IsLeastAbove (contents t) (Some p) (Some (e.pair, e.mark))
+pub least-after : (t : Tree) (p : Pair) (e : Entry) → IsAscending (entries t) → first_above (entries t) p ≡ Some e
+    → IsLeastAbove (contents t) (Some p) (Some (e.pair, e.mark))
 least-after t p e a h =
     let f : IsFirstAfter (entries t) p e = first_after (entries t) p e a h in
     (less_pair p e.pair f.below, get-contents t e.pair ∙ f.found, λ q b c. get-contents t q ∙ f.between q (below_of p q b) (below_of q e.pair c))

@@ -1,5 +1,6 @@
 -- Lemmas on runs of entries.
-use Rattle.std.proofs.Common.{◌≡◌, ℕ, ◌+◌, ◌<◌, Bool, true, false, not, cond, ◌==◌, List, [], ◌∷◌, ◌++◌, length, take, drop, get_or, Some, None, refl, sym, ap, subst, ◌∙◌, arith, zero, suc, append_assoc, length-append}
+use Rattle.std.proofs.Common.{◌≡◌, ℕ, ◌+◌, ◌<◌, Bool, true, false, not, cond, ◌==◌, List, [], ◌∷◌, ◌++◌, length, take, drop, get_or, Some, None, refl, sym, ap}
+use Rattle.std.proofs.Common.{subst, ◌∙◌, arith, zero, suc, append_assoc, length-append}
 use Rattle.std.proofs.lemmas.Bool.Decides.{nat_tests}
 use Rattle.std.proofs.lemmas.List.{append-nil}
 use Rattle.std.proofs.Math.Seq.{drop-cons}
@@ -42,7 +43,8 @@ found_here : (xs ys : List Entry) (p : Pair) → 0 < length (all_above xs p) →
 found_here [] ys p h = absurd (omega arith)
 found_here (x ∷ xs) ys p h = pick (is_below p x.pair) h (found_here xs ys p)
   where
-    pick : (b : Bool) → 0 < length (cond b (x ∷ xs) (all_above xs p)) → (0 < length (all_above xs p) → all_above (xs ++ ys) p ≡ all_above xs p ++ ys) → cond b (x ∷ (xs ++ ys)) (all_above (xs ++ ys) p) ≡ cond b (x ∷ xs) (all_above xs p) ++ ys
+    pick : (b : Bool) → 0 < length (cond b (x ∷ xs) (all_above xs p)) → (0 < length (all_above xs p) → all_above (xs ++ ys) p ≡ all_above xs p ++ ys)
+        → cond b (x ∷ (xs ++ ys)) (all_above (xs ++ ys) p) ≡ cond b (x ∷ xs) (all_above xs p) ++ ys
     pick true h r = refl
     pick false h r = r h
 
@@ -50,7 +52,8 @@ not_here : (xs ys : List Entry) (p : Pair) → all_above xs p ≡ [] → all_abo
 not_here [] ys p h = refl
 not_here (x ∷ xs) ys p h = pick (is_below p x.pair) h (not_here xs ys p)
   where
-    pick : (b : Bool) → cond b (x ∷ xs) (all_above xs p) ≡ [] → (all_above xs p ≡ [] → all_above (xs ++ ys) p ≡ all_above ys p) → cond b (x ∷ (xs ++ ys)) (all_above (xs ++ ys) p) ≡ all_above ys p
+    pick : (b : Bool) → cond b (x ∷ xs) (all_above xs p) ≡ [] → (all_above xs p ≡ [] → all_above (xs ++ ys) p ≡ all_above ys p)
+        → cond b (x ∷ (xs ++ ys)) (all_above (xs ++ ys) p) ≡ all_above ys p
     pick true h r = cc
     pick false h r = r h
 
@@ -93,15 +96,18 @@ front_some : (all front : List Entry) → IsFront all front → 0 < length front
 front_some all front f some = omega (arith, some, ap length f.whole ∙ length-append front f.rest)
 
 -- ---- around a child
-module _ {A : Type 0} {t u : Tree} {cs : List (Child A)} {k : ℕ} {c : Child A} {p : Pair} (a : IsAt t u cs k c p) (found : List Entry) (f : IsFront (all_above (entries u) p) found) where
+module _ {A : Type 0} {t u : Tree} {cs : List (Child A)} {k : ℕ} {c : Child A} {p : Pair} (a : IsAt t u cs k c p) (found : List Entry)
+    (f : IsFront (all_above (entries u) p) found) where
   abbrev behind : List Entry
   behind = all_entries (drop (suc k) cs)
 
   from_child : all_above (entries t) p ≡ all_above (entries u ++ behind) p
-  from_child = ap (λ es. all_above es p) (around a) ∙ past_below (all_entries (take k cs)) (entries u ++ behind) p (around-left cs p k a.labelled a.ascending a.place)
+  from_child = ap (λ es. all_above es p) (around a)
+      ∙ past_below (all_entries (take k cs)) (entries u ++ behind) p (around-left cs p k a.labelled a.ascending a.place)
 
   from_next : length found ≡ 0 → all_above (entries t) p ≡ behind
-  from_next none = from_child ∙ not_here (entries u) behind p (f.none (nothing found none)) ∙ of_all behind p (around-right cs p k a.labelled a.ascending a.place)
+  from_next none = from_child ∙ not_here (entries u) behind p (f.none (nothing found none))
+      ∙ of_all behind p (around-right cs p k a.labelled a.ascending a.place)
 
   pub front_found : 0 < length found → IsFront (all_above (entries t) p) found
   front_found some =
@@ -120,13 +126,16 @@ module _ {A : Type 0} {t u : Tree} {cs : List (Child A)} {k : ℕ} {c : Child A}
       all_past (c ∷ d ∷ cs) zero h = absurd (omega arith)
       all_past (c ∷ cs) (suc k) h = all_past cs k (omega arith)
 
-  pub front_next : (v : Tree) (b : Child A) (run : List Entry) → length found ≡ 0 → k + 1 < length cs → b ≡ get_or cs (k + 1) b → v ≡ b.node.value → 0 < length (entries v) → IsFront (entries v) run → IsFront (all_above (entries t) p) run
+  pub front_next : (v : Tree) (b : Child A) (run : List Entry) → length found ≡ 0 → k + 1 < length cs → b ≡ get_or cs (k + 1) b → v ≡ b.node.value
+      → 0 < length (entries v) → IsFront (entries v) run → IsFront (all_above (entries t) p) run
   front_next v b run none l is tree some r =
       let one : k + 1 ≡ suc k = omega arith in
       let is' : b ≡ get_or cs (suc k) b = rw one at is in
-      let first : behind ≡ entries (get_or cs (suc k) b).node.value ++ all_entries (drop (suc (suc k)) cs) = ap all_entries (drop-cons cs (suc k) b (omega (arith, l))) in
+      let first : behind ≡ entries (get_or cs (suc k) b).node.value ++ all_entries (drop (suc (suc k)) cs) =
+      ap all_entries (drop-cons cs (suc k) b (omega (arith, l))) in
       let own : entries (get_or cs (suc k) b).node.value ≡ entries v = ap (λ (x : Child A). entries x.node.value) (sym is') ∙ ap entries (sym tree) in
-      let whole : all_above (entries t) p ≡ entries v ++ all_entries (drop (suc (suc k)) cs) = from_next none ∙ first ∙ ap (λ es. es ++ all_entries (drop (suc (suc k)) cs)) own in
+      let whole : all_above (entries t) p ≡ entries v ++ all_entries (drop (suc (suc k)) cs) = from_next none ∙ first
+      ∙ ap (λ es. es ++ all_entries (drop (suc (suc k)) cs)) own in
       subst (λ es. IsFront es run) (sym whole) (front_longer (entries v) run _ r (run_some run r))
     where
       run_some : (run : List Entry) → IsFront (entries v) run → 0 < length run
@@ -138,7 +147,8 @@ below_first : (es : List Entry) (p : Pair) (e : Entry) (tail : List Entry) → a
 below_first [] p e tail h = cc
 below_first (x ∷ xs) p e tail h = pick (below_first xs p e tail) (is_below p x.pair) refl h
   where
-    pick : (all_above xs p ≡ e ∷ tail → is_below p e.pair ≡ true) → (b : Bool) → is_below p x.pair ≡ b → cond b (x ∷ xs) (all_above xs p) ≡ e ∷ tail → is_below p e.pair ≡ true
+    pick : (all_above xs p ≡ e ∷ tail → is_below p e.pair ≡ true) → (b : Bool) → is_below p x.pair ≡ b → cond b (x ∷ xs) (all_above xs p) ≡ e ∷ tail
+        → is_below p e.pair ≡ true
     pick r true b h = let same : x ≡ e = cc in subst (λ y. is_below p y.pair ≡ true) same b
     pick r false b h = r h
 
@@ -157,7 +167,8 @@ above-next (x ∷ xs) p e tail a h = pick (above-next xs p e tail a.1) (is_below
     not_above n up true is = let no : is_below p x.pair ≡ true = below_trans p e.pair x.pair up is in cc
     not_above n up false is = refl
 
-    pick : (all_above xs p ≡ e ∷ tail → all_above xs e.pair ≡ tail) → (b : Bool) → is_below p x.pair ≡ b → cond b (x ∷ xs) (all_above xs p) ≡ e ∷ tail → all_above (x ∷ xs) e.pair ≡ tail
+    pick : (all_above xs p ≡ e ∷ tail → all_above xs e.pair ≡ tail) → (b : Bool) → is_below p x.pair ≡ b → cond b (x ∷ xs) (all_above xs p) ≡ e ∷ tail
+        → all_above (x ∷ xs) e.pair ≡ tail
     pick r true b h =
         let same : x ≡ e = cc in
         let rest : xs ≡ tail = cc in
@@ -166,11 +177,16 @@ above-next (x ∷ xs) p e tail a h = pick (above-next xs p e tail a.1) (is_below
         let n : is_below e.pair x.pair ≡ false = not_above b (below_first xs p e tail h) (is_below e.pair x.pair) refl in
         rw n (r h)
 
-run_after : (t : Tree) (p : Pair) (run rest : List Entry) → IsAscending (entries t) → all_above (entries t) p ≡ run ++ rest → IsRunAbove (contents t) (Some p) run
+run_after : (t : Tree) (p : Pair) (run rest : List Entry) → IsAscending (entries t) → all_above (entries t) p ≡ run ++ rest
+    → IsRunAbove (contents t) (Some p) run
 run_after t p [] rest a h = tt
-run_after t p (e ∷ es) rest a h = (least-after t p e a (above-first (entries t) p ∙ ap first_of h), run_after t e.pair es rest a (above-next (entries t) p e (es ++ rest) a h))
+run_after t p (e ∷ es) rest a h = (
+  least-after t p e a (above-first (entries t) p ∙ ap first_of h),
+  run_after t e.pair es rest a (above-next (entries t) p e (es ++ rest) a h),
+)
 
-pub run-after : (t : Tree) (p : Pair) (run : List Entry) → IsAscending (entries t) → IsFront (all_above (entries t) p) run → IsRunAbove (contents t) (Some p) run
+pub run-after : (t : Tree) (p : Pair) (run : List Entry) → IsAscending (entries t) → IsFront (all_above (entries t) p) run
+    → IsRunAbove (contents t) (Some p) run
 run-after t p run a f = run_after t p run f.rest a f.whole
 
 pub none-after : (t : Tree) (p : Pair) (run : List Entry) → IsFront (all_above (entries t) p) run → run ≡ [] → IsLeastAbove (contents t) (Some p) None

@@ -24,13 +24,15 @@ leaf_insert (leaf es) e k l f = ap (λ n. insert es n e) f ∙ insert-at_place e
 leaf_insert (branch f) e k l g = absurd l
 
 -- a pair that is present stands at its place
-pub leaf_stands : (t : Tree) (p : Pair) (k : ℕ) → IsLeaf t → k ≡ place_in t p → IsAscending (entries t) → IsSome (mark_in (entries t) p) → (k < count t) × (remove (entries t) k ≡ without (entries t) p)
+pub leaf_stands : (t : Tree) (p : Pair) (k : ℕ) → IsLeaf t → k ≡ place_in t p → IsAscending (entries t) → IsSome (mark_in (entries t) p) → (k < count t)
+    × (remove (entries t) k ≡ without (entries t) p)
 leaf_stands (leaf es) p k l e a s =
     let here = stands_parts es p _ (stands es p a s) in
     rw e (here.0, here.1)
 leaf_stands (branch f) p k l e a s = absurd l
 
-pub leaf_marked : (t : Tree) (es : List Entry) (p : Pair) (m : Mark) (e : Entry) (k : ℕ) → t ≡ leaf es → k ≡ place_in t p → IsAscending (entries t) → IsSome (mark_in (entries t) p) → e ≡ get_or es k e → set es k (record { pair = e.pair; mark = m }) ≡ with_mark (entries t) p m
+pub leaf_marked : (t : Tree) (es : List Entry) (p : Pair) (m : Mark) (e : Entry) (k : ℕ) → t ≡ leaf es → k ≡ place_in t p → IsAscending (entries t)
+    → IsSome (mark_in (entries t) p) → e ≡ get_or es k e → set es k (record { pair = e.pair; mark = m }) ≡ with_mark (entries t) p m
 leaf_marked t es p m e k seen place a s here =
     let at_place : k ≡ place_of es p = place ∙ ap (λ u. place_in u p) seen in
     let a' : IsAscending es = rw seen at a in

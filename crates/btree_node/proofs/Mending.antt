@@ -24,7 +24,8 @@ pub record IsCut {A : Type 0} (cs rest : List (Child A)) (l : ℕ) (c r : Child 
   pub pair : ArePair c.node.value r.node.value
   pub labelled : AreLabelled cs
 
-pub cut_at : {A : Type 0} (cs rest : List (Child A)) (l n : ℕ) (c r : Child A) → l + 1 < n → length cs ≡ n → r ≡ get_or cs (l + 1) r → rest ≡ remove cs (l + 1) → c ≡ get_or rest l c → AreNeighbours l cs → AreLabelled cs → IsCut cs rest l c r
+pub cut_at : {A : Type 0} (cs rest : List (Child A)) (l n : ℕ) (c r : Child A) → l + 1 < n → length cs ≡ n → r ≡ get_or cs (l + 1) r → rest ≡ remove cs (l + 1)
+    → c ≡ get_or rest l c → AreNeighbours l cs → AreLabelled cs → IsCut cs rest l c r
 cut_at cs rest l n c r h m e f g a b =
     let one : l + 1 ≡ suc l = omega arith in
     let k : suc l < length cs = omega (arith, h, m) in
@@ -43,35 +44,47 @@ left_label {cs = cs} {l = l} {c = c} a =
 one_row : {A : Type 0} {cs rest : List (Child A)} {l : ℕ} {c r : Child A} (b : Child A) → IsCut cs rest l c r → set rest l b ≡ put_for l (b ∷ []) cs
 one_row {cs = cs} {l = l} b a = ap (λ xs. set xs l b) a.rest_is ∙ splice.set_removed cs l b a.in_range
 
-two_row : {A : Type 0} {cs rest : List (Child A)} {l : ℕ} {c r : Child A} (b w : Child A) → IsCut cs rest l c r → insert (set rest l b) (l + 1) w ≡ put_for l (b ∷ w ∷ []) cs
+two_row : {A : Type 0} {cs rest : List (Child A)} {l : ℕ} {c r : Child A} (b w : Child A) → IsCut cs rest l c r
+    → insert (set rest l b) (l + 1) w ≡ put_for l (b ∷ w ∷ []) cs
 two_row {cs = cs} {rest} {l} b w a =
     let one : l + 1 ≡ suc l = omega arith in
     ap (λ k. insert (set rest l b) k w) one ∙ ap (λ xs. insert (set xs l b) (suc l) w) a.rest_is ∙ splice.insert_removed cs l b w a.in_range
 
-both : {A : Type 0} {cs rest : List (Child A)} {l : ℕ} {c r : Child A} → IsCut cs rest l c r → entries c.node.value ++ entries r.node.value ≡ entries (get_or cs l c).node.value ++ entries (get_or cs (suc l) r).node.value
-both {cs = cs} {l = l} {c} {r} a = ap (λ x. entries x.node.value ++ entries r.node.value) a.left_is ∙ ap (λ x. entries (get_or cs l c).node.value ++ entries x.node.value) a.right_is
+both : {A : Type 0} {cs rest : List (Child A)} {l : ℕ} {c r : Child A} → IsCut cs rest l c r
+    → entries c.node.value ++ entries r.node.value ≡ entries (get_or cs l c).node.value ++ entries (get_or cs (suc l) r).node.value
+both {cs = cs} {l = l} {c} {r} a = ap (λ x. entries x.node.value ++ entries r.node.value) a.left_is
+    ∙ ap (λ x. entries (get_or cs l c).node.value ++ entries x.node.value) a.right_is
 
 same_level : {A : Type 0} {cs rest : List (Child A)} {l : ℕ} {c r : Child A} (h : ℕ) → IsCut cs rest l c r → AreTreesBut h l cs → depth c.node.value ≡ h
 same_level {cs = cs} {l = l} {c = c} h a t =
     let own : IsTree h c.node.value = subst (λ x. IsTree h x.node.value) (sym a.left_is) (splice.but_level h cs l c t) in
     depth-tree h c.node.value own (omega (arith, a.pair.2))
 
-pub one_entries : {A : Type 0} {cs rest : List (Child A)} {l : ℕ} {c r : Child A} (b : Child A) → IsCut cs rest l c r → entries b.node.value ++ [] ≡ entries c.node.value ++ entries r.node.value → all_entries (set rest l b) ≡ all_entries cs
+pub one_entries : {A : Type 0} {cs rest : List (Child A)} {l : ℕ} {c r : Child A} (b : Child A) → IsCut cs rest l c r
+    → entries b.node.value ++ [] ≡ entries c.node.value ++ entries r.node.value → all_entries (set rest l b) ≡ all_entries cs
 one_entries {cs = cs} {l = l} {c} {r} b a e = ap all_entries (one_row b a) ∙ splice.splice_entries cs (b ∷ []) l c r a.in_range (e ∙ both a)
 
-pub two_entries : {A : Type 0} {cs rest : List (Child A)} {l : ℕ} {c r : Child A} (b w : Child A) → IsCut cs rest l c r → entries b.node.value ++ entries w.node.value ≡ entries c.node.value ++ entries r.node.value → all_entries (insert (set rest l b) (l + 1) w) ≡ all_entries cs
+pub two_entries : {A : Type 0} {cs rest : List (Child A)} {l : ℕ} {c r : Child A} (b w : Child A) → IsCut cs rest l c r
+    → entries b.node.value ++ entries w.node.value ≡ entries c.node.value ++ entries r.node.value
+    → all_entries (insert (set rest l b) (l + 1) w) ≡ all_entries cs
 two_entries {cs = cs} {l = l} {c} {r} b w a e =
     ap all_entries (two_row b w a)
     ∙ splice.splice_entries cs (b ∷ w ∷ []) l c r a.in_range (ap (λ x. entries b.node.value ++ x) (append-nil (entries w.node.value)) ∙ e ∙ both a)
 
-pub one_labelled : {A : Type 0} {cs rest : List (Child A)} {l : ℕ} {c r : Child A} (b : Child A) → IsCut cs rest l c r → least_of (entries b.node.value) ≡ Some b.least → AreLabelled (set rest l b)
+pub one_labelled : {A : Type 0} {cs rest : List (Child A)} {l : ℕ} {c r : Child A} (b : Child A) → IsCut cs rest l c r
+    → least_of (entries b.node.value) ≡ Some b.least → AreLabelled (set rest l b)
 one_labelled {cs = cs} {l = l} b a e = rw (one_row b a) (splice.splice_labelled cs (b ∷ []) l a.labelled (e, tt))
 
-pub two_labelled : {A : Type 0} {cs rest : List (Child A)} {l : ℕ} {c r : Child A} (b w : Child A) → IsCut cs rest l c r → least_of (entries b.node.value) ≡ Some b.least → least_of (entries w.node.value) ≡ Some w.least → AreLabelled (insert (set rest l b) (l + 1) w)
+pub two_labelled : {A : Type 0} {cs rest : List (Child A)} {l : ℕ} {c r : Child A} (b w : Child A) → IsCut cs rest l c r
+    → least_of (entries b.node.value) ≡ Some b.least → least_of (entries w.node.value) ≡ Some w.least → AreLabelled (insert (set rest l b) (l + 1) w)
 two_labelled {cs = cs} {l = l} b w a e f = rw (two_row b w a) (splice.splice_labelled cs (b ∷ w ∷ []) l a.labelled (e, (f, tt)))
 
-pub one_trees : {A : Type 0} {cs rest : List (Child A)} {l : ℕ} {c r : Child A} (b : Child A) → IsCut cs rest l c r → IsTree (depth c.node.value) b.node.value → 16 ≤ count b.node.value → (h : ℕ) → AreTreesBut h l cs → AreTrees h (forest_of (trees (set rest l b)))
+pub one_trees : {A : Type 0} {cs rest : List (Child A)} {l : ℕ} {c r : Child A} (b : Child A) → IsCut cs rest l c r → IsTree (depth c.node.value) b.node.value
+    → 16 ≤ count b.node.value → (h : ℕ) → AreTreesBut h l cs → AreTrees h (forest_of (trees (set rest l b)))
 one_trees {cs = cs} {l = l} b a v n h t = rw (one_row b a) (splice.splice_trees h cs (b ∷ []) l t (n, rw (same_level h a t) at v, tt))
 
-pub two_trees : {A : Type 0} {cs rest : List (Child A)} {l : ℕ} {c r : Child A} (b w : Child A) → IsCut cs rest l c r → IsTree (depth c.node.value) b.node.value → 16 ≤ count b.node.value → IsTree (depth c.node.value) w.node.value → 16 ≤ count w.node.value → (h : ℕ) → AreTreesBut h l cs → AreTrees h (forest_of (trees (insert (set rest l b) (l + 1) w)))
-two_trees {cs = cs} {l = l} b w a v n u m h t = rw (two_row b w a) (splice.splice_trees h cs (b ∷ w ∷ []) l t (n, rw (same_level h a t) at v, (m, rw (same_level h a t) at u, tt)))
+pub two_trees : {A : Type 0} {cs rest : List (Child A)} {l : ℕ} {c r : Child A} (b w : Child A) → IsCut cs rest l c r → IsTree (depth c.node.value) b.node.value
+    → 16 ≤ count b.node.value → IsTree (depth c.node.value) w.node.value → 16 ≤ count w.node.value → (h : ℕ) → AreTreesBut h l cs
+    → AreTrees h (forest_of (trees (insert (set rest l b) (l + 1) w)))
+two_trees {cs = cs} {l = l} b w a v n u m h t = rw (two_row b w a)
+    (splice.splice_trees h cs (b ∷ w ∷ []) l t (n, rw (same_level h a t) at v, (m, rw (same_level h a t) at u, tt)))

@@ -22,7 +22,8 @@ begins c p l = of_entries (entries c.node.value) l
     of_entries [] l = cc
     of_entries (e ∷ es) l = let same : e.pair ≡ c.least = cc in rw same
 
-path_after : {A : Type 0} (cs : List (Child A)) (p : Pair) (k : ℕ) (d : Child A) → AreLabelled cs → place_of p cs ≡ suc k → forest_path (forest_of (trees cs)) p ≡ path_of (get_or cs k d).node.value p
+path_after : {A : Type 0} (cs : List (Child A)) (p : Pair) (k : ℕ) (d : Child A) → AreLabelled cs → place_of p cs ≡ suc k
+    → forest_path (forest_of (trees cs)) p ≡ path_of (get_or cs k d).node.value p
 path_after [] p k d l e = cc
 path_after (c ∷ []) p zero d l e = refl
 path_after (c ∷ []) p (suc k) d l e = let e' : 0 ≡ suc k = one_zero (is_below p c.least) 0 (suc k) e in absurd (omega arith)
@@ -39,14 +40,17 @@ before_next : (es ys : List Entry) (p q : Pair) → least_of es ≡ Some q → A
 before_next [] ys p q e h = cc
 before_next (x ∷ es) ys p q e h = h.0
 
-path_first : {A : Type 0} (cs : List (Child A)) (p : Pair) (d : Child A) → AreLabelled cs → 0 < length cs → AllAbove p (all_entries cs) → forest_path (forest_of (trees cs)) p ≡ path_of (get_or cs 0 d).node.value p
+path_first : {A : Type 0} (cs : List (Child A)) (p : Pair) (d : Child A) → AreLabelled cs → 0 < length cs → AllAbove p (all_entries cs)
+    → forest_path (forest_of (trees cs)) p ≡ path_of (get_or cs 0 d).node.value p
 path_first [] p d l h a = absurd (omega arith)
 path_first (c ∷ []) p d l h a = refl
 path_first (c ∷ b ∷ cs) p d l h a =
-    let h : begins_after (entries b.node.value) p ≡ true = before_next (entries b.node.value) (all_entries cs) p b.least l.1.0 (AllAbove-right p (entries c.node.value) (all_entries (b ∷ cs)) a) in
+    let h : begins_after (entries b.node.value) p ≡ true =
+    before_next (entries b.node.value) (all_entries cs) p b.least l.1.0 (AllAbove-right p (entries c.node.value) (all_entries (b ∷ cs)) a) in
     rw h
 
-path_at : {A : Type 0} (cs : List (Child A)) (p : Pair) (k n : ℕ) (d : Child A) → AreLabelled cs → IsAscending (all_entries cs) → place_of p cs ≡ n → k ≡ n - 1 → k < length cs → forest_path (forest_of (trees cs)) p ≡ path_of (get_or cs k d).node.value p
+path_at : {A : Type 0} (cs : List (Child A)) (p : Pair) (k n : ℕ) (d : Child A) → AreLabelled cs → IsAscending (all_entries cs) → place_of p cs ≡ n → k ≡ n - 1
+    → k < length cs → forest_path (forest_of (trees cs)) p ≡ path_of (get_or cs k d).node.value p
 path_at cs p k zero d l a e z h =
     let first : k ≡ 0 = omega arith in
     rw first (path_first cs p d l (omega arith) (above_all cs p l a e))
@@ -54,7 +58,8 @@ path_at cs p k (suc n) d l a e z h =
     let same : k ≡ n = omega arith in
     rw same (path_after cs p n d l e)
 
-pub path_child : {A : Type 0} (cs : List (Child A)) (p : Pair) (k : ℕ) (d : Child A) → AreLabelled cs → IsAscending (all_entries cs) → k ≡ place_of p cs - 1 → k < length cs → forest_path (forest_of (trees cs)) p ≡ path_of (get_or cs k d).node.value p
+pub path_child : {A : Type 0} (cs : List (Child A)) (p : Pair) (k : ℕ) (d : Child A) → AreLabelled cs → IsAscending (all_entries cs) → k ≡ place_of p cs - 1
+    → k < length cs → forest_path (forest_of (trees cs)) p ≡ path_of (get_or cs k d).node.value p
 path_child cs p k d l a z h = path_at cs p k (place_of p cs) d l a refl z h
 
 -- the way through t goes on through u
@@ -74,7 +79,8 @@ pub path_head : (t : Tree) (p : Pair) (ks : List ℕ) → ks ≡ path_of t p →
 path_head (leaf es) p ks e = ap (λ w. get_or w 0 0) e
 path_head (branch f) p ks e = ap (λ w. get_or w 0 0) e
 
-pub path_rest : {A : Type 0} {t u : Tree} {cs : List (Child A)} {k : ℕ} {c : Child A} {p : Pair} (ks : List ℕ) → IsAt t u cs k c p → ks ≡ path_of t p → take (length ks - 1) (drop 1 ks) ≡ path_of u p
+pub path_rest : {A : Type 0} {t u : Tree} {cs : List (Child A)} {k : ℕ} {c : Child A} {p : Pair} (ks : List ℕ) → IsAt t u cs k c p → ks ≡ path_of t p
+    → take (length ks - 1) (drop 1 ks) ≡ path_of u p
 path_rest {u = u} {k = k} {p = p} ks a e = rw (e ∙ path_through a) (ap (λ n. take n (path_of u p)) (omega arith) ∙ take_all (path_of u p))
   where
     take_all : (xs : List ℕ) → take (length xs) xs ≡ xs

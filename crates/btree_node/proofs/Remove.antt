@@ -1,5 +1,6 @@
 -- What a removal does to entries and to a row of children.
-use Rattle.std.proofs.Common.{◌≡◌, ℕ, ◌+◌, ◌-◌, ◌<◌, ◌≤◌, Bool, true, false, cond, List, [], ◌∷◌, ◌++◌, length, take, drop, get_or, Option, Some, None, refl, sym, ap, subst, ◌∙◌, arith, zero, suc, length-append}
+use Rattle.std.proofs.Common.{◌≡◌, ℕ, ◌+◌, ◌-◌, ◌<◌, ◌≤◌, Bool, true, false, cond, List, [], ◌∷◌, ◌++◌, length, take, drop, get_or, Option, Some, None, refl}
+use Rattle.std.proofs.Common.{sym, ap, subst, ◌∙◌, arith, zero, suc, length-append}
 use Rattle.std.specs.Prelude.{IsSome}
 use Rattle.std.proofs.Math.ListN.{set}
 use Rattle.std.specs.List.{remove, prefix_len}
@@ -91,24 +92,28 @@ pub stands : (es : List Entry) (p : Pair) → IsAscending es → IsSome (mark_in
 stands [] p a s = cc
 stands (x ∷ xs) p a s = pick (λ m. stands xs p a.1 m) (is_below x.pair p) refl
   where
-    pick : (IsSome (mark_in xs p) → Stands xs p (prefix_len (λ e. is_below e.pair p) xs)) → (v : Bool) → is_below x.pair p ≡ v → Stands (x ∷ xs) p (cond v (1 + prefix_len (λ e. is_below e.pair p) xs) 0)
+    pick : (IsSome (mark_in xs p) → Stands xs p (prefix_len (λ e. is_below e.pair p) xs)) → (v : Bool) → is_below x.pair p ≡ v
+        → Stands (x ∷ xs) p (cond v (1 + prefix_len (λ e. is_below e.pair p) xs) 0)
     pick r true b =
         let e : is_eq (order x.pair p) ≡ false = below-differs x.pair p b in
         stands_next x xs p _ e (r (rw e at s))
     pick r false b = stands_here x xs p a.0 s b
 
-pub stands_parts : (es : List Entry) (p : Pair) (n : ℕ) → Stands es p n → (n < length es) × (remove es n ≡ without es p) × (length (without es p) + 1 ≡ length es)
+pub stands_parts : (es : List Entry) (p : Pair) (n : ℕ) → Stands es p n → (n < length es) × (remove es n ≡ without es p)
+    × (length (without es p) + 1 ≡ length es)
 stands_parts es p n s = s
 
 -- ---- the child that has the pair
-pub place_some : {A : Type 0} (cs : List (Child A)) (p : Pair) → AreLabelled cs → IsAscending (all_entries cs) → IsSome (mark_in (all_entries cs) p) → 0 < place_of p cs
+pub place_some : {A : Type 0} (cs : List (Child A)) (p : Pair) → AreLabelled cs → IsAscending (all_entries cs) → IsSome (mark_in (all_entries cs) p)
+    → 0 < place_of p cs
 place_some cs p l a s = pick (place_of p cs) refl
   where
     pick : (n : ℕ) → place_of p cs ≡ n → 0 < n
     pick zero e = no_mark (mark_in (all_entries cs) p) (mark_in-before cs p l a e) s
     pick (suc n) e = omega arith
 
-pub child_present : {A : Type 0} {t u : Tree} {cs : List (Child A)} {k : ℕ} {c : Child A} {p : Pair} → IsAt t u cs k c p → IsSome (mark_in (entries t) p) → IsSome (mark_in (entries u) p)
+pub child_present : {A : Type 0} {t u : Tree} {cs : List (Child A)} {k : ℕ} {c : Child A} {p : Pair} → IsAt t u cs k c p → IsSome (mark_in (entries t) p)
+    → IsSome (mark_in (entries u) p)
 child_present {t} {u} {cs} {k} {c} {p} a s =
     let some : 0 < place_of p cs = place_some cs p a.labelled a.ascending (rw a.seen at s) in
     let z : place_of p cs ≡ suc k = omega (arith, some, a.place) in
@@ -128,32 +133,40 @@ pub record IsLess {A : Type 0} (u : Tree) (b : Child A) (p : Pair) : Type 0 wher
   pub level : IsTree (depth u) b.node.value
   pub count_is : count u ≤ count b.node.value + 1
 
-pub less_entries : {A : Type 0} {t u : Tree} {cs : List (Child A)} {k : ℕ} {c b : Child A} {p : Pair} → IsAt t u cs k c p → IsLess u b p → all_entries (set cs k b) ≡ without (entries t) p
+pub less_entries : {A : Type 0} {t u : Tree} {cs : List (Child A)} {k : ℕ} {c b : Child A} {p : Pair} → IsAt t u cs k c p → IsLess u b p
+    → all_entries (set cs k b) ≡ without (entries t) p
 less_entries {t} {u} {cs} {k} {c} {b} {p} a n =
     let left = all_entries (take k cs) in
     let right = all_entries (drop (suc k) cs) in
     let same : (get_or cs k c).node.value ≡ u = ap (λ x. x.node.value) (sym a.child) ∙ sym a.tree in
     let whole : entries t ≡ left ++ (entries u ++ right) = ap entries a.seen ∙ entries-around cs k c a.in_range ∙ ap (λ x. left ++ (entries x ++ right)) same in
     entries-set cs k b a.in_range ∙ ap (λ w. left ++ (w ++ right)) n.entries_are
-    ∙ sym (ap (λ w. without w p) whole ∙ without-right left (entries u ++ right) p (around-left cs p k a.labelled a.ascending a.place) ∙ ap (λ w. left ++ w) (without-left (entries u) right p (around-right cs p k a.labelled a.ascending a.place)))
+    ∙ sym (ap (λ w. without w p) whole ∙ without-right left (entries u ++ right) p (around-left cs p k a.labelled a.ascending a.place)
+    ∙ ap (λ w. left ++ w) (without-left (entries u) right p (around-right cs p k a.labelled a.ascending a.place)))
 
-pub less_labelled : {A : Type 0} {t u : Tree} {cs : List (Child A)} {k : ℕ} {c b : Child A} {p : Pair} → IsAt t u cs k c p → IsLess u b p → AreLabelled (set cs k b)
+pub less_labelled : {A : Type 0} {t u : Tree} {cs : List (Child A)} {k : ℕ} {c b : Child A} {p : Pair} → IsAt t u cs k c p → IsLess u b p
+    → AreLabelled (set cs k b)
 less_labelled {cs = cs} {k} {b = b} a n = AreLabelled-set cs k b a.labelled n.label
 
-own_level : {A : Type 0} {t u : Tree} {cs : List (Child A)} {k : ℕ} {c b : Child A} {p : Pair} → IsAt t u cs k c p → IsLess u b p → IsTree (depth t - 1) b.node.value
+own_level : {A : Type 0} {t u : Tree} {cs : List (Child A)} {k : ℕ} {c b : Child A} {p : Pair} → IsAt t u cs k c p → IsLess u b p
+    → IsTree (depth t - 1) b.node.value
 own_level a n = rw (at.child_depth a) at n.level
 
-pub less_trees : {A : Type 0} {t u : Tree} {cs : List (Child A)} {k : ℕ} {c b : Child A} {p : Pair} → IsAt t u cs k c p → IsLess u b p → 16 ≤ count b.node.value → AreTrees (depth t - 1) (forest_of (trees (set cs k b)))
+pub less_trees : {A : Type 0} {t u : Tree} {cs : List (Child A)} {k : ℕ} {c b : Child A} {p : Pair} → IsAt t u cs k c p → IsLess u b p → 16 ≤ count b.node.value
+    → AreTrees (depth t - 1) (forest_of (trees (set cs k b)))
 less_trees {t} {cs = cs} {k} {b = b} a n m = trees-set (depth t - 1) cs k b (at.levels a).2 m (own_level a n)
 
-pub row_tree : {A : Type 0} {t u : Tree} {cs : List (Child A)} {k : ℕ} {c : Child A} {p : Pair} → IsAt t u cs k c p → (ds : List (Child A)) → length ds ≤ 32 → AreTrees (depth t - 1) (forest_of (trees ds)) → IsTree (depth t) (branch (forest_of (trees ds)))
+pub row_tree : {A : Type 0} {t u : Tree} {cs : List (Child A)} {k : ℕ} {c : Child A} {p : Pair} → IsAt t u cs k c p → (ds : List (Child A)) → length ds ≤ 32
+    → AreTrees (depth t - 1) (forest_of (trees ds)) → IsTree (depth t) (branch (forest_of (trees ds)))
 row_tree a ds m b = ((at.levels a).0, omega (arith, rows.length-trees ds, m), b)
 
-pub row_count : {A : Type 0} {t u : Tree} {cs : List (Child A)} {k : ℕ} {c : Child A} {p : Pair} → IsAt t u cs k c p → (ds : List (Child A)) → length cs ≤ length ds + 1 → count t ≤ length (trees_of (forest_of (trees ds))) + 1
+pub row_count : {A : Type 0} {t u : Tree} {cs : List (Child A)} {k : ℕ} {c : Child A} {p : Pair} → IsAt t u cs k c p → (ds : List (Child A))
+    → length cs ≤ length ds + 1 → count t ≤ length (trees_of (forest_of (trees ds))) + 1
 row_count {cs = cs} a ds m = omega (arith, ap count a.seen, rows.length-trees cs, rows.length-trees ds, m)
 
 pub two_children : {A : Type 0} {t u : Tree} {cs : List (Child A)} {k : ℕ} {c : Child A} {p : Pair} → IsAt t u cs k c p → fewest t ≤ count t → 2 ≤ length cs
-two_children {cs = cs} a m = let two : 2 ≤ length (trees_of (forest_of (trees cs))) = subst (λ x. fewest x ≤ count x) a.seen m in omega (arith, two, rows.length-trees cs)
+two_children {cs = cs} a m = let two : 2 ≤ length (trees_of (forest_of (trees cs))) = subst (λ x. fewest x ≤ count x) a.seen m in
+    omega (arith, two, rows.length-trees cs)
 
 -- ---- one child is one short
 most : (h : ℕ) (t : Tree) → IsTree h t → count t ≤ 32
@@ -165,29 +178,38 @@ pair_of h t u b c l m s o =
     let d : depth t ≡ h = depth-tree h t b (omega (arith, l)) in
     rw d (b, c, l, m, s, o)
 
-later_neighbours : {A : Type 0} (h : ℕ) (cs : List (Child A)) (j : ℕ) (b : Child A) → AreTrees h (forest_of (trees cs)) → IsTree h b.node.value → count b.node.value ≡ 15 → suc j < length cs → AreNeighbours j (set cs (suc j) b)
+later_neighbours : {A : Type 0} (h : ℕ) (cs : List (Child A)) (j : ℕ) (b : Child A) → AreTrees h (forest_of (trees cs)) → IsTree h b.node.value
+    → count b.node.value ≡ 15 → suc j < length cs → AreNeighbours j (set cs (suc j) b)
 later_neighbours h [] j b t v n l = absurd (omega arith)
 later_neighbours h (c ∷ []) j b t v n l = absurd (omega arith)
-later_neighbours h (c ∷ d ∷ cs) zero b t v n l = pair_of h c.node.value b.node.value t.1 v (omega (arith, t.0)) (omega (arith, n)) (omega (arith, t.0, n)) (omega (arith, n, most h c.node.value t.1))
+later_neighbours h (c ∷ d ∷ cs) zero b t v n l = pair_of h c.node.value b.node.value t.1 v (omega (arith, t.0)) (omega (arith, n)) (omega (arith, t.0, n))
+    (omega (arith, n, most h c.node.value t.1))
 later_neighbours h (c ∷ d ∷ cs) (suc j) b t v n l = later_neighbours h (d ∷ cs) j b t.2 v n (omega arith)
 
-later_trees : {A : Type 0} (h : ℕ) (cs : List (Child A)) (j : ℕ) (b : Child A) → AreTrees h (forest_of (trees cs)) → IsTree h b.node.value → suc j < length cs → AreTreesBut h j (set cs (suc j) b)
+later_trees : {A : Type 0} (h : ℕ) (cs : List (Child A)) (j : ℕ) (b : Child A) → AreTrees h (forest_of (trees cs)) → IsTree h b.node.value → suc j < length cs
+    → AreTreesBut h j (set cs (suc j) b)
 later_trees h [] j b t v l = absurd (omega arith)
 later_trees h (c ∷ []) j b t v l = absurd (omega arith)
 later_trees h (c ∷ d ∷ cs) zero b t v l = (t.1, v, t.2.2)
 later_trees h (c ∷ d ∷ cs) (suc j) b t v l = (t.0, t.1, later_trees h (d ∷ cs) j b t.2 v (omega arith))
 
-short_at : {A : Type 0} (h : ℕ) (cs : List (Child A)) (k l : ℕ) (b : Child A) → AreTrees h (forest_of (trees cs)) → IsTree h b.node.value → count b.node.value ≡ 15 → k < length cs → 2 ≤ length cs → l ≡ k - 1 → AreNeighbours l (set cs k b) × AreTreesBut h l (set cs k b)
+short_at : {A : Type 0} (h : ℕ) (cs : List (Child A)) (k l : ℕ) (b : Child A) → AreTrees h (forest_of (trees cs)) → IsTree h b.node.value
+    → count b.node.value ≡ 15 → k < length cs → 2 ≤ length cs → l ≡ k - 1 → AreNeighbours l (set cs k b) × AreTreesBut h l (set cs k b)
 short_at h [] k l b t v n m w e = absurd (omega arith)
 short_at h (c ∷ []) k l b t v n m w e = absurd (omega arith)
 short_at h (c ∷ d ∷ cs) zero l b t v n m w e =
     let z : l ≡ 0 = omega arith in
-    rw z (pair_of h b.node.value d.node.value v t.2.1 (omega (arith, n)) (omega (arith, t.2.0)) (omega (arith, t.2.0, n)) (omega (arith, n, most h d.node.value t.2.1)), (v, t.2.1, t.2.2))
+    rw z (
+      pair_of h b.node.value d.node.value v t.2.1 (omega (arith, n)) (omega (arith, t.2.0)) (omega (arith, t.2.0, n))
+          (omega (arith, n, most h d.node.value t.2.1)),
+      (v, t.2.1, t.2.2),
+    )
 short_at h (c ∷ d ∷ cs) (suc k) l b t v n m w e =
     let z : l ≡ k = omega arith in
     rw z (later_neighbours h (c ∷ d ∷ cs) k b t v n m, later_trees h (c ∷ d ∷ cs) k b t v m)
 
-pub short : {A : Type 0} {t u : Tree} {cs : List (Child A)} {k : ℕ} {c b : Child A} {p : Pair} (l : ℕ) → IsAt t u cs k c p → IsLess u b p → count b.node.value < 16 → fewest t ≤ count t → l ≡ k - 1 → AreNeighbours l (set cs k b) × AreTreesBut (depth t - 1) l (set cs k b)
+pub short : {A : Type 0} {t u : Tree} {cs : List (Child A)} {k : ℕ} {c b : Child A} {p : Pair} (l : ℕ) → IsAt t u cs k c p → IsLess u b p
+    → count b.node.value < 16 → fewest t ≤ count t → l ≡ k - 1 → AreNeighbours l (set cs k b) × AreTreesBut (depth t - 1) l (set cs k b)
 short {t} {cs = cs} {k} {b = b} l a n m f e =
     short_at (depth t - 1) cs k l b (at.levels a).2 (own_level a n) (omega (arith, m, n.count_is, (at.child_level a).0)) a.in_range (two_children a f) e
 

@@ -12,7 +12,8 @@ use Rattle.btree_node.proofs.At.{not_empty}
 pub root_some : (h : ℕ) (t : Tree) → IsRoot h t → 0 < length (entries t)
 root_some h (leaf es) b = omega (arith, b.1)
 root_some h (branch none) b = let two : 2 ≤ 0 = b.1 in absurd (omega arith)
-root_some h (branch (more t f)) b = let s : 0 < length (entries t) = not_empty (h - 1) t b.0.2.1 b.0.2.0 in omega (arith, s, length-append (entries t) (forest_entries f))
+root_some h (branch (more t f)) b = let s : 0 < length (entries t) = not_empty (h - 1) t b.0.2.1 b.0.2.0 in
+    omega (arith, s, length-append (entries t) (forest_entries f))
 
 pub root_depth : (h : ℕ) (t : Tree) → IsRoot h t → depth t ≡ h
 root_depth h (leaf es) b = sym b.0.0

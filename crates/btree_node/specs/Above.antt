@@ -13,10 +13,12 @@ abbrev pub IsAfter : Option Pair → Pair → Type 0
 IsAfter None q = Unit {0}
 IsAfter (Some start) q = pair_cmp start q ≡ Less
 
--- the first entry of a map after a start: no pair between has one. There is none exactly where no pair after the start has an entry
+-- the first entry of a map after a start: no pair between has one. There is none exactly where no pair after the start
+-- has an entry
 abbrev pub IsLeastAbove : FinMap pair_cmp Mark → Option Pair → Option (Pair × Mark) → Type 0
 IsLeastAbove m start None = (q : Pair) → IsAfter start q → get m q ≡ None
-IsLeastAbove m start (Some e) = IsAfter start e.0 × (get m e.0 ≡ Some e.1) × ((q : Pair) → IsAfter start q → pair_cmp q e.0 ≡ Less → get m q ≡ None)
+IsLeastAbove m start (Some e) = IsAfter start e.0 × (get m e.0 ≡ Some e.1)
+    × ((q : Pair) → IsAfter start q → pair_cmp q e.0 ≡ Less → get m q ≡ None)
 
 -- ---- on ascending entries
 -- the first entry, if there is one

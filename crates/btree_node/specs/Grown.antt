@@ -28,7 +28,8 @@ upper_entries (Some c) = entries c.node.value
 -- the upper half of a split node of h levels, under its least pair
 abbrev pub IsUpperHalf : {A : Type 0} → ℕ → Option (Child A) → Type 0
 IsUpperHalf h None = Unit {0}
-IsUpperHalf h (Some c) = (16 ≤ count c.node.value) × IsTree h c.node.value × (least_of (entries c.node.value) ≡ Some c.least)
+IsUpperHalf h (Some c) = (16 ≤ count c.node.value) × IsTree h c.node.value
+    × (least_of (entries c.node.value) ≡ Some c.least)
 
 -- what stays of a node with n entries or children: no fewer, or at least half a node if it was split
 abbrev pub KeepsCount : {A : Type 0} → ℕ → ℕ → Option (Child A) → Type 0

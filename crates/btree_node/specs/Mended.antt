@@ -8,7 +8,8 @@ use Rattle.node_parts.specs.Rows.{trees}
 
 -- two nodes of one level, at most one of them one short
 abbrev pub ArePair : Tree → Tree → Type 0
-ArePair t u = IsTree (depth t) t × IsTree (depth t) u × (15 ≤ count t) × (15 ≤ count u) × (31 ≤ count t + count u) × (count t + count u ≤ 47)
+ArePair t u = IsTree (depth t) t × IsTree (depth t) u × (15 ≤ count t) × (15 ≤ count u) × (31 ≤ count t + count u)
+    × (count t + count u ≤ 47)
 
 -- such are the children at k and after it
 abbrev pub AreNeighbours : {A : Type 0} → ℕ → List (Child A) → Type 0

@@ -8,7 +8,8 @@ use Rattle.btree_node.specs.Path.{top_path}
 use Rattle.btree_node.specs.Top.{nodes_for}
 use Rattle.btree_node.specs.Grown.{Nodes, AreEnough}
 
--- what a way is seen as: its pair, the places on it, how many nodes the pair's insertion takes, and the pair's mark, if it has an entry
+-- what a way is seen as: its pair, the places on it, how many nodes the pair's insertion takes, and the pair's mark, if
+-- it has an entry
 pub record Walked : Type 0 where
   pub pair : Pair
   pub path : List ℕ
@@ -26,7 +27,8 @@ pub record Planned : Type 0 where
   pub path : List ℕ
   pub spares : Nodes
 
--- the plan was made for this tree: the tree has room for an entry, the path leads to where the pair belongs in it, and the nodes are enough
+-- the plan was made for this tree: the tree has room for an entry, the path leads to where the pair belongs in it, and
+-- the nodes are enough
 pub record IsPlanFor (tree : Tree) (plan : Planned) : Type 0 where
   pub room : length (entries tree) < ENTRIES_MAX
   pub way : plan.path ≡ top_path tree plan.pair

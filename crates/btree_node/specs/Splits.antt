@@ -13,7 +13,8 @@ is_before_all p (more t f) = begins_after (entries t) p
 abbrev mutual
   pub splits : Tree → Pair → ℕ
   splits (leaf es) p = cond (length es == 32) 1 0
-  splits (branch f) p = forest_splits f p + cond ((forest_splits f p == forest_depth f) && (length (trees_of f) == 32)) 1 0
+  splits (branch f) p = forest_splits f p + cond ((forest_splits f p == forest_depth f) && (length (trees_of f) == 32))
+      1 0
 
   pub forest_splits : Forest → Pair → ℕ
   forest_splits none p = 0

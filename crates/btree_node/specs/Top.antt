@@ -31,7 +31,8 @@ height_of (leaf []) = 0
 height_of (leaf (e ∷ es)) = 1
 height_of (branch f) = depth (branch f)
 
--- how many nodes the insertion of a pair takes: the first leaf, or one for each split and a new root above a root that is split
+-- how many nodes the insertion of a pair takes: the first leaf, or one for each split and a new root above a root that
+-- is split
 abbrev pub nodes_for : Tree → Pair → ℕ
 nodes_for (leaf []) p = 1
 nodes_for (leaf (e ∷ es)) p = splits (leaf (e ∷ es)) p + cond (splits (leaf (e ∷ es)) p == 1) 1 0

@@ -1,11 +1,13 @@
 //! Insertions, which take their nodes from spares.
-ghost use Rattle.std.specs.Prelude.{◌≡◌, ℕ, ◌+◌, ◌<◌, ◌≤◌, ◌++◌, [], ◌∷◌, length, vec_len, vec_capacity, if◌then◌else◌, Some};
+ghost use Rattle.std.specs.Prelude.{◌≡◌, ℕ, ◌+◌, ◌<◌, ◌≤◌, ◌++◌, [], ◌∷◌, length, vec_len, vec_capacity, if◌then◌else◌};
+ghost use Rattle.std.specs.Prelude.{Some};
 ghost use Rattle.std.specs.List.{insert};
 ghost use Rattle.btree_node.specs.Grown.{upper_entries, IsUpperHalf, AreEnough, KeepsCount, IsSplitAlong};
 ghost use Rattle.btree_node.specs.Splits.{splits};
 ghost use Rattle.btree_node.specs.Path.{path_of, top_path};
 ghost use Rattle.btree_node.specs.Top.{tree_at, IsWholeTree, nodes_for};
-ghost use Rattle.node_parts.specs.Tree.{entries, depth, count, IsLeaf, IsInner, an_empty_inner, an_empty_leaf, branch, more, none};
+ghost use Rattle.node_parts.specs.Tree.{entries, depth, count, IsLeaf, IsInner, an_empty_inner, an_empty_leaf, branch};
+ghost use Rattle.node_parts.specs.Tree.{more, none};
 ghost use Rattle.node_parts.specs.Rows.{trees, branches};
 ghost use Rattle.node_parts.specs.Seen.{least_of, AreLabelled};
 ghost use Rattle.node_parts.specs.Balance.{IsTree, IsRoot};

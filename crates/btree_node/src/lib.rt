@@ -1,14 +1,14 @@
 //! An ordered map from pair to mark, in a B-tree that takes memory before it changes and never half way.
 //!
-//! Proved, for every allocator: the tree is the finite map of its entries (`contents`). `find_way` and `plan` only read: a way
-//! tells the mark of a pair (`mark`) and serves its insertion (`way`), and `plan` answers `NoMemory` alone (`no_memory`).
-//! `insert`, `set_mark`, `remove` and `take` can't fail; the first three change the named pair alone, and `take` answers what the
-//! tree held (`taken`). A look-up goes down by a `Descent`, which counts each node that it visits. It visits as many as the tree is
-//! high (`visited`), at most four (`few_visited`).
-//! `run_above` answers entries that follow one another (`run`), and none only where none is above (`none`).
-//! Only tested (`table_tests`): plans with each allocation refused in turn; heights of full trees, and how many runs a walk over
-//! one takes. Neither: that a way is one walk down; when memory is freed; speed; stack. By hand: the `unsafe impl` of an allocator
-//! that always refuses.
+//! Proved, for every allocator: the tree is the finite map of its entries (`contents`). `find_way` and `plan` only
+//! read: a way tells the mark of a pair (`mark`) and serves its insertion (`way`), and `plan` answers `NoMemory` alone
+//! (`no_memory`). `insert`, `set_mark`, `remove` and `take` can't fail; the first three change the named pair alone,
+//! and `take` answers what the tree held (`taken`). A look-up goes down by a `Descent`, which counts each node that it
+//! visits. It visits as many as the tree is high (`visited`), at most four (`few_visited`). `run_above` answers entries
+//! that follow one another (`run`), and none only where none is above (`none`). Only tested (`table_tests`): plans with
+//! each allocation refused in turn; heights of full trees, and how many runs a walk over one takes. Neither: that a way
+//! is one walk down; when memory is freed; speed; stack. By hand: the `unsafe impl` of an allocator that always
+//! refuses.
 #![tactic(auto)]
 
 ghost use Rattle.std.specs.Prelude.{◌≡◌, ◌<◌, ◌≤◌, ◌↔◌, None, IfOk, IfErr, IsSome, IsTrue};
@@ -50,7 +50,8 @@ pub const ENTRIES_MAX: usize = records::ENTRIES_MAX as usize;
 /// The most levels of a tree.
 pub const LEVELS_MAX: usize = 4;
 
-/// A pair with its way down a tree, found in one walk: how many nodes the pair's insertion takes, and its mark if it has an entry.
+/// A pair with its way down a tree, found in one walk: how many nodes the pair's insertion takes, and its mark if it
+/// has an entry.
 #[derive(Drop)]
 pub struct Way {
     pair: Pair,
@@ -98,7 +99,8 @@ impl<A: Allocator> Model for Plan<A> {
     ghost invariant = { λ p. p.path.capacity ≡ 4 };
 }
 
-/// A map from pair to mark, in the order of pairs. Contracts see the nodes as plain data, of which `contents` is the map.
+/// A map from pair to mark, in the order of pairs. Contracts see the nodes as plain data, of which `contents` is the
+/// map.
 #[derive(Drop)]
 pub struct BTree<A: Allocator> {
     alloc: A,
@@ -120,7 +122,8 @@ impl<A: Allocator> Model for BTree<A> {
     ghost invariant = { λ b. IsSoundTop b.root b.len };
 }
 
-/// The nodes of entries that were taken out of a tree. To let them go frees each of them, in a time that grows with their number.
+/// The nodes of entries that were taken out of a tree. To let them go frees each of them, in a time that grows with
+/// their number.
 #[derive(Drop)]
 pub struct Cleared<A: Allocator> {
     root: Option<Box<Node<A>, A>>,

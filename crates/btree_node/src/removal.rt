@@ -45,7 +45,8 @@ fn level_pair<A: Allocator>(left: &mut Child<A>, mut right: Child<A>) -> Option<
     requires both { 31 ≤ count left.old.node.value + count right.node.value }
     requires most { count left.old.node.value + count right.node.value ≤ 47 }
     requires label { least_of (entries left.old.node.value) ≡ Some left.old.least }
-    ensures joined { entries left.new.node.value ++ upper_entries result ≡ entries left.old.node.value ++ entries right.node.value }
+    ensures joined { entries left.new.node.value ++ upper_entries result ≡ entries left.old.node.value
+        ++ entries right.node.value }
     ensures label { least_of (entries left.new.node.value) ≡ Some left.new.least }
     ensures tree { IsTree (depth left.old.node.value) left.new.node.value }
     ensures low { 16 ≤ count left.new.node.value }

@@ -16,4 +16,5 @@ keeps_key (Updated old new) = pointwise nat_eq old.key new.key
 -- the pair of this row of a change, where the change moves its entry: there is an index, and the key does not stay
 abbrev pub moved_pair : Bool → ChangeValue → Option Row → Option Pair
 moved_pair indexed c None = None
-moved_pair indexed c (Some row) = if indexed && not (keeps_key c.rows) then Some (record { key = row.key; rid = c.rid }) else None
+moved_pair indexed c (Some row) = if indexed && not (keeps_key c.rows) then Some
+    (record { key = row.key; rid = c.rid }) else None

@@ -55,4 +55,5 @@ puts_old indexed c = entry_step (moved_pair indexed c (old_row c.rows)) Live (Un
 
 -- the undo marks the new entry, sets the old row, and puts the old entry
 abbrev pub undo_steps : Bool → ChangeValue → List Step
-undo_steps indexed c = some_step (marks_new indexed c) ++ sets_old c (is_none (puts_old indexed c)) ∷ some_step (puts_old indexed c)
+undo_steps indexed c = some_step (marks_new indexed c) ++ sets_old c (is_none (puts_old indexed c))
+    ∷ some_step (puts_old indexed c)

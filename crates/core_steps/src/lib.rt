@@ -1,7 +1,7 @@
 //! The steps of a change and of its undo, each with what its record says.
 //!
-//! Proved: `forward` and `undo` answer the steps of the definitions, in order. The core makes its steps by them. The law
-//! `each_change` of `nsf_core` ties each step's record to the abstract core (`first`, `next`, `undo`).
+//! Proved: `forward` and `undo` answer the steps of the definitions, in order. The core makes its steps by them. The
+//! law `each_change` of `nsf_core` ties each step's record to the abstract core (`first`, `next`, `undo`).
 #![tactic(auto)]
 
 mod laws;

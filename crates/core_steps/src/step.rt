@@ -1,7 +1,8 @@
 //! Steps of a change.
 ghost use Rattle.std.specs.Prelude.{◌≡◌, ◌++◌, ◌∷◌, slice_get};
 ghost use Rattle.core_steps.specs.Keys.{keeps_key, moved_pair};
-ghost use Rattle.core_steps.specs.Steps.{some_step, forward_steps, undo_steps, marks_old, sets_new, puts_new, marks_new, sets_old, puts_old};
+ghost use Rattle.core_steps.specs.Steps.{some_step, forward_steps, undo_steps, marks_old, sets_new, puts_new};
+ghost use Rattle.core_steps.specs.Steps.{marks_new, sets_old, puts_old};
 
 use records::{Change, Mark, Pair, Part, Rid, Row, Rows, TxnAction};
 

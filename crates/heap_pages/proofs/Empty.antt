@@ -27,7 +27,8 @@ pub AreEmpty-push : (pages : List Slots) (new : Slots) → AreEmpty pages → ne
 AreEmpty-push [] new none e = (e, tt)
 AreEmpty-push (page ∷ pages) new none e = (none.0, AreEmpty-push pages new none.1 e)
 
-pub empty_heap : (pages : List Slots) (n : ℕ) → length pages ≡ n → AreEmpty pages → ◌≡◌ {A = HeapValue} (record { pages = length pages; rows = rows_of (map slots_of pages) }) (record { pages = n; rows = empty })
+pub empty_heap : (pages : List Slots) (n : ℕ) → length pages ≡ n → AreEmpty pages
+    → ◌≡◌ {A = HeapValue} (record { pages = length pages; rows = rows_of (map slots_of pages) }) (record { pages = n; rows = empty })
 empty_heap pages n len none =
     let no_rows : rows_of (map slots_of pages) ≡ empty = alike rid_exact _ _ (λ q.
     ap (λ es. map_of.get (map_of.from_sorted {R = rid_cmp} es) q) (empty_entries 0 pages none)

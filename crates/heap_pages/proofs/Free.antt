@@ -1,5 +1,6 @@
 -- The least free place.
-use Rattle.std.proofs.Common.{◌≡◌, ◌≢◌, ℕ, ◌+◌, ◌<◌, ◌≤◌, Bool, true, false, List, length, Some, None, IsSome, get_or, slice_get, refl, sym, ap, subst, ◌∙◌, arith, eqb, ◌⊎◌, inl, inr}
+use Rattle.std.proofs.Common.{◌≡◌, ◌≢◌, ℕ, ◌+◌, ◌<◌, ◌≤◌, Bool, true, false, List, length, Some, None, IsSome, get_or, slice_get, refl, sym, ap, subst, ◌∙◌}
+use Rattle.std.proofs.Common.{arith, eqb, ◌⊎◌, inl, inr}
 use Rattle.std.proofs.lemmas.Bool.Decides.{eqb_tells}
 use Rattle.std.proofs.lemmas.Option.{slice_get_within, slice_get-get_or}
 use Rattle.std.specs.declared.cmp.Ordering.TheVariants.{Less}
@@ -29,7 +30,11 @@ module _ (pages : List Slots) (h : HeapValue) (held : List Place) (n : ℕ) (pag
 
   -- and a free one
   free_slot : (taken : List Bool) (q : Place) → AreHeldSlots n held taken → IsEmptyAndUnheld h held q → q.page ≡ n → IsFreeSlot page taken q.slot
-  free_slot taken q each free e = (empty_slot q free e, each q.slot free.inside.1 ∙ ap Some (ap (λ k. is_among (at k q.slot) held) (sym e) ∙ not_among q held free.not_held))
+  free_slot taken q each free e = (
+    empty_slot q free e,
+    each q.slot free.inside.1
+        ∙ ap Some (ap (λ k. is_among (at k q.slot) held) (sym e) ∙ not_among q held free.not_held),
+  )
 
   -- and a free slot of page n is a free place
   pub free_place : (s : ℕ) (taken : List Bool) → AreHeldSlots n held taken → s < SLOTS_PER_PAGE → IsFreeSlot page taken s → IsEmptyAndUnheld h held (at n s)
@@ -43,7 +48,8 @@ module _ (pages : List Slots) (h : HeapValue) (held : List Place) (n : ℕ) (pag
   }
 
   -- no free place is before the first free slot of the first page with one
-  pub none_before : (s : ℕ) (taken : List Bool) → AreHeldSlots n held taken → NoneOnEarlierPages h held n → NoneFree s page taken → (q : Place) → IsEmptyAndUnheld h held q → rid_cmp q (at n s) ≢ Less
+  pub none_before : (s : ℕ) (taken : List Bool) → AreHeldSlots n held taken → NoneOnEarlierPages h held n → NoneFree s page taken → (q : Place)
+      → IsEmptyAndUnheld h held q → rid_cmp q (at n s) ≢ Less
   none_before s taken each none first q free less = by (eqb_tells q.page n)
     where
       by : ((eqb q.page n ≡ true) × (q.page ≡ n)) ⊎ ((eqb q.page n ≡ false) × (q.page ≢ n)) → ⊥
@@ -58,7 +64,8 @@ module _ (pages : List Slots) (h : HeapValue) (held : List Place) (n : ℕ) (pag
       by (inl p) = none_here q p.1 free
       by (inr p) = let ne = p.1 in none q (omega arith) free
 
-  pub none_further : (taken : List Bool) → AreHeldSlots n held taken → NoneOnEarlierPages h held n → NoneFree SLOTS_PER_PAGE page taken → NoneOnEarlierPages h held (n + 1)
+  pub none_further : (taken : List Bool) → AreHeldSlots n held taken → NoneOnEarlierPages h held n → NoneFree SLOTS_PER_PAGE page taken
+      → NoneOnEarlierPages h held (n + 1)
   none_further taken each none all = passed (λ q e free. all q.slot free.inside.1 (free_slot taken q each free e)) none
 
   pub none_further_full : NoneOnEarlierPages h held n → ((s : ℕ) → s < SLOTS_PER_PAGE → IsSome (get page s)) → NoneOnEarlierPages h held (n + 1)
@@ -69,7 +76,8 @@ module _ (pages : List Slots) (h : HeapValue) (held : List Place) (n : ℕ) (pag
       absurd cc) none
 
 -- the least place is on no page that is full
-pub none_on_full : (pages : List Slots) (h : HeapValue) (held : List Place) (n : ℕ) → shown_of pages ≡ h → n ≤ length pages → AreFull n pages → NoneOnEarlierPages h held n
+pub none_on_full : (pages : List Slots) (h : HeapValue) (held : List Place) (n : ℕ) → shown_of pages ≡ h → n ≤ length pages → AreFull n pages
+    → NoneOnEarlierPages h held n
 none_on_full pages h held n is le full q below free =
     let page = get_or pages q.page empty in
     let here : slice_get pages q.page ≡ Some page = slice_get-get_or pages q.page empty (omega arith) in

@@ -1,5 +1,6 @@
 -- Which pairs the rows of a page have, and their order.
-use Rattle.std.proofs.Common.{◌≡◌, ℕ, zero, suc, ◌+◌, ◌<◌, ◌≤◌, List, [], ◌∷◌, map, length, Contains, Option, Some, None, slice_get, slice_index, slice_index_or, option_and_then, refl, sym, ap, subst, ◌∙◌, arith}
+use Rattle.std.proofs.Common.{◌≡◌, ℕ, zero, suc, ◌+◌, ◌<◌, ◌≤◌, List, [], ◌∷◌, map, length, Contains, Option, Some, None, slice_get, slice_index}
+use Rattle.std.proofs.Common.{slice_index_or, option_and_then, refl, sym, ap, subst, ◌∙◌, arith}
 use Rattle.std.specs.List.{All}
 use Rattle.std.specs.List.Sorted.{IsStrictlyIncreasing}
 use Rattle.std.proofs.lemmas.List.Elements.{All-nil, All-cons}
@@ -35,7 +36,8 @@ from_pairs n i (None ∷ slots) p found = later n i None slots p (from_pairs n (
 from_pairs n i (Some row ∷ slots) p found = by (from_pairs n (i + 1) slots p) found.0 found.1 found.2
   where
     by : (Contains (map row_pair (page_entries n (i + 1) slots)) p → IsPairInSlots n (i + 1) slots p)
-        → (k : ℕ) → k < length (map row_pair (page_entries n i (Some row ∷ slots))) → slice_index_or (map row_pair (page_entries n i (Some row ∷ slots))) k p ≡ p → IsPairInSlots n i (Some row ∷ slots) p
+        → (k : ℕ) → k < length (map row_pair (page_entries n i (Some row ∷ slots)))
+        → slice_index_or (map row_pair (page_entries n i (Some row ∷ slots))) k p ≡ p → IsPairInSlots n i (Some row ∷ slots) p
     by rest zero within is = record {
       index = zero;
       row = row;
@@ -45,14 +47,16 @@ from_pairs n i (Some row ∷ slots) p found = by (from_pairs n (i + 1) slots p) 
     }
     by rest (suc k) within is = later n i (Some row) slots p (rest (k, omega arith, is))
 
-into_pairs : (n i : ℕ) (slots : List (Option Row)) (k : ℕ) (row : Row) → slice_get slots k ≡ Some (Some row) → Contains (map row_pair (page_entries n i slots)) (row_pair (at n (i + k), row))
+into_pairs : (n i : ℕ) (slots : List (Option Row)) (k : ℕ) (row : Row) → slice_get slots k ≡ Some (Some row)
+    → Contains (map row_pair (page_entries n i slots)) (row_pair (at n (i + k), row))
 into_pairs n i [] k row here = absurd cc
 into_pairs n i (None ∷ slots) zero row here = absurd cc
 into_pairs n i (None ∷ slots) (suc k) row here =
     let same : i + 1 + k ≡ i + suc k = omega arith in
     ap_contains same (into_pairs n (i + 1) slots k row here)
   where
-    ap_contains : {a b : ℕ} → a ≡ b → Contains (map row_pair (page_entries n (i + 1) slots)) (row_pair (at n a, row)) → Contains (map row_pair (page_entries n (i + 1) slots)) (row_pair (at n b, row))
+    ap_contains : {a b : ℕ} → a ≡ b → Contains (map row_pair (page_entries n (i + 1) slots)) (row_pair (at n a, row))
+        → Contains (map row_pair (page_entries n (i + 1) slots)) (row_pair (at n b, row))
     ap_contains e = subst (λ j. Contains (map row_pair (page_entries n (i + 1) slots)) (row_pair (at n j, row))) e
 into_pairs n i (Some first ∷ slots) zero row here =
     let same : first ≡ row = cc in
@@ -65,7 +69,8 @@ into_pairs n i (Some first ∷ slots) (suc k) row here =
     subst (λ j. Contains (map row_pair (page_entries n i (Some first ∷ slots))) (row_pair (at n j, row))) same (suc found.0, omega arith, found.2)
 
 -- the pairs of a page's slots are those of the table's rows on this page
-pub pair_on_page : (pages : List (List (Option Row))) (h : HeapValue) (n : ℕ) (slots : List (Option Row)) (p : Pair) → value_of pages ≡ h → slice_get pages n ≡ Some slots
+pub pair_on_page : (pages : List (List (Option Row))) (h : HeapValue) (n : ℕ) (slots : List (Option Row)) (p : Pair) → value_of pages ≡ h
+    → slice_get pages n ≡ Some slots
     → Contains (map row_pair (page_entries n 0 slots)) p → IsPairOnPage h.rows n p
 pair_on_page pages h n slots p is page found =
     let own = from_pairs n 0 slots p found in
@@ -82,7 +87,8 @@ slot_has [] s row e = absurd cc
 slot_has (o ∷ slots) zero row e = ap Some e
 slot_has (o ∷ slots) (suc s) row e = slot_has slots s row e
 
-pub pair_in_slots : (pages : List (List (Option Row))) (h : HeapValue) (n : ℕ) (slots : List (Option Row)) (p : Pair) → value_of pages ≡ h → slice_get pages n ≡ Some slots
+pub pair_in_slots : (pages : List (List (Option Row))) (h : HeapValue) (n : ℕ) (slots : List (Option Row)) (p : Pair) → value_of pages ≡ h
+    → slice_get pages n ≡ Some slots
     → IsPairOnPage h.rows n p → Contains (map row_pair (page_entries n 0 slots)) p
 pair_in_slots pages h n slots p is page own =
     let there : row_at pages p.rid ≡ Some own.row = sym (get-rows_of pages p.rid) ∙ (λ i. map_of.get ((is i).rows) p.rid) ∙ own.is_there in
@@ -99,12 +105,17 @@ IsStrictlyIncreasing-cons x xs first rising (suc k) within =
     let next : suc k + 1 ≡ suc (k + 1) = omega arith in
     subst (λ j. slice_index xs k < slice_index (x ∷ xs) j) (sym next) (rising k (omega arith))
 
-rising_from : (n i : ℕ) (slots : List (Option Row)) → IsStrictlyIncreasing (map (λ (p : Pair). p.rid.slot) (map row_pair (page_entries n i slots))) × (0 < length (map (λ (p : Pair). p.rid.slot) (map row_pair (page_entries n i slots))) → i ≤ slice_index (map (λ (p : Pair). p.rid.slot) (map row_pair (page_entries n i slots))) 0)
+rising_from : (n i : ℕ) (slots : List (Option Row)) → IsStrictlyIncreasing (map (λ (p : Pair). p.rid.slot) (map row_pair (page_entries n i slots)))
+    × (0 < length (map (λ (p : Pair). p.rid.slot) (map row_pair (page_entries n i slots)))
+    → i ≤ slice_index (map (λ (p : Pair). p.rid.slot) (map row_pair (page_entries n i slots))) 0)
 rising_from n i [] = (λ k within. absurd (omega arith), λ some. absurd (omega arith))
 rising_from n i (None ∷ slots) = let rest = rising_from n (i + 1) slots in (rest.0, λ some. let first = rest.1 some in omega arith)
 rising_from n i (Some row ∷ slots) =
-    let rest = rising_from n (i + 1) slots in
-    (IsStrictlyIncreasing-cons i (map (λ (p : Pair). p.rid.slot) (map row_pair (page_entries n (i + 1) slots))) (λ some. let first = rest.1 some in omega arith) rest.0, λ some. omega arith)
+    let rest = rising_from n (i + 1) slots in (
+      IsStrictlyIncreasing-cons i (map (λ (p : Pair). p.rid.slot) (map row_pair (page_entries n (i + 1) slots))) (λ some. let first = rest.1 some in
+          omega arith) rest.0,
+      λ some. omega arith,
+    )
 
 -- the slots of the pairs rise
 pub slots_rise : (n : ℕ) (slots : List (Option Row)) → IsStrictlyIncreasing (map (λ (p : Pair). p.rid.slot) (map row_pair (page_entries n 0 slots)))
@@ -122,7 +133,8 @@ few_pairs n slots = few_from n 0 slots
 own_from : (n i : ℕ) (slots : List (Option Row)) → All (λ (p : Pair). p.rid.page ≡ n) (map row_pair (page_entries n i slots))
 own_from n i [] = All-nil (λ (p : Pair). p.rid.page ≡ n)
 own_from n i (None ∷ slots) = own_from n (i + 1) slots
-own_from n i (Some row ∷ slots) = All-cons (λ (p : Pair). p.rid.page ≡ n) (row_pair (at n i, row)) (map row_pair (page_entries n (i + 1) slots)) refl (own_from n (i + 1) slots)
+own_from n i (Some row ∷ slots) = All-cons (λ (p : Pair). p.rid.page ≡ n) (row_pair (at n i, row)) (map row_pair (page_entries n (i + 1) slots)) refl
+    (own_from n (i + 1) slots)
 
 -- the pairs are of this page
 pub own_pairs : (n : ℕ) (slots : List (Option Row)) → All (λ (p : Pair). p.rid.page ≡ n) (map row_pair (page_entries n 0 slots))

@@ -1,5 +1,7 @@
 -- A page as a map from slots to rows, and as the list of its slots.
-use Rattle.std.proofs.Common.{◌≡◌, ◌≢◌, ℕ, zero, suc, ◌+◌, ◌<◌, ◌≤◌, true, false, cond, T, List, [], ◌∷◌, map, length, replicate, Option, Some, None, is_some, IsSome, count_by, slice_get, slice_set, set, option_and_then, option_map, ◌&&◌, refl, sym, ap, subst, ◌∙◌, arith, eqb, ◌⊎◌, inl, inr}
+use Rattle.std.proofs.Common.{◌≡◌, ◌≢◌, ℕ, zero, suc, ◌+◌, ◌<◌, ◌≤◌, true, false, cond, T, List, [], ◌∷◌, map, length, replicate, Option, Some, None, is_some}
+use Rattle.std.proofs.Common.{IsSome, count_by, slice_get, slice_set, set, option_and_then, option_map, ◌&&◌, refl, sym, ap, subst, ◌∙◌, arith, eqb, ◌⊎◌, inl}
+use Rattle.std.proofs.Common.{inr}
 use Rattle.std.proofs.lemmas.List.Sums.{sum_by-cons, count_by-le-length}
 use Rattle.std.proofs.lemmas.Bool.Decides.{eqb_tells}
 use Rattle.std.proofs.lemmas.Option.{slice_get-map, slice_get_past}
@@ -23,7 +25,8 @@ cell slots s = option_and_then (λ o. o) (slice_get slots s)
 below : (k i : ℕ) (slots : List (Option Row)) → k < i → below_all nat_cmp k (slot_entries i slots) ≡ true
 below k i [] h = refl
 below k i (None ∷ slots) h = below k (i + 1) slots (omega arith)
-below k i (Some row ∷ slots) h = ap (λ o. is_lt o && below_all nat_cmp k (slot_entries (i + 1) slots)) (sym (nat_cmp_is k i Less h)) ∙ below k (i + 1) slots (omega arith)
+below k i (Some row ∷ slots) h = ap (λ o. is_lt o && below_all nat_cmp k (slot_entries (i + 1) slots)) (sym (nat_cmp_is k i Less h))
+    ∙ below k (i + 1) slots (omega arith)
 
 sorted : (i : ℕ) (slots : List (Option Row)) → is_sorted nat_cmp (slot_entries i slots) ≡ true
 sorted i [] = refl
@@ -34,7 +37,8 @@ find_before : (k i : ℕ) (slots : List (Option Row)) → k < i → find nat_cmp
 find_before k i [] h = refl
 find_before k i (None ∷ slots) h = find_before k (i + 1) slots (omega arith)
 find_before k i (Some row ∷ slots) h =
-    ap (λ b. cond b (Some row) (find nat_cmp k (slot_entries (i + 1) slots))) (other_key nat_exact k i (λ e. omega arith)) ∙ find_before k (i + 1) slots (omega arith)
+    ap (λ b. cond b (Some row) (find nat_cmp k (slot_entries (i + 1) slots))) (other_key nat_exact k i (λ e. omega arith))
+    ∙ find_before k (i + 1) slots (omega arith)
 
 find_slot : (i : ℕ) (slots : List (Option Row)) (k j : ℕ) → k ≡ i + j → find nat_cmp k (slot_entries i slots) ≡ cell slots j
 find_slot i [] k j e = refl
@@ -44,7 +48,8 @@ find_slot i (Some row ∷ slots) k zero e =
     let same : k ≡ i = omega arith in
     ap (λ b. cond b (Some row) (find nat_cmp k (slot_entries (i + 1) slots))) (ap (λ x. eq_by_cmp nat_cmp x i) same ∙ same_key nat_exact i)
 find_slot i (Some row ∷ slots) k (suc j) e =
-    ap (λ b. cond b (Some row) (find nat_cmp k (slot_entries (i + 1) slots))) (other_key nat_exact k i (λ f. omega arith)) ∙ find_slot (i + 1) slots k j (omega arith)
+    ap (λ b. cond b (Some row) (find nat_cmp k (slot_entries (i + 1) slots))) (other_key nat_exact k i (λ f. omega arith))
+    ∙ find_slot (i + 1) slots k j (omega arith)
 
 get-page_of : (slots : List (Option Row)) (s : ℕ) → map_of.get (page_of slots) s ≡ cell slots s
 get-page_of slots s = map_of.get-from_sorted nat_cmp (slot_entries 0 slots) s (subst T (sym (sorted 0 slots)) tt) ∙ find_slot 0 slots s s (omega arith)
@@ -59,7 +64,8 @@ no_rows = alike nat_exact _ _ (λ q. map_of.get-from_sorted nat_cmp [] q tt ∙ 
 
 -- ---- a slot written
 
-cell-set : (slots : List (Option Row)) (s : ℕ) (o : Option Row) (q : ℕ) → s < length slots → cell (set slots s o) q ≡ cond (eq_by_cmp nat_cmp q s) o (cell slots q)
+cell-set : (slots : List (Option Row)) (s : ℕ) (o : Option Row) (q : ℕ) → s < length slots
+    → cell (set slots s o) q ≡ cond (eq_by_cmp nat_cmp q s) o (cell slots q)
 cell-set [] s o q within = absurd (omega arith)
 cell-set (x ∷ slots) zero o zero within = sym (ap (λ b. cond b o x) (same_key nat_exact 0))
 cell-set (x ∷ slots) zero o (suc q) within = sym (ap (λ b. cond b o (cell slots q)) (other_key nat_exact (suc q) 0 (λ e. omega arith)))
@@ -67,10 +73,12 @@ cell-set (x ∷ slots) (suc s) o zero within = sym (ap (λ b. cond b o x) (other
 cell-set (x ∷ slots) (suc s) o (suc q) within = cell-set slots s o q (omega arith) ∙ ap (λ b. cond b o (cell slots q)) (next (eqb_tells q s))
   where
     next : ((eqb q s ≡ true) × (q ≡ s)) ⊎ ((eqb q s ≡ false) × (q ≢ s)) → eq_by_cmp nat_cmp q s ≡ eq_by_cmp nat_cmp (suc q) (suc s)
-    next (inl p) = (ap (λ x. eq_by_cmp nat_cmp x s) p.1 ∙ same_key nat_exact s) ∙ sym (ap (λ x. eq_by_cmp nat_cmp (suc x) (suc s)) p.1 ∙ same_key nat_exact (suc s))
+    next (inl p) = (ap (λ x. eq_by_cmp nat_cmp x s) p.1 ∙ same_key nat_exact s)
+        ∙ sym (ap (λ x. eq_by_cmp nat_cmp (suc x) (suc s)) p.1 ∙ same_key nat_exact (suc s))
     next (inr p) = let ne = p.1 in other_key nat_exact q s ne ∙ sym (other_key nat_exact (suc q) (suc s) (λ e. ne (omega arith)))
 
-pub page_of-set : (slots : List (Option Row)) (page : Slots) (s : ℕ) (o : Option Row) → page_of slots ≡ page → s < length slots → page_of (slice_set slots s o) ≡ set_at page s o
+pub page_of-set : (slots : List (Option Row)) (page : Slots) (s : ℕ) (o : Option Row) → page_of slots ≡ page → s < length slots
+    → page_of (slice_set slots s o) ≡ set_at page s o
 page_of-set slots page s o is within =
     alike nat_exact _ _ (λ q.
     get-page_of (set slots s o) q
@@ -99,11 +107,13 @@ there_all (Some row ∷ slots) each =
     let rest = there_all slots (λ s within. each (suc s) (omega arith)) in
     omega arith
 
-pub is_full : (slots : List (Option Row)) (page : Slots) (taken : ℕ) → page_of slots ≡ page → length slots ≡ SLOTS_PER_PAGE → taken ≡ count_by is_some slots → taken ≡ SLOTS_PER_PAGE → (s : ℕ) → s < SLOTS_PER_PAGE → IsSome (map_of.get page s)
+pub is_full : (slots : List (Option Row)) (page : Slots) (taken : ℕ) → page_of slots ≡ page → length slots ≡ SLOTS_PER_PAGE → taken ≡ count_by is_some slots
+    → taken ≡ SLOTS_PER_PAGE → (s : ℕ) → s < SLOTS_PER_PAGE → IsSome (map_of.get page s)
 is_full slots page taken is long counted all s within =
     subst IsSome (sym (get-page_of slots s) ∙ ap (λ (p : Slots). map_of.get p s) is) (all_there slots s (omega arith) (omega arith))
 
-pub from_full : (slots : List (Option Row)) (page : Slots) (taken : ℕ) → page_of slots ≡ page → length slots ≡ SLOTS_PER_PAGE → taken ≡ count_by is_some slots → ((s : ℕ) → s < SLOTS_PER_PAGE → IsSome (map_of.get page s)) → taken ≡ SLOTS_PER_PAGE
+pub from_full : (slots : List (Option Row)) (page : Slots) (taken : ℕ) → page_of slots ≡ page → length slots ≡ SLOTS_PER_PAGE → taken ≡ count_by is_some slots
+    → ((s : ℕ) → s < SLOTS_PER_PAGE → IsSome (map_of.get page s)) → taken ≡ SLOTS_PER_PAGE
 from_full slots page taken is long counted each =
     let all = there_all slots (λ s within. subst IsSome (ap (λ (p : Slots). map_of.get p s) (sym is) ∙ get-page_of slots s) (each s (omega arith))) in
     omega arith
@@ -116,7 +126,8 @@ none_taken (None ∷ slots) zero none = refl
 none_taken (None ∷ slots) (suc s) none = let count = with_none slots in none_taken slots s (omega arith)
 none_taken (Some row ∷ slots) s none = let count = with_row row slots in absurd (omega arith)
 
-pub is_empty : (slots : List (Option Row)) (page : Slots) (taken : ℕ) → page_of slots ≡ page → taken ≡ count_by is_some slots → taken ≡ 0 → (s : ℕ) → map_of.get page s ≡ None
+pub is_empty : (slots : List (Option Row)) (page : Slots) (taken : ℕ) → page_of slots ≡ page → taken ≡ count_by is_some slots → taken ≡ 0 → (s : ℕ)
+    → map_of.get page s ≡ None
 is_empty slots page taken is counted none s = ap (λ (p : Slots). map_of.get p s) (sym is) ∙ get-page_of slots s ∙ none_taken slots s (omega arith)
 
 -- ---- the slots of a page
@@ -124,7 +135,8 @@ is_empty slots page taken is counted none s = ap (λ (p : Slots). map_of.get p s
 get-slots_from : (page : Slots) (i n j : ℕ) → j < n → slice_get (slots_from page i n) j ≡ Some (map_of.get page (i + j))
 get-slots_from page i zero j within = absurd (omega arith)
 get-slots_from page i (suc n) zero within = let same : i ≡ i + 0 = omega arith in ap (λ k. Some (map_of.get page k)) same
-get-slots_from page i (suc n) (suc j) within = get-slots_from page (i + 1) n j (omega arith) ∙ (let same : i + 1 + j ≡ i + suc j = omega arith in ap (λ k. Some (map_of.get page k)) same)
+get-slots_from page i (suc n) (suc j) within = get-slots_from page (i + 1) n j (omega arith)
+    ∙ (let same : i + 1 + j ≡ i + suc j = omega arith in ap (λ k. Some (map_of.get page k)) same)
 
 pub get-slots_of : (page : Slots) (s : ℕ) → s < SLOTS_PER_PAGE → slice_get (slots_of page) s ≡ Some (map_of.get page s)
 unfolding slots_of
@@ -173,4 +185,5 @@ pub no_page_slots : (pages : List Slots) (n : ℕ) → slice_get pages n ≡ Non
 no_page_slots pages n here = slice_get-map slots_of pages n ∙ ap (option_map slots_of) here
 
 pub no_slot_there : (slots : List (Option Row)) (page : Slots) (s : ℕ) → page_of slots ≡ page → length slots ≤ s → None ≡ map_of.get page s
-no_slot_there slots page s is past = sym (ap (λ (p : Slots). map_of.get p s) (sym is) ∙ get-page_of slots s ∙ ap (option_and_then (λ x. x)) (slice_get_past slots s past))
+no_slot_there slots page s is past = sym (ap (λ (p : Slots). map_of.get p s) (sym is) ∙ get-page_of slots s
+    ∙ ap (option_and_then (λ x. x)) (slice_get_past slots s past))

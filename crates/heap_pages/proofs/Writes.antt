@@ -1,5 +1,6 @@
 -- What a heap shows after a write, and what its pages show of it.
-use Rattle.std.proofs.Common.{◌≡◌, ◌≢◌, ℕ, zero, suc, ◌<◌, true, false, cond, List, [], ◌∷◌, map, length, Option, Some, None, slice_get, slice_set, set, option_and_then, IsSome, refl, sym, ap, subst, ◌∙◌, arith, eqb, ◌⊎◌, inl, inr, length-set}
+use Rattle.std.proofs.Common.{◌≡◌, ◌≢◌, ℕ, zero, suc, ◌<◌, true, false, cond, List, [], ◌∷◌, map, length, Option, Some, None, slice_get, slice_set, set}
+use Rattle.std.proofs.Common.{option_and_then, IsSome, refl, sym, ap, subst, ◌∙◌, arith, eqb, ◌⊎◌, inl, inr, length-set}
 use Rattle.std.proofs.lemmas.List.{length-map, map-set}
 use Rattle.std.proofs.lemmas.Bool.Decides.{eqb_tells}
 use Rattle.std.proofs.lemmas.Option.{slice_get_within}
@@ -50,7 +51,8 @@ get-set_other (x ∷ xs) (suc i) zero y ne = refl
 get-set_other (x ∷ xs) (suc i) (suc j) y ne = get-set_other xs i j y (λ e. ne (ap suc e))
 
 -- a row after a write at (n, s)
-row_at-set : (pages : List (List (Option Row))) (n s : ℕ) (slots : List (Option Row)) (o : Option Row) (q : Place) → slice_get pages n ≡ Some slots → s < length slots
+row_at-set : (pages : List (List (Option Row))) (n s : ℕ) (slots : List (Option Row)) (o : Option Row) (q : Place) → slice_get pages n ≡ Some slots
+    → s < length slots
     → row_at (set pages n (set slots s o)) q ≡ cond (eq_by_cmp rid_cmp q (at n s)) o (row_at pages q)
 row_at-set pages n s slots o q here inside = by (eqb_tells q.page n) (eqb_tells q.slot s)
   where
@@ -60,7 +62,8 @@ row_at-set pages n s slots o q here inside = by (eqb_tells q.page n) (eqb_tells 
     page : slice_get (set pages n (set slots s o)) n ≡ Some (set slots s o)
     page = get-set pages n (set slots s o) within
 
-    by : ((eqb q.page n ≡ true) × (q.page ≡ n)) ⊎ ((eqb q.page n ≡ false) × (q.page ≢ n)) → ((eqb q.slot s ≡ true) × (q.slot ≡ s)) ⊎ ((eqb q.slot s ≡ false) × (q.slot ≢ s))
+    by : ((eqb q.page n ≡ true) × (q.page ≡ n)) ⊎ ((eqb q.page n ≡ false) × (q.page ≢ n)) → ((eqb q.slot s ≡ true) × (q.slot ≡ s))
+        ⊎ ((eqb q.slot s ≡ false) × (q.slot ≢ s))
         → row_at (set pages n (set slots s o)) q ≡ cond (eq_by_cmp rid_cmp q (at n s)) o (row_at pages q)
     by (inr p) other =
         ap (option_and_then (λ slots. cell slots q.slot)) (get-set_other pages n q.page (set slots s o) p.1)
@@ -87,29 +90,37 @@ rows_of-set pages n s slots o here inside =
     ∙ sym (get-set_at rid_exact (rows_of pages) (at n s) o q ∙ ap (cond (eq_by_cmp rid_cmp q (at n s)) o) (get-rows_of pages q)))
 
 -- the heap after a page has got the row or none in slot s
-pub heap_after : (pages : List Slots) (h : HeapValue) (n s : ℕ) (r : Place) (page new : Slots) (o : Option Row) → shown_of pages ≡ h → at n s ≡ r → slice_get pages n ≡ Some page → s < SLOTS_PER_PAGE → new ≡ set_at page s o
+pub heap_after : (pages : List Slots) (h : HeapValue) (n s : ℕ) (r : Place) (page new : Slots) (o : Option Row) → shown_of pages ≡ h → at n s ≡ r
+    → slice_get pages n ≡ Some page → s < SLOTS_PER_PAGE → new ≡ set_at page s o
     → shown_of (slice_set pages n new) ≡ record { pages = h.pages; rows = set_at h.rows r o }
 heap_after pages h n s r page new o is rid here inside e =
     (λ i. record { pages = length-set pages n new i; rows = rows_of (map-set slots_of pages n new i) })
     ∙ ap (λ slots. record { pages = length pages; rows = rows_of (set (map slots_of pages) n slots) }) (ap slots_of e ∙ slots_of-set page s o)
-    ∙ (λ i. record { pages = length pages; rows = rows_of-set (map slots_of pages) n s (slots_of page) o (page_slots pages n page here) (omega (arith, length-slots_of page)) i })
+    ∙ (λ i. record {
+      pages = length pages;
+      rows = rows_of-set (map slots_of pages) n s (slots_of page) o (page_slots pages n page here)
+          (omega (arith, length-slots_of page)) i;
+    })
     ∙ (λ i. record { pages = (is i).pages; rows = set_at ((is i).rows) (rid i) o })
 
-pub row_found : (pages : List (List (Option Row))) (h : HeapValue) (n s : ℕ) (r : Place) (slots : List (Option Row)) (o : Option Row) → value_of pages ≡ h → at n s ≡ r → slice_get pages n ≡ Some slots → slice_get slots s ≡ Some o → map_of.get h.rows r ≡ o
+pub row_found : (pages : List (List (Option Row))) (h : HeapValue) (n s : ℕ) (r : Place) (slots : List (Option Row)) (o : Option Row) → value_of pages ≡ h
+    → at n s ≡ r → slice_get pages n ≡ Some slots → slice_get slots s ≡ Some o → map_of.get h.rows r ≡ o
 row_found pages h n s r slots o is rid page slot =
     (λ i. map_of.get ((sym is i).rows) (sym rid i))
     ∙ get-rows_of pages (at n s)
     ∙ ap (option_and_then (λ slots. cell slots s)) page
     ∙ ap (option_and_then (λ x. x)) slot
 
-row_missing : (pages : List (List (Option Row))) (h : HeapValue) (n s : ℕ) (r : Place) → value_of pages ≡ h → at n s ≡ r → slice_get pages n ≡ None → map_of.get h.rows r ≡ None
+row_missing : (pages : List (List (Option Row))) (h : HeapValue) (n s : ℕ) (r : Place) → value_of pages ≡ h → at n s ≡ r → slice_get pages n ≡ None
+    → map_of.get h.rows r ≡ None
 row_missing pages h n s r is rid page =
     (λ i. map_of.get ((sym is i).rows) (sym rid i))
     ∙ get-rows_of pages (at n s)
     ∙ ap (option_and_then (λ slots. cell slots s)) page
 
 -- each row is at a place of the heap
-row_inside : (pages : List (List (Option Row))) (h : HeapValue) (r : Place) → value_of pages ≡ h → AreWhole pages → IsSome (map_of.get h.rows r) → IsPlaceInside h r
+row_inside : (pages : List (List (Option Row))) (h : HeapValue) (r : Place) → value_of pages ≡ h → AreWhole pages → IsSome (map_of.get h.rows r)
+    → IsPlaceInside h r
 row_inside pages h r is whole some =
     let found : IsSome (row_at pages r) = subst IsSome ((λ i. map_of.get ((sym is i).rows) r) ∙ get-rows_of pages r) some in
     let both = inside pages r.page r.slot whole found in
@@ -120,7 +131,8 @@ row_inside pages h r is whole some =
     in_page (o ∷ slots) zero some = omega arith
     in_page (o ∷ slots) (suc s) some = let rest = in_page slots s some in omega arith
 
-    inside : (pages : List (List (Option Row))) (n s : ℕ) → AreWhole pages → IsSome (option_and_then (λ slots. cell slots s) (slice_get pages n)) → (n < length pages) × (s < SLOTS_PER_PAGE)
+    inside : (pages : List (List (Option Row))) (n s : ℕ) → AreWhole pages → IsSome (option_and_then (λ slots. cell slots s) (slice_get pages n))
+        → (n < length pages) × (s < SLOTS_PER_PAGE)
     inside [] n s whole some = absurd cc
     inside (p ∷ pages) zero s whole some = let here = in_page p s some in let long = whole.0 in (omega arith, omega arith)
     inside (p ∷ pages) (suc n) s whole some = let rest = inside pages n s whole.1 some in (omega arith, rest.1)
@@ -128,11 +140,14 @@ row_inside pages h r is whole some =
 -- ---- the same of a heap of pages
 
 -- the row at a place is that of its page's slot
-pub row_of_page : (pages : List Slots) (h : HeapValue) (n s : ℕ) (r : Place) (page : Slots) → shown_of pages ≡ h → at n s ≡ r → slice_get pages n ≡ Some page → s < SLOTS_PER_PAGE → map_of.get h.rows r ≡ map_of.get page s
+pub row_of_page : (pages : List Slots) (h : HeapValue) (n s : ℕ) (r : Place) (page : Slots) → shown_of pages ≡ h → at n s ≡ r → slice_get pages n ≡ Some page
+    → s < SLOTS_PER_PAGE → map_of.get h.rows r ≡ map_of.get page s
 row_of_page pages h n s r page is rid here within =
-    row_found (map slots_of pages) h n s r (slots_of page) (map_of.get page s) (by_slots pages h is) rid (page_slots pages n page here) (get-slots_of page s within)
+    row_found (map slots_of pages) h n s r (slots_of page) (map_of.get page s) (by_slots pages h is) rid (page_slots pages n page here)
+    (get-slots_of page s within)
 
-pub no_row_there : (pages : List Slots) (h : HeapValue) (n s : ℕ) (r : Place) → shown_of pages ≡ h → at n s ≡ r → slice_get pages n ≡ None → map_of.get h.rows r ≡ None
+pub no_row_there : (pages : List Slots) (h : HeapValue) (n s : ℕ) (r : Place) → shown_of pages ≡ h → at n s ≡ r → slice_get pages n ≡ None
+    → map_of.get h.rows r ≡ None
 no_row_there pages h n s r is rid here = row_missing (map slots_of pages) h n s r (by_slots pages h is) rid (no_page_slots pages n here)
 
 pub rows_inside : (pages : List Slots) (h : HeapValue) (r : Place) → shown_of pages ≡ h → IsSome (map_of.get h.rows r) → IsPlaceInside h r

@@ -1,5 +1,6 @@
 -- What clauses see of a heap.
-use Rattle.std.specs.Prelude.{◌≡◌, ℕ, ◌+◌, ◌<◌, List, [], ◌∷◌, ◌++◌, map, Option, Some, None, IsSome, Contains, slice_get, ◌==◌, refl}
+use Rattle.std.specs.Prelude.{◌≡◌, ℕ, ◌+◌, ◌<◌, List, [], ◌∷◌, ◌++◌, map, Option, Some, None, IsSome, Contains}
+use Rattle.std.specs.Prelude.{slice_get, ◌==◌, refl}
 use Rattle.std.specs.FinMap.{FinMap, code, entries, get, retain_keys, from_sorted}
 use Rattle.std.specs.Coded.{Coded, code_by, coded×, coded_ℕ}
 use Rattle.records.specs.Values.{Place}
@@ -21,7 +22,8 @@ pub record HeapValue : Type 0 where
 
 -- how the logic stores a heap
 abbrev pub coded_heap : Coded HeapValue
-coded_heap = code_by (ℕ × Rows) (coded× coded_ℕ (code coded_rid coded_row)) (λ h. (h.pages, h.rows)) (λ p. record { pages = p.0; rows = p.1 }) (λ _. refl)
+coded_heap = code_by (ℕ × Rows) (coded× coded_ℕ (code coded_rid coded_row)) (λ h. (h.pages, h.rows)) (λ p.
+    record { pages = p.0; rows = p.1 }) (λ _. refl)
 
 -- the place is one of the heap's
 abbrev pub IsPlaceInside : HeapValue → Place → Type 0
@@ -65,7 +67,8 @@ heap_entries n (slots ∷ pages) = page_entries n 0 slots ++ heap_entries (n + 1
 
 -- the first n of these pages have a row in each slot
 abbrev pub AreFull : ℕ → List Slots → Type 0
-AreFull n pages = (k : ℕ) (page : Slots) → k < n → slice_get pages k ≡ Some page → (s : ℕ) → s < SLOTS_PER_PAGE → IsSome (get page s)
+AreFull n pages = (k : ℕ) (page : Slots) → k < n → slice_get pages k ≡ Some page → (s : ℕ) → s < SLOTS_PER_PAGE
+    → IsSome (get page s)
 
 -- the row in each slot of each page, by its place
 abbrev pub rows_of : List (List (Option Row)) → Rows

@@ -1,5 +1,6 @@
 //! The pages of the heap.
-ghost use Rattle.std.specs.Prelude.{◌≡◌, ◌≢◌, ◌<◌, ◌≤◌, ◌^◌, ◌↔◌, ℕ, map, length, slice_get, Some, None, All, Contains, IfSome, IfOk, IfErr, IsErr, IsSome};
+ghost use Rattle.std.specs.Prelude.{◌≡◌, ◌≢◌, ◌<◌, ◌≤◌, ◌^◌, ◌↔◌, ℕ, map, length, slice_get, Some, None, All, Contains};
+ghost use Rattle.std.specs.Prelude.{IfSome, IfOk, IfErr, IsErr, IsSome};
 ghost use Rattle.std.specs.List.Sorted.{IsStrictlyIncreasing};
 ghost use Rattle.std.specs.declared.cmp.Ordering.{Ordering};
 ghost use Rattle.std.specs.FinMap.{get, empty};
@@ -40,11 +41,12 @@ impl<A: Allocator> Model for Heap<A> {
       rows = rows_of (map slots_of h.pages.items);
     } };
 
-    ghost invariant = { λ h. (length h.pages.items < 2 ^ 32) × (h.first_open ≤ length h.pages.items) × AreFull h.first_open h.pages.items };
+    ghost invariant = { λ h. (length h.pages.items < 2 ^ 32) × (h.first_open ≤ length h.pages.items)
+        × AreFull h.first_open h.pages.items };
 }
 
-// The next page where the first of which it is not known yet whether it is full is full: the pages before it are full, as those before
-// that one were.
+// The next page where the first of which it is not known yet whether it is full is full: the pages before it are full,
+// as those before that one were.
 fn first_open_from(pages: &[HeapPage], first: u32) -> u32
     requires few { length pages.now < 2 ^ 32 }
     requires inside { first ≤ length pages.now }
@@ -96,10 +98,13 @@ impl<A: Allocator + Copy> Heap<A> {
         }
     }
 
-    /// The rows of the page, by their slots: none where a slot is empty. `None` only where no slot of the page has a row.
+    /// The rows of the page, by their slots: none where a slot is empty. `None` only where no slot of the page has a
+    /// row.
     pub fn page_slots(&self, page: u32) -> Option<&[Option<Row>; SLOTS]>
-        ensures slots { IfSome result (λ rows. (slot : ℕ) → slot < SLOTS_PER_PAGE → slice_get rows.now slot ≡ Some (get self.now.rows (record { page = page; slot = slot }))) }
-        ensures none { result ≡ None → (slot : ℕ) → slot < SLOTS_PER_PAGE → get self.now.rows (record { page = page; slot = slot }) ≡ None }
+        ensures slots { IfSome result (λ rows. (slot : ℕ) → slot < SLOTS_PER_PAGE
+            → slice_get rows.now slot ≡ Some (get self.now.rows (record { page = page; slot = slot }))) }
+        ensures none { result ≡ None → (slot : ℕ) → slot < SLOTS_PER_PAGE
+            → get self.now.rows (record { page = page; slot = slot }) ≡ None }
     {
         match self.pages.get(page as usize) {
             Some(found) => found.slots(),

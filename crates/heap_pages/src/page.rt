@@ -1,5 +1,6 @@
 //! A page of the heap.
-ghost use Rattle.std.specs.Prelude.{◌≡◌, ◌<◌, ◌↔◌, ℕ, Some, None, IsTrue, IsSome, IfSome, MatchOption, slice_get, ◌+◌, if◌then◌else◌};
+ghost use Rattle.std.specs.Prelude.{◌≡◌, ◌<◌, ◌↔◌, ℕ, Some, None, IsTrue, IsSome, IfSome, MatchOption, slice_get, ◌+◌};
+ghost use Rattle.std.specs.Prelude.{if◌then◌else◌};
 ghost use Rattle.std.specs.FinMap.{get, empty};
 ghost use Rattle.records.specs.Maps.{set_at};
 ghost use Rattle.heap_pages.specs.Slots.{is_among, IsFirstFree, NoneFree};
@@ -82,7 +83,8 @@ impl HeapPage {
 
     /// The row in each slot. `None` only where no slot has one.
     pub(crate) fn slots(&self) -> Option<&[Option<Row>; SLOTS]>
-        ensures slots { IfSome result (λ rows. (s : ℕ) → s < SLOTS_PER_PAGE → slice_get rows.now s ≡ Some (get self.now s)) }
+        ensures slots { IfSome result (λ rows. (s : ℕ) → s < SLOTS_PER_PAGE
+            → slice_get rows.now s ≡ Some (get self.now s)) }
         ensures none { result ≡ None → (s : ℕ) → get self.now s ≡ None }
     {
         if self.taken == 0 {

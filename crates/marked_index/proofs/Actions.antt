@@ -1,5 +1,6 @@
 -- What the actions leave as it was, and how many entries there are after one.
-use Rattle.std.proofs.Common.{Result, Ok, Err, OnOk, OnErr, ◌<◌, ◌≡◌, ℕ, ◌+◌, ◌-◌, ◌≤◌, Bool, true, false, cond, Option, Some, None, is_some, refl, sym, ap, subst, ◌∙◌, arith}
+use Rattle.std.proofs.Common.{Result, Ok, Err, OnOk, OnErr, ◌<◌, ◌≡◌, ℕ, ◌+◌, ◌-◌, ◌≤◌, Bool, true, false, cond, Option, Some, None, is_some, refl, sym, ap}
+use Rattle.std.proofs.Common.{subst, ◌∙◌, arith}
 use Rattle.std.specs.FinMap as map
 use Rattle.std.specs.Prelude.{IsTrue, ◌↔◌}
 use Rattle.records.specs.Maps.{set_at, set_at-get, pair_exact}
@@ -40,10 +41,12 @@ stays (Some Live) allowed h = refl
 stays (Some Marked) true h = absurd (h refl refl)
 stays (Some Marked) false h = refl
 
-pub after_no_clean : (v : IndexValue) (p : Pair) (allowed : Bool) → (allowed ≡ true → map.get v.entries p ≡ Some Marked → ⊥) → v ≡ record v { entries = entries_after v.entries (Clean allowed) p }
+pub after_no_clean : (v : IndexValue) (p : Pair) (allowed : Bool) → (allowed ≡ true → map.get v.entries p ≡ Some Marked → ⊥)
+    → v ≡ record v { entries = entries_after v.entries (Clean allowed) p }
 after_no_clean v p allowed h = same_value v _ (as_it_was v.entries p _ (sym (stays (map.get v.entries p) allowed h)))
 
-pub after_none : (v : IndexValue) (p : Pair) (o : Option Mark) → o ≡ None → is_some (map.get v.entries p) ≡ false → v ≡ record v { entries = set_at v.entries p o }
+pub after_none : (v : IndexValue) (p : Pair) (o : Option Mark) → o ≡ None → is_some (map.get v.entries p) ≡ false
+    → v ≡ record v { entries = set_at v.entries p o }
 after_none v p o is e = same_value v _ (as_it_was v.entries p o (none_of _ e ∙ sym is))
 
 -- ---- how many entries there are after a change of one
@@ -63,17 +66,22 @@ len_removed m p = subst (λ n. n ≤ map.len m) (sym (map.len-remove pair_cmp_to
 
 -- ---- room for what a change leaves
 
-pub room_removed : (m n : Index) (p : Pair) (k c : ℕ) → IsWithinCapacity (record { entries = m; pledged = k; capacity = c }) → n ≡ map.remove m p → IsWithinCapacity (record { entries = n; pledged = k; capacity = c })
+pub room_removed : (m n : Index) (p : Pair) (k c : ℕ) → IsWithinCapacity (record { entries = m; pledged = k; capacity = c }) → n ≡ map.remove m p
+    → IsWithinCapacity (record { entries = n; pledged = k; capacity = c })
 room_removed m n p k c room e = record { within = omega (arith, len_removed m p, ap map.len e, room.within); most = room.most }
 
-pub room_changed : (m n : Index) (p : Pair) (x : Mark) (k c : ℕ) → IsWithinCapacity (record { entries = m; pledged = k; capacity = c }) → is_some (map.get m p) ≡ true → n ≡ map.insert m p x → IsWithinCapacity (record { entries = n; pledged = k; capacity = c })
+pub room_changed : (m n : Index) (p : Pair) (x : Mark) (k c : ℕ) → IsWithinCapacity (record { entries = m; pledged = k; capacity = c })
+    → is_some (map.get m p) ≡ true → n ≡ map.insert m p x → IsWithinCapacity (record { entries = n; pledged = k; capacity = c })
 room_changed m n p x k c room there e = record { within = omega (arith, len_changed m p x there, ap map.len e, room.within); most = room.most }
 
 -- one more entry, and j places pledged
-pub room_added : (m n : Index) (p : Pair) (x : Mark) (j c : ℕ) → map.len m + 1 + j ≤ c → c ≤ ENTRIES_MAX → map.get m p ≡ None → n ≡ map.insert m p x → IsWithinCapacity (record { entries = n; pledged = j; capacity = c })
+pub room_added : (m n : Index) (p : Pair) (x : Mark) (j c : ℕ) → map.len m + 1 + j ≤ c → c ≤ ENTRIES_MAX → map.get m p ≡ None → n ≡ map.insert m p x
+    → IsWithinCapacity (record { entries = n; pledged = j; capacity = c })
 room_added m n p x j c fits most absent e = record { within = omega (arith, len_added m p x absent, ap map.len e, fits); most = most }
 
-pub room_tried : (m n : Index) (p : Pair) (x : Mark) (k c : ℕ) (r : Result (Unit {0}) Error) → IsWithinCapacity (record { entries = m; pledged = k; capacity = c }) → map.len m + k < c → map.get m p ≡ None → OnOk r (n ≡ map.insert m p x) → OnErr r (n ≡ m) → IsWithinCapacity (record { entries = n; pledged = k; capacity = c })
+pub room_tried : (m n : Index) (p : Pair) (x : Mark) (k c : ℕ) (r : Result (Unit {0}) Error)
+    → IsWithinCapacity (record { entries = m; pledged = k; capacity = c }) → map.len m + k < c → map.get m p ≡ None → OnOk r (n ≡ map.insert m p x)
+    → OnErr r (n ≡ m) → IsWithinCapacity (record { entries = n; pledged = k; capacity = c })
 room_tried m n p x k c (Ok u) room fits absent done left = room_added m n p x k c (omega arith) room.most absent done
 room_tried m n p x k c (Err e) room fits absent done left = record { within = omega (arith, ap map.len left, room.within); most = room.most }
 

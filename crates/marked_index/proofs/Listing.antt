@@ -1,5 +1,6 @@
 -- The list of a key's live places, as far as a walk over its entries has come.
-use Rattle.std.proofs.Common.{◌≡◌, ℕ, ◌+◌, ◌<◌, ◌≤◌, Bool, true, false, cond, not, List, [], ◌∷◌, ◌++◌, Option, Some, None, Contains, ◌⊎◌, inl, inr, refl, sym, ap, subst, ◌∙◌, arith, get_or}
+use Rattle.std.proofs.Common.{◌≡◌, ℕ, ◌+◌, ◌<◌, ◌≤◌, Bool, true, false, cond, not, List, [], ◌∷◌, ◌++◌, Option, Some, None, Contains, ◌⊎◌, inl, inr, refl, sym}
+use Rattle.std.proofs.Common.{ap, subst, ◌∙◌, arith, get_or}
 use Rattle.std.proofs.lemmas.List.Elements.{Contains-get_or, Contains-push, Contains-append_left, Contains-push_cases}
 use Rattle.std.proofs.lemmas.List.Quantifiers.{all_pairs_push}
 use Rattle.std.proofs.lemmas.Cmp.{tied_itself}
@@ -43,14 +44,16 @@ entry_of m key start None h = tt
 entry_of m key start (Some e) h = h.1
 
 -- no live place lies between the start and the next entry
-none_between : (m : Index) (key : List ℕ) (start : Option Place) (next : Option (Place × Mark)) (r : Place) → IsNextOf m key start next → IsAfter start r → IsBefore next r → mark_at m key r ≡ Some Live → ⊥
+none_between : (m : Index) (key : List ℕ) (start : Option Place) (next : Option (Place × Mark)) (r : Place) → IsNextOf m key start next → IsAfter start r
+    → IsBefore next r → mark_at m key r ≡ Some Live → ⊥
 none_between m key start None r h after before live = absurd (cc (h r after, live))
 none_between m key start (Some e) r h after before live = absurd (cc (h.2 r after before, live))
 
 none_in : (r : Place) → Contains [] r → ⊥
 none_in r h = absurd (omega (arith, h.1))
 
-pub listed_none : (m : Index) (key : List ℕ) (next : Option (Place × Mark)) (rids : List Place) → IsNextOf m key None next → rids ≡ [] → IsListed m key next rids
+pub listed_none : (m : Index) (key : List ℕ) (next : Option (Place × Mark)) (rids : List Place) → IsNextOf m key None next → rids ≡ []
+    → IsListed m key next rids
 listed_none m key next rids h e = subst (IsListed m key next) (sym e) (record {
   entry = entry_of m key None next h;
   ascending = λ i j d _ short. absurd (omega (arith, short));
@@ -61,7 +64,8 @@ listed_none m key next rids h e = subst (IsListed m key next) (sym e) (record {
 
 -- ---- one entry further
 
-before_next : (m : Index) (key : List ℕ) (rid : Place) (next : Option (Place × Mark)) (r : Place) → IsNextOf m key (Some rid) next → (r ≡ rid) ⊎ (rid_cmp r rid ≡ Less) → IsBefore next r
+before_next : (m : Index) (key : List ℕ) (rid : Place) (next : Option (Place × Mark)) (r : Place) → IsNextOf m key (Some rid) next → (r ≡ rid)
+    ⊎ (rid_cmp r rid ≡ Less) → IsBefore next r
 before_next m key rid None r h o = tt
 before_next m key rid (Some e) r h (inl is) = ap (λ (q : Place). rid_cmp q e.0) is ∙ h.0
 before_next m key rid (Some e) r h (inr below) = rid_cmp_total.trans r rid e.0 below h.0
@@ -80,12 +84,14 @@ side : (r s : Place) → Side r s
 side r s = side_by r s (rid_cmp r s) refl
 
 module _ (m : Index) (key : List ℕ) (rid : Place) (next : Option (Place × Mark)) (rids : List Place) (step : IsNextOf m key (Some rid) next) where
-  all_before : (x : Mark) → IsListed m key (Some (rid, x)) rids → (r : Place) → mark_at m key r ≡ Some Live → IsBefore next r → Side r rid → Contains rids r ⊎ (r ≡ rid)
+  all_before : (x : Mark) → IsListed m key (Some (rid, x)) rids → (r : Place) → mark_at m key r ≡ Some Live → IsBefore next r → Side r rid → Contains rids r
+      ⊎ (r ≡ rid)
   all_before x h r live ahead (before e) = inl (h.all r live e)
   all_before x h r live ahead (same e) = inr e
   all_before x h r live ahead (after e) = absurd (none_between m key (Some rid) next r step e ahead live)
 
-  not_live : (x : Mark) → mark_at m key rid ≡ Some x → (x ≡ Live → ⊥) → (r : Place) → mark_at m key r ≡ Some Live → Contains rids r ⊎ (r ≡ rid) → Contains rids r
+  not_live : (x : Mark) → mark_at m key rid ≡ Some x → (x ≡ Live → ⊥) → (r : Place) → mark_at m key r ≡ Some Live → Contains rids r ⊎ (r ≡ rid)
+      → Contains rids r
   not_live x entry dead r live (inl found) = found
   not_live x entry dead r live (inr is) = absurd (dead (cc (ap (mark_at m key) is, entry, live)))
 
@@ -122,7 +128,8 @@ module _ (m : Index) (key : List ℕ) (rid : Place) (next : Option (Place × Mar
   }
 
 -- at the end it has all of them, and no other
-pub listed_all : (m : Index) (key : List ℕ) (next : Option (Place × Mark)) (rids : List Place) → IsListed m key next rids → next ≡ None → (r : Place) → (Contains rids r → mark_at m key r ≡ Some Live) × (mark_at m key r ≡ Some Live → Contains rids r)
+pub listed_all : (m : Index) (key : List ℕ) (next : Option (Place × Mark)) (rids : List Place) → IsListed m key next rids → next ≡ None → (r : Place)
+    → (Contains rids r → mark_at m key r ≡ Some Live) × (mark_at m key r ≡ Some Live → Contains rids r)
 listed_all m key next rids h e r = (h.live r, λ live. (subst (λ (n : Option (Place × Mark)). IsListed m key n rids) e h).all r live tt)
 
 -- ---- how many entries are left to walk over
@@ -161,7 +168,9 @@ module _ (f g : Pair → Bool) (weaker : (p : Pair) → g p ≡ true → f p ≡
   fewer_here true true n k p q le = cc
   fewer_here false b n k p q le = cc
 
-  fewer_at : (p : Pair) (x : Mark) (e : Pair × Mark) (es : List (Pair × Mark)) (o : Ordering) → f p ≡ true → g p ≡ false → pair_cmp p e.0 ≡ o → cond (is_eq o) (Some e.1) (map.find pair_cmp p es) ≡ Some x → (map.find pair_cmp p es ≡ Some x → how_many g es < how_many f es) → how_many g (e ∷ es) < how_many f (e ∷ es)
+  fewer_at : (p : Pair) (x : Mark) (e : Pair × Mark) (es : List (Pair × Mark)) (o : Ordering) → f p ≡ true → g p ≡ false → pair_cmp p e.0 ≡ o
+      → cond (is_eq o) (Some e.1) (map.find pair_cmp p es) ≡ Some x → (map.find pair_cmp p es ≡ Some x → how_many g es < how_many f es)
+      → how_many g (e ∷ es) < how_many f (e ∷ es)
   fewer_at p x e es Less counted missed is h rest = fewer_by (f e.0) (g e.0) _ _ (weaker e.0) (rest h)
   fewer_at p x e es Greater counted missed is h rest = fewer_by (f e.0) (g e.0) _ _ (weaker e.0) (rest h)
   fewer_at p x e es Equal counted missed is h rest =
@@ -190,14 +199,18 @@ passed : (p q : Pair) → pair_cmp p q ≡ Less → is_left q p ≡ false
 passed p q h = ap (λ o. not (is_lt o)) h
 
 -- each step leaves fewer
-pub left_falls : (m : Index) (key : List ℕ) (rid : Place) (x : Mark) (next : Option (Place × Mark)) → mark_at m key rid ≡ Some x → IsNextOf m key (Some rid) next → left m key next < left m key (Some (rid, x))
+pub left_falls : (m : Index) (key : List ℕ) (rid : Place) (x : Mark) (next : Option (Place × Mark)) → mark_at m key rid ≡ Some x
+    → IsNextOf m key (Some rid) next → left m key next < left m key (Some (rid, x))
 left_falls m key rid x None entry step =
     let found : map.find pair_cmp (pair_at key rid) (map.entries m) ≡ Some x = sym (map.get-entries m (pair_at key rid)) ∙ entry in
-    let less : how_many (λ _. false) (map.entries m) < how_many (is_left (pair_at key rid)) (map.entries m) = fewer (is_left (pair_at key rid)) (λ _. false) (λ p h. cc (h)) (pair_at key rid) x (left_itself (pair_at key rid)) refl (map.entries m) found in
+    let less : how_many (λ _. false) (map.entries m) < how_many (is_left (pair_at key rid)) (map.entries m) =
+    fewer (is_left (pair_at key rid)) (λ _. false) (λ p h. cc (h)) (pair_at key rid) x (left_itself (pair_at key rid)) refl (map.entries m) found in
     omega arith
 left_falls m key rid x (Some e) entry step =
     let here = pair_at key rid in
     let there = pair_at key e.0 in
     let below : pair_cmp here there ≡ Less = pair_cmp-one_key key rid e.0 ∙ step.0 in
     let found : map.find pair_cmp here (map.entries m) ≡ Some x = sym (map.get-entries m here) ∙ entry in
-    fewer (is_left here) (is_left there) (λ p h. not_less (pair_cmp p here) (λ less. is_not_less (pair_cmp p there) h (pair_cmp_total.trans p here there less below))) here x (left_itself here) (passed here there below) (map.entries m) found
+    fewer (is_left here) (is_left there) (λ p h. not_less (pair_cmp p here) (λ less.
+    is_not_less (pair_cmp p there) h (pair_cmp_total.trans p here there less below))) here x (left_itself here) (passed here there below)
+    (map.entries m) found

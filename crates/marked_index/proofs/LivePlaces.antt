@@ -81,16 +81,22 @@ is_one key e r same live =
     ∙ ap is_live live
 
 -- ---- it is in order
-above_by : (key : List ℕ) (r : Place) (e : Entry) (es : List Entry) (b : Bool) → is_of key e ≡ b → T (is_lt (pair_cmp (pair_at key r) e.0)) → AllByRecursion (λ s. rid_cmp r s ≡ Less) (live_in key es)
+above_by : (key : List ℕ) (r : Place) (e : Entry) (es : List Entry) (b : Bool) → is_of key e ≡ b → T (is_lt (pair_cmp (pair_at key r) e.0))
+    → AllByRecursion (λ s. rid_cmp r s ≡ Less) (live_in key es)
     → AllByRecursion (λ s. rid_cmp r s ≡ Less) (cond b (e.0.rid ∷ live_in key es) (live_in key es))
-above_by key r e es true is h rest = (sym (pair_cmp-one_key key r e.0.rid) ∙ ap (pair_cmp (pair_at key r)) (sym (pair_is key e is)) ∙ less_is (pair_cmp (pair_at key r) e.0) h, rest)
+above_by key r e es true is h rest = (
+  sym (pair_cmp-one_key key r e.0.rid) ∙ ap (pair_cmp (pair_at key r)) (sym (pair_is key e is))
+      ∙ less_is (pair_cmp (pair_at key r) e.0) h,
+  rest,
+)
 above_by key r e es false is h rest = rest
 
 all_above : (key : List ℕ) (r : Place) (es : List Entry) → T (below_all pair_cmp (pair_at key r) es) → AllByRecursion (λ s. rid_cmp r s ≡ Less) (live_in key es)
 all_above key r [] h = tt
 all_above key r (e ∷ es) h = above_by key r e es (is_of key e) refl (first _ _ h) (all_above key r es (second _ _ h))
 
-sorted_by : (key : List ℕ) (e : Entry) (es : List Entry) (b : Bool) → is_of key e ≡ b → T (below_all pair_cmp e.0 es) → IsStrictlySortedBy rid_cmp (live_in key es) → IsStrictlySortedBy rid_cmp (cond b (e.0.rid ∷ live_in key es) (live_in key es))
+sorted_by : (key : List ℕ) (e : Entry) (es : List Entry) (b : Bool) → is_of key e ≡ b → T (below_all pair_cmp e.0 es)
+    → IsStrictlySortedBy rid_cmp (live_in key es) → IsStrictlySortedBy rid_cmp (cond b (e.0.rid ∷ live_in key es) (live_in key es))
 unfolding IsStrictlySortedBy
 sorted_by key e es true is h rest = (all_above key e.0.rid es (subst (λ p. T (below_all pair_cmp p es)) (pair_is key e is) h), rest)
 sorted_by key e es false is h rest = rest
@@ -106,11 +112,13 @@ none_below p [] h = refl
 none_below p (e ∷ es) h = ap (λ o. cond (is_eq o) (Some e.1) (map.find pair_cmp p es)) (less_is (pair_cmp p e.0) (first _ _ h)) ∙ none_below p es (second _ _ h)
 
 -- what is found behind an entry is no entry of its pair
-behind : (p : Pair) (e : Entry) (es : List Entry) (x : Mark) (b : Bool) → eq_by_cmp pair_cmp p e.0 ≡ b → T (below_all pair_cmp e.0 es) → map.find pair_cmp p es ≡ Some x → cond b (Some e.1) (map.find pair_cmp p es) ≡ Some x
+behind : (p : Pair) (e : Entry) (es : List Entry) (x : Mark) (b : Bool) → eq_by_cmp pair_cmp p e.0 ≡ b → T (below_all pair_cmp e.0 es)
+    → map.find pair_cmp p es ≡ Some x → cond b (Some e.1) (map.find pair_cmp p es) ≡ Some x
 behind p e es x true t h found = absurd (cc (ap (λ q. map.find pair_cmp q es) (key_is pair_exact p e.0 t), found, none_below e.0 es h))
 behind p e es x false t h found = found
 
-found_by : (key : List ℕ) (e : Entry) (es : List Entry) (r : Place) (b : Bool) → is_of key e ≡ b → T (below_all pair_cmp e.0 es) → (Contains (live_in key es) r → map.find pair_cmp (pair_at key r) es ≡ Some Live)
+found_by : (key : List ℕ) (e : Entry) (es : List Entry) (r : Place) (b : Bool) → is_of key e ≡ b → T (below_all pair_cmp e.0 es)
+    → (Contains (live_in key es) r → map.find pair_cmp (pair_at key r) es ≡ Some Live)
     → Contains (cond b (e.0.rid ∷ live_in key es) (live_in key es)) r → map.find pair_cmp (pair_at key r) (e ∷ es) ≡ Some Live
 found_by key e es r false is h rest c = behind (pair_at key r) e es Live (eq_by_cmp pair_cmp (pair_at key r) e.0) refl h (rest c)
 found_by key e es r true is h rest c = elim (Contains-append_cases (e.0.rid ∷ []) (live_in key es) r c) [
@@ -118,23 +126,27 @@ found_by key e es r true is h rest c = elim (Contains-append_cases (e.0.rid ∷ 
     | inl none ↦ absurd (omega (arith, none.1))
     | inr same ↦
         let p : pair_at key r ≡ e.0 = ap (pair_at key) (sym same) ∙ sym (pair_is key e is) in
-        ap (λ b. cond b (Some e.1) (map.find pair_cmp (pair_at key r) es)) (ap (λ q. eq_by_cmp pair_cmp q e.0) p ∙ same_key pair_exact e.0) ∙ ap Some (mark_is key e is)
+        ap (λ b. cond b (Some e.1) (map.find pair_cmp (pair_at key r) es)) (ap (λ q. eq_by_cmp pair_cmp q e.0) p ∙ same_key pair_exact e.0)
+        ∙ ap Some (mark_is key e is)
   ]
   | inr later ↦ behind (pair_at key r) e es Live (eq_by_cmp pair_cmp (pair_at key r) e.0) refl h (rest later)
 ]
 
-found : (key : List ℕ) (r : Place) (es : List Entry) → T (is_sorted pair_cmp es) → Contains (live_in key es) r → map.find pair_cmp (pair_at key r) es ≡ Some Live
+found : (key : List ℕ) (r : Place) (es : List Entry) → T (is_sorted pair_cmp es) → Contains (live_in key es) r
+    → map.find pair_cmp (pair_at key r) es ≡ Some Live
 found key r [] h c = absurd (omega (arith, c.1))
 found key r (e ∷ es) h c = found_by key e es r (is_of key e) refl (first _ _ h) (found key r es (second _ _ h)) c
 
-listed_by : (key : List ℕ) (e : Entry) (es : List Entry) (r : Place) (b : Bool) → Contains (live_in key es) r → Contains (cond b (e.0.rid ∷ live_in key es) (live_in key es)) r
+listed_by : (key : List ℕ) (e : Entry) (es : List Entry) (r : Place) (b : Bool) → Contains (live_in key es) r
+    → Contains (cond b (e.0.rid ∷ live_in key es) (live_in key es)) r
 listed_by key e es r true c = Contains-append_right (e.0.rid ∷ []) (live_in key es) r c
 listed_by key e es r false c = c
 
 some_is : (x y : Mark) → Some x ≡ Some y → x ≡ y
 some_is x y e = cc
 
-listed_here : (key : List ℕ) (e : Entry) (es : List Entry) (r : Place) (b : Bool) → eq_by_cmp pair_cmp (pair_at key r) e.0 ≡ b → (map.find pair_cmp (pair_at key r) es ≡ Some Live → Contains (live_in key es) r)
+listed_here : (key : List ℕ) (e : Entry) (es : List Entry) (r : Place) (b : Bool) → eq_by_cmp pair_cmp (pair_at key r) e.0 ≡ b
+    → (map.find pair_cmp (pair_at key r) es ≡ Some Live → Contains (live_in key es) r)
     → cond b (Some e.1) (map.find pair_cmp (pair_at key r) es) ≡ Some Live → Contains (live_in key (e ∷ es)) r
 listed_here key e es r false t rest is = listed_by key e es r (is_of key e) (rest is)
 listed_here key e es r true t rest is =
@@ -148,7 +160,8 @@ listed key r [] e = absurd (cc (e))
 listed key r (e ∷ es) is = listed_here key e es r (eq_by_cmp pair_cmp (pair_at key r) e.0) refl (listed key r es) is
 
 -- the places of the live entries of a key, ascending
-pub live_places : (m : Index) (key : List ℕ) → (rids : List Place) × IsStrictlySortedBy rid_cmp rids × ((r : Place) → Contains rids r ↔ (mark_at m key r ≡ Some Live))
+pub live_places : (m : Index) (key : List ℕ) → (rids : List Place) × IsStrictlySortedBy rid_cmp rids
+    × ((r : Place) → Contains rids r ↔ (mark_at m key r ≡ Some Live))
 live_places m key = (
   live_in key (map.entries m),
   in_order key (map.entries m) (map.entries_sorted m),

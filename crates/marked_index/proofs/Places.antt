@@ -32,12 +32,14 @@ by_key Greater x y apart h = h
 -- a pair of another key comes after all pairs of a key or before all
 below_other : (key : List ℕ) (r s : Place) (p : Pair) → (p.key ≡ key → ⊥) → pair_cmp (pair_at key r) p ≡ Less → pair_cmp (pair_at key s) p ≡ Less
 below_other key r s p apart h =
-    by_key (slice_cmp nat_cmp key p.key) (rid_cmp r p.rid) (rid_cmp s p.rid) (λ e. apart (sym (slice_cmp-IsAntisymmetric nat_cmp-IsAntisymmetric key p.key e))) h
+    by_key (slice_cmp nat_cmp key p.key) (rid_cmp r p.rid) (rid_cmp s p.rid) (λ e.
+    apart (sym (slice_cmp-IsAntisymmetric nat_cmp-IsAntisymmetric key p.key e))) h
 
 pub next_is_none : (m : Index) (key : List ℕ) (r : Place) → IsLeastAbove m (Some (pair_at key r)) None → IsNextOf m key (Some r) None
 next_is_none m key r none = λ s h. none (pair_at key s) (pair_cmp-one_key key r s ∙ h)
 
-pub next_is : (m : Index) (key : List ℕ) (r : Place) (p : Pair) (x : Mark) (b : Bool) → IsLeastAbove m (Some (pair_at key r)) (Some (p, x)) → b ≡ pointwise nat_eq p.key key → IsNextOf m key (Some r) (then_some b (p.rid, x))
+pub next_is : (m : Index) (key : List ℕ) (r : Place) (p : Pair) (x : Mark) (b : Bool) → IsLeastAbove m (Some (pair_at key r)) (Some (p, x))
+    → b ≡ pointwise nat_eq p.key key → IsNextOf m key (Some r) (then_some b (p.rid, x))
 next_is m key r p x true least e =
     let same : p.key ≡ key = (bytes_decides p.key key).0 (sym e) in
     let is : p ≡ pair_at key p.rid = λ i. record { key = same i; rid = p.rid } in (
@@ -62,7 +64,8 @@ from_zero_at n Greater e h = absurd (omega arith)
 from_zero : (n : ℕ) → (n ≡ 0) ⊎ (nat_cmp 0 n ≡ Less)
 from_zero n = from_zero_at n (nat_cmp 0 n) refl (ranks 0 n)
 
-from_first_at : (r : Place) → (r.page ≡ 0) ⊎ (nat_cmp 0 r.page ≡ Less) → (r.slot ≡ 0) ⊎ (nat_cmp 0 r.slot ≡ Less) → (r ≡ first_place) ⊎ (rid_cmp first_place r ≡ Less)
+from_first_at : (r : Place) → (r.page ≡ 0) ⊎ (nat_cmp 0 r.page ≡ Less) → (r.slot ≡ 0) ⊎ (nat_cmp 0 r.slot ≡ Less) → (r ≡ first_place)
+    ⊎ (rid_cmp first_place r ≡ Less)
 from_first_at r (inl p) (inl s) = inl (λ i. record { page = p i; slot = s i })
 from_first_at r (inl p) (inr s) = inr (ap (λ n. ordering_then (nat_cmp 0 n) (nat_cmp 0 r.slot)) p ∙ s)
 from_first_at r (inr p) s = inr (ap (λ o. ordering_then o (nat_cmp 0 r.slot)) p)
@@ -72,10 +75,12 @@ pub from_first : (r : Place) → (r ≡ first_place) ⊎ (rid_cmp first_place r 
 from_first r = from_first_at r (from_zero r.page) (from_zero r.slot)
 
 not_below_itself : (r s : Place) → rid_cmp r s ≡ Less → r ≡ s → ⊥
-not_below_itself r s h e = let tied : rid_cmp s s ≡ Equal = tied_itself rid_cmp_total s in let less : rid_cmp s s ≡ Less = ap (λ (q : Place). rid_cmp q s) (sym e) ∙ h in absurd (cc)
+not_below_itself r s h e = let tied : rid_cmp s s ≡ Equal = tied_itself rid_cmp_total s in let less : rid_cmp s s ≡ Less =
+    ap (λ (q : Place). rid_cmp q s) (sym e) ∙ h in absurd (cc)
 
 not_both_ways : (r s : Place) → rid_cmp r s ≡ Less → rid_cmp s r ≡ Less → ⊥
-not_both_ways r s h k = let back : rid_cmp r s ≡ ordering_reverse (rid_cmp s r) = rid_cmp_total.antisymm r s in let turned : ordering_reverse (rid_cmp s r) ≡ Greater = ap ordering_reverse k in absurd (cc)
+not_both_ways r s h k = let back : rid_cmp r s ≡ ordering_reverse (rid_cmp s r) = rid_cmp_total.antisymm r s in
+    let turned : ordering_reverse (rid_cmp s r) ≡ Greater = ap ordering_reverse k in absurd (cc)
 
 not_below_first : (r : Place) → (r ≡ first_place) ⊎ (rid_cmp first_place r ≡ Less) → rid_cmp r first_place ≡ Less → ⊥
 not_below_first r (inl e) h = not_below_itself r first_place h e
@@ -84,10 +89,12 @@ not_below_first r (inr k) h = not_both_ways r first_place h k
 pub first_is_there : (m : Index) (key : List ℕ) (x : Mark) → mark_at m key first_place ≡ Some x → IsNextOf m key None (Some (first_place, x))
 first_is_there m key x e = (tt, e, λ r _ h. absurd (not_below_first r (from_first r) h))
 
-none_by : (m : Index) (key : List ℕ) (r : Place) → mark_at m key first_place ≡ None → (rid_cmp first_place r ≡ Less → mark_at m key r ≡ None) → (r ≡ first_place) ⊎ (rid_cmp first_place r ≡ Less) → mark_at m key r ≡ None
+none_by : (m : Index) (key : List ℕ) (r : Place) → mark_at m key first_place ≡ None → (rid_cmp first_place r ≡ Less → mark_at m key r ≡ None)
+    → (r ≡ first_place) ⊎ (rid_cmp first_place r ≡ Less) → mark_at m key r ≡ None
 none_by m key r e later (inl is) = ap (mark_at m key) is ∙ e
 none_by m key r e later (inr h) = later h
 
-pub first_is_absent : (m : Index) (key : List ℕ) (next : Option (Place × Mark)) → mark_at m key first_place ≡ None → IsNextOf m key (Some first_place) next → IsNextOf m key None next
+pub first_is_absent : (m : Index) (key : List ℕ) (next : Option (Place × Mark)) → mark_at m key first_place ≡ None → IsNextOf m key (Some first_place) next
+    → IsNextOf m key None next
 first_is_absent m key None e h = λ r _. none_by m key r e (h r) (from_first r)
 first_is_absent m key (Some n) e h = (tt, h.1, λ r _ before. none_by m key r e (λ after. h.2 r after before) (from_first r))

@@ -19,7 +19,8 @@ pub record IndexValue : Type 0 where
 
 -- how the logic stores it
 abbrev pub coded_index : Coded IndexValue
-coded_index = code_by (Index × (ℕ × ℕ)) (coded× (map.code coded_pair coded_mark) (coded× coded_ℕ coded_ℕ)) (λ v. (v.entries, (v.pledged, v.capacity))) (λ p. record { entries = p.0; pledged = p.1.0; capacity = p.1.1 }) (λ _. refl)
+coded_index = code_by (Index × (ℕ × ℕ)) (coded× (map.code coded_pair coded_mark) (coded× coded_ℕ coded_ℕ)) (λ v.
+    (v.entries, (v.pledged, v.capacity))) (λ p. record { entries = p.0; pledged = p.1.0; capacity = p.1.1 }) (λ _. refl)
 
 -- the entries and the reserved places are within the capacity, and that is what a tree can hold
 pub record IsWithinCapacity (v : IndexValue) : Type 0 where

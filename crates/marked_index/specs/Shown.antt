@@ -16,7 +16,9 @@ abbrev pub IsAfter : Option Place → Place → Type 0
 IsAfter None r = Unit {0}
 IsAfter (Some start) r = rid_cmp start r ≡ Less
 
--- the first entry of the key after a start: no place between has one. There is none exactly where no later place has one
+-- the first entry of the key after a start: no place between has one. There is none exactly where no later place has
+-- one
 abbrev pub IsNextOf : Index → List ℕ → Option Place → Option (Place × Mark) → Type 0
 IsNextOf entries key start None = (r : Place) → IsAfter start r → mark_at entries key r ≡ None
-IsNextOf entries key start (Some e) = IsAfter start e.0 × (mark_at entries key e.0 ≡ Some e.1) × ((r : Place) → IsAfter start r → rid_cmp r e.0 ≡ Less → mark_at entries key r ≡ None)
+IsNextOf entries key start (Some e) = IsAfter start e.0 × (mark_at entries key e.0 ≡ Some e.1)
+    × ((r : Place) → IsAfter start r → rid_cmp r e.0 ≡ Less → mark_at entries key r ≡ None)

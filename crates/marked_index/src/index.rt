@@ -1,5 +1,6 @@
 //! The index.
-ghost use Rattle.std.specs.Prelude.{◌≡◌, ◌⊎◌, [], ◌+◌, ◌-◌, ◌<◌, ◌≤◌, ◌↔◌, None, Some, Contains, IfOk, IfErr, IsErr, IsOk, IsSome, IsTrue, OnErr, OnOk};
+ghost use Rattle.std.specs.Prelude.{◌≡◌, ◌⊎◌, [], ◌+◌, ◌-◌, ◌<◌, ◌≤◌, ◌↔◌, None, Some, Contains, IfOk, IfErr, IsErr};
+ghost use Rattle.std.specs.Prelude.{IsOk, IsSome, IsTrue, OnErr, OnOk};
 ghost use Rattle.std.specs.FinMap as map;
 ghost use Rattle.std.specs.List.{AllPairs};
 ghost use Rattle.std.specs.Option.{option_copied};
@@ -12,7 +13,8 @@ ghost use Rattle.btree_node.specs.Above.{IsLeastAbove};
 ghost use Rattle.btree_node.specs.Contents.{contents};
 ghost use Rattle.btree_node.specs.Plans.{IsWayIn};
 ghost use Rattle.btree_node.specs.Runs.{IsRunAbove};
-ghost use Rattle.marked_index.specs.Index.{IsWithinCapacity, IsFull, IsAbsent, entries_after, pledges_used, after_txn_action};
+ghost use Rattle.marked_index.specs.Index.{IsWithinCapacity, IsFull, IsAbsent, entries_after, pledges_used};
+ghost use Rattle.marked_index.specs.Index.{after_txn_action};
 ghost use Rattle.marked_index.specs.Shown.{IsNextOf, mark_at};
 
 use btree_node::{BTree, Cleared, ENTRIES_MAX, Entry, Way};
@@ -64,7 +66,11 @@ impl<A: Allocator> Model for MarkedIndex<A> {
 
     ghost view = { λ i. record { entries = contents i.tree; pledged = i.pledged; capacity = i.capacity } };
 
-    ghost invariant = { λ i. IsWithinCapacity (record { entries = contents i.tree; pledged = i.pledged; capacity = i.capacity }) };
+    ghost invariant = { λ i. IsWithinCapacity (record {
+      entries = contents i.tree;
+      pledged = i.pledged;
+      capacity = i.capacity;
+    }) };
 }
 
 /// Puts the absent pair of a way into the tree with a mark. The one error is `NoMemory`.
@@ -132,8 +138,8 @@ impl<A: Allocator + Clone> MarkedIndex<A> {
         self.tree.above(pair)
     }
 
-    /// The next entries above the pair, or the first of all: some that stand together, in order. There is none only where none
-    /// is above.
+    /// The next entries above the pair, or the first of all: some that stand together, in order. There is none only
+    /// where none is above.
     pub fn run_above(&self, pair: Option<&Pair>) -> &[Entry]
         ensures run { IsRunAbove self.now.entries (option_copied pair.entry) result.now }
         ensures none { result.now ≡ [] → IsLeastAbove self.now.entries (option_copied pair.entry) None }
@@ -268,8 +274,8 @@ impl<A: Allocator + Clone> MarkedIndex<A> {
         takes_out
     }
 
-    /// Takes every entry out; the places that are pledged stay so. The entries are answered, in the memory that they have: it is
-    /// freed where the caller lets them go.
+    /// Takes every entry out; the places that are pledged stay so. The entries are answered, in the memory that they
+    /// have: it is freed where the caller lets them go.
     ///
     /// It takes no memory.
     pub fn clear(&mut self) -> Cleared<A>

@@ -91,7 +91,8 @@ trees-set h [] k u b l v = tt
 trees-set h (t ∷ ts) zero u b l v = (l, v, b.2)
 trees-set h (t ∷ ts) (suc k) u b l v = (b.0, b.1, trees-set h ts k u b.2 l v)
 
-pub children_at : {A : Type 0} (h : ℕ) (cs : List (Child A)) (k : ℕ) (d : Child A) → AreTrees h (forest_of (map (λ c. c.node.value) cs)) → k < length cs → (16 ≤ count (get_or cs k d).node.value) × IsTree h (get_or cs k d).node.value
+pub children_at : {A : Type 0} (h : ℕ) (cs : List (Child A)) (k : ℕ) (d : Child A) → AreTrees h (forest_of (map (λ c. c.node.value) cs)) → k < length cs
+    → (16 ≤ count (get_or cs k d).node.value) × IsTree h (get_or cs k d).node.value
 children_at h [] k d b l = absurd (omega arith)
 children_at h (c ∷ cs) zero d b l = (b.0, b.1)
 children_at h (c ∷ cs) (suc k) d b l = children_at h cs k d b.2 (omega arith)

@@ -1,5 +1,6 @@
 -- A change at a pair touches one child alone.
-use Rattle.std.proofs.Common.{◌≡◌, ℕ, ◌<◌, Bool, true, false, cond, List, [], ◌∷◌, ◌++◌, length, take, drop, get_or, Some, refl, sym, arith, zero, suc, append_assoc}
+use Rattle.std.proofs.Common.{◌≡◌, ℕ, ◌<◌, Bool, true, false, cond, List, [], ◌∷◌, ◌++◌, length, take, drop, get_or, Some, refl, sym, arith, zero, suc}
+use Rattle.std.proofs.Common.{append_assoc}
 use Rattle.std.proofs.Math.ListN.{set}
 use Rattle.std.specs.Ordering.{is_eq}
 use Rattle.records.specs.declared.pair.Pair.{Pair}
@@ -13,15 +14,19 @@ use Rattle.node_parts.proofs.Order.{AllBelow, below-differs, above-differs, AllB
 use Rattle.node_parts.proofs.Children.{all_entries, place_of, starts, zero_true, one_zero, suc_false}
 
 -- ---- the entries around a child
-pub entries-around : {A : Type 0} (cs : List (Child A)) (k : ℕ) (d : Child A) → k < length cs → all_entries cs ≡ all_entries (take k cs) ++ (entries (get_or cs k d).node.value ++ all_entries (drop (suc k) cs))
+pub entries-around : {A : Type 0} (cs : List (Child A)) (k : ℕ) (d : Child A) → k < length cs
+    → all_entries cs ≡ all_entries (take k cs) ++ (entries (get_or cs k d).node.value ++ all_entries (drop (suc k) cs))
 entries-around [] k d h = absurd (omega arith)
 entries-around (c ∷ cs) zero d h = refl
-entries-around (c ∷ cs) (suc k) d h = rw (entries-around cs k d (omega arith)) (sym (append_assoc (entries c.node.value) (all_entries (take k cs)) (entries (get_or cs k d).node.value ++ all_entries (drop (suc k) cs))))
+entries-around (c ∷ cs) (suc k) d h = rw (entries-around cs k d (omega arith))
+    (sym (append_assoc (entries c.node.value) (all_entries (take k cs)) (entries (get_or cs k d).node.value ++ all_entries (drop (suc k) cs))))
 
-pub entries-set : {A : Type 0} (cs : List (Child A)) (k : ℕ) (b : Child A) → k < length cs → all_entries (set cs k b) ≡ all_entries (take k cs) ++ (entries b.node.value ++ all_entries (drop (suc k) cs))
+pub entries-set : {A : Type 0} (cs : List (Child A)) (k : ℕ) (b : Child A) → k < length cs
+    → all_entries (set cs k b) ≡ all_entries (take k cs) ++ (entries b.node.value ++ all_entries (drop (suc k) cs))
 entries-set [] k b h = absurd (omega arith)
 entries-set (c ∷ cs) zero b h = refl
-entries-set (c ∷ cs) (suc k) b h = rw (entries-set cs k b (omega arith)) (sym (append_assoc (entries c.node.value) (all_entries (take k cs)) (entries b.node.value ++ all_entries (drop (suc k) cs))))
+entries-set (c ∷ cs) (suc k) b h = rw (entries-set cs k b (omega arith))
+    (sym (append_assoc (entries c.node.value) (all_entries (take k cs)) (entries b.node.value ++ all_entries (drop (suc k) cs))))
 
 AllBelow-append : (xs ys : List Entry) (p : Pair) → AllBelow xs p → AllBelow ys p → AllBelow (xs ++ ys) p
 AllBelow-append [] ys p h k = k
@@ -34,7 +39,8 @@ ends_below xs (x ∷ es) ys p q e b h =
     let b' : is_below p x.pair ≡ false = rw same b in
     AllBelow-upto xs x.pair p (below_head xs x (es ++ ys) h) b'
 
-pub below_left : {A : Type 0} (cs : List (Child A)) (p : Pair) (k : ℕ) → AreLabelled cs → IsAscending (all_entries cs) → place_of p cs ≡ suc k → AllBelow (all_entries (take k cs)) p
+pub below_left : {A : Type 0} (cs : List (Child A)) (p : Pair) (k : ℕ) → AreLabelled cs → IsAscending (all_entries cs) → place_of p cs ≡ suc k
+    → AllBelow (all_entries (take k cs)) p
 below_left [] p k l h e = cc
 below_left (c ∷ cs) p zero l h e = tt
 below_left (c ∷ []) p (suc k) l h e = let e' : 0 ≡ suc k = one_zero (is_below p c.least) 0 (suc k) e in absurd (omega arith)
@@ -51,7 +57,8 @@ above_all (c ∷ cs) p l h e =
     let b : is_below p c.least ≡ true = zero_true (is_below p c.least) (place_of p cs) e in
     starts (entries c.node.value) (all_entries cs) p c.least l.0 b h
 
-pub above_right : {A : Type 0} (cs : List (Child A)) (p : Pair) (k : ℕ) → AreLabelled cs → IsAscending (all_entries cs) → place_of p cs ≡ suc k → AllAbove p (all_entries (drop (suc k) cs))
+pub above_right : {A : Type 0} (cs : List (Child A)) (p : Pair) (k : ℕ) → AreLabelled cs → IsAscending (all_entries cs) → place_of p cs ≡ suc k
+    → AllAbove p (all_entries (drop (suc k) cs))
 above_right [] p k l h e = cc
 above_right (c ∷ cs) p zero l h e =
     above_all cs p l.1 (IsAscending-right (entries c.node.value) (all_entries cs) h) (one_zero (is_below p c.least) (place_of p cs) 0 e)
@@ -80,12 +87,14 @@ least_of-with_mark [] p m = refl
 least_of-with_mark (e ∷ es) p m = least_of-cons (is_eq (order e.pair p)) e m (with_mark es p m)
 
 -- ---- one child replaced
-pub AreLabelled-set : {A : Type 0} (cs : List (Child A)) (k : ℕ) (b : Child A) → AreLabelled cs → least_of (entries b.node.value) ≡ Some b.least → AreLabelled (set cs k b)
+pub AreLabelled-set : {A : Type 0} (cs : List (Child A)) (k : ℕ) (b : Child A) → AreLabelled cs → least_of (entries b.node.value) ≡ Some b.least
+    → AreLabelled (set cs k b)
 AreLabelled-set [] k b l h = tt
 AreLabelled-set (c ∷ cs) zero b l h = (h, l.1)
 AreLabelled-set (c ∷ cs) (suc k) b l h = (l.0, AreLabelled-set cs k b l.1 h)
 
-pub label_at : {A : Type 0} (cs : List (Child A)) (k : ℕ) (d : Child A) → k < length cs → AreLabelled cs → least_of (entries (get_or cs k d).node.value) ≡ Some (get_or cs k d).least
+pub label_at : {A : Type 0} (cs : List (Child A)) (k : ℕ) (d : Child A) → k < length cs → AreLabelled cs
+    → least_of (entries (get_or cs k d).node.value) ≡ Some (get_or cs k d).least
 label_at [] k d h l = absurd (omega arith)
 label_at (c ∷ cs) zero d h l = l.0
 label_at (c ∷ cs) (suc k) d h l = label_at cs k d (omega arith) l.1

@@ -18,15 +18,18 @@ use Rattle.node_parts.proofs.RowLemmas as rows
 pub labels : {A : Type 0} (ls rs ms ns : List (Child A)) → ms ++ ns ≡ ls ++ rs → AreLabelled ls → AreLabelled rs → AreLabelled (ms ++ ns)
 labels ls rs ms ns e a b = rw e (AreLabelled-append ls rs a b)
 
-pub joined : {A : Type 0} (ls rs ms ns : List (Child A)) (t u : Tree) → ms ++ ns ≡ ls ++ rs → t ≡ branch (forest_of (trees ls)) → u ≡ branch (forest_of (trees rs)) → all_entries ms ++ all_entries ns ≡ entries t ++ entries u
+pub joined : {A : Type 0} (ls rs ms ns : List (Child A)) (t u : Tree) → ms ++ ns ≡ ls ++ rs → t ≡ branch (forest_of (trees ls))
+    → u ≡ branch (forest_of (trees rs)) → all_entries ms ++ all_entries ns ≡ entries t ++ entries u
 joined ls rs ms ns t u e f g =
     sym (entries-append ms ns) ∙ ap all_entries e ∙ entries-append ls rs ∙ sym (ap (λ x. entries x ++ entries u) f ∙ ap (λ x. all_entries ls ++ entries x) g)
 
 -- all of two rows is in one
-pub merged : {A : Type 0} (ls rs ms : List (Child A)) (t u : Tree) → ms ≡ ls ++ rs → t ≡ branch (forest_of (trees ls)) → u ≡ branch (forest_of (trees rs)) → all_entries ms ≡ entries t ++ entries u
+pub merged : {A : Type 0} (ls rs ms : List (Child A)) (t u : Tree) → ms ≡ ls ++ rs → t ≡ branch (forest_of (trees ls)) → u ≡ branch (forest_of (trees rs))
+    → all_entries ms ≡ entries t ++ entries u
 merged ls rs ms t u e f g = sym (append-nil (all_entries ms)) ∙ joined ls rs ms [] t u (append-nil ms ∙ e) f g
 
-pub level_trees : {A : Type 0} (h : ℕ) (ls rs ms ns : List (Child A)) (t u : Tree) → ms ++ ns ≡ ls ++ rs → t ≡ branch (forest_of (trees ls)) → u ≡ branch (forest_of (trees rs)) → IsTree h t → IsTree h u → (1 < h) × AreTrees (h - 1) (forest_of (trees ms)) × AreTrees (h - 1) (forest_of (trees ns))
+pub level_trees : {A : Type 0} (h : ℕ) (ls rs ms ns : List (Child A)) (t u : Tree) → ms ++ ns ≡ ls ++ rs → t ≡ branch (forest_of (trees ls))
+    → u ≡ branch (forest_of (trees rs)) → IsTree h t → IsTree h u → (1 < h) × AreTrees (h - 1) (forest_of (trees ms)) × AreTrees (h - 1) (forest_of (trees ns))
 level_trees h ls rs ms ns t u e f g b c =
     let b' : IsTree h (branch (forest_of (trees ls))) = subst (λ x. IsTree h x) f b in
     let c' : IsTree h (branch (forest_of (trees rs))) = subst (λ x. IsTree h x) g c in
@@ -50,4 +53,10 @@ abbrev pub IsMoved : ℕ → ℕ → ℕ → ℕ → Type 0
 IsMoved a b m n = (a < b → (m ≡ a + 1) × (n + 1 ≡ b)) × (b ≤ a → (m + 1 ≡ a) × (n ≡ b + 1))
 
 pub moved_few : (a b m n : ℕ) → IsMoved a b m n → a ≤ 32 → b ≤ 32 → a + b < 64 → (m ≤ 32) × (n ≤ 32)
-moved_few a b m n i x y z = elim (cases_lt a b) [ inl l ↦ (omega (arith, (i.0 l).0), omega (arith, (i.0 l).1)) | inr l ↦ (omega (arith, (i.1 l).0), omega (arith, (i.1 l).1)) ]
+moved_few a b m n i x y z = elim (cases_lt a b) [
+  | inl l ↦ (omega (arith, (i.0 l).0), omega (arith, (i.0 l).1))
+  | inr l ↦ (
+    omega (arith, (i.1 l).0),
+    omega (arith, (i.1 l).1),
+  )
+]

@@ -122,10 +122,12 @@ below_head (x ∷ xs) e ys h = (above_head x.pair xs e ys h.0, below_head xs e y
 insert-suc : (x e : Entry) (xs : List Entry) (n m : ℕ) → m ≡ suc n → insert (x ∷ xs) m e ≡ x ∷ insert xs n e
 insert-suc x e xs n m h = rw h refl
 
-insert_at_place : (b : Bool) (x e : Entry) (xs : List Entry) (n : ℕ) (ys : List Entry) → insert xs n e ≡ ys → insert (x ∷ xs) (cond b (1 + n) 0) e ≡ cond b (x ∷ ys) (e ∷ x ∷ xs)
+insert_at_place : (b : Bool) (x e : Entry) (xs : List Entry) (n : ℕ) (ys : List Entry) → insert xs n e ≡ ys
+    → insert (x ∷ xs) (cond b (1 + n) 0) e ≡ cond b (x ∷ ys) (e ∷ x ∷ xs)
 insert_at_place true x e xs n ys h = insert-suc x e xs n (1 + n) (omega arith) ∙ ap (λ w. x ∷ w) h
 insert_at_place false x e xs n ys h = refl
 
 pub insert-at_place : (es : List Entry) (e : Entry) → insert es (prefix_len (λ x. is_below x.pair e.pair) es) e ≡ insert_entry es e
 insert-at_place [] e = refl
-insert-at_place (x ∷ xs) e = insert_at_place (is_below x.pair e.pair) x e xs (prefix_len (λ y. is_below y.pair e.pair) xs) (insert_entry xs e) (insert-at_place xs e)
+insert-at_place (x ∷ xs) e = insert_at_place (is_below x.pair e.pair) x e xs (prefix_len (λ y. is_below y.pair e.pair) xs) (insert_entry xs e)
+    (insert-at_place xs e)

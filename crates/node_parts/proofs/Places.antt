@@ -1,5 +1,6 @@
 -- Where a halving search ends.
-use Rattle.std.proofs.Common.{◌≡◌, ℕ, ◌-◌, ◌<◌, ◌≤◌, Bool, true, false, not, List, [], ◌∷◌, ◌++◌, length, get_or, Some, refl, sym, ap, subst, ◌∙◌, arith, zero, suc}
+use Rattle.std.proofs.Common.{◌≡◌, ℕ, ◌-◌, ◌<◌, ◌≤◌, Bool, true, false, not, List, [], ◌∷◌, ◌++◌, length, get_or, Some, refl, sym, ap, subst, ◌∙◌, arith, zero}
+use Rattle.std.proofs.Common.{suc}
 use Rattle.std.specs.List.{position_or_len, prefix_len}
 use Rattle.std.specs.List.Sorted.{IsPartitionPoint, IsPartitionedBy}
 use Rattle.records.specs.declared.pair.Pair.{Pair}
@@ -13,18 +14,23 @@ use Rattle.node_parts.specs.Rows.{trees, row_entries}
 use Rattle.node_parts.proofs.Order.{below_trans, AllAbove-right, IsAscending-right}
 
 -- the place between what passes and what does not is how many pass from the front on
-pub prefix_len-partition : {X : Type 0} (p : X → Bool) (xs : List X) (n : ℕ) → n ≤ length xs → IsPartitionPoint (λ x. p x ≡ true) (λ x. p x ≡ false) xs n → n ≡ prefix_len p xs
+pub prefix_len-partition : {X : Type 0} (p : X → Bool) (xs : List X) (n : ℕ) → n ≤ length xs → IsPartitionPoint (λ x. p x ≡ true) (λ x. p x ≡ false) xs n
+    → n ≡ prefix_len p xs
 prefix_len-partition p [] n h k = omega arith
 prefix_len-partition p (x ∷ xs) zero h k =
     let fails : p x ≡ false = k.1 0 x (omega arith) (omega arith) in
     rw fails refl
 prefix_len-partition p (x ∷ xs) (suc n) h k =
     let passes : p x ≡ true = k.0 0 x (omega arith) (omega arith) in
-    let rest : n ≡ prefix_len p xs = prefix_len-partition p xs n (omega arith) ((λ i d l m. k.0 (suc i) d (omega arith) (omega arith)), (λ i d l m. k.1 (suc i) d (omega arith) (omega arith))) in
+    let rest : n ≡ prefix_len p xs = prefix_len-partition p xs n (omega arith) (
+      (λ i d l m. k.0 (suc i) d (omega arith) (omega arith)),
+      (λ i d l m. k.1 (suc i) d (omega arith) (omega arith)),
+    ) in
     rw passes (omega (arith, rest))
 
 -- where the last one passes, each does
-pub prefix_len-all : {X : Type 0} (p : X → Bool) (xs : List X) (last : X) → IsPartitionedBy p xs → 0 < length xs → ((d : X) → last ≡ get_or xs (length xs - 1) d) → p last ≡ true → length xs ≡ prefix_len p xs
+pub prefix_len-all : {X : Type 0} (p : X → Bool) (xs : List X) (last : X) → IsPartitionedBy p xs → 0 < length xs
+    → ((d : X) → last ≡ get_or xs (length xs - 1) d) → p last ≡ true → length xs ≡ prefix_len p xs
 prefix_len-all p xs last parted some at passes =
     prefix_len-partition p xs (length xs) (omega arith)
     ((λ i d l m. parted i (length xs - 1) d (omega arith) (omega (arith, some)) (ap p (sym (at d)) ∙ passes)), (λ i d l m. absurd (omega arith)))
@@ -88,11 +94,13 @@ upto p q r h k false e = refl
 ascending-partitioned : {A : Type 0} (p : Pair) (cs : List (Child A)) → LabelsAscend cs → IsPartitionedBy (λ c. not (is_below p c.least)) cs
 ascending-partitioned p [] a i j d l m h = absurd (omega arith)
 ascending-partitioned p (c ∷ cs) a zero zero d l m h = h
-ascending-partitioned p (c ∷ cs) a zero (suc j) d l m h = upto p c.least (get_or cs j d).least (label_at c.least cs j d a.0 (omega arith)) (not_true (is_below p (get_or cs j d).least) h) (is_below p c.least) refl
+ascending-partitioned p (c ∷ cs) a zero (suc j) d l m h =
+    upto p c.least (get_or cs j d).least (label_at c.least cs j d a.0 (omega arith)) (not_true (is_below p (get_or cs j d).least) h) (is_below p c.least) refl
 ascending-partitioned p (c ∷ cs) a (suc i) zero d l m h = absurd (omega arith)
 ascending-partitioned p (c ∷ cs) a (suc i) (suc j) d l m h = ascending-partitioned p cs a.1 i j d (omega arith) (omega arith) h
 
-pub partitioned-children : {A : Type 0} (p : Pair) (cs : List (Child A)) → AreLabelled cs → IsAscending (row_entries cs) → IsPartitionedBy (λ c. not (is_below p c.least)) cs
+pub partitioned-children : {A : Type 0} (p : Pair) (cs : List (Child A)) → AreLabelled cs → IsAscending (row_entries cs)
+    → IsPartitionedBy (λ c. not (is_below p c.least)) cs
 partitioned-children p cs l a = ascending-partitioned p cs (labels_ascend cs l a)
 
 begins : {A : Type 0} (c : Child A) (p : Pair) → least_of (entries c.node.value) ≡ Some c.least → begins_after (entries c.node.value) p ≡ is_below p c.least
@@ -103,7 +111,8 @@ begins c p l = of_entries (entries c.node.value) l
     of_entries (e ∷ es) l = let same : e.pair ≡ c.least = cc in rw same
 
 -- labels serve for the entries below them
-pub place-labels : {A : Type 0} (p : Pair) (cs : List (Child A)) → AreLabelled cs → prefix_len (λ t. not (begins_after (entries t) p)) (trees cs) ≡ position_or_len (λ c. is_below p c.least) cs
+pub place-labels : {A : Type 0} (p : Pair) (cs : List (Child A)) → AreLabelled cs
+    → prefix_len (λ t. not (begins_after (entries t) p)) (trees cs) ≡ position_or_len (λ c. is_below p c.least) cs
 place-labels p [] l = refl
 place-labels p (c ∷ cs) l = rw (begins c p l.0, place-labels p cs l.1) refl
 
@@ -111,10 +120,13 @@ place-labels p (c ∷ cs) l = rw (begins c p l.0, place-labels p cs l.1) refl
 pub partitioned-after : (p : Pair) (es : List Entry) → IsAscending es → IsPartitionedBy (λ e. not (is_below p e.pair)) es
 partitioned-after p [] a i j d l m h = absurd (omega arith)
 partitioned-after p (e ∷ es) a zero zero d l m h = h
-partitioned-after p (e ∷ es) a zero (suc j) d l m h = upto p e.pair (get_or es j d).pair (above_at e.pair es j d a.0 (omega arith)) (not_true (is_below p (get_or es j d).pair) h) (is_below p e.pair) refl
+partitioned-after p (e ∷ es) a zero (suc j) d l m h =
+    upto p e.pair (get_or es j d).pair (above_at e.pair es j d a.0 (omega arith)) (not_true (is_below p (get_or es j d).pair) h) (is_below p e.pair) refl
 partitioned-after p (e ∷ es) a (suc i) zero d l m h = absurd (omega arith)
 partitioned-after p (e ∷ es) a (suc i) (suc j) d l m h = partitioned-after p es a.1 i j d (omega arith) (omega arith) h
 
 -- the place of a pair in an inner node with these children
-pub place_in-row : {A : Type 0} (p : Pair) (cs : List (Child A)) (t : Tree) → t ≡ branch (forest_of (trees cs)) → AreLabelled cs → place_in t p ≡ position_or_len (λ c. is_below p c.least) cs - 1
-place_in-row p cs t e l = ap (λ u. place_in u p) e ∙ ap (λ ts. prefix_len (λ u. not (begins_after (entries u) p)) ts - 1) (trees_of-forest_of (trees cs)) ∙ ap (λ (n : ℕ). n - 1) (place-labels p cs l)
+pub place_in-row : {A : Type 0} (p : Pair) (cs : List (Child A)) (t : Tree) → t ≡ branch (forest_of (trees cs)) → AreLabelled cs
+    → place_in t p ≡ position_or_len (λ c. is_below p c.least) cs - 1
+place_in-row p cs t e l = ap (λ u. place_in u p) e ∙ ap (λ ts. prefix_len (λ u. not (begins_after (entries u) p)) ts - 1) (trees_of-forest_of (trees cs))
+    ∙ ap (λ (n : ℕ). n - 1) (place-labels p cs l)

@@ -1,5 +1,6 @@
 -- Lemmas on rows of children.
-use Rattle.std.proofs.Common.{◌≡◌, ℕ, ◌<◌, ◌≤◌, List, [], ◌∷◌, ◌++◌, length, take, drop, Some, refl, sym, ap, subst, ◌∙◌, arith, zero, suc, Vec, vec_len, vec_capacity}
+use Rattle.std.proofs.Common.{◌≡◌, ℕ, ◌<◌, ◌≤◌, List, [], ◌∷◌, ◌++◌, length, take, drop, Some, refl, sym, ap, subst, ◌∙◌, arith, zero, suc, Vec, vec_len}
+use Rattle.std.proofs.Common.{vec_capacity}
 use Rattle.std.specs.List.{insert}
 use Rattle.node_parts.specs.declared.Entry.{Entry}
 use Rattle.node_parts.specs.declared.Child.{Child}
@@ -32,7 +33,8 @@ trees-drop (c ∷ cs) zero = refl
 trees-drop (c ∷ cs) (suc n) = trees-drop cs n
 
 pub trees-insert : {A : Type 0} (cs : List (Child A)) (n : ℕ) (b : Child A) → trees (insert cs n b) ≡ insert (trees cs) n b.node.value
-trees-insert cs n b = trees-append (take n cs) (b ∷ drop n cs) ∙ ap (λ w. w ++ trees (b ∷ drop n cs)) (trees-take cs n) ∙ ap (λ w. take n (trees cs) ++ b.node.value ∷ w) (trees-drop cs n)
+trees-insert cs n b = trees-append (take n cs) (b ∷ drop n cs) ∙ ap (λ w. w ++ trees (b ∷ drop n cs)) (trees-take cs n)
+    ∙ ap (λ w. take n (trees cs) ++ b.node.value ∷ w) (trees-drop cs n)
 
 pub labelled-left : {A : Type 0} (cs ds : List (Child A)) → AreLabelled (cs ++ ds) → AreLabelled cs
 labelled-left [] ds l = tt
@@ -42,7 +44,8 @@ pub labelled-right : {A : Type 0} (cs ds : List (Child A)) → AreLabelled (cs +
 labelled-right [] ds l = l
 labelled-right (c ∷ cs) ds l = labelled-right cs ds l.1
 
-pub labelled-insert : {A : Type 0} (cs : List (Child A)) (n : ℕ) (b : Child A) → AreLabelled cs → least_of (entries b.node.value) ≡ Some b.least → AreLabelled (insert cs n b)
+pub labelled-insert : {A : Type 0} (cs : List (Child A)) (n : ℕ) (b : Child A) → AreLabelled cs → least_of (entries b.node.value) ≡ Some b.least
+    → AreLabelled (insert cs n b)
 labelled-insert [] zero b l h = (h, tt)
 labelled-insert [] (suc n) b l h = (h, tt)
 labelled-insert (c ∷ cs) zero b l h = (h, l)

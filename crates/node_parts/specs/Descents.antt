@@ -10,4 +10,5 @@ pub record Reached : Type 0 where
 
 -- how the logic stores it
 abbrev pub coded_reached : Coded Reached
-coded_reached = code_by (Tree × ℕ) (coded× tree_code coded_ℕ) (λ r. (r.node, r.visits)) (λ p. record { node = p.0; visits = p.1 }) (λ _. refl)
+coded_reached = code_by (Tree × ℕ) (coded× tree_code coded_ℕ) (λ r. (r.node, r.visits)) (λ p.
+    record { node = p.0; visits = p.1 }) (λ _. refl)

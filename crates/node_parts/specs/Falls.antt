@@ -10,7 +10,8 @@ use Rattle.node_parts.specs.declared.Node.TheDeep.{deep-Parts, deep-Child}
 use Rattle.node_parts.specs.Tree.{depth, forest_depth, forest_of}
 use Rattle.node_parts.specs.Seen.{tree_of}
 
-most_falls : {A : Type 0} (G : Ghosts A) (cs : List (Child A)) → most (deep-Child A G) cs ≤ forest_depth (forest_of (map (λ c. c.node.value) cs)) + 1
+most_falls : {A : Type 0} (G : Ghosts A) (cs : List (Child A))
+    → most (deep-Child A G) cs ≤ forest_depth (forest_of (map (λ c. c.node.value) cs)) + 1
 most_falls G [] = omega arith
 most_falls G (c ∷ cs) = omega (arith, most_falls G cs)
 

@@ -56,7 +56,8 @@ abbrev mutual
 -- ---- how the logic stores a tree
 -- how the logic stores a leaf's entries
 abbrev entries_code : Coded (List Entry)
-entries_code = coded_list (code_by (Pair × Mark) (coded× coded_pair coded_mark) (λ e. (e.pair, e.mark)) (λ t. record { pair = t.0; mark = t.1 }) (λ _. refl))
+entries_code = coded_list (code_by (Pair × Mark) (coded× coded_pair coded_mark) (λ e. (e.pair, e.mark)) (λ t.
+    record { pair = t.0; mark = t.1 }) (λ _. refl))
 
 -- the first of two
 abbrev first : Gv → Gv

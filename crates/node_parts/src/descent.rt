@@ -49,7 +49,8 @@ impl<'a, A: Allocator> Descent<'a, A> {
         requires ascending { IsAscending (entries self.old.node) }
         requires some { 0 < length (entries self.old.node) }
         requires few { self.old.visits < 2 ^ 32 - 1 }
-        ensures child { IsTrue result → slice_get (branches self.old.node) (place_in self.old.node pair.now) ≡ Some self.new.node }
+        ensures child { IsTrue result → slice_get (branches self.old.node) (place_in self.old.node pair.now)
+            ≡ Some self.new.node }
         ensures mark { mark_in (entries self.new.node) pair.now ≡ mark_in (entries self.old.node) pair.now }
         ensures visits { self.new.visits ≡ self.old.visits + (if result then 1 else 0) }
         ensures leaf { result ≡ false → IsLeaf self.old.node }

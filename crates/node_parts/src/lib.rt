@@ -1,8 +1,9 @@
 //! Nodes of a B-tree whose room is taken as they are made, so that no later change takes memory.
 //!
-//! Proved: what each change of a node leaves of its entries, and that a node has at most 32 items and room for 32. No change of a
-//! node that was made takes memory. A way down (`Descent`) visits the child where a pair belongs, and counts each node that it visits.
-//! Neither: speed. That a way shows no other node is a matter of its type, which has one private reference, and no way back.
+//! Proved: what each change of a node leaves of its entries, and that a node has at most 32 items and room for 32. No
+//! change of a node that was made takes memory. A way down (`Descent`) visits the child where a pair belongs, and
+//! counts each node that it visits. Neither: speed. That a way shows no other node is a matter of its type, which has
+//! one private reference, and no way back.
 #![tactic(auto)]
 
 ghost use Rattle.std.specs.Prelude.{◌≡◌, ℕ, ◌+◌, ◌<◌, ◌≤◌, ◌++◌, length, Some, IfOk, IfErr};
@@ -117,8 +118,8 @@ impl<A: Allocator> Node<A> {
         }
     }
 
-    /// Where a pair belongs: in a leaf the place of the first entry that does not come before it, in an inner
-    /// node the last child that does not begin after it, or the first child. Found by a look at the last, and then by halving.
+    /// Where a pair belongs: in a leaf the place of the first entry that does not come before it, in an inner node the
+    /// last child that does not begin after it, or the first child. Found by a look at the last, and then by halving.
     pub fn place(&self, pair: &Pair) -> usize
         requires ascending { IsAscending (entries self.now) }
         ensures { result ≡ place_in self.now pair.now }
@@ -185,8 +186,10 @@ impl<A: Allocator> Node<A> {
         ensures joined { entries self.new ++ entries right.new ≡ entries self.old ++ entries right.old }
         ensures tree { IsTree (depth self.old) self.new }
         ensures right_tree { IsTree (depth self.old) right.new }
-        ensures from_right { count self.old < count right.old → (count self.new ≡ count self.old + 1) × (count right.new + 1 ≡ count right.old) }
-        ensures from_left { count right.old ≤ count self.old → (count self.new + 1 ≡ count self.old) × (count right.new ≡ count right.old + 1) }
+        ensures from_right { count self.old < count right.old → (count self.new ≡ count self.old + 1)
+            × (count right.new + 1 ≡ count right.old) }
+        ensures from_left { count right.old ≤ count self.old → (count self.new + 1 ≡ count self.old)
+            × (count right.new ≡ count right.old + 1) }
     {
         match &mut self.parts {
             Parts::Leaf(row) => {

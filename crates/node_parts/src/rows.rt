@@ -1,5 +1,6 @@
 //! Rows of at most 32 items whose room was taken at birth.
-ghost use Rattle.std.specs.Prelude.{◌≡◌, ℕ, ◌+◌, ◌-◌, ◌<◌, ◌≤◌, [], ◌∷◌, ◌++◌, take, drop, vec_len, vec_capacity, slice_index_or, IfOk};
+ghost use Rattle.std.specs.Prelude.{◌≡◌, ℕ, ◌+◌, ◌-◌, ◌<◌, ◌≤◌, [], ◌∷◌, ◌++◌, take, drop, vec_len, vec_capacity};
+ghost use Rattle.std.specs.Prelude.{slice_index_or, IfOk};
 ghost use Rattle.std.specs.List.{insert, remove};
 
 use std::alloc::{AllocError, Allocator};
@@ -67,8 +68,10 @@ pub fn borrow<T: Drop, A: Allocator>(left: &mut Vec<T, A>, right: &mut Vec<T, A>
     requires room { vec_len left.old < vec_len right.old → vec_len left.old < vec_capacity left.old }
     requires right_room { vec_len right.old ≤ vec_len left.old → vec_len right.old < vec_capacity right.old }
     ensures joined { left.new.items ++ right.new.items ≡ left.old.items ++ right.old.items }
-    ensures from_right { vec_len left.old < vec_len right.old → (vec_len left.new ≡ vec_len left.old + 1) × (vec_len right.new + 1 ≡ vec_len right.old) }
-    ensures from_left { vec_len right.old ≤ vec_len left.old → (vec_len left.new + 1 ≡ vec_len left.old) × (vec_len right.new ≡ vec_len right.old + 1) }
+    ensures from_right { vec_len left.old < vec_len right.old → (vec_len left.new ≡ vec_len left.old + 1)
+        × (vec_len right.new + 1 ≡ vec_len right.old) }
+    ensures from_left { vec_len right.old ≤ vec_len left.old → (vec_len left.new + 1 ≡ vec_len left.old)
+        × (vec_len right.new ≡ vec_len right.old + 1) }
     ensures capacity { vec_capacity left.new ≡ vec_capacity left.old }
     ensures right_capacity { vec_capacity right.new ≡ vec_capacity right.old }
 {

@@ -17,7 +17,8 @@ pub fn precedes(pair: &Pair, other: &Pair) -> bool
     compare_pairs(pair, other).is_lt()
 }
 
-/// How many ascending entries come before a pair. The last is looked at first, since pairs that come rising belong behind it.
+/// How many ascending entries come before a pair. The last is looked at first, since pairs that come rising belong
+/// behind it.
 pub fn entry_place(row: &[Entry], pair: &Pair) -> usize
     requires ascending { IsAscending row.now }
     ensures place { result ≡ prefix_len (λ e. is_below e.pair pair.now) row.now }

@@ -1,5 +1,6 @@
 -- A core as it is made, and a transaction's beginning.
-use Rattle.std.proofs.Common.{Bool, unwrap_or, append-nil, Err, List, None, Ok, Option, Result, Some, [], ap, arith, cond, eqb, false, inl, inr, length, refl, subst, sym, true, ℕ, ◌++◌, ◌+◌, ◌<◌, ◌∙◌, ◌∷◌, ◌≡◌, ◌≢◌, ◌≤◌, ◌⊎◌}
+use Rattle.std.proofs.Common.{Bool, unwrap_or, append-nil, Err, List, None, Ok, Option, Result, Some, [], ap, arith, cond, eqb, false, inl, inr, length, refl}
+use Rattle.std.proofs.Common.{subst, sym, true, ℕ, ◌++◌, ◌+◌, ◌<◌, ◌∙◌, ◌∷◌, ◌≡◌, ◌≢◌, ◌≤◌, ◌⊎◌}
 use Rattle.std.specs.FinMap.{empty, get, get-empty, insert, len-empty}
 use Rattle.std.specs.Ordering.{nat_cmp}
 use Rattle.std.specs.Option.{option_map}
@@ -67,7 +68,15 @@ module _ (g : GeometryValue) (base : ℕ) (le : base ≤ LAST_NUMBER) where
         places = refl;
         cleaned = refl;
         bound = refl;
-        scan = record { run = begun_run None g.pages; made = run; given = λ p. refl; missed = λ p. refl; taken = λ n. refl; in_a_row = refl; untaken = λ page n wanted le. refl };
+        scan = record {
+          run = begun_run None g.pages;
+          made = run;
+          given = λ p. refl;
+          missed = λ p. refl;
+          taken = λ n. refl;
+          in_a_row = refl;
+          untaken = λ page n wanted le. refl;
+        };
         made = refl;
         begun = refl;
         active = refl;
@@ -90,7 +99,8 @@ next_here : (n : ℕ) (x : TxnState) (es : List (ℕ × TxnState)) → table.sta
 next_here n x [] none = ap (λ b. cond b (Some x) None) (same_number n n refl)
 next_here n x (e ∷ es) none = by (eqb n e.0) none (next_here n x es)
   where
-    by : (b : Bool) → cond b (Some e.1) (table.state_of n es) ≡ None → (table.state_of n es ≡ None → table.state_of n (es ++ (n, x) ∷ []) ≡ Some x) → cond b (Some e.1) (table.state_of n (es ++ (n, x) ∷ [])) ≡ Some x
+    by : (b : Bool) → cond b (Some e.1) (table.state_of n es) ≡ None → (table.state_of n es ≡ None → table.state_of n (es ++ (n, x) ∷ []) ≡ Some x)
+        → cond b (Some e.1) (table.state_of n (es ++ (n, x) ∷ [])) ≡ Some x
     by true h rest = absurd cc
     by false h rest = rest h
 
@@ -125,16 +135,20 @@ module _ (v : CoreValue) (s : State) (k : Standing) (is : IsState v s k) where
 
   states : (u : ℕ) → AreOne (table.state_of u active') (core.with_txn s t core.new_txn u)
   states u = elim (nat_decided u t) [
-    | inl same ↦ subst (λ o. AreOne o (core.with_txn s t core.new_txn u)) (sym (ap (λ n. table.state_of n active') (same ∙ number_is) ∙ next_here (v.txns.begun + 1) table.fresh_txn v.txns.active (ap (λ n. table.state_of n v.txns.active) (sym number_is) ∙ new_number)))
+    | inl same ↦ subst (λ o. AreOne o (core.with_txn s t core.new_txn u))
+        (sym (ap (λ n. table.state_of n active') (same ∙ number_is)
+        ∙ next_here (v.txns.begun + 1) table.fresh_txn v.txns.active (ap (λ n. table.state_of n v.txns.active) (sym number_is) ∙ new_number)))
         (core.new_txn, ap (core.with_txn s t core.new_txn) same ∙ txn_here s t core.new_txn, record { changes = refl; phase = refl; rolling = refl })
-    | inr other ↦ subst (λ o. AreOne o (core.with_txn s t core.new_txn u)) (sym (next_other u (v.txns.begun + 1) table.fresh_txn v.txns.active (λ e. other (e ∙ sym number_is))))
+    | inr other ↦ subst (λ o. AreOne o (core.with_txn s t core.new_txn u))
+        (sym (next_other u (v.txns.begun + 1) table.fresh_txn v.txns.active (λ e. other (e ∙ sym number_is))))
         (subst (AreOne (table.state_of u v.txns.active)) (sym (txn_apart s t core.new_txn u other)) (h.txns u))
   ]
 
   places : (u : ℕ) → get (insert s.pledges t 0) u ≡ option_map (λ (y : TxnState). y.reserved) (table.state_of u active')
   places u = elim (nat_decided u t) [
     | inl same ↦ ap (get (insert s.pledges t 0)) same ∙ get-set_at_same nat_exact s.pledges t (Some 0)
-        ∙ sym (ap (option_map (λ (y : TxnState). y.reserved)) (ap (λ n. table.state_of n active') (same ∙ number_is) ∙ next_here (v.txns.begun + 1) table.fresh_txn v.txns.active (ap (λ n. table.state_of n v.txns.active) (sym number_is) ∙ new_number)))
+        ∙ sym (ap (option_map (λ (y : TxnState). y.reserved)) (ap (λ n. table.state_of n active') (same ∙ number_is)
+        ∙ next_here (v.txns.begun + 1) table.fresh_txn v.txns.active (ap (λ n. table.state_of n v.txns.active) (sym number_is) ∙ new_number)))
     | inr other ↦ get-set_at_other nat_exact s.pledges t (Some 0) u other ∙ h.pledges u
         ∙ sym (ap (option_map (λ (y : TxnState). y.reserved)) (next_other u (v.txns.begun + 1) table.fresh_txn v.txns.active (λ e. other (e ∙ sym number_is))))
   ]
@@ -165,7 +179,15 @@ module _ (v : CoreValue) (s : State) (k : Standing) (is : IsState v s k) where
     places = h.places;
     cleaned = h.cleaned;
     bound = h.bound;
-    scan = record { run = h.scan.run; made = h.scan.made; given = h.scan.given; missed = h.scan.missed; taken = h.scan.taken; in_a_row = h.scan.in_a_row; untaken = h.scan.untaken };
+    scan = record {
+      run = h.scan.run;
+      made = h.scan.made;
+      given = h.scan.given;
+      missed = h.scan.missed;
+      taken = h.scan.taken;
+      in_a_row = h.scan.in_a_row;
+      untaken = h.scan.untaken;
+    };
     made = h.made;
     begun = ap (λ n. n + 1) same_begun;
     active = ap (λ n. n + 1) h.active ∙ sym (length-append v.txns.active ((v.txns.begun + 1, table.fresh_txn) ∷ []));
@@ -183,7 +205,8 @@ module _ (v : CoreValue) (s : State) (k : Standing) (is : IsState v s k) where
 
     begin_made : Answers v s k Event.Begin (Txn (v.txns.begun + 1)) (with_begun v)
     begin_made = subst (λ n. Answers v s k Event.Begin (Txn n) (with_begun v)) number_is
-        (made v s k h Event.Begin (λ x. x) tt (inr (not_many, refl)) (Txn t) (Begin t) (refl, refl) (λ x. x) (λ n. absurd (n refl)) (with_begun v) begun_shown (sym (append-nil v.outbox)))
+        (made v s k h Event.Begin (λ x. x) tt (inr (not_many, refl)) (Txn t) (Begin t) (refl, refl) (λ x. x) (λ n. absurd (n refl)) (with_begun v) begun_shown
+        (sym (append-nil v.outbox)))
 
     begin_wants : Answers v s k Event.Begin (Refused Error.NoMemory) v
     begin_wants = wants_memory v s k h Event.Begin (λ x. x) tt (inr (not_many, refl)) (Txn t) (Begin t) (refl, refl) (λ x. x) (λ n. absurd (n refl)) (inr tt)
@@ -199,7 +222,8 @@ numbers_left v s k is =
 
 module _ (v : CoreValue) where
   spent : TXNS_MAX ≤ length v.txns.active → Serves v Event.Begin (Refused Error.TooManyTxns) v
-  spent le s k is = refusal v s k Event.Begin Error.TooManyTxns is.shown (refused (λ x. x) tt Error.TooManyTxns (inl (subst (λ n. TXNS_MAX ≤ n) (sym is.shown.active) le, refl)))
+  spent le s k is = refusal v s k Event.Begin Error.TooManyTxns is.shown
+      (refused (λ x. x) tt Error.TooManyTxns (inl (subst (λ n. TXNS_MAX ≤ n) (sym is.shown.active) le, refl)))
 
   -- that no number is left never comes
   unspent : 18446744073709551615 ≤ v.txns.begun → Serves v Event.Begin (Refused Error.TooManyTxns) v
@@ -208,7 +232,8 @@ module _ (v : CoreValue) where
       apart : (n : ℕ) → n < 18446744073709551615 → 18446744073709551615 ≤ n → ⊥
       apart n l r = omega (arith, l, r)
 
-  pub begin_refused : (e : Error) → (e ≡ Error.TooManyTxns) × ((TXNS_MAX ≤ length v.txns.active) ⊎ (18446744073709551615 ≤ v.txns.begun)) → IsRefused v Event.Begin e
+  pub begin_refused : (e : Error) → (e ≡ Error.TooManyTxns) × ((TXNS_MAX ≤ length v.txns.active) ⊎ (18446744073709551615 ≤ v.txns.begun))
+      → IsRefused v Event.Begin e
   begin_refused e why = (by_state, subst (λ n. Serves v Event.Begin (Refused n) v) (sym why.0) (elim why.1 [ inl many ↦ spent many | inr none ↦ unspent none ]))
     where
       by_state : e ≢ Error.NoMemory
@@ -218,20 +243,23 @@ module _ (v : CoreValue) where
   begin_fine few s k is = begin_wants v s k is few
 
   pub begin_served : (result : Result ℕ Error) (next : TableValue)
-      → (TXNS_MAX ≤ length v.txns.active → result ≡ Err Error.TooManyTxns) → (length v.txns.active < TXNS_MAX → v.txns.begun < 18446744073709551615 → IsOkUnless result Error.NoMemory)
+      → (TXNS_MAX ≤ length v.txns.active → result ≡ Err Error.TooManyTxns)
+      → (length v.txns.active < TXNS_MAX → v.txns.begun < 18446744073709551615 → IsOkUnless result Error.NoMemory)
       → IfOk result (λ txn. txn ≡ v.txns.begun + 1) → OnOk result (next ≡ with_next v.txns) → OnErr result (next ≡ v.txns)
       → Serves v Event.Begin (reply_by Txn result) (record v { txns = next })
   begin_served (Ok txn) next full room number ok err s k is = elim (cases_lt (length v.txns.active) TXNS_MAX) [
-    | inl few ↦ subst (λ w. Answers v s k Event.Begin (Txn txn) (record v { txns = w })) (sym ok) (subst (λ n. Answers v s k Event.Begin (Txn n) (with_begun v)) (sym number) (begin_made v s k is few))
+    | inl few ↦ subst (λ w. Answers v s k Event.Begin (Txn txn) (record v { txns = w })) (sym ok)
+        (subst (λ n. Answers v s k Event.Begin (Txn n) (with_begun v)) (sym number) (begin_made v s k is few))
     | inr many ↦ absurd (apart (full many))
   ]
     where
       apart : (◌≡◌ {A = Result ℕ Error} (Ok txn) (Err Error.TooManyTxns)) → ⊥
       apart e = cc
-  begin_served (Err e) next full room number ok err s k is = subst (λ w. Answers v s k Event.Begin (Refused e) (record v { txns = w })) (sym err) (elim (cases_lt (length v.txns.active) TXNS_MAX) [
-    | inl few ↦ subst (λ n. Answers v s k Event.Begin (Refused n) v) (sym (room few (numbers_left v s k is))) (begin_wants v s k is few)
-    | inr many ↦ subst (λ n. Answers v s k Event.Begin (Refused n) v) (same (full many)) (spent many s k is)
-  ])
+  begin_served (Err e) next full room number ok err s k is =
+      subst (λ w. Answers v s k Event.Begin (Refused e) (record v { txns = w })) (sym err) (elim (cases_lt (length v.txns.active) TXNS_MAX) [
+        | inl few ↦ subst (λ n. Answers v s k Event.Begin (Refused n) v) (sym (room few (numbers_left v s k is))) (begin_wants v s k is few)
+        | inr many ↦ subst (λ n. Answers v s k Event.Begin (Refused n) v) (same (full many)) (spent many s k is)
+      ])
     where
       same : (◌≡◌ {A = Result ℕ Error} (Err e) (Err Error.TooManyTxns)) → Error.TooManyTxns ≡ e
       same i = cc
@@ -263,7 +291,15 @@ module _ (v : CoreValue) (r : Place) (o : Option Row) (inside : r.page < v.heap.
             places = h.places;
             cleaned = h.cleaned;
             bound = h.bound;
-            scan = record { run = h.scan.run; made = h.scan.made; given = h.scan.given; missed = h.scan.missed; taken = h.scan.taken; in_a_row = h.scan.in_a_row; untaken = h.scan.untaken };
+            scan = record {
+              run = h.scan.run;
+              made = h.scan.made;
+              given = h.scan.given;
+              missed = h.scan.missed;
+              taken = h.scan.taken;
+              in_a_row = h.scan.in_a_row;
+              untaken = h.scan.untaken;
+            };
             made = h.made;
             begun = h.begun;
             active = h.active;
@@ -279,7 +315,17 @@ module _ (v : CoreValue) (r : Place) (o : Option Row) (inside : r.page < v.heap.
             inside = record { entries = fit.inside.entries; bound = fit.inside.bound; highest = fit.inside.highest; given = fit.inside.given };
             pledged = fit.pledged;
           };
-          standing = record { begun = safe.is.standing.begun; in_a_row = safe.is.standing.in_a_row; taken = safe.is.standing.taken; once = record { given = safe.is.standing.once.given; missed = safe.is.standing.once.missed }; tried = safe.is.standing.tried; counts = record { active = safe.is.standing.counts.active; few = safe.is.standing.counts.few; ended = safe.is.standing.counts.ended }; within = safe.is.standing.within };
+          standing = record {
+            begun = safe.is.standing.begun;
+            in_a_row = safe.is.standing.in_a_row;
+            taken = safe.is.standing.taken;
+            once = record { given = safe.is.standing.once.given; missed = safe.is.standing.once.missed };
+            tried = safe.is.standing.tried;
+            counts =
+                record { active = safe.is.standing.counts.active; few = safe.is.standing.counts.few; ended = safe.is.standing.counts.ended };
+            within =
+                safe.is.standing.within;
+          };
           counted = safe.is.counted;
         };
       }
@@ -292,7 +338,9 @@ module _ (v : CoreValue) (r : Place) (o : Option Row) (inside : r.page < v.heap.
 
 -- ---- what only reads
 pub gets : (v : CoreValue) (r : Place) (o : Option Row) → o ≡ get v.heap.rows r → Serves v (Event.Get r) (Reply.RowIs o) v
-gets v r o e s k is = still v s k (Event.Get r) (Reply.RowIs o) is.shown refl (accepted (λ x. x) tt refl (Reply.RowIs o) None (ap Reply.RowIs (e ∙ ap (λ m. get m r) (sym is.shown.rows)), refl) refl)
+gets v r o e s k is = still v s k (Event.Get r) (Reply.RowIs o) is.shown refl
+    (accepted (λ x. x) tt refl (Reply.RowIs o) None (ap Reply.RowIs (e ∙ ap (λ m. get m r) (sym is.shown.rows)), refl) refl)
 
 pub tells_life : (v : CoreValue) → Serves v Event.Life (Reply.LifeIs v.life) v
-tells_life v s k is = still v s k Event.Life (Reply.LifeIs v.life) is.shown refl (accepted (λ x. x) tt refl (Reply.LifeIs v.life) None (ap Reply.LifeIs (sym is.shown.life), refl) refl)
+tells_life v s k is = still v s k Event.Life (Reply.LifeIs v.life) is.shown refl
+    (accepted (λ x. x) tt refl (Reply.LifeIs v.life) None (ap Reply.LifeIs (sym is.shown.life), refl) refl)

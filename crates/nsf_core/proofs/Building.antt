@@ -1,5 +1,6 @@
 -- The builder's steps: the reply that is due, and what the core shows after it.
-use Rattle.std.proofs.Common.{Bool, List, None, Option, Some, ap, append-nil, arith, eq-eqb, false, inl, inr, nat_eq, not, refl, subst, sym, true, true≢false, ℕ, ◌&&◌, ◌++◌, ◌+◌, ◌<◌, ◌∙◌, ◌||◌, ◌≡◌, ◌≢◌, ◌≤◌}
+use Rattle.std.proofs.Common.{Bool, List, None, Option, Some, ap, append-nil, arith, eq-eqb, false, inl, inr, nat_eq, not, refl, subst, sym, true, true≢false}
+use Rattle.std.proofs.Common.{ℕ, ◌&&◌, ◌++◌, ◌+◌, ◌<◌, ◌∙◌, ◌||◌, ◌≡◌, ◌≢◌, ◌≤◌}
 use Rattle.std.proofs.lemmas.Bool.Decides.{eqb_tells}
 use Rattle.std.proofs.lemmas.Cmp.{eq_by_cmp_equiv}
 use Rattle.std.proofs.lemmas.Map.Views.{Contains-from_any, list_any-from_Contains}
@@ -53,7 +54,13 @@ complete_apart life e f = cc
 
 pub idle : (v : CoreValue) → v.life ≡ Complete → Serves v Event.Build (events.Built events.Idle) v
 idle v e s k st = still v s k Event.Build (events.Built events.Idle) st.shown refl
-    (accepted (λ x. x) tt (inr (complete_apart s.life (st.shown.life ∙ e), refl)) (events.Built events.Idle) None (events.Idle, st.shown.life ∙ e, refl, refl) refl)
+    (accepted (λ x. x) tt (inr (complete_apart s.life (st.shown.life ∙ e), refl)) (events.Built events.Idle) None (
+      events.Idle,
+      st.shown.life
+          ∙ e,
+      refl,
+      refl,
+    ) refl)
 
 -- ---- the machine's words for a scan
 pub building_apart : (life : Life) (highest : Option Pair) → life ≡ Building highest → life ≡ Absent → ⊥
@@ -89,7 +96,8 @@ module _ (v : CoreValue) (s : State) (k : Standing) (h : Shows v s k) where
     given = h.scan.given p ∙ next.given;
     rising = bound_is p ∙ next.rising;
     all_taken = all_taken next.all_taken;
-    none_left = λ q over under taken. either (s.missed q) (λ left. true≢false (sym (sym (above_is (Some q) p) ∙ under) ∙ next.none_between q (steady q taken left) (sym (bound_is q) ∙ over)));
+    none_left = λ q over under taken. either (s.missed q) (λ left.
+        true≢false (sym (sym (above_is (Some q) p) ∙ under) ∙ next.none_between q (steady q taken left) (sym (bound_is q) ∙ over)));
   }
 
   end_is : IsBuilding s.life → IsAtEnd run → CanFinish s
@@ -116,7 +124,8 @@ pub put_back : (v : CoreValue) (i : IndexValue) (back : CoreValue) (p : Pair) �
 put_back v i back p absent put taken =
     taken ∙ ap (λ (w : IndexValue). without_entry (record v { index = w }) p) put
     ∙ ap (λ (m : Index). record v { index = record v.index { entries = m } })
-    (set_at-again pair_exact v.index.entries p (after_action BuildPut (get v.index.entries p)) None ∙ ap (set_at v.index.entries p) (sym absent) ∙ set_at-get pair_exact v.index.entries p)
+    (set_at-again pair_exact v.index.entries p (after_action BuildPut (get v.index.entries p)) None ∙ ap (set_at v.index.entries p) (sym absent)
+    ∙ set_at-get pair_exact v.index.entries p)
 
 -- ---- a page that was taken
 module _ (rows : Rows) (page : ℕ) (pairs : List Pair) (each : (p : Pair) → Contains pairs p ↔ IsPairOnPage rows page p) (p : Pair) where
@@ -124,14 +133,21 @@ module _ (rows : Rows) (page : ℕ) (pairs : List Pair) (each : (p : Pair) → C
   on_page = nat_eq p.rid.page page && is_pair_of (get rows p.rid) p
 
   test_of : (o : Option Row) → get rows p.rid ≡ o → IsPairOnPage rows page p → is_pair_of o p ≡ true
-  test_of o e is = ap (λ x. is_pair_of x p) (sym e ∙ is.is_there) ∙ ap (λ key. eq_by_cmp (slice_cmp nat_cmp) key p.key) is.has_key ∙ same_key (record { total = nat_list_cmp_total; only_equal = slice_cmp-IsAntisymmetric nat_cmp-IsAntisymmetric }) p.key
+  test_of o e is = ap (λ x. is_pair_of x p) (sym e ∙ is.is_there) ∙ ap (λ key. eq_by_cmp (slice_cmp nat_cmp) key p.key) is.has_key
+      ∙ same_key (record { total = nat_list_cmp_total; only_equal = slice_cmp-IsAntisymmetric nat_cmp-IsAntisymmetric }) p.key
 
   there : IsPairOnPage rows page p → on_page ≡ true
   there is = ap (λ b. b && is_pair_of (get rows p.rid) p) (eq-eqb p.rid.page page is.on_page) ∙ test_of (get rows p.rid) refl is
 
   is_there : (o : Option Row) → get rows p.rid ≡ o → p.rid.page ≡ page → is_pair_of o p ≡ true → IsPairOnPage rows page p
   is_there None e same test = absurd (true≢false (sym test))
-  is_there (Some row) e same test = record { row = row; is_there = e; has_key = key_is (record { total = nat_list_cmp_total; only_equal = slice_cmp-IsAntisymmetric nat_cmp-IsAntisymmetric }) row.key p.key test; on_page = same }
+  is_there (Some row) e same test = record {
+    row = row;
+    is_there = e;
+    has_key = key_is (record { total = nat_list_cmp_total; only_equal = slice_cmp-IsAntisymmetric nat_cmp-IsAntisymmetric }) row.key p.key test;
+    on_page =
+        same;
+  }
 
   on_page_is : (b : Bool) → is_among p pairs ≡ b → b ≡ on_page
   on_page_is true e = sym (there ((each p).0 (Contains-from_any (key_is pair_exact) p pairs e)))
@@ -142,7 +158,8 @@ module _ (rows : Rows) (page : ℕ) (pairs : List Pair) (each : (p : Pair) → C
     where
       no_test : (nat_eq p.rid.page page ≡ true) × (p.rid.page ≡ page) → (b : Bool) → is_pair_of (get rows p.rid) p ≡ b → false ≡ on_page
       no_test same false t = sym (ap (λ b. b && is_pair_of (get rows p.rid) p) same.0 ∙ t)
-      no_test same true t = absurd (true≢false (sym (list_any-from_Contains (eq_by_cmp_equiv pair_cmp_total) p pairs ((each p).1 (is_there (get rows p.rid) refl same.1 t))) ∙ e))
+      no_test same true t = absurd (true≢false
+          (sym (list_any-from_Contains (eq_by_cmp_equiv pair_cmp_total) p pairs ((each p).1 (is_there (get rows p.rid) refl same.1 t))) ∙ e))
 
   pub among_is : is_among p pairs ≡ on_page
   among_is = on_page_is (is_among p pairs) refl
@@ -169,9 +186,13 @@ module _ (v : CoreValue) (s : State) (k : Standing) (st : IsState v s k) (built 
   first = inr (building_apart s.life built.0 building.1, refl)
 
   -- why a step that is due and makes a record is refused
-  unrecorded : (reply : Reply) (step : MachineStep) → IsStepDue s k Event.Build reply (Some step) → (HasNoPlace s step → ⊥) → action_of s step ≢ None → (error : Error) → IsUnrecorded v error → Answers v s k Event.Build (Refused error) v
-  unrecorded reply step due roomy makes error (inl why) = subst (λ e. Answers v s k Event.Build (Refused e) v) (sym why.0) (no_number v s k h Event.Build (λ x. x) tt first reply step due roomy makes why.1)
-  unrecorded reply step due roomy makes error (inr why) = subst (λ e. Answers v s k Event.Build (Refused e) v) (sym why.0) (wants_memory v s k h Event.Build (λ x. x) tt first reply step due roomy (λ n. why.1) (inl makes))
+  unrecorded : (reply : Reply) (step : MachineStep) → IsStepDue s k Event.Build reply (Some step) → (HasNoPlace s step → ⊥) → action_of s step ≢ None
+      → (error : Error) → IsUnrecorded v error → Answers v s k Event.Build (Refused error) v
+  unrecorded reply step due roomy makes error (inl why) =
+      subst (λ e. Answers v s k Event.Build (Refused e) v) (sym why.0) (no_number v s k h Event.Build (λ x. x) tt first reply step due roomy makes why.1)
+  unrecorded reply step due roomy makes error (inr why) =
+      subst (λ e. Answers v s k Event.Build (Refused e) v) (sym why.0)
+      (wants_memory v s k h Event.Build (λ x. x) tt first reply step due roomy (λ n. why.1) (inl makes))
 
   ticket_is : v.last + 1 ≡ k.made + 1
   ticket_is = ap (λ n. n + 1) (sym h.made)
@@ -182,7 +203,12 @@ module _ (v : CoreValue) (s : State) (k : Standing) (st : IsState v s k) (built 
     marked = events.Built (events.BuildReply.Marked p (v.last + 1))
 
     marked_due : IsStepDue s k Event.Build marked (Some (Checkpoint p))
-    marked_due = (events.BuildReply.Marked p (v.last + 1), (building, subst (λ n. ATTEMPTS_PER_CHECKPOINT ≤ n) (sym h.attempts) many, h.bound ∙ last, ticket_is), refl, refl)
+    marked_due = (
+      events.BuildReply.Marked p (v.last + 1),
+      (building, subst (λ n. ATTEMPTS_PER_CHECKPOINT ≤ n) (sym h.attempts) many, h.bound ∙ last, ticket_is),
+      refl,
+      refl,
+    )
 
     pub checkpoint_refused : (error : Error) → IsUnrecorded v error → Answers v s k Event.Build (Refused error) v
     checkpoint_refused error why = unrecorded marked (Checkpoint p) marked_due (λ x. x) (λ e. not_none refl e) error why
@@ -201,7 +227,15 @@ module _ (v : CoreValue) (s : State) (k : Standing) (st : IsState v s k) (built 
       places = h.places;
       cleaned = h.cleaned;
       bound = h.bound;
-      scan = record { run = h.scan.run; made = h.scan.made; given = h.scan.given; missed = h.scan.missed; taken = h.scan.taken; in_a_row = h.scan.in_a_row; untaken = h.scan.untaken };
+      scan = record {
+        run = h.scan.run;
+        made = h.scan.made;
+        given = h.scan.given;
+        missed = h.scan.missed;
+        taken = h.scan.taken;
+        in_a_row = h.scan.in_a_row;
+        untaken = h.scan.untaken;
+      };
       made = ap (λ n. n + 1) h.made;
       begun = h.begun;
       active = h.active;
@@ -242,7 +276,15 @@ module _ (v : CoreValue) (s : State) (k : Standing) (st : IsState v s k) (built 
         places = h.places;
         cleaned = h.cleaned;
         bound = h.bound;
-        scan = record { run = h.scan.run; made = h.scan.made; given = h.scan.given; missed = h.scan.missed; taken = h.scan.taken; in_a_row = h.scan.in_a_row; untaken = h.scan.untaken };
+        scan = record {
+          run = h.scan.run;
+          made = h.scan.made;
+          given = h.scan.given;
+          missed = h.scan.missed;
+          taken = h.scan.taken;
+          in_a_row = h.scan.in_a_row;
+          untaken = h.scan.untaken;
+        };
         made = ap (λ n. n + 1) h.made;
         begun = h.begun;
         active = h.active;
@@ -263,12 +305,24 @@ module _ (v : CoreValue) (s : State) (k : Standing) (st : IsState v s k) (built 
       turn = subst (λ o. IfSome o (λ n. (n ≡ taken_in_a_row h.scan.run.steps) × (n < h.scan.run.pages))) wanted h.scan.made.wanted
 
       scanned_due : IsStepDue s k Event.Build scanned (Some (Take page))
-      scanned_due = (events.Scanned page, (between, turn.0 ∙ sym h.scan.in_a_row, subst (λ n. page < n) (pages_are v s k h) turn.1, h.scan.untaken page page wanted (omega arith)), refl, refl)
+      scanned_due = (
+        events.Scanned page,
+        (
+          between,
+          turn.0
+              ∙ sym h.scan.in_a_row,
+          subst (λ n. page < n) (pages_are v s k h) turn.1,
+          h.scan.untaken page page wanted (omega arith),
+        ),
+        refl,
+        refl,
+      )
 
       pub page_refused : Answers v s k Event.Build (Refused Error.NoMemory) v
       page_refused = wants_memory v s k h Event.Build (λ x. x) tt first scanned (Take page) scanned_due (λ x. x) (λ n. absurd (n refl)) (inr tt)
 
-      module _ (w : ScanValue) (pairs : List Pair) (each : (p : Pair) → Contains pairs p ↔ IsPairOnPage v.heap.rows page p) (went : (r : ScanRun) → HasRun v.scan r → HasRun w (with_step r (Took page pairs))) (last : w.last ≡ v.scan.last) (pages : w.pages ≡ v.scan.pages) where
+      module _ (w : ScanValue) (pairs : List Pair) (each : (p : Pair) → Contains pairs p ↔ IsPairOnPage v.heap.rows page p) (went : (r : ScanRun)
+          → HasRun v.scan r → HasRun w (with_step r (Took page pairs))) (last : w.last ≡ v.scan.last) (pages : w.pages ≡ v.scan.pages) where
         among : (p : Pair) → is_among p pairs ≡ (nat_eq p.rid.page page && is_pair_of (get s.rows p.rid) p)
         among p = among_is v.heap.rows page pairs each p ∙ ap (λ m. nat_eq p.rid.page page && is_pair_of (get m p.rid) p) (sym h.rows)
 
@@ -289,9 +343,12 @@ module _ (v : CoreValue) (s : State) (k : Standing) (st : IsState v s k) (built 
           scan = record {
             run = with_step h.scan.run (Took page pairs);
             made = went h.scan.run h.scan.made;
-            given = λ p. ap (λ b. b || (nat_eq p.rid.page page && is_pair_of (get s.rows p.rid) p)) (h.scan.given p) ∙ or_swapped (is_given h.scan.run p) _ ∙ ap (λ b. b || is_given h.scan.run p) (sym (among p));
-            missed = λ p. ap (λ b. b || (nat_eq p.rid.page page && not (is_pair_of (get s.rows p.rid) p))) (h.scan.missed p) ∙ or_swapped (is_missed h.scan.run p) _
-                ∙ ap (λ b. b || is_missed h.scan.run p) (sym (and_not (nat_eq p.rid.page page) (is_pair_of (get s.rows p.rid) p)) ∙ ap (λ b. nat_eq p.rid.page page && not b) (sym (among p)));
+            given = λ p. ap (λ b. b || (nat_eq p.rid.page page && is_pair_of (get s.rows p.rid) p)) (h.scan.given p) ∙ or_swapped (is_given h.scan.run p) _
+                ∙ ap (λ b. b || is_given h.scan.run p) (sym (among p));
+            missed = λ p. ap (λ b. b || (nat_eq p.rid.page page && not (is_pair_of (get s.rows p.rid) p))) (h.scan.missed p)
+                ∙ or_swapped (is_missed h.scan.run p) _
+                ∙ ap (λ b. b || is_missed h.scan.run p) (sym (and_not (nat_eq p.rid.page page) (is_pair_of (get s.rows p.rid) p))
+                ∙ ap (λ b. nat_eq p.rid.page page && not b) (sym (among p)));
             taken = λ n. ap (λ b. b || nat_eq n page) (h.scan.taken n) ∙ or_swapped (is_taken h.scan.run n) (nat_eq n page);
             in_a_row = ap (λ n. n + 1) h.scan.in_a_row;
             untaken = λ next n later le. none_later next n (next_page next later) le;
@@ -319,7 +376,8 @@ module _ (v : CoreValue) (s : State) (k : Standing) (st : IsState v s k) (built 
                 rw (h.scan.untaken page n wanted (omega (arith, is, le)), other_page n (omega (arith, is, le))) refl
 
         page_answers : Answers v s k Event.Build scanned (record v { scan = w })
-        page_answers = made v s k h Event.Build (λ x. x) tt first scanned (Take page) scanned_due (λ x. x) (λ n. absurd (n refl)) (record v { scan = w }) taken_shown (sym (append-nil v.outbox))
+        page_answers = made v s k h Event.Build (λ x. x) tt first scanned (Take page) scanned_due (λ x. x) (λ n. absurd (n refl))
+            (record v { scan = w }) taken_shown (sym (append-nil v.outbox))
 
       pub page_made : (v' : CoreValue) → HasTaken v page v' → Answers v s k Event.Build scanned v'
       page_made v' t = subst (Answers v s k Event.Build scanned) (sym t.others) (page_answers v'.scan t.pairs t.each t.run t.last_pair t.pages)
@@ -366,7 +424,9 @@ module _ (v : CoreValue) (s : State) (k : Standing) (st : IsState v s k) (built 
         same_entries : set_at s.entries p (after_action BuildPut (get s.entries p)) ≡ v.index.entries
         same_entries = ap (set_at s.entries p) (same_put (get s.entries p) (λ e. there (sym entry_is ∙ e))) ∙ set_at-get pair_exact s.entries p ∙ h.entries
 
-        rejected_shown : (w : ScanValue) (attempts : ℕ) → ((r : ScanRun) → HasRun v.scan r → HasRun w (with_step r (HandedOut p))) → w.last ≡ Some p → w.pages ≡ v.scan.pages → w.wanted ≡ v.scan.wanted → attempts ≡ min (v.attempts + 1) (2 ^ 64 - 1) → Shows (record v { scan = w; tried = v.tried + 1; attempts = attempts }) (after s (Attempt p)) (standing_after k rejected)
+        rejected_shown : (w : ScanValue) (attempts : ℕ) → ((r : ScanRun) → HasRun v.scan r → HasRun w (with_step r (HandedOut p))) → w.last ≡ Some p
+            → w.pages ≡ v.scan.pages → w.wanted ≡ v.scan.wanted → attempts ≡ min (v.attempts + 1) (2 ^ 64 - 1)
+            → Shows (record v { scan = w; tried = v.tried + 1; attempts = attempts }) (after s (Attempt p)) (standing_after k rejected)
         rejected_shown w attempts went last pages wanted counted = record {
           rows = h.rows;
           entries = same_entries;
@@ -391,7 +451,9 @@ module _ (v : CoreValue) (s : State) (k : Standing) (st : IsState v s k) (built 
 
         pub rejected_made : (v' : CoreValue) → HasPassed v p v' → Answers v s k Event.Build rejected v'
         rejected_made v' t = subst (Answers v s k Event.Build rejected) (sym t.others)
-            (made v s k h Event.Build (λ x. x) tt first rejected (Attempt p) rejected_due (λ n. there (sym entry_is ∙ n.0)) (λ n. absurd (n none_made)) (record v { scan = v'.scan; tried = v.tried + 1; attempts = v'.attempts }) (rejected_shown v'.scan v'.attempts t.run t.last_pair t.pages t.wanted t.counted)
+            (made v s k h Event.Build (λ x. x) tt first rejected (Attempt p) rejected_due (λ n. there (sym entry_is ∙ n.0)) (λ n. absurd (n none_made))
+            (record v { scan = v'.scan; tried = v.tried + 1; attempts = v'.attempts })
+            (rejected_shown v'.scan v'.attempts t.run t.last_pair t.pages t.wanted t.counted)
             (sym (append-nil v.outbox) ∙ ap (λ o. v.outbox ++ one_record v.last o) (sym none_made)))
 
       module _ (absent : IsAbsent v.index.entries p) where
@@ -411,10 +473,15 @@ module _ (v : CoreValue) (s : State) (k : Standing) (st : IsState v s k) (built 
         taken_places = ap (λ n. n + all_reserved s.pledges) (ap len h.entries) ∙ ap (λ n. len v.index.entries + n) h.pledged
 
         full_is : IsFull v.index → HasNoPlace s (Attempt p)
-        full_is full = (entry_is ∙ absent, subst (λ n. s.places ≤ n) (sym taken_places) (subst (λ n. n ≤ len v.index.entries + v.index.pledged) (sym h.places) full))
+        full_is full = (
+          entry_is ∙ absent,
+          subst (λ n. s.places ≤ n) (sym taken_places)
+              (subst (λ n. n ≤ len v.index.entries + v.index.pledged) (sym h.places) full),
+        )
 
         pub full_refused : IsFull v.index → Answers v s k Event.Build (Refused Error.IndexFull) v
-        full_refused full = refusal v s k Event.Build Error.IndexFull h (refused_last (λ x. x) tt first put (Some (Attempt p)) placed_due Error.IndexFull (inl (full_is full, refl)))
+        full_refused full = refusal v s k Event.Build Error.IndexFull h
+            (refused_last (λ x. x) tt first put (Some (Attempt p)) placed_due Error.IndexFull (inl (full_is full, refl)))
 
         module _ (roomy : IsFull v.index → ⊥) where
           has_place : HasNoPlace s (Attempt p) → ⊥
@@ -423,7 +490,9 @@ module _ (v : CoreValue) (s : State) (k : Standing) (st : IsState v s k) (built 
           pub place_refused : (error : Error) → IsUnrecorded v error → Answers v s k Event.Build (Refused error) v
           place_refused error why = unrecorded put (Attempt p) placed_due has_place makes error why
 
-          placed_shown : (w : ScanValue) (attempts : ℕ) → ((r : ScanRun) → HasRun v.scan r → HasRun w (with_step r (HandedOut p))) → w.last ≡ Some p → w.pages ≡ v.scan.pages → w.wanted ≡ v.scan.wanted → attempts ≡ min (v.attempts + 1) (2 ^ 64 - 1) → Shows (record (placed v p) { scan = w; tried = v.tried + 1; attempts = attempts }) (after s (Attempt p)) (standing_after k put)
+          placed_shown : (w : ScanValue) (attempts : ℕ) → ((r : ScanRun) → HasRun v.scan r → HasRun w (with_step r (HandedOut p))) → w.last ≡ Some p
+              → w.pages ≡ v.scan.pages → w.wanted ≡ v.scan.wanted → attempts ≡ min (v.attempts + 1) (2 ^ 64 - 1)
+              → Shows (record (placed v p) { scan = w; tried = v.tried + 1; attempts = attempts }) (after s (Attempt p)) (standing_after k put)
           placed_shown w attempts went last pages wanted counted = record {
             rows = h.rows;
             entries = ap (λ m. set_at m p (after_action BuildPut (get m p))) h.entries;
@@ -448,7 +517,9 @@ module _ (v : CoreValue) (s : State) (k : Standing) (st : IsState v s k) (built 
 
           pub placed_made : HasNextNumber v → (v' : CoreValue) → HasPassed (placed v p) p v' → Answers v s k Event.Build put v'
           placed_made left v' t = subst (Answers v s k Event.Build put) (sym t.others)
-              (made v s k h Event.Build (λ x. x) tt first put (Attempt p) placed_due has_place (λ n. left) (record (placed v p) { scan = v'.scan; tried = v.tried + 1; attempts = v'.attempts }) (placed_shown v'.scan v'.attempts t.run t.last_pair t.pages t.wanted t.counted)
+              (made v s k h Event.Build (λ x. x) tt first put (Attempt p) placed_due has_place (λ n. left)
+              (record (placed v p) { scan = v'.scan; tried = v.tried + 1; attempts = v'.attempts })
+              (placed_shown v'.scan v'.attempts t.run t.last_pair t.pages t.wanted t.counted)
               (ap (λ o. v.outbox ++ one_record v.last o) (sym one_made)))
 
 -- ---- what a safe core knows
@@ -468,23 +539,29 @@ inside_by (Some n) a b le i = omega (arith, le, i)
 module _ (v : CoreValue) (built : IsBuilding v.life) where
   module _ (many : ATTEMPTS_PER_CHECKPOINT ≤ v.tried) (p : Pair) (last : v.scan.last ≡ Some p) where
     pub no_checkpoint : (error : Error) (v' : CoreValue) → IsUnrecorded v error → v' ≡ v → Serves v Event.Build (Refused error) v'
-    no_checkpoint error v' why same s k st = subst (Answers v s k Event.Build (Refused error)) (sym same) (checkpoint_refused v s k st built many p last error why)
+    no_checkpoint error v' why same s k st = subst (Answers v s k Event.Build (Refused error)) (sym same)
+        (checkpoint_refused v s k st built many p last error why)
 
-    pub checkpoint_serves : (ticket : Ticket) (v' : CoreValue) → ticket.record ≡ v.last + 1 → ticket.commit ≡ None → HasNextNumber v → v' ≡ checkpointed v p → Serves v Event.Build (builds.built (reply.Marked p ticket)) v'
+    pub checkpoint_serves : (ticket : Ticket) (v' : CoreValue) → ticket.record ≡ v.last + 1 → ticket.commit ≡ None → HasNextNumber v → v' ≡ checkpointed v p
+        → Serves v Event.Build (builds.built (reply.Marked p ticket)) v'
     checkpoint_serves ticket v' number no_commit left is s k st =
         ticket_answers v s k Event.Build (λ n. events.Built (events.BuildReply.Marked p n)) ticket v' number no_commit
         (subst (Answers v s k Event.Build (events.Built (events.BuildReply.Marked p (v.last + 1)))) (sym is) (checkpoint_made v s k st built many p last left))
 
   module _ (few : v.tried < ATTEMPTS_PER_CHECKPOINT) where
-    pub no_page : (page : ℕ) → v.scan.wanted ≡ Some page → (error : Error) (v' : CoreValue) → error ≡ Error.NoMemory → v' ≡ v → Serves v Event.Build (Refused error) v'
+    pub no_page : (page : ℕ) → v.scan.wanted ≡ Some page → (error : Error) (v' : CoreValue) → error ≡ Error.NoMemory → v' ≡ v
+        → Serves v Event.Build (Refused error) v'
     no_page page wanted error v' why same s k st =
-        subst (Answers v s k Event.Build (Refused error)) (sym same) (subst (λ e. Answers v s k Event.Build (Refused e) v) (sym why) (page_refused v s k st built few page wanted))
+        subst (Answers v s k Event.Build (Refused error)) (sym same)
+        (subst (λ e. Answers v s k Event.Build (Refused e) v) (sym why) (page_refused v s k st built few page wanted))
 
-    pub page_serves : (page : ℕ) → v.scan.wanted ≡ Some page → (v' : CoreValue) → HasTaken v page v' → Serves v Event.Build (events.Built (events.Scanned page)) v'
+    pub page_serves : (page : ℕ) → v.scan.wanted ≡ Some page → (v' : CoreValue) → HasTaken v page v'
+        → Serves v Event.Build (events.Built (events.Scanned page)) v'
     page_serves page wanted v' t s k st = page_made v s k st built few page wanted v' t
 
     module _ (p : Pair) (next : (r : ScanRun) → HasRun v.scan r → MayHandOut r p) where
-      pub attempt_serves : (result : Result BuildReply Error) (v' : CoreValue) → IfOk result (λ a. HasAttempted v p a v') → IfErr result (IsUnplaced v p) → OnErr result (v' ≡ v) → Serves v Event.Build (reply_by builds.built result) v'
+      pub attempt_serves : (result : Result BuildReply Error) (v' : CoreValue) → IfOk result (λ a. HasAttempted v p a v') → IfErr result (IsUnplaced v p)
+          → OnErr result (v' ≡ v) → Serves v Event.Build (reply_by builds.built result) v'
       attempt_serves (Ok answer) v' did why same s k st = elim did [
         | inl was ↦ subst (λ a. Answers v s k Event.Build (builds.built a) v') (sym was.0) (rejected_made v s k st built few p next was.1 v' was.2)
         | inr was ↦ subst (λ a. Answers v s k Event.Build (builds.built a) v') (sym was.0) (placed_made v s k st built few p next was.1 was.2 was.3 v' was.4)
@@ -498,7 +575,8 @@ module _ (v : CoreValue) (built : IsBuilding v.life) where
       pub no_finish : (error : Error) (v' : CoreValue) → IsUnrecorded v error → v' ≡ v → Serves v Event.Build (Refused error) v'
       no_finish error v' why same s k st = subst (Answers v s k Event.Build (Refused error)) (sym same) (finish_refused v s k st built few end error why)
 
-      pub finish_serves : (ticket : Ticket) (v' : CoreValue) → ticket.record ≡ v.last + 1 → ticket.commit ≡ None → HasNextNumber v → v' ≡ completed v → Serves v Event.Build (builds.built (reply.Done ticket)) v'
+      pub finish_serves : (ticket : Ticket) (v' : CoreValue) → ticket.record ≡ v.last + 1 → ticket.commit ≡ None → HasNextNumber v → v' ≡ completed v
+          → Serves v Event.Build (builds.built (reply.Done ticket)) v'
       finish_serves ticket v' number no_commit left is s k st =
           ticket_answers v s k Event.Build (λ n. events.Built (events.Done n)) ticket v' number no_commit
           (subst (Answers v s k Event.Build (events.Built (events.Done (v.last + 1)))) (sym is) (finish_made v s k st built few end left))

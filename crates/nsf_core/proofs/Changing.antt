@@ -1,5 +1,6 @@
 -- Which replies to a deletion and to an update are allowed.
-use Rattle.std.proofs.Common.{Bool, None, Option, Some, [], ap, arith, cond, false, inl, inr, refl, subst, sym, true, ℕ, ◌++◌, ◌+◌, ◌-◌, ◌∙◌, ◌∷◌, ◌≡◌, ◌≢◌, ◌⊎◌}
+use Rattle.std.proofs.Common.{Bool, None, Option, Some, [], ap, arith, cond, false, inl, inr, refl, subst, sym, true, ℕ, ◌++◌, ◌+◌, ◌-◌, ◌∙◌, ◌∷◌, ◌≡◌, ◌≢◌}
+use Rattle.std.proofs.Common.{◌⊎◌}
 use Rattle.std.proofs.lemmas.Bool.Decides.{eqb_tells}
 use Rattle.std.specs.FinMap.{get}
 use Rattle.std.proofs.Common.{eqb}
@@ -28,12 +29,14 @@ use Rattle.core_model.specs.Records.{action_of, first_action}
 use Rattle.core_model.specs.States.{State}
 use Rattle.core_model.specs.Steps.{IsReady, Start, MachineStep, after, txn_at}
 use Rattle.core_contracts.specs.Events.{Event, Refused, Standing, Stepped}
-use Rattle.core_contracts.specs.Replies.{HasNoMoreChanges, IsStepDue, IsFirst, IsHeldByOther, IsOfNone, IsProper, change_of, refusals, refused, refused_last, unknown}
+use Rattle.core_contracts.specs.Replies.{HasNoMoreChanges, IsStepDue, IsFirst, IsHeldByOther, IsOfNone, IsProper, change_of, refusals, refused, refused_last}
+use Rattle.core_contracts.specs.Replies.{unknown}
 use Rattle.nsf_core.specs.Asked.{IsFine, IsRefused}
 use Rattle.nsf_core.proofs.Checking.{unchangeable_by_state}
 use Rattle.nsf_core.specs.View.{Answers, CoreValue, IsState, Serves, Shows}
 use Rattle.nsf_core.specs.Moves.{IsReadyOrNone, txn_shown}
-use Rattle.nsf_core.specs.Private.{IsAble, IsMine, IsUnchangeable, IsUnroomy, MayStart, first_made, is_busy, is_full, is_missing, is_unable, is_unknown, is_unroomy, next_change}
+use Rattle.nsf_core.specs.Private.{IsAble, IsMine, IsUnchangeable, IsUnroomy, MayStart, first_made, is_busy, is_full, is_missing, is_unable, is_unknown}
+use Rattle.nsf_core.specs.Private.{is_unroomy, next_change}
 use Rattle.nsf_core.proofs.Due.{made, no_number, refusal, wants_memory}
 use Rattle.nsf_core.proofs.Inserting.{able, full, has_places, lacks_places, no_txn, not_full, same_position, some_is, unable}
 use Rattle.nsf_core.proofs.Moved.{is_ready, known}
@@ -56,7 +59,8 @@ module _ (v : CoreValue) (t : ℕ) (r : Place) where
           busy true e h = cc
           busy false e h = cc
 
-  touched : (o : Option Error) → table.change_refusal t v.txns.active ≡ o → option_or o (table.busy_refusal t (holder_of r v.txns.active)) ≡ None → IsAble v t × IsMine v t r
+  touched : (o : Option Error) → table.change_refusal t v.txns.active ≡ o → option_or o (table.busy_refusal t (holder_of r v.txns.active)) ≡ None → IsAble v t
+      × IsMine v t r
   touched None e h = (able v t e, mine_by (holder_of r v.txns.active) refl h)
   touched (Some e) is h = absurd cc
 
@@ -79,7 +83,8 @@ module _ (v : CoreValue) (t : ℕ) (r : Place) where
           busy true e h = absurd cc
           busy false e h = sym (some_is RowBusy error h)
 
-  refused_by : (error : Error) (o : Option Error) → table.change_refusal t v.txns.active ≡ o → option_or o (table.busy_refusal t (holder_of r v.txns.active)) ≡ Some error → IsUnchangeable v t r error
+  refused_by : (error : Error) (o : Option Error) → table.change_refusal t v.txns.active ≡ o
+      → option_or o (table.busy_refusal t (holder_of r v.txns.active)) ≡ Some error → IsUnchangeable v t r error
   refused_by error None e h = busy_by error (able v t e) (holder_of r v.txns.active) refl h
   refused_by error (Some other) e h = is_unable (unable v t error (e ∙ h))
 
@@ -91,7 +96,8 @@ pub record IsChange (e : Event) (t : ℕ) (r : Place) (rows : Row → Rows) : Ty
   pub of_none : (s : State) → s.txns t ≡ None → IsOfNone s e
   pub known : (s : State) → (s.txns t ≡ None → ⊥) → IsOfNone s e → ⊥
   pub proper : (s : State) → IsReady (txn_at s t) → IsProper s e
-  pub refused : (s : State) (k : Standing) (o : Option Error) → IsFirst ((HasNoMoreChanges s t, TooManyChanges) ∷ (IsHeldByOther s t r, RowBusy) ∷ (get s.rows r ≡ None, NoSuchRow) ∷ []) o → IsFirst (refusals s k e) o
+  pub refused : (s : State) (k : Standing) (o : Option Error)
+      → IsFirst ((HasNoMoreChanges s t, TooManyChanges) ∷ (IsHeldByOther s t r, RowBusy) ∷ (get s.rows r ≡ None, NoSuchRow) ∷ []) o → IsFirst (refusals s k e) o
   pub due : (s : State) (k : Standing) (old : Row) → get s.rows r ≡ Some old → IsStepDue s k e Stepped (Some (Start t (change_of s t r (rows old))))
 
 pub deletes : (t : ℕ) (r : Place) → IsChange (Event.Delete t r) t r Deleted
@@ -132,12 +138,16 @@ module _ (v : CoreValue) (t : ℕ) (r : Place) (e : Event) (rows : Row → Rows)
         makes none = not_none refl none
 
         unroomy_by : (error : Error) → IsUnroomy v error → Answers v s k e (Refused error) v
-        unroomy_by error (inl why) = subst (λ n. Answers v s k e (Refused n) v) (sym why.0) (refusal v s k e Error.IndexFull h (refused_last there proper first Stepped (Some step) (is.due s k old found_is) Error.IndexFull (inl (lacks_places v s k h why.1.0 why.1.1, refl))))
-        unroomy_by error (inr why) = subst (λ n. Answers v s k e (Refused n) v) (sym why.0) (no_number v s k h e there proper first Stepped step (is.due s k old found_is) (has_places v s k h why.1) makes why.2)
+        unroomy_by error (inl why) = subst (λ n. Answers v s k e (Refused n) v) (sym why.0)
+            (refusal v s k e Error.IndexFull h (refused_last there proper first Stepped (Some step) (is.due s k old found_is) Error.IndexFull
+            (inl (lacks_places v s k h why.1.0 why.1.1, refl))))
+        unroomy_by error (inr why) = subst (λ n. Answers v s k e (Refused n) v) (sym why.0)
+            (no_number v s k h e there proper first Stepped step (is.due s k old found_is) (has_places v s k h why.1) makes why.2)
 
         module _ (may : MayStart v t r) where
           wants_by : Answers v s k e (Refused Error.NoMemory) v
-          wants_by = wants_memory v s k h e there proper first Stepped step (is.due s k old found_is) (has_places v s k h may.fits) (λ n. may.numbered) (inl makes)
+          wants_by = wants_memory v s k h e there proper first Stepped step (is.due s k old found_is) (has_places v s k h may.fits) (λ n. may.numbered)
+              (inl makes)
 
           abbrev c : ChangeValue
           c = next_change v t r (rows old)
@@ -145,9 +155,12 @@ module _ (v : CoreValue) (t : ℕ) (r : Place) (e : Event) (rows : Row → Rows)
           same_change : change_of s t r (rows old) ≡ c
           same_change = ap (λ (n : ℕ). let w : ChangeValue = record { position = n; rid = r; rows = rows old } in w) (same_position v s k h t a.txn a.here)
 
-          done_by : (o : Option Pair) → old_pair (is_indexed v.life) c ≡ o → holder_of r (first_made v t c o).txns.active ≡ Some t → Answers v s k e Stepped (first_made v t c o)
-          done_by o pair held = made v s k h e there proper first Stepped step (is.due s k old found_is) (has_places v s k h may.fits) (λ n. may.numbered) (first_made v t c o)
-              (subst (λ w. Shows (first_made v t c o) (after s (Start t w)) (record k { made = k.made + 1 })) (sym same_change) (first_shown v s k h t a.txn a.here ready c o pair held))
+          done_by : (o : Option Pair) → old_pair (is_indexed v.life) c ≡ o → holder_of r (first_made v t c o).txns.active ≡ Some t
+              → Answers v s k e Stepped (first_made v t c o)
+          done_by o pair held = made v s k h e there proper first Stepped step (is.due s k old found_is) (has_places v s k h may.fits) (λ n. may.numbered)
+              (first_made v t c o)
+              (subst (λ w. Shows (first_made v t c o) (after s (Start t w)) (record k { made = k.made + 1 })) (sym same_change)
+              (first_shown v s k h t a.txn a.here ready c o pair held))
               (outbox o ∙ ap (λ w. v.outbox ++ one_record v.last (Some w)) (sym action))
             where
               outbox : (o : Option Pair) → (first_made v t c o).outbox ≡ v.outbox ++ one_record v.last (Some (first_action t c o))
@@ -155,16 +168,25 @@ module _ (v : CoreValue) (t : ℕ) (r : Place) (e : Event) (rows : Row → Rows)
               outbox (Some p) = refl
 
               action : first_action t (change_of s t r (rows old)) (old_pair (is_indexed s.life) (change_of s t r (rows old))) ≡ first_action t c o
-              action = ap (λ w. first_action t w (old_pair (is_indexed s.life) w)) same_change ∙ ap (λ life. first_action t c (old_pair (is_indexed life) c)) h.life ∙ ap (first_action t c) pair
+              action = ap (λ w. first_action t w (old_pair (is_indexed s.life) w)) same_change
+                  ∙ ap (λ life. first_action t c (old_pair (is_indexed life) c)) h.life ∙ ap (first_action t c) pair
 
   pub change_refused : (error : Error) → IsUnchangeable v t r error → Serves v e (Refused error) v
-  change_refused error (is_unable (is_unknown none e')) s k st = subst (λ n. Answers v s k e (Refused n) v) (sym e') (refusal v s k e NoSuchTxn st.shown (unknown (is.of_none s (no_txn v s k st.shown t none))))
+  change_refused error (is_unable (is_unknown none e')) s k st =
+      subst (λ n. Answers v s k e (Refused n) v) (sym e') (refusal v s k e NoSuchTxn st.shown (unknown (is.of_none s (no_txn v s k st.shown t none))))
   change_refused error (is_unable (is_full x here le e')) s k st = subst (λ n. Answers v s k e (Refused n) v) (sym e')
-      (refusal v s k e TooManyChanges st.shown (refused (is.known s (known v s k st.shown t x here)) (is.proper s (is_ready v s k st.shown t x here (subst IsReadyOrNone here asked))) TooManyChanges (is.refused s k (Some TooManyChanges) (inl (full v s k st.shown t x here le, refl)))))
+      (refusal v s k e TooManyChanges st.shown (refused (is.known s (known v s k st.shown t x here))
+      (is.proper s (is_ready v s k st.shown t x here (subst IsReadyOrNone here asked))) TooManyChanges
+      (is.refused s k (Some TooManyChanges) (inl (full v s k st.shown t x here le, refl)))))
   change_refused error (is_busy a u held other e') s k st = subst (λ n. Answers v s k e (Refused n) v) (sym e')
-      (refusal v s k e RowBusy st.shown (refused (there s k st a) (proper s k st a) RowBusy (is.refused s k (Some RowBusy) (inr (not_full v s k st.shown t a, inl ((u, st.shown.holder r ∙ held, other), refl))))))
+      (refusal v s k e RowBusy st.shown (refused (there s k st a) (proper s k st a) RowBusy
+      (is.refused s k (Some RowBusy) (inr (not_full v s k st.shown t a, inl ((u, st.shown.holder r ∙ held, other), refl))))))
   change_refused error (is_missing a mine none e') s k st = subst (λ n. Answers v s k e (Refused n) v) (sym e')
-      (refusal v s k e NoSuchRow st.shown (refused (there s k st a) (proper s k st a) NoSuchRow (is.refused s k (Some NoSuchRow) (inr (not_full v s k st.shown t a, inr (no_other s k st a mine, inl (ap (λ m. get m r) st.shown.rows ∙ none, refl)))))))
+      (refusal v s k e NoSuchRow st.shown (refused (there s k st a) (proper s k st a) NoSuchRow
+      (is.refused s k (Some NoSuchRow) (inr (
+        not_full v s k st.shown t a,
+        inr (no_other s k st a mine, inl (ap (λ m. get m r) st.shown.rows ∙ none, refl)),
+      )))))
   change_refused error (is_unroomy a mine old found why) s k st = unroomy_by s k st a mine old found error why
 
   pub change_checked : (error : Error) → IsUnchangeable v t r error → IsRefused v e error
@@ -172,26 +194,35 @@ module _ (v : CoreValue) (t : ℕ) (r : Place) (e : Event) (rows : Row → Rows)
 
   module _ (may : MayStart v t r) (old : Row) (found : get v.heap.rows r ≡ Some old) where
     pub change_no_memory : (error : Error) (v' : CoreValue) → error ≡ Error.NoMemory → v' ≡ v → Serves v e (Refused error) v'
-    change_no_memory error v' e' same s k st = subst (λ w. Answers v s k e (Refused error) w) (sym same) (subst (λ n. Answers v s k e (Refused n) v) (sym e') (wants_by s k st may.able (may_touch v t r may.free).1 old found may))
+    change_no_memory error v' e' same s k st = subst (λ w. Answers v s k e (Refused error) w) (sym same)
+        (subst (λ n. Answers v s k e (Refused n) v) (sym e') (wants_by s k st may.able (may_touch v t r may.free).1 old found may))
 
     pub change_fine : IsFine v e
     change_fine = change_no_memory Error.NoMemory v refl refl
 
-    pub change_done : (change : ChangeValue) (v' : CoreValue) → change ≡ next_change v t r (rows old) → v' ≡ first_made v t change (old_pair (is_indexed v.life) change) → holder_of change.rid (first_made v t change (old_pair (is_indexed v.life) change)).txns.active ≡ Some t → Serves v e Stepped v'
+    pub change_done : (change : ChangeValue) (v' : CoreValue) → change ≡ next_change v t r (rows old)
+        → v' ≡ first_made v t change (old_pair (is_indexed v.life) change)
+        → holder_of change.rid (first_made v t change (old_pair (is_indexed v.life) change)).txns.active ≡ Some t → Serves v e Stepped v'
     change_done change v' same now held s k st =
         subst (λ w. Answers v s k e Stepped w) (sym (now ∙ ap (λ w. first_made v t w (old_pair (is_indexed v.life) w)) same))
-        (done_by s k st may.able (may_touch v t r may.free).1 old found may _ refl (subst (λ w. holder_of w.rid (first_made v t w (old_pair (is_indexed v.life) w)).txns.active ≡ Some t) same held))
+        (done_by s k st may.able (may_touch v t r may.free).1 old found may _ refl
+        (subst (λ w. holder_of w.rid (first_made v t w (old_pair (is_indexed v.life) w)).txns.active ≡ Some t) same held))
 
 -- ---- an entry that is marked, and given back as it was
-pub marked_there : (i now : IndexValue) (p : Pair) (n : ℕ) → now ≡ record i { entries = set_at i.entries p (Some Marked); pledged = n } → get now.entries p ≢ None
+pub marked_there : (i now : IndexValue) (p : Pair) (n : ℕ) → now ≡ record i { entries = set_at i.entries p (Some Marked); pledged = n }
+    → get now.entries p ≢ None
 marked_there i now p n is none = not_none (ap (λ (w : IndexValue). get w.entries p) is ∙ get-set_at_same pair_exact i.entries p (Some Marked)) none
 
-pub as_before : (i now back : IndexValue) (p : Pair) (before : Option Mark) (left : ℕ) → before ≡ get i.entries p → left ≡ PLACES_PER_CHANGE - pledges_used (get i.entries p)
+pub as_before : (i now back : IndexValue) (p : Pair) (before : Option Mark) (left : ℕ) → before ≡ get i.entries p
+    → left ≡ PLACES_PER_CHANGE - pledges_used (get i.entries p)
     → now ≡ record i { entries = set_at i.entries p (Some Marked); pledged = i.pledged + (PLACES_PER_CHANGE - pledges_used (get i.entries p)) }
     → back ≡ record now { entries = set_at now.entries p before; pledged = now.pledged - left } → back ≡ i
 as_before i now back p before left b l n e =
     e ∙ ap (λ (w : IndexValue). record w { entries = set_at w.entries p before; pledged = w.pledged - left }) n
-    ∙ (λ j. record i { entries = (set_at-again pair_exact i.entries p (Some Marked) before ∙ ap (set_at i.entries p) b ∙ set_at-get pair_exact i.entries p) j; pledged = none i.pledged _ left l j })
+    ∙ (λ j. record i {
+      entries = (set_at-again pair_exact i.entries p (Some Marked) before ∙ ap (set_at i.entries p) b ∙ set_at-get pair_exact i.entries p) j;
+      pledged = none i.pledged _ left l j;
+    })
   where
     none : (n d left : ℕ) → left ≡ d → n + d - left ≡ n
     none n d left e = omega (arith, e)

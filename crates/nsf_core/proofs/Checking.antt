@@ -1,10 +1,12 @@
 -- What the state refuses, and what only want of memory may.
 use Rattle.std.proofs.Common.{inl, inr, sym, ℕ, ◌∙◌, ◌≡◌, ◌≢◌}
 use Rattle.records.specs.declared.error.Error.{Error}
-use Rattle.records.specs.declared.error.Error.TheVariants.{Exhausted, NoIndex, IndexExists, IndexFull, NoMemory, NoSuchRow, NoSuchTxn, RowBusy, TooManyChanges, TxnsActive}
+use Rattle.records.specs.declared.error.Error.TheVariants.{Exhausted, NoIndex, IndexExists, IndexFull, NoMemory, NoSuchRow, NoSuchTxn, RowBusy, TooManyChanges}
+use Rattle.records.specs.declared.error.Error.TheVariants.{TxnsActive}
 use Rattle.records.specs.Values.{Place}
 use Rattle.nsf_core.specs.View.{CoreValue}
-use Rattle.nsf_core.specs.Private.{IsUncreatable, IsUndroppable, HasNoRecord, IsUnable, IsUnchangeable, IsUnroomy, is_busy, is_full, is_missing, is_unable, is_unknown, is_unroomy}
+use Rattle.nsf_core.specs.Private.{IsUncreatable, IsUndroppable, HasNoRecord, IsUnable, IsUnchangeable, IsUnroomy, is_busy, is_full, is_missing, is_unable}
+use Rattle.nsf_core.specs.Private.{is_unknown, is_unroomy}
 
 module _ (v : CoreValue) (e : Error) where
   pub unable_by_state : (t : ℕ) → IsUnable v t e → e ≢ NoMemory

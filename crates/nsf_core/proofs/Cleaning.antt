@@ -31,7 +31,8 @@ absent_is (Building highest) e = absurd (true≢false e)
 absent_is Complete e = absurd (true≢false e)
 
 pub nothing_to_clean : (v : CoreValue) → is_indexed v.life ≡ false → Serves v Event.Clean (Refused Error.NoIndex) v
-nothing_to_clean v none s k st = refusal v s k Event.Clean Error.NoIndex st.shown (refused (λ x. x) tt Error.NoIndex (inl (absent_is s.life (ap is_indexed st.shown.life ∙ none), refl)))
+nothing_to_clean v none s k st = refusal v s k Event.Clean Error.NoIndex st.shown
+    (refused (λ x. x) tt Error.NoIndex (inl (absent_is s.life (ap is_indexed st.shown.life ∙ none), refl)))
 
 indexed_apart : (life : Life) → is_indexed life ≡ true → life ≡ Absent → ⊥
 indexed_apart life e f = true≢false (sym (sym (ap is_indexed f) ∙ e))
@@ -85,7 +86,15 @@ module _ (v : CoreValue) (s : State) (k : Standing) (st : IsState v s k) (indexe
       places = h.places;
       cleaned = refl;
       bound = h.bound;
-      scan = record { run = h.scan.run; made = h.scan.made; given = h.scan.given; missed = h.scan.missed; taken = h.scan.taken; in_a_row = h.scan.in_a_row; untaken = h.scan.untaken };
+      scan = record {
+        run = h.scan.run;
+        made = h.scan.made;
+        given = h.scan.given;
+        missed = h.scan.missed;
+        taken = h.scan.taken;
+        in_a_row = h.scan.in_a_row;
+        untaken = h.scan.untaken;
+      };
       made = h.made;
       begun = h.begun;
       active = h.active;
@@ -95,7 +104,8 @@ module _ (v : CoreValue) (s : State) (k : Standing) (st : IsState v s k) (indexe
     }
 
     pub wrap_made : Answers v s k Event.Clean wrapped (record v { cleaned = None })
-    wrap_made = made v s k h Event.Clean (λ x. x) tt first wrapped Wrap wrapped_due (λ x. x) (λ n. absurd (n refl)) (record v { cleaned = None }) wrapped_shown (sym (append-nil v.outbox))
+    wrap_made = made v s k h Event.Clean (λ x. x) tt first wrapped Wrap wrapped_due (λ x. x) (λ n. absurd (n refl)) (record v { cleaned = None }) wrapped_shown
+        (sym (append-nil v.outbox))
 
   -- ---- at an entry
   module _ (p : Pair) (mark : Mark) (entry : IsLeastAbove v.index.entries v.cleaned (Some (p, mark))) where
@@ -103,7 +113,8 @@ module _ (v : CoreValue) (s : State) (k : Standing) (st : IsState v s k) (indexe
     next = record {
       there = λ e. not_none (ap (λ m. get m p) h.entries ∙ entry.1) e;
       above_place = ap (λ o. above o p) h.cleaned ∙ above_when v.cleaned p entry.0;
-      least = λ q there over. not_above q (λ less. there (ap (λ m. get m q) h.entries ∙ entry.2 q (after_is v.cleaned q (ap (λ o. above o q) (sym h.cleaned) ∙ over)) less));
+      least = λ q there over. not_above q (λ less. there (ap (λ m. get m q) h.entries
+          ∙ entry.2 q (after_is v.cleaned q (ap (λ o. above o q) (sym h.cleaned) ∙ over)) less));
     }
       where
         not_above : (q : Pair) → (pair_cmp q p ≡ Less → ⊥) → above (Some q) p ≡ false
@@ -136,8 +147,10 @@ module _ (v : CoreValue) (s : State) (k : Standing) (st : IsState v s k) (indexe
       out_due = (events.Cleaned p, (next, can_is may), refl, refl)
 
       pub clean_refused : (error : Error) → IsUnrecorded v error → Answers v s k Event.Clean (Refused error) v
-      clean_refused error (inl why) = subst (λ e. Answers v s k Event.Clean (Refused e) v) (sym why.0) (no_number v s k h Event.Clean (λ x. x) tt first out (MachineStep.Clean p) out_due (λ x. x) (λ e. not_none refl e) why.1)
-      clean_refused error (inr why) = subst (λ e. Answers v s k Event.Clean (Refused e) v) (sym why.0) (wants_memory v s k h Event.Clean (λ x. x) tt first out (MachineStep.Clean p) out_due (λ x. x) (λ n. why.1) (inl (λ e. not_none refl e)))
+      clean_refused error (inl why) = subst (λ e. Answers v s k Event.Clean (Refused e) v) (sym why.0)
+          (no_number v s k h Event.Clean (λ x. x) tt first out (MachineStep.Clean p) out_due (λ x. x) (λ e. not_none refl e) why.1)
+      clean_refused error (inr why) = subst (λ e. Answers v s k Event.Clean (Refused e) v) (sym why.0)
+          (wants_memory v s k h Event.Clean (λ x. x) tt first out (MachineStep.Clean p) out_due (λ x. x) (λ n. why.1) (inl (λ e. not_none refl e)))
 
       out_shown : Shows (taken_out v p) (after s (MachineStep.Clean p)) (standing_after k out)
       out_shown = record {
@@ -153,7 +166,15 @@ module _ (v : CoreValue) (s : State) (k : Standing) (st : IsState v s k) (indexe
         places = h.places;
         cleaned = refl;
         bound = h.bound;
-        scan = record { run = h.scan.run; made = h.scan.made; given = h.scan.given; missed = h.scan.missed; taken = h.scan.taken; in_a_row = h.scan.in_a_row; untaken = h.scan.untaken };
+        scan = record {
+          run = h.scan.run;
+          made = h.scan.made;
+          given = h.scan.given;
+          missed = h.scan.missed;
+          taken = h.scan.taken;
+          in_a_row = h.scan.in_a_row;
+          untaken = h.scan.untaken;
+        };
         made = ap (λ n. n + 1) h.made;
         begun = h.begun;
         active = h.active;
@@ -186,7 +207,15 @@ module _ (v : CoreValue) (s : State) (k : Standing) (st : IsState v s k) (indexe
         places = h.places;
         cleaned = refl;
         bound = h.bound;
-        scan = record { run = h.scan.run; made = h.scan.made; given = h.scan.given; missed = h.scan.missed; taken = h.scan.taken; in_a_row = h.scan.in_a_row; untaken = h.scan.untaken };
+        scan = record {
+          run = h.scan.run;
+          made = h.scan.made;
+          given = h.scan.given;
+          missed = h.scan.missed;
+          taken = h.scan.taken;
+          in_a_row = h.scan.in_a_row;
+          untaken = h.scan.untaken;
+        };
         made = h.made;
         begun = h.begun;
         active = h.active;
@@ -196,18 +225,22 @@ module _ (v : CoreValue) (s : State) (k : Standing) (st : IsState v s k) (indexe
       }
 
       pub keep_made : Answers v s k Event.Clean stays (record v { cleaned = Some p })
-      keep_made = made v s k h Event.Clean (λ x. x) tt first stays (Keep p) stays_due (λ x. x) (λ n. absurd (n refl)) (record v { cleaned = Some p }) stays_shown (sym (append-nil v.outbox))
+      keep_made = made v s k h Event.Clean (λ x. x) tt first stays (Keep p) stays_due (λ x. x) (λ n. absurd (n refl))
+          (record v { cleaned = Some p }) stays_shown (sym (append-nil v.outbox))
 
 -- ---- what each call of a step serves, whatever state the core stands for
-pub wrap_serves : (v : CoreValue) → is_indexed v.life ≡ true → IsLeastAbove v.index.entries v.cleaned None → Serves v Event.Clean (events.Cleaner events.Wrapped) (record v { cleaned = None })
+pub wrap_serves : (v : CoreValue) → is_indexed v.life ≡ true → IsLeastAbove v.index.entries v.cleaned None
+    → Serves v Event.Clean (events.Cleaner events.Wrapped) (record v { cleaned = None })
 wrap_serves v indexed none s k st = wrap_made v s k st indexed none
 
 module _ (v : CoreValue) (indexed : is_indexed v.life ≡ true) (p : Pair) (entry : (mark : Mark) × IsLeastAbove v.index.entries v.cleaned (Some (p, mark))) where
   pub no_clean : MayClean v p → (error : Error) (v' : CoreValue) → IsUnrecorded v error → v' ≡ v → Serves v Event.Clean (Refused error) v'
-  no_clean may error v' why same s k st = subst (Answers v s k Event.Clean (Refused error)) (sym same) (clean_refused v s k st indexed p entry.0 entry.1 may error why)
+  no_clean may error v' why same s k st = subst (Answers v s k Event.Clean (Refused error)) (sym same)
+      (clean_refused v s k st indexed p entry.0 entry.1 may error why)
 
   pub clean_serves : MayClean v p → (v' : CoreValue) → HasNextNumber v → v' ≡ taken_out v p → Serves v Event.Clean (events.Cleaner (events.Cleaned p)) v'
-  clean_serves may v' left is s k st = subst (Answers v s k Event.Clean (events.Cleaner (events.Cleaned p))) (sym is) (clean_made v s k st indexed p entry.0 entry.1 may left)
+  clean_serves may v' left is s k st = subst (Answers v s k Event.Clean (events.Cleaner (events.Cleaned p))) (sym is)
+      (clean_made v s k st indexed p entry.0 entry.1 may left)
 
   pub keep_serves : (MayClean v p → ⊥) → Serves v Event.Clean (events.Cleaner (events.Kept p)) (record v { cleaned = Some p })
   keep_serves kept s k st = keep_made v s k st indexed p entry.0 entry.1 kept

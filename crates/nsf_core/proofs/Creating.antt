@@ -1,5 +1,6 @@
 -- The creation of the index: the reply that is due, and what the core shows after it.
-use Rattle.std.proofs.Common.{Err, List, None, Ok, Result, Some, [], ap, cond, false, inl, inr, refl, subst, sym, true, true≢false, ℕ, ◌+◌, ◌∙◌, ◌∷◌, ◌≡◌, ◌≢◌, ◌≤◌}
+use Rattle.std.proofs.Common.{Err, List, None, Ok, Result, Some, [], ap, cond, false, inl, inr, refl, subst, sym, true, true≢false, ℕ, ◌+◌, ◌∙◌, ◌∷◌, ◌≡◌, ◌≢◌}
+use Rattle.std.proofs.Common.{◌≤◌}
 use Rattle.std.specs.Prelude.{IfErr, IfOk, OnErr, OnOk}
 use Rattle.records.specs.declared.error.Error.{Error}
 use Rattle.model.specs.Pairs.{is_indexed}
@@ -59,8 +60,10 @@ module _ (v : CoreValue) (s : State) (k : Standing) (st : IsState v s k) where
     due = (ap (λ n. Reply.Ticketed (n + 1)) (sym h.made), refl)
 
     pub create_refused : (error : Error) → IsUnrecorded v error → Answers v s k Event.Create (Refused error) v
-    create_refused error (inl why) = subst (λ e. Answers v s k Event.Create (Refused e) v) (sym why.0) (no_number v s k h Event.Create (λ x. x) tt first reply MachineStep.Create due (λ x. x) (λ e. not_none refl e) why.1)
-    create_refused error (inr why) = subst (λ e. Answers v s k Event.Create (Refused e) v) (sym why.0) (wants_memory v s k h Event.Create (λ x. x) tt first reply MachineStep.Create due (λ x. x) (λ n. why.1) (inl (λ e. not_none refl e)))
+    create_refused error (inl why) = subst (λ e. Answers v s k Event.Create (Refused e) v) (sym why.0)
+        (no_number v s k h Event.Create (λ x. x) tt first reply MachineStep.Create due (λ x. x) (λ e. not_none refl e) why.1)
+    create_refused error (inr why) = subst (λ e. Answers v s k Event.Create (Refused e) v) (sym why.0)
+        (wants_memory v s k h Event.Create (λ x. x) tt first reply MachineStep.Create due (λ x. x) (λ n. why.1) (inl (λ e. not_none refl e)))
 
     module _ (run : HasRun (begun None v.heap.pages) (begun_run None v.heap.pages)) where
       created_shown : Shows (index_created v) (after s MachineStep.Create) (standing_after k reply)
@@ -77,7 +80,15 @@ module _ (v : CoreValue) (s : State) (k : Standing) (st : IsState v s k) where
         places = h.places;
         cleaned = h.cleaned;
         bound = refl;
-        scan = record { run = begun_run None v.heap.pages; made = run; given = λ p. refl; missed = λ p. refl; taken = λ n. refl; in_a_row = refl; untaken = λ page n wanted le. refl };
+        scan = record {
+          run = begun_run None v.heap.pages;
+          made = run;
+          given = λ p. refl;
+          missed = λ p. refl;
+          taken = λ n. refl;
+          in_a_row = refl;
+          untaken = λ page n wanted le. refl;
+        };
         made = ap (λ n. n + 1) h.made;
         begun = h.begun;
         active = h.active;
@@ -103,9 +114,12 @@ module _ (v : CoreValue) (none : is_indexed v.life ≡ false) (quiet : v.txns.ac
   pub create_fine : HasNextNumber v → IsFine v Event.Create
   create_fine left s k st = create_refused v s k st none quiet Error.NoMemory (inr (refl, left))
 
-pub creation_serves : (v : CoreValue) → is_indexed v.life ≡ false → v.txns.active ≡ [] → (result : Result Ticket Error) (v' : CoreValue) → OnOk result (v' ≡ index_created v) → OnOk result (HasRun (begun None v.heap.pages) (begun_run None v.heap.pages)) → OnOk result (HasNextNumber v)
-    → IfOk result (λ t. t.record ≡ v.last + 1) → IfOk result (λ t. t.commit ≡ None) → IfErr result (IsUnrecorded v) → OnErr result (v' ≡ v) → Serves v Event.Create (reply_by reply_of_ticket result) v'
+pub creation_serves : (v : CoreValue) → is_indexed v.life ≡ false → v.txns.active ≡ [] → (result : Result Ticket Error) (v' : CoreValue)
+    → OnOk result (v' ≡ index_created v) → OnOk result (HasRun (begun None v.heap.pages) (begun_run None v.heap.pages)) → OnOk result (HasNextNumber v)
+    → IfOk result (λ t. t.record ≡ v.last + 1) → IfOk result (λ t. t.commit ≡ None) → IfErr result (IsUnrecorded v) → OnErr result (v' ≡ v)
+    → Serves v Event.Create (reply_by reply_of_ticket result) v'
 creation_serves v none quiet (Ok ticket) v' is run left number no_commit why same s k st =
     ticket_answers v s k Event.Create Reply.Ticketed ticket v' number no_commit
     (subst (Answers v s k Event.Create (Reply.Ticketed (v.last + 1))) (sym is) (create_made v s k st none quiet run left))
-creation_serves v none quiet (Err error) v' is run left number no_commit why same s k st = subst (Answers v s k Event.Create (Refused error)) (sym same) (create_refused v s k st none quiet error why)
+creation_serves v none quiet (Err error) v' is run left number no_commit why same s k st =
+    subst (Answers v s k Event.Create (Refused error)) (sym same) (create_refused v s k st none quiet error why)

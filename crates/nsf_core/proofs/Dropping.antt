@@ -54,8 +54,10 @@ module _ (v : CoreValue) (s : State) (k : Standing) (st : IsState v s k) where
     due = (ap (λ n. Reply.Ticketed (n + 1)) (sym h.made), refl)
 
     pub drop_refused : (error : Error) → IsUnrecorded v error → Answers v s k Event.Drop (Refused error) v
-    drop_refused error (inl why) = subst (λ e. Answers v s k Event.Drop (Refused e) v) (sym why.0) (no_number v s k h Event.Drop (λ x. x) tt first reply MachineStep.Drop due (λ x. x) (λ e. not_none refl e) why.1)
-    drop_refused error (inr why) = subst (λ e. Answers v s k Event.Drop (Refused e) v) (sym why.0) (wants_memory v s k h Event.Drop (λ x. x) tt first reply MachineStep.Drop due (λ x. x) (λ n. why.1) (inl (λ e. not_none refl e)))
+    drop_refused error (inl why) = subst (λ e. Answers v s k Event.Drop (Refused e) v) (sym why.0)
+        (no_number v s k h Event.Drop (λ x. x) tt first reply MachineStep.Drop due (λ x. x) (λ e. not_none refl e) why.1)
+    drop_refused error (inr why) = subst (λ e. Answers v s k Event.Drop (Refused e) v) (sym why.0)
+        (wants_memory v s k h Event.Drop (λ x. x) tt first reply MachineStep.Drop due (λ x. x) (λ n. why.1) (inl (λ e. not_none refl e)))
 
     module _ (run : HasRun (begun None v.heap.pages) (begun_run None v.heap.pages)) where
       dropped_shown : Shows (index_dropped v) (after s MachineStep.Drop) (standing_after k reply)
@@ -72,7 +74,15 @@ module _ (v : CoreValue) (s : State) (k : Standing) (st : IsState v s k) where
         places = h.places;
         cleaned = refl;
         bound = refl;
-        scan = record { run = begun_run None v.heap.pages; made = run; given = λ p. refl; missed = λ p. refl; taken = λ n. refl; in_a_row = refl; untaken = λ page n wanted le. refl };
+        scan = record {
+          run = begun_run None v.heap.pages;
+          made = run;
+          given = λ p. refl;
+          missed = λ p. refl;
+          taken = λ n. refl;
+          in_a_row = refl;
+          untaken = λ page n wanted le. refl;
+        };
         made = ap (λ n. n + 1) h.made;
         begun = h.begun;
         active = h.active;
@@ -98,9 +108,12 @@ module _ (v : CoreValue) (some : v.life ≢ Absent) (quiet : v.txns.active ≡ [
   pub drop_fine : HasNextNumber v → IsFine v Event.Drop
   drop_fine left s k st = drop_refused v s k st some quiet Error.NoMemory (inr (refl, left))
 
-pub dropping_serves : {A : Type 0} (v : CoreValue) → v.life ≢ Absent → v.txns.active ≡ [] → (result : Result (Detached A) Error) (v' : CoreValue) → OnOk result (v' ≡ index_dropped v) → OnOk result (HasRun (begun None v.heap.pages) (begun_run None v.heap.pages)) → OnOk result (HasNextNumber v)
-    → IfOk result (λ d. d.ticket.record ≡ v.last + 1) → IfOk result (λ d. d.ticket.commit ≡ None) → IfErr result (IsUnrecorded v) → OnErr result (v' ≡ v) → Serves v Event.Drop (reply_by reply_of_detached result) v'
+pub dropping_serves : {A : Type 0} (v : CoreValue) → v.life ≢ Absent → v.txns.active ≡ [] → (result : Result (Detached A) Error) (v' : CoreValue)
+    → OnOk result (v' ≡ index_dropped v) → OnOk result (HasRun (begun None v.heap.pages) (begun_run None v.heap.pages)) → OnOk result (HasNextNumber v)
+    → IfOk result (λ d. d.ticket.record ≡ v.last + 1) → IfOk result (λ d. d.ticket.commit ≡ None) → IfErr result (IsUnrecorded v) → OnErr result (v' ≡ v)
+    → Serves v Event.Drop (reply_by reply_of_detached result) v'
 dropping_serves v some quiet (Ok dropped) v' is run left number no_commit why same s k st =
     ticket_answers v s k Event.Drop Reply.Ticketed dropped.ticket v' number no_commit
     (subst (Answers v s k Event.Drop (Reply.Ticketed (v.last + 1))) (sym is) (drop_made v s k st some quiet run left))
-dropping_serves v some quiet (Err error) v' is run left number no_commit why same s k st = subst (Answers v s k Event.Drop (Refused error)) (sym same) (drop_refused v s k st some quiet error why)
+dropping_serves v some quiet (Err error) v' is run left number no_commit why same s k st =
+    subst (Answers v s k Event.Drop (Refused error)) (sym same) (drop_refused v s k st some quiet error why)

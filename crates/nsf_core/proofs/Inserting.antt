@@ -1,6 +1,7 @@
 -- Which replies to an insertion are allowed.
 use Rattle.core_model.specs.Changes.{as_list}
-use Rattle.std.proofs.Common.{Bool, List, None, Option, Some, ap, arith, cond, false, inl, inr, leb, leb-false, length, refl, subst, sym, true, ℕ, ◌++◌, ◌+◌, ◌<◌, ◌∙◌, ◌≡◌, ◌≢◌, ◌≤◌}
+use Rattle.std.proofs.Common.{Bool, List, None, Option, Some, ap, arith, cond, false, inl, inr, leb, leb-false, length, refl, subst, sym, true, ℕ, ◌++◌, ◌+◌}
+use Rattle.std.proofs.Common.{◌<◌, ◌∙◌, ◌≡◌, ◌≢◌, ◌≤◌}
 use Rattle.std.proofs.lemmas.Bool.Decides.{nat_tests}
 use Rattle.std.specs.FinMap.{get, len}
 use Rattle.std.specs.Ordering.{is_lt}
@@ -35,7 +36,8 @@ use Rattle.core_contracts.specs.Replies.{HasNoMoreChanges, IsStepDue, IsFirst, I
 use Rattle.nsf_core.specs.Asked.{IsFine}
 use Rattle.nsf_core.specs.View.{Answers, AreOne, CoreValue, IsState, Serves, Shows}
 use Rattle.nsf_core.specs.Moves.{IsReadyOrNone, txn_shown}
-use Rattle.nsf_core.specs.Private.{is_full, is_unknown, HasPlacesLeft, IsAble, IsFreePlace, IsPlaceFor, IsUnable, IsUnroomy, MayStart, changes_of, next_change, row_first}
+use Rattle.nsf_core.specs.Private.{is_full, is_unknown, HasPlacesLeft, IsAble, IsFreePlace, IsPlaceFor, IsUnable, IsUnroomy, MayStart, changes_of, next_change}
+use Rattle.nsf_core.specs.Private.{row_first}
 use Rattle.nsf_core.proofs.Due.{made, no_number, refusal, wants_memory}
 use Rattle.nsf_core.proofs.Moved.{is_ready, known, many}
 use Rattle.nsf_core.proofs.Started.{row_shown}
@@ -50,7 +52,8 @@ some_is a b e = cc
 pub unable : (v : CoreValue) (t : ℕ) (e : Error) → table.change_refusal t v.txns.active ≡ Some e → IsUnable v t e
 unable v t e same = by_txn (txn_shown v t) refl same
   where
-    by_many : (x : TxnState) → txn_shown v t ≡ Some x → (b : Bool) → leb CHANGES_MAX (length x.changes) ≡ b → cond b (Some TooManyChanges) None ≡ Some e → IsUnable v t e
+    by_many : (x : TxnState) → txn_shown v t ≡ Some x → (b : Bool) → leb CHANGES_MAX (length x.changes) ≡ b → cond b (Some TooManyChanges) None ≡ Some e
+        → IsUnable v t e
     by_many x here true is same = is_full x here (grind (arith, nat_tests, is)) (sym (some_is TooManyChanges e same))
     by_many x here false is same = absurd cc
 
@@ -61,7 +64,8 @@ unable v t e same = by_txn (txn_shown v t) refl same
 pub able : (v : CoreValue) (t : ℕ) → table.change_refusal t v.txns.active ≡ None → IsAble v t
 able v t same = by_txn (txn_shown v t) refl same
   where
-    by_many : (x : TxnState) → txn_shown v t ≡ Some x → (b : Bool) → leb CHANGES_MAX (length x.changes) ≡ b → cond b (Some TooManyChanges) None ≡ None → IsAble v t
+    by_many : (x : TxnState) → txn_shown v t ≡ Some x → (b : Bool) → leb CHANGES_MAX (length x.changes) ≡ b → cond b (Some TooManyChanges) None ≡ None
+        → IsAble v t
     by_many x here true is same = absurd cc
     by_many x here false is same = record { txn = x; here = here; room = leb-false CHANGES_MAX (length x.changes) is }
 
@@ -70,19 +74,23 @@ able v t same = by_txn (txn_shown v t) refl same
     by_txn (Some x) here same = by_many x here (leb CHANGES_MAX (length x.changes)) refl same
 
 -- ---- room and numbers
-pub has_places : (v : CoreValue) (s : State) (k : Standing) → Shows v s k → HasPlacesLeft v → (is_indexed s.life ≡ true) × (s.places < len s.entries + all_reserved s.pledges + places_of true) → ⊥
+pub has_places : (v : CoreValue) (s : State) (k : Standing) → Shows v s k → HasPlacesLeft v → (is_indexed s.life ≡ true)
+    × (s.places < len s.entries + all_reserved s.pledges + places_of true) → ⊥
 has_places v s k h fits less = more _ _ _ _ _ _ h.places (ap len h.entries) h.pledged (fits (ap is_indexed (sym h.life) ∙ less.0)) less.1
   where
     more : (p n r p' n' r' : ℕ) → p ≡ p' → n ≡ n' → r ≡ r' → n' + r' + PLACES_PER_CHANGE ≤ p' → p < n + r + PLACES_PER_CHANGE → ⊥
     more p n r p' n' r' e f g le less = omega (arith, e, f, g, le, less)
 
-pub lacks_places : (v : CoreValue) (s : State) (k : Standing) → Shows v s k → (is_indexed v.life ≡ true) → v.index.capacity < len v.index.entries + v.index.pledged + PLACES_PER_CHANGE → (is_indexed s.life ≡ true) × (s.places < len s.entries + all_reserved s.pledges + places_of true)
+pub lacks_places : (v : CoreValue) (s : State) (k : Standing) → Shows v s k → (is_indexed v.life ≡ true)
+    → v.index.capacity < len v.index.entries + v.index.pledged + PLACES_PER_CHANGE → (is_indexed s.life ≡ true)
+    × (s.places < len s.entries + all_reserved s.pledges + places_of true)
 lacks_places v s k h is less = (ap is_indexed h.life ∙ is, more _ _ _ _ _ _ h.places (ap len h.entries) h.pledged less)
   where
     more : (p n r p' n' r' : ℕ) → p ≡ p' → n ≡ n' → r ≡ r' → p' < n' + r' + PLACES_PER_CHANGE → p < n + r + PLACES_PER_CHANGE
     more p n r p' n' r' e f g less = omega (arith, e, f, g, less)
 
-pub same_position : (v : CoreValue) (s : State) (k : Standing) → Shows v s k → (t : ℕ) (x : TxnState) → txn_shown v t ≡ Some x → length (as_list (txn_at s t).changes) ≡ changes_of (txn_shown v t)
+pub same_position : (v : CoreValue) (s : State) (k : Standing) → Shows v s k → (t : ℕ) (x : TxnState) → txn_shown v t ≡ Some x
+    → length (as_list (txn_at s t).changes) ≡ changes_of (txn_shown v t)
 same_position v s k h t x here = many v s k h t x here ∙ sym (ap changes_of here)
 
 pub not_full : (v : CoreValue) (s : State) (k : Standing) → Shows v s k → (t : ℕ) (a : IsAble v t) → HasNoMoreChanges s t → ⊥
@@ -91,7 +99,8 @@ not_full v s k h t a le = apart _ _ (many v s k h t a.txn a.here) le a.room
     apart : (n m : ℕ) → n ≡ m → CHANGES_MAX ≤ n → m < CHANGES_MAX → ⊥
     apart n m e l r = omega (arith, e, l, r)
 
-pub full : (v : CoreValue) (s : State) (k : Standing) → Shows v s k → (t : ℕ) (x : TxnState) → txn_shown v t ≡ Some x → CHANGES_MAX ≤ length x.changes → HasNoMoreChanges s t
+pub full : (v : CoreValue) (s : State) (k : Standing) → Shows v s k → (t : ℕ) (x : TxnState) → txn_shown v t ≡ Some x → CHANGES_MAX ≤ length x.changes
+    → HasNoMoreChanges s t
 full v s k h t x here le = subst (λ n. CHANGES_MAX ≤ n) (sym (many v s k h t x here)) le
 
 -- ---- an insertion
@@ -109,10 +118,16 @@ unheld_by None h = refl
 unheld_by (Some u) h = absurd (h refl)
 
 -- what the heap finds is the place for the row
-pub is_place : (v : CoreValue) (held : List Place) → ((r : Place) → Contains held r ↔ IsSome (holder_of r v.txns.active)) → (r : Place) → heap.IsEmptyAndUnheld v.heap held r → ((q : Place) → heap.IsEmptyAndUnheld v.heap held q → rid_cmp q r ≢ Less) → IsPlaceFor v r
+pub is_place : (v : CoreValue) (held : List Place) → ((r : Place) → Contains held r ↔ IsSome (holder_of r v.txns.active)) → (r : Place)
+    → heap.IsEmptyAndUnheld v.heap held r → ((q : Place) → heap.IsEmptyAndUnheld v.heap held q → rid_cmp q r ≢ Less) → IsPlaceFor v r
 is_place v held are r free least = record {
   free = record { inside = free.inside; empty = free.empty; unheld = unheld_by _ (λ some. free.not_held ((are r).1 some)) };
-  least = λ q other. least q (record { inside = other.inside; empty = other.empty; not_held = λ has. none_or_some (holder_of q v.txns.active) other.unheld ((are q).0 has) });
+  least = λ q other. least q (record {
+    inside = other.inside;
+    empty = other.empty;
+    not_held = λ has.
+        none_or_some (holder_of q v.txns.active) other.unheld ((are q).0 has);
+  });
 }
 
 module _ (v : CoreValue) (t : ℕ) (row : Row) (asked : IsReadyOrNone (txn_shown v t)) where
@@ -120,16 +135,21 @@ module _ (v : CoreValue) (t : ℕ) (row : Row) (asked : IsReadyOrNone (txn_shown
   e = Event.Insert t row
 
   pub insert_unable : (error : Error) → IsUnable v t error → Serves v e (Refused error) v
-  insert_unable error (is_unknown none is) s k st = subst (λ n. Answers v s k e (Refused n) v) (sym is) (refusal v s k e NoSuchTxn st.shown (unknown (no_txn v s k st.shown t none)))
+  insert_unable error (is_unknown none is) s k st = subst (λ n. Answers v s k e (Refused n) v) (sym is)
+      (refusal v s k e NoSuchTxn st.shown (unknown (no_txn v s k st.shown t none)))
   insert_unable error (is_full x here le is) s k st = subst (λ n. Answers v s k e (Refused n) v) (sym is)
-      (refusal v s k e TooManyChanges st.shown (refused (known v s k st.shown t x here) (is_ready v s k st.shown t x here (subst IsReadyOrNone here asked)) TooManyChanges (inl (full v s k st.shown t x here le, refl))))
+      (refusal v s k e TooManyChanges st.shown (refused (known v s k st.shown t x here)
+      (is_ready v s k st.shown t x here (subst IsReadyOrNone here asked)) TooManyChanges (inl (full v s k st.shown t x here le, refl))))
 
   module _ (a : IsAble v t) where
     ready : a.txn.progress ≡ Ready
     ready = subst IsReadyOrNone a.here asked
 
-    pub insert_unplaced : (held : List Place) → ((r : Place) → Contains held r ↔ IsSome (holder_of r v.txns.active)) → ((q : Place) → ¬ heap.IsEmptyAndUnheld v.heap held q) → Serves v e (Refused Error.HeapFull) v
-    insert_unplaced held are none s k st = refusal v s k e Error.HeapFull st.shown (refused (known v s k st.shown t a.txn a.here) (is_ready v s k st.shown t a.txn a.here ready) Error.HeapFull (inr (not_full v s k st.shown t a, inl (full_heap, refl))))
+    pub insert_unplaced : (held : List Place) → ((r : Place) → Contains held r ↔ IsSome (holder_of r v.txns.active))
+        → ((q : Place) → ¬ heap.IsEmptyAndUnheld v.heap held q) → Serves v e (Refused Error.HeapFull) v
+    insert_unplaced held are none s k st = refusal v s k e Error.HeapFull st.shown
+        (refused (known v s k st.shown t a.txn a.here) (is_ready v s k st.shown t a.txn a.here ready) Error.HeapFull
+        (inr (not_full v s k st.shown t a, inl (full_heap, refl))))
       where
         full_heap : (r : Place) → IsFree s r → ⊥
         full_heap r free = none r (record {
@@ -178,8 +198,10 @@ module _ (v : CoreValue) (t : ℕ) (row : Row) (asked : IsReadyOrNone (txn_shown
       makes : action_of s step ≢ None
       makes none = not_none refl none
 
-      insert_full : is_indexed v.life ≡ true → v.index.capacity < len v.index.entries + v.index.pledged + PLACES_PER_CHANGE → Answers v s k e (Refused Error.IndexFull) v
-      insert_full is less = refusal v s k e Error.IndexFull h (refused_last there proper first (Reply.Rid r) (Some step) due Error.IndexFull (inl (lacks_places v s k h is less, refl)))
+      insert_full : is_indexed v.life ≡ true → v.index.capacity < len v.index.entries + v.index.pledged + PLACES_PER_CHANGE
+          → Answers v s k e (Refused Error.IndexFull) v
+      insert_full is less = refusal v s k e Error.IndexFull h
+          (refused_last there proper first (Reply.Rid r) (Some step) due Error.IndexFull (inl (lacks_places v s k h is less, refl)))
 
       module _ (fits : HasPlacesLeft v) where
         insert_spent : LAST_NUMBER ≤ v.last → Answers v s k e (Refused Error.Exhausted) v
@@ -201,11 +223,14 @@ module _ (v : CoreValue) (t : ℕ) (row : Row) (asked : IsReadyOrNone (txn_shown
 
           insert_made : holder_of r (row_first v t c).txns.active ≡ Some t → Answers v s k e (Reply.Rid r) (row_first v t c)
           insert_made held = made v s k h e there proper first (Reply.Rid r) step due (has_places v s k h fits) (λ n. numbered) (row_first v t c)
-              (subst (λ w. Shows (row_first v t c) (after s (Start t w)) (record k { made = k.made + 1 })) (sym same_change) (row_shown v s k h t a.txn a.here ready c (none_old (is_indexed v.life) c.position) held))
+              (subst (λ w. Shows (row_first v t c) (after s (Start t w)) (record k { made = k.made + 1 })) (sym same_change)
+              (row_shown v s k h t a.txn a.here ready c (none_old (is_indexed v.life) c.position) held))
               (ap (λ w. v.outbox ++ one_record v.last (Some w)) (sym action))
             where
-              action : first_action t (change_of s t r (Inserted row)) (old_pair (is_indexed s.life) (change_of s t r (Inserted row))) ≡ OfTxn t (Forward Slot c)
-              action = ap (first_action t (change_of s t r (Inserted row))) (none_old (is_indexed s.life) (length (as_list (txn_at s t).changes))) ∙ ap (λ w. OfTxn t (Forward Slot w)) same_change
+              action : first_action t (change_of s t r (Inserted row)) (old_pair (is_indexed s.life) (change_of s t r (Inserted row)))
+                  ≡ OfTxn t (Forward Slot c)
+              action = ap (first_action t (change_of s t r (Inserted row))) (none_old (is_indexed s.life) (length (as_list (txn_at s t).changes)))
+                  ∙ ap (λ w. OfTxn t (Forward Slot w)) same_change
 
   pub insert_unroomy : IsAble v t → (r : Place) → IsPlaceFor v r → (error : Error) → IsUnroomy v error → Serves v e (Refused error) v
   insert_unroomy a r place error (inl why) s k st = subst (λ n. Answers v s k e (Refused n) v) (sym why.0) (insert_full a r place s k st why.1.0 why.1.1)
@@ -213,12 +238,14 @@ module _ (v : CoreValue) (t : ℕ) (row : Row) (asked : IsReadyOrNone (txn_shown
 
   module _ (r : Place) (place : IsPlaceFor v r) (may : MayStart v t r) where
     pub insert_no_memory : (error : Error) (v' : CoreValue) → error ≡ Error.NoMemory → v' ≡ v → Serves v e (Refused error) v'
-    insert_no_memory error v' is same s k st = subst (λ w. Answers v s k e (Refused error) w) (sym same) (subst (λ n. Answers v s k e (Refused n) v) (sym is) (insert_wants may.able r place s k st may.fits may.numbered))
+    insert_no_memory error v' is same s k st = subst (λ w. Answers v s k e (Refused error) w) (sym same)
+        (subst (λ n. Answers v s k e (Refused n) v) (sym is) (insert_wants may.able r place s k st may.fits may.numbered))
 
     pub insert_fine : IsFine v e
     insert_fine = insert_no_memory Error.NoMemory v refl refl
 
-    pub insert_done : (change : ChangeValue) (v' : CoreValue) → change ≡ next_change v t r (Inserted row) → v' ≡ row_first v t change → holder_of change.rid (row_first v t change).txns.active ≡ Some t → Serves v e (Reply.Rid r) v'
+    pub insert_done : (change : ChangeValue) (v' : CoreValue) → change ≡ next_change v t r (Inserted row) → v' ≡ row_first v t change
+        → holder_of change.rid (row_first v t change).txns.active ≡ Some t → Serves v e (Reply.Rid r) v'
     insert_done change v' is made held s k st =
         subst (λ w. Answers v s k e (Reply.Rid r) w) (sym (made ∙ ap (row_first v t) is))
         (insert_made may.able r place s k st may.fits may.numbered (subst (λ w. holder_of w.rid (row_first v t w).txns.active ≡ Some t) is held))

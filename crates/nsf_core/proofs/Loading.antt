@@ -67,7 +67,15 @@ module _ (v : CoreValue) (quiet : IsQuiet v) (safe : IsSafe v) where
           places = h.places;
           cleaned = h.cleaned;
           bound = h.bound;
-          scan = record { run = h.scan.run; made = h.scan.made; given = h.scan.given; missed = h.scan.missed; taken = h.scan.taken; in_a_row = h.scan.in_a_row; untaken = h.scan.untaken };
+          scan = record {
+            run = h.scan.run;
+            made = h.scan.made;
+            given = h.scan.given;
+            missed = h.scan.missed;
+            taken = h.scan.taken;
+            in_a_row = h.scan.in_a_row;
+            untaken = h.scan.untaken;
+          };
           made = h.made;
           begun = h.begun;
           active = h.active;
@@ -83,7 +91,17 @@ module _ (v : CoreValue) (quiet : IsQuiet v) (safe : IsSafe v) where
           inside = record { entries = entries_inside; bound = fit.inside.bound; highest = fit.inside.highest; given = fit.inside.given };
           pledged = fit.pledged;
         };
-        standing = record { begun = safe.is.standing.begun; in_a_row = safe.is.standing.in_a_row; taken = safe.is.standing.taken; once = record { given = safe.is.standing.once.given; missed = safe.is.standing.once.missed }; tried = safe.is.standing.tried; counts = record { active = safe.is.standing.counts.active; few = safe.is.standing.counts.few; ended = safe.is.standing.counts.ended }; within = safe.is.standing.within };
+        standing = record {
+          begun = safe.is.standing.begun;
+          in_a_row = safe.is.standing.in_a_row;
+          taken = safe.is.standing.taken;
+          once = record { given = safe.is.standing.once.given; missed = safe.is.standing.once.missed };
+          tried = safe.is.standing.tried;
+          counts =
+              record { active = safe.is.standing.counts.active; few = safe.is.standing.counts.few; ended = safe.is.standing.counts.ended };
+          within =
+              safe.is.standing.within;
+        };
         counted = safe.is.counted;
       };
     }
@@ -124,7 +142,15 @@ module _ (v : CoreValue) (quiet : IsQuiet v) (safe : IsSafe v) where
           places = h.places;
           cleaned = h.cleaned;
           bound = refl;
-          scan = record { run = begun_run (highest_of life) v.heap.pages; made = run; given = λ p. refl; missed = λ p. refl; taken = λ n. refl; in_a_row = refl; untaken = λ page n wanted le. refl };
+          scan = record {
+            run = begun_run (highest_of life) v.heap.pages;
+            made = run;
+            given = λ p. refl;
+            missed = λ p. refl;
+            taken = λ n. refl;
+            in_a_row = refl;
+            untaken = λ page n wanted le. refl;
+          };
           made = h.made;
           begun = h.begun;
           active = h.active;
@@ -137,10 +163,29 @@ module _ (v : CoreValue) (quiet : IsQuiet v) (safe : IsSafe v) where
           held = fit.held;
           txns = λ t x e. absurd (not_none e (nobody t));
           places = record { fits = fit.places.fits; enough = λ t x e. absurd (not_none e (nobody t)) };
-          inside = record { entries = fit.inside.entries; bound = λ p e. life_inside p (highest_is life p e); highest = life_inside; given = λ p e. absurd (true≢false (sym e)) };
+          inside = record {
+            entries = fit.inside.entries;
+            bound = λ p e. life_inside p (highest_is life p e);
+            highest = life_inside;
+            given = λ p e.
+                absurd (true≢false (sym e));
+          };
           pledged = fit.pledged;
         };
-        standing = record { begun = safe.is.standing.begun; in_a_row = omega arith; taken = λ n less. absurd (omega (arith, less)); once = record { given = λ p e. absurd (true≢false (sym e)); missed = λ p e. absurd (true≢false (sym e)) }; tried = λ one. absurd (omega (arith, one)); counts = record { active = safe.is.standing.counts.active; few = safe.is.standing.counts.few; ended = safe.is.standing.counts.ended }; within = safe.is.standing.within };
+        standing = record {
+          begun = safe.is.standing.begun;
+          in_a_row = omega arith;
+          taken = λ n less. absurd (omega (arith, less));
+          once = record { given = λ p e. absurd (true≢false (sym e)); missed = λ p e. absurd (true≢false (sym e)) };
+          tried = λ one.
+              absurd (omega (arith, one));
+          counts = record {
+            active = safe.is.standing.counts.active;
+            few = safe.is.standing.counts.few;
+            ended = safe.is.standing.counts.ended;
+          };
+          within = safe.is.standing.within;
+        };
         counted = safe.is.counted;
       };
     }

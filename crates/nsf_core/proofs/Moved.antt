@@ -77,7 +77,8 @@ pub record KeepsRest (v : CoreValue) (s : State) (v' : CoreValue) (s' : State) :
   pub same_missed : s'.missed ≡ s.missed
   pub same_taken : s'.taken ≡ s.taken
 
-module _ (v : CoreValue) (s : State) (k : Standing) (h : Shows v s k) (t : ℕ) (x : TxnState) (here : table.state_of t v.txns.active ≡ Some x) (x' : TxnState) (v' : CoreValue) (s' : State) (k' : Standing) where
+module _ (v : CoreValue) (s : State) (k : Standing) (h : Shows v s k) (t : ℕ) (x : TxnState) (here : table.state_of t v.txns.active ≡ Some x) (x' : TxnState)
+    (v' : CoreValue) (s' : State) (k' : Standing) where
   -- the transaction's state is now x', and so many places are reserved and pledged
   pub record HasMoved : Type 0 where
     pub rows : s'.rows ≡ v'.heap.rows
@@ -119,7 +120,8 @@ module _ (v : CoreValue) (s : State) (k : Standing) (h : Shows v s k) (t : ℕ) 
         ap all_reserved did.places
         ∙ sums _ _ _ _ _ _ _ (reserved_insert s.pledges t x'.reserved) (places_are v s k h t x here) h.pledged did.pledged
       where
-        sums : (all before old res pledged pledged' m : ℕ) → all + old ≡ before + m → old ≡ res → before ≡ pledged → pledged' + res ≡ pledged + m → all ≡ pledged'
+        sums : (all before old res pledged pledged' m : ℕ) → all + old ≡ before + m → old ≡ res → before ≡ pledged → pledged' + res ≡ pledged + m
+            → all ≡ pledged'
         sums all before old res pledged pledged' m e f g i = omega (arith, e, f, g, i)
 
     pub moved_shown : Shows v' s' k'

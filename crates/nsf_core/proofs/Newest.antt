@@ -1,5 +1,6 @@
 -- The newest change of a transaction.
-use Rattle.std.proofs.Common.{List, None, Option, Some, [], ap, arith, cond, inl, inr, is_some, length, refl, subst, suc, sym, ℕ, ◌++◌, ◌+◌, ◌-◌, ◌<◌, ◌∙◌, ◌∷◌, ◌≡◌, ◌≤◌, ◌⊎◌, get_or, slice_get}
+use Rattle.std.proofs.Common.{List, None, Option, Some, [], ap, arith, cond, inl, inr, is_some, length, refl, subst, suc, sym, ℕ, ◌++◌, ◌+◌, ◌-◌, ◌<◌, ◌∙◌, ◌∷◌}
+use Rattle.std.proofs.Common.{◌≡◌, ◌≤◌, ◌⊎◌, get_or, slice_get}
 use Rattle.std.proofs.lemmas.List.{length-append}
 use Rattle.std.proofs.lemmas.Option.{slice_get_cases}
 use Rattle.records.specs.ChangeValue.{ChangeValue}
@@ -32,7 +33,9 @@ none_last : (xs : List ChangeValue) → slice_get xs (length xs - 1) ≡ None �
 none_last [] is = refl
 none_last (x ∷ xs) is = by (slice_get_cases (x ∷ xs) (length (x ∷ xs) - 1)).1
   where
-    by : ((y : ChangeValue) × (length (x ∷ xs) - 1 < length (x ∷ xs)) × (slice_get (x ∷ xs) (length (x ∷ xs) - 1) ≡ Some y) × (get_or (x ∷ xs) (length (x ∷ xs) - 1) y ≡ y)) ⊎ ((length (x ∷ xs) ≤ length (x ∷ xs) - 1) × (slice_get (x ∷ xs) (length (x ∷ xs) - 1) ≡ None)) → x ∷ xs ≡ []
+    by : ((y : ChangeValue) × (length (x ∷ xs) - 1 < length (x ∷ xs)) × (slice_get (x ∷ xs) (length (x ∷ xs) - 1) ≡ Some y)
+        × (get_or (x ∷ xs) (length (x ∷ xs) - 1) y ≡ y)) ⊎ ((length (x ∷ xs) ≤ length (x ∷ xs) - 1) × (slice_get (x ∷ xs) (length (x ∷ xs) - 1) ≡ None))
+        → x ∷ xs ≡ []
     by (inl found) = absurd (not_none found.2 is)
     by (inr none) = let long = none.0 in absurd (omega arith)
 
@@ -76,7 +79,8 @@ module _ (v : CoreValue) (s : State) (k : Standing) (is : IsState v s k) (t : �
     -- the places that the change's pairs may still need
     pub paid : lacks s.entries (old_pair (is_indexed s.life) c) + lacks s.entries (new_pair (is_indexed s.life) c) ≤ x.reserved
     paid =
-        let enough : lacking (is_indexed s.life) s.entries (older ▹ c) ≤ reserved s.pledges t = subst (λ cs. lacking (is_indexed s.life) s.entries cs ≤ reserved s.pledges t) first (is.fit.places.enough t (txn_at s t) active) in
+        let enough : lacking (is_indexed s.life) s.entries (older ▹ c) ≤ reserved s.pledges t =
+        subst (λ cs. lacking (is_indexed s.life) s.entries cs ≤ reserved s.pledges t) first (is.fit.places.enough t (txn_at s t) active) in
         part _ _ _ _ enough (places_are v s k h t x here)
       where
         part : (a b r res : ℕ) → a + r ≤ res → res ≡ b → a ≤ b

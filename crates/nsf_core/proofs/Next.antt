@@ -84,7 +84,8 @@ module _ (v : CoreValue) (safe : IsSafe v) (t : ℕ) (x : TxnState) (here : txn_
     paid_by = new_paid v s k safe.is t x here c first.0 first.1
 
 -- ---- the step
-module _ (v : CoreValue) (s : State) (k : Standing) (st : IsState v s k) (t : ℕ) (x : TxnState) (here : txn_shown v t ≡ Some x) (c : ChangeValue) (last : last_change x ≡ Some c) where
+module _ (v : CoreValue) (s : State) (k : Standing) (st : IsState v s k) (t : ℕ) (x : TxnState) (here : txn_shown v t ≡ Some x) (c : ChangeValue)
+    (last : last_change x ≡ Some c) where
   abbrev h : Shows v s k
   h = st.shown
 
@@ -117,11 +118,13 @@ module _ (v : CoreValue) (s : State) (k : Standing) (st : IsState v s k) (t : �
     row_state = record (carried_on s t (txn_at s t) (older.0 ▹ c) OldMarked) { pledges = with_places s t 0 s.entries }
 
     row_is : after s (Next t) ≡ row_state
-    row_is = λ i. record (carried_on s t (txn_at s t) (older.1 i) (is_row i)) { pledges = with_places s t 0 (carried_on s t (txn_at s t) (older.1 i) (is_row i)).entries }
+    row_is = λ i. record (carried_on s t (txn_at s t) (older.1 i) (is_row i))
+        { pledges = with_places s t 0 (carried_on s t (txn_at s t) (older.1 i) (is_row i)).entries }
 
     row_shown : Shows row_value (after s (Next t)) (record k { made = k.made + 1 })
     row_shown = subst (λ z. Shows row_value z (record k { made = k.made + 1 })) (sym row_is)
-        (row_moved v s k h t x here (put_at (row_progress (new_pair indexed c)) (reserved_of (txn_shown v t)) x) (with_phase (txn_at s t) (row_made (new_pair (is_indexed s.life) c)))
+        (row_moved v s k h t x here (put_at (row_progress (new_pair indexed c)) (reserved_of (txn_shown v t)) x)
+        (with_phase (txn_at s t) (row_made (new_pair (is_indexed s.life) c)))
         (record {
           changes = listed v s k h t x here;
           phase = subst (λ b. IsProgressOf (row_progress (new_pair indexed c)) (row_made (new_pair b c))) (sym same_index) (phase_is (new_pair indexed c));
@@ -132,7 +135,8 @@ module _ (v : CoreValue) (s : State) (k : Standing) (st : IsState v s k) (t : �
     row_action = λ i. next_action t (older.1 i) (is_row i)
 
     row_answers : v.last < LAST_NUMBER → Answers v s k (Event.Step t) Stepped row_value
-    row_answers numbered = made v s k h (Event.Step t) (known v s k h t x here) (inl is_row, not_rolling (ap rolls owes)) refl Stepped (Next t) (refl, refl) (λ n. n) (λ n. numbered) row_value row_shown (ap (λ o. v.outbox ++ one_record v.last o) (sym row_action))
+    row_answers numbered = made v s k h (Event.Step t) (known v s k h t x here) (inl is_row, not_rolling (ap rolls owes)) refl Stepped (Next t) (refl, refl)
+        (λ n. n) (λ n. numbered) row_value row_shown (ap (λ o. v.outbox ++ one_record v.last o) (sym row_action))
 
   module _ (owes : x.progress ≡ OwesEntry) (p : Pair) (pair : new_pair indexed c ≡ Some p) where
     is_entry : (txn_at s t).phase ≡ RowSet
@@ -156,8 +160,13 @@ module _ (v : CoreValue) (s : State) (k : Standing) (st : IsState v s k) (t : �
 
     entry_is : after s (Next t) ≡ entry_state
     entry_is =
-        (λ i. record (carried_on s t (txn_at s t) (older.1 i) (is_entry i)) { pledges = with_places s t 0 (carried_on s t (txn_at s t) (older.1 i) (is_entry i)).entries })
-        ∙ (λ i. record s { entries = with_entry s.entries (pair_is i) Live; txns = core.with_txn s t (with_phase (txn_at s t) Made); pledges = with_places s t 0 (with_entry s.entries (pair_is i) Live) })
+        (λ i. record (carried_on s t (txn_at s t) (older.1 i) (is_entry i))
+        { pledges = with_places s t 0 (carried_on s t (txn_at s t) (older.1 i) (is_entry i)).entries })
+        ∙ (λ i. record s {
+          entries = with_entry s.entries (pair_is i) Live;
+          txns = core.with_txn s t (with_phase (txn_at s t) Made);
+          pledges = with_places s t 0 (with_entry s.entries (pair_is i) Live);
+        })
 
     enough : used ≤ x.reserved
     enough = paid_by v safe t x here c last p pair
@@ -172,7 +181,8 @@ module _ (v : CoreValue) (s : State) (k : Standing) (st : IsState v s k) (t : �
     entry_action = λ i. next_action t (older.1 i) (is_entry i)
 
     entry_answers : v.last < LAST_NUMBER → Answers v s k (Event.Step t) Stepped entry_value
-    entry_answers numbered = made v s k h (Event.Step t) (known v s k h t x here) (inr is_entry, not_rolling (ap rolls owes)) refl Stepped (Next t) (refl, refl) (λ n. n) (λ n. numbered) entry_value entry_shown (ap (λ o. v.outbox ++ one_record v.last o) (sym entry_action))
+    entry_answers numbered = made v s k h (Event.Step t) (known v s k h t x here) (inr is_entry, not_rolling (ap rolls owes)) refl Stepped (Next t) (refl, refl)
+        (λ n. n) (λ n. numbered) entry_value entry_shown (ap (λ o. v.outbox ++ one_record v.last o) (sym entry_action))
 
   -- ---- nothing but a number or memory refuses it
   proper_by : (x.progress ≡ OwesRow) ⊎ (x.progress ≡ OwesEntry) → Owes (txn_at s t)
@@ -184,13 +194,16 @@ module _ (v : CoreValue) (s : State) (k : Standing) (st : IsState v s k) (t : �
   makes_by (inr owes) none = not_none (λ i. next_action t (older.1 i) (entry_phase x.progress _ owes (phase_of v s k st t x here) i)) none
 
   spent_answers : (x.progress ≡ OwesRow) ⊎ (x.progress ≡ OwesEntry) → LAST_NUMBER ≤ v.last → Answers v s k (Event.Step t) (Refused Error.Exhausted) v
-  spent_answers owes le = no_number v s k h (Event.Step t) (known v s k h t x here) (proper_by owes) refl Stepped (Next t) (refl, refl) (λ n. n) (makes_by owes) le
+  spent_answers owes le = no_number v s k h (Event.Step t) (known v s k h t x here) (proper_by owes) refl Stepped (Next t) (refl, refl) (λ n. n)
+      (makes_by owes) le
 
   wants_answers : (x.progress ≡ OwesRow) ⊎ (x.progress ≡ OwesEntry) → v.last < LAST_NUMBER → Answers v s k (Event.Step t) (Refused Error.NoMemory) v
-  wants_answers owes numbered = wants_memory v s k h (Event.Step t) (known v s k h t x here) (proper_by owes) refl Stepped (Next t) (refl, refl) (λ n. n) (λ n. numbered) (inl (makes_by owes))
+  wants_answers owes numbered = wants_memory v s k h (Event.Step t) (known v s k h t x here) (proper_by owes) refl Stepped (Next t) (refl, refl) (λ n. n) (λ n.
+      numbered) (inl (makes_by owes))
 
 -- ---- whatever state the core stands for
-owed_newest : (v : CoreValue) → IsSafe v → (t : ℕ) (x : TxnState) → txn_shown v t ≡ Some x → (x.progress ≡ OwesRow) ⊎ (x.progress ≡ OwesEntry) → (c : ChangeValue) × (last_change x ≡ Some c)
+owed_newest : (v : CoreValue) → IsSafe v → (t : ℕ) (x : TxnState) → txn_shown v t ≡ Some x → (x.progress ≡ OwesRow) ⊎ (x.progress ≡ OwesEntry)
+    → (c : ChangeValue) × (last_change x ≡ Some c)
 owed_newest v safe t x here owes = by (last_change x) refl
   where
     by : (o : Option ChangeValue) → last_change x ≡ o → (c : ChangeValue) × (last_change x ≡ Some c)
@@ -199,7 +212,8 @@ owed_newest v safe t x here owes = by (last_change x) refl
 
 module _ (v : CoreValue) (t : ℕ) (asked : OwesOrNone (txn_shown v t)) where
   pub next_refused : (error : Error) → HasNoRecord v t error → Serves v (Event.Step t) (Refused error) v
-  next_refused error (inl why) s k is = subst (λ n. Answers v s k (Event.Step t) (Refused n) v) (sym why.0) (refusal v s k (Event.Step t) NoSuchTxn is.shown (unknown (no_txn v s k is.shown t why.1)))
+  next_refused error (inl why) s k is = subst (λ n. Answers v s k (Event.Step t) (Refused n) v) (sym why.0)
+      (refusal v s k (Event.Step t) NoSuchTxn is.shown (unknown (no_txn v s k is.shown t why.1)))
   next_refused error (inr why) s k is =
       let x = there v t why.1 in
       let owes = subst OwesOrNone x.1 asked in
@@ -212,25 +226,35 @@ module _ (v : CoreValue) (t : ℕ) (asked : OwesOrNone (txn_shown v t)) where
         let x = there v t has.active in
         let owes = subst OwesOrNone x.1 asked in
         let c = owed_newest v (record { state = s; standing = k; is = is }) t x.0 x.1 owes in
-        subst (λ w. Answers v s k (Event.Step t) (Refused error) w) (sym same) (subst (λ n. Answers v s k (Event.Step t) (Refused n) v) (sym e) (wants_answers v s k is t x.0 x.1 c.0 c.1 owes has.numbered))
+        subst (λ w. Answers v s k (Event.Step t) (Refused error) w) (sym same)
+        (subst (λ n. Answers v s k (Event.Step t) (Refused n) v) (sym e) (wants_answers v s k is t x.0 x.1 c.0 c.1 owes has.numbered))
 
-    pub row_served : (x : TxnState) (c : ChangeValue) → txn_shown v t ≡ Some x → last_change x ≡ Some c → x.progress ≡ OwesRow → (v' : CoreValue) → v' ≡ row_stepped v t (row_progress (new_pair (is_indexed v.life) c)) c.rid (new_row c.rows) (Forward Slot c) → Serves v (Event.Step t) Stepped v'
-    row_served x c here last owes v' same s k is = subst (λ w. Answers v s k (Event.Step t) Stepped w) (sym same) (row_answers v s k is t x here c last owes has.numbered)
+    pub row_served : (x : TxnState) (c : ChangeValue) → txn_shown v t ≡ Some x → last_change x ≡ Some c → x.progress ≡ OwesRow → (v' : CoreValue)
+        → v' ≡ row_stepped v t (row_progress (new_pair (is_indexed v.life) c)) c.rid (new_row c.rows) (Forward Slot c) → Serves v (Event.Step t) Stepped v'
+    row_served x c here last owes v' same s k is = subst (λ w. Answers v s k (Event.Step t) Stepped w) (sym same)
+        (row_answers v s k is t x here c last owes has.numbered)
 
-    pub entry_served : (x : TxnState) (c : ChangeValue) (p : Pair) → txn_shown v t ≡ Some x → last_change x ≡ Some c → x.progress ≡ OwesEntry → new_pair (is_indexed v.life) c ≡ Some p → (v' : CoreValue) → v' ≡ entry_stepped v t Ready p Live (Forward NewEntry c) → Serves v (Event.Step t) Stepped v'
-    entry_served x c p here last owes pair v' same s k is = subst (λ w. Answers v s k (Event.Step t) Stepped w) (sym same) (entry_answers v s k is t x here c last owes p pair has.numbered)
+    pub entry_served : (x : TxnState) (c : ChangeValue) (p : Pair) → txn_shown v t ≡ Some x → last_change x ≡ Some c → x.progress ≡ OwesEntry
+        → new_pair (is_indexed v.life) c ≡ Some p → (v' : CoreValue) → v' ≡ entry_stepped v t Ready p Live (Forward NewEntry c)
+        → Serves v (Event.Step t) Stepped v'
+    entry_served x c p here last owes pair v' same s k is =
+        subst (λ w. Answers v s k (Event.Step t) Stepped w) (sym same) (entry_answers v s k is t x here c last owes p pair has.numbered)
 
 -- ---- what the code needs to know
-pub owed_inside : (v : CoreValue) (t : ℕ) (x : TxnState) (c : ChangeValue) → txn_shown v t ≡ Some x → last_change x ≡ Some c → IsSafe v → c.rid.page < v.heap.pages
+pub owed_inside : (v : CoreValue) (t : ℕ) (x : TxnState) (c : ChangeValue) → txn_shown v t ≡ Some x → last_change x ≡ Some c → IsSafe v
+    → c.rid.page < v.heap.pages
 owed_inside v t x c here last safe = inside_by v safe t x here c last
 
-pub owed_missing : (v : CoreValue) (t : ℕ) (x : TxnState) → txn_shown v t ≡ Some x → (x.progress ≡ OwesRow) ⊎ (x.progress ≡ OwesEntry) → last_change x ≡ None → IsSafe v → ⊥
+pub owed_missing : (v : CoreValue) (t : ℕ) (x : TxnState) → txn_shown v t ≡ Some x → (x.progress ≡ OwesRow) ⊎ (x.progress ≡ OwesEntry) → last_change x ≡ None
+    → IsSafe v → ⊥
 owed_missing v t x here owes none safe = owed_by v safe t x here owes none
 
-pub owed_places : (v : CoreValue) (t : ℕ) (x : TxnState) (c : ChangeValue) (p : Pair) → txn_shown v t ≡ Some x → last_change x ≡ Some c → new_pair (is_indexed v.life) c ≡ Some p → IsSafe v → pledges_used (get v.index.entries p) ≤ x.reserved
+pub owed_places : (v : CoreValue) (t : ℕ) (x : TxnState) (c : ChangeValue) (p : Pair) → txn_shown v t ≡ Some x → last_change x ≡ Some c
+    → new_pair (is_indexed v.life) c ≡ Some p → IsSafe v → pledges_used (get v.index.entries p) ≤ x.reserved
 owed_places v t x c p here last pair safe = paid_by v safe t x here c last p pair
 
-pub owed_pair : (v : CoreValue) (t : ℕ) (x : TxnState) (c : ChangeValue) → txn_shown v t ≡ Some x → last_change x ≡ Some c → x.progress ≡ OwesEntry → new_pair (is_indexed v.life) c ≡ None → IsSafe v → ⊥
+pub owed_pair : (v : CoreValue) (t : ℕ) (x : TxnState) (c : ChangeValue) → txn_shown v t ≡ Some x → last_change x ≡ Some c → x.progress ≡ OwesEntry
+    → new_pair (is_indexed v.life) c ≡ None → IsSafe v → ⊥
 owed_pair v t x c here last owes none safe =
     let s = safe.state in
     let first = newest_last v s safe.standing safe.is t x here c last in
@@ -243,9 +267,11 @@ pub some_txn : (o : Option TxnState) (c : ChangeValue) → option_and_then last_
 some_txn None c e = absurd cc
 some_txn (Some x) c e = (x, refl, e)
 
-pub so_far : (x : TxnState) (o : Option TxnState) → o ≡ Some x → (f p : Progress) → (◌≡◌ {A = Option Progress} (Some f) (option_map (λ (y : TxnState). y.progress) o)) → f ≡ p → x.progress ≡ p
+pub so_far : (x : TxnState) (o : Option TxnState) → o ≡ Some x → (f p : Progress)
+    → (◌≡◌ {A = Option Progress} (Some f) (option_map (λ (y : TxnState). y.progress) o)) → f ≡ p → x.progress ≡ p
 so_far x None here f p e is = absurd cc
-so_far x (Some y) here f p e is = let same : (◌≡◌ {A = Option Progress} (Some f) (Some x.progress)) = e ∙ ap (option_map (λ (z : TxnState). z.progress)) here in sym (inside_of f x.progress same) ∙ is
+so_far x (Some y) here f p e is = let same : (◌≡◌ {A = Option Progress} (Some f) (Some x.progress)) = e
+    ∙ ap (option_map (λ (z : TxnState). z.progress)) here in sym (inside_of f x.progress same) ∙ is
   where
     inside_of : (a b : Progress) → (◌≡◌ {A = Option Progress} (Some a) (Some b)) → a ≡ b
     inside_of a b e = cc
@@ -258,20 +284,25 @@ module _ (v : CoreValue) (t : ℕ) (c : ChangeValue) (newest : option_and_then l
   newest_inside safe = let less : c.rid.page < v.heap.pages = owed_inside v t of_txn.0 c of_txn.1 of_txn.2 safe in omega (arith, less)
 
   pub entry_enough : (p : Pair) → new_pair (is_indexed v.life) c ≡ Some p → IsSafe v → pledges_used (get v.index.entries p) ≤ reserved_of (txn_shown v t)
-  entry_enough p pair safe = subst (λ o. pledges_used (get v.index.entries p) ≤ reserved_of o) (sym of_txn.1) (owed_places v t of_txn.0 c p of_txn.1 of_txn.2 pair safe)
+  entry_enough p pair safe = subst (λ o. pledges_used (get v.index.entries p) ≤ reserved_of o) (sym of_txn.1)
+      (owed_places v t of_txn.0 c p of_txn.1 of_txn.2 pair safe)
 
   module _ (f : Progress) (at_f : ◌≡◌ {A = Option Progress} (Some f) (option_map (λ (y : TxnState). y.progress) (txn_shown v t))) where
     pub no_entry : f ≡ OwesEntry → new_pair (is_indexed v.life) c ≡ None → IsSafe v → ⊥
     no_entry is none safe = owed_pair v t of_txn.0 c of_txn.1 of_txn.2 (so_far of_txn.0 (txn_shown v t) of_txn.1 f OwesEntry at_f is) none safe
 
     module _ (asked : OwesOrNone (txn_shown v t)) (has : HasRecord v t) where
-      pub row_carried : f ≡ OwesRow → (v' : CoreValue) → v' ≡ row_stepped v t (row_progress (new_pair (is_indexed v.life) c)) c.rid (new_row c.rows) (Forward Slot c) → Serves v (Event.Step t) Stepped v'
+      pub row_carried : f ≡ OwesRow → (v' : CoreValue) → v'
+          ≡ row_stepped v t (row_progress (new_pair (is_indexed v.life) c)) c.rid (new_row c.rows) (Forward Slot c) → Serves v (Event.Step t) Stepped v'
       row_carried is v' same = row_served v t asked has of_txn.0 c of_txn.1 of_txn.2 (so_far of_txn.0 (txn_shown v t) of_txn.1 f OwesRow at_f is) v' same
 
-      pub entry_carried : f ≡ OwesEntry → (m : Pair × TxnAction) → new_pair (is_indexed v.life) c ≡ Some m.0 → m.1 ≡ Forward NewEntry c → (v' : CoreValue) → v' ≡ entry_stepped v t Ready m.0 Live m.1 → Serves v (Event.Step t) Stepped v'
-      entry_carried is m pair action v' same = entry_served v t asked has of_txn.0 c m.0 of_txn.1 of_txn.2 (so_far of_txn.0 (txn_shown v t) of_txn.1 f OwesEntry at_f is) pair v' (same ∙ ap (entry_stepped v t Ready m.0 Live) action)
+      pub entry_carried : f ≡ OwesEntry → (m : Pair × TxnAction) → new_pair (is_indexed v.life) c ≡ Some m.0 → m.1 ≡ Forward NewEntry c → (v' : CoreValue)
+          → v' ≡ entry_stepped v t Ready m.0 Live m.1 → Serves v (Event.Step t) Stepped v'
+      entry_carried is m pair action v' same = entry_served v t asked has of_txn.0 c m.0 of_txn.1 of_txn.2
+          (so_far of_txn.0 (txn_shown v t) of_txn.1 f OwesEntry at_f is) pair v' (same ∙ ap (entry_stepped v t Ready m.0 Live) action)
 
-pub newest_missing : (v : CoreValue) (t : ℕ) → OwesOrNone (txn_shown v t) → txn_shown v t ≢ None → option_and_then last_change (txn_shown v t) ≡ None → IsSafe v → ⊥
+pub newest_missing : (v : CoreValue) (t : ℕ) → OwesOrNone (txn_shown v t) → txn_shown v t ≢ None → option_and_then last_change (txn_shown v t) ≡ None → IsSafe v
+    → ⊥
 newest_missing v t asked active none safe =
     let x = there v t active in
     owed_missing v t x.0 x.1 (subst OwesOrNone x.1 asked) (ap (option_and_then last_change) (sym x.1) ∙ none) safe

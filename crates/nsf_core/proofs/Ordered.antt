@@ -16,24 +16,30 @@ use Rattle.nsf_core.specs.Private.{entry_in}
 
 -- ---- of an entry, a row and another entry, of which the entries may be left out
 module _ (row : Step) (mark : Mark) (action : TxnAction) where
-  entry_at_0 : (o : Option Pair) (last : Option Step) → entry_in row ≡ None → option_and_then entry_in (slice_get (some_step (entry_step o mark action) ++ row ∷ some_step last) 0) ≡ option_and_then entry_in (entry_step o mark action)
+  entry_at_0 : (o : Option Pair) (last : Option Step) → entry_in row ≡ None
+      → option_and_then entry_in (slice_get (some_step (entry_step o mark action) ++ row ∷ some_step last) 0)
+      ≡ option_and_then entry_in (entry_step o mark action)
   entry_at_0 None last e = e
   entry_at_0 (Some p) last e = refl
 
-  row_at_0 : (o : Option Pair) (last : Option Step) → None ≡ option_and_then entry_in (entry_step o mark action) → slice_get (some_step (entry_step o mark action) ++ row ∷ some_step last) 0 ≡ Some row
+  row_at_0 : (o : Option Pair) (last : Option Step) → None ≡ option_and_then entry_in (entry_step o mark action)
+      → slice_get (some_step (entry_step o mark action) ++ row ∷ some_step last) 0 ≡ Some row
   row_at_0 None last e = refl
   row_at_0 (Some p) last e = absurd cc
 
-  row_at_1 : (o : Option Pair) (last : Option Step) (m : Pair × TxnAction) → Some m ≡ option_and_then entry_in (entry_step o mark action) → slice_get (some_step (entry_step o mark action) ++ row ∷ some_step last) 1 ≡ Some row
+  row_at_1 : (o : Option Pair) (last : Option Step) (m : Pair × TxnAction) → Some m ≡ option_and_then entry_in (entry_step o mark action)
+      → slice_get (some_step (entry_step o mark action) ++ row ∷ some_step last) 1 ≡ Some row
   row_at_1 None last m e = absurd cc
   row_at_1 (Some p) last m e = refl
 
-  last_at_1 : (o : Option Pair) (last : Option Step) → None ≡ option_and_then entry_in (entry_step o mark action) → slice_get (some_step (entry_step o mark action) ++ row ∷ some_step last) 1 ≡ last
+  last_at_1 : (o : Option Pair) (last : Option Step) → None ≡ option_and_then entry_in (entry_step o mark action)
+      → slice_get (some_step (entry_step o mark action) ++ row ∷ some_step last) 1 ≡ last
   last_at_1 None None e = refl
   last_at_1 None (Some step) e = refl
   last_at_1 (Some p) last e = absurd cc
 
-  last_at_2 : (o : Option Pair) (last : Option Step) (m : Pair × TxnAction) → Some m ≡ option_and_then entry_in (entry_step o mark action) → slice_get (some_step (entry_step o mark action) ++ row ∷ some_step last) 2 ≡ last
+  last_at_2 : (o : Option Pair) (last : Option Step) (m : Pair × TxnAction) → Some m ≡ option_and_then entry_in (entry_step o mark action)
+      → slice_get (some_step (entry_step o mark action) ++ row ∷ some_step last) 2 ≡ last
   last_at_2 None last m e = absurd cc
   last_at_2 (Some p) None m e = refl
   last_at_2 (Some p) (Some step) m e = refl
@@ -79,7 +85,8 @@ pub is_not_last : (o : Option Step) (m : Pair × TxnAction) → Some m ≡ optio
 is_not_last None m e = absurd cc
 is_not_last (Some step) m e = refl
 
-is_last_by : (o : Option Pair) (mark : Mark) (action : TxnAction) → None ≡ option_and_then entry_in (entry_step o mark action) → is_none (entry_step o mark action) ≡ true
+is_last_by : (o : Option Pair) (mark : Mark) (action : TxnAction) → None ≡ option_and_then entry_in (entry_step o mark action)
+    → is_none (entry_step o mark action) ≡ true
 is_last_by None mark action e = refl
 is_last_by (Some p) mark action e = absurd cc
 

@@ -39,7 +39,8 @@ same : (r : Place) (row : Row) (a b : Bool) → a ≡ b → cond (not a) (Some (
 same r row true b e = ap (λ c. cond c None (Some (pair_of r row))) e
 same r row false b e = ap (λ c. cond c None (Some (pair_of r row))) e
 
-old_by : (b : Bool) (n : ℕ) (r : Place) (rows : Rows) → let c : ChangeValue = record { position = n; rid = r; rows = rows } in moved_pair b c (old_row rows) ≡ old_pair b c
+old_by : (b : Bool) (n : ℕ) (r : Place) (rows : Rows)
+    → let c : ChangeValue = record { position = n; rid = r; rows = rows } in moved_pair b c (old_row rows) ≡ old_pair b c
 old_by false n r (Inserted new) = refl
 old_by true n r (Inserted new) = refl
 old_by false n r (Deleted old) = refl
@@ -47,7 +48,8 @@ old_by true n r (Deleted old) = refl
 old_by false n r (Updated old new) = refl
 old_by true n r (Updated old new) = same r old (pointwise nat_eq old.key new.key) _ (key_test old new)
 
-new_by : (b : Bool) (n : ℕ) (r : Place) (rows : Rows) → let c : ChangeValue = record { position = n; rid = r; rows = rows } in moved_pair b c (new_row rows) ≡ new_pair b c
+new_by : (b : Bool) (n : ℕ) (r : Place) (rows : Rows)
+    → let c : ChangeValue = record { position = n; rid = r; rows = rows } in moved_pair b c (new_row rows) ≡ new_pair b c
 new_by false n r (Inserted new) = refl
 new_by true n r (Inserted new) = refl
 new_by false n r (Deleted old) = refl
@@ -66,9 +68,11 @@ none_by : (o : Option Pair) (mark : Mark) (action : TxnAction) → None ≡ opti
 none_by None mark action e = refl
 none_by (Some p) mark action e = absurd cc
 
-some_by : (o : Option Pair) (mark : Mark) (action : TxnAction) (m : Pair × TxnAction) → Some m ≡ option_and_then entry_in (entry_step o mark action) → (o ≡ Some m.0) × (m.1 ≡ action)
+some_by : (o : Option Pair) (mark : Mark) (action : TxnAction) (m : Pair × TxnAction) → Some m ≡ option_and_then entry_in (entry_step o mark action)
+    → (o ≡ Some m.0) × (m.1 ≡ action)
 some_by None mark action m e = absurd cc
-some_by (Some p) mark action m e = let same : m ≡ (p, action) = inside m (p, action) e in (ap (λ (w : Pair × TxnAction). Some w.0) (sym same), ap (λ (w : Pair × TxnAction). w.1) same)
+some_by (Some p) mark action m e = let same : m ≡ (p, action) = inside m (p, action) e in
+    (ap (λ (w : Pair × TxnAction). Some w.0) (sym same), ap (λ (w : Pair × TxnAction). w.1) same)
   where
     inside : (a b : Pair × TxnAction) → (◌≡◌ {A = Option (Pair × TxnAction)} (Some a) (Some b)) → a ≡ b
     inside a b e = cc
@@ -76,24 +80,28 @@ some_by (Some p) mark action m e = let same : m ≡ (p, action) = inside m (p, a
 pub old_none : (b : Bool) (c : ChangeValue) → None ≡ option_and_then entry_in (marks_old b c) → old_pair b c ≡ None
 old_none b c e = sym (old_moves b c) ∙ none_by _ _ _ e
 
-pub old_some : (b : Bool) (c : ChangeValue) (m : Pair × TxnAction) → Some m ≡ option_and_then entry_in (marks_old b c) → (old_pair b c ≡ Some m.0) × (m.1 ≡ Forward OldEntry c)
+pub old_some : (b : Bool) (c : ChangeValue) (m : Pair × TxnAction) → Some m ≡ option_and_then entry_in (marks_old b c) → (old_pair b c ≡ Some m.0)
+    × (m.1 ≡ Forward OldEntry c)
 old_some b c m e = let s = some_by _ _ _ m e in (sym (old_moves b c) ∙ s.0, s.1)
 
 pub new_none : (b : Bool) (c : ChangeValue) → None ≡ option_and_then entry_in (puts_new b c) → new_pair b c ≡ None
 new_none b c e = sym (new_moves b c) ∙ none_by _ _ _ e
 
-pub new_some : (b : Bool) (c : ChangeValue) (m : Pair × TxnAction) → Some m ≡ option_and_then entry_in (puts_new b c) → (new_pair b c ≡ Some m.0) × (m.1 ≡ Forward NewEntry c)
+pub new_some : (b : Bool) (c : ChangeValue) (m : Pair × TxnAction) → Some m ≡ option_and_then entry_in (puts_new b c) → (new_pair b c ≡ Some m.0)
+    × (m.1 ≡ Forward NewEntry c)
 new_some b c m e = let s = some_by _ _ _ m e in (sym (new_moves b c) ∙ s.0, s.1)
 
 -- ---- the entry of an undo's step
 pub new_unmarked : (b : Bool) (c : ChangeValue) → None ≡ option_and_then entry_in (marks_new b c) → new_pair b c ≡ None
 new_unmarked b c e = sym (new_moves b c) ∙ none_by _ _ _ e
 
-pub new_marked : (b : Bool) (c : ChangeValue) (m : Pair × TxnAction) → Some m ≡ option_and_then entry_in (marks_new b c) → (new_pair b c ≡ Some m.0) × (m.1 ≡ Undo NewEntry c false)
+pub new_marked : (b : Bool) (c : ChangeValue) (m : Pair × TxnAction) → Some m ≡ option_and_then entry_in (marks_new b c) → (new_pair b c ≡ Some m.0)
+    × (m.1 ≡ Undo NewEntry c false)
 new_marked b c m e = let s = some_by _ _ _ m e in (sym (new_moves b c) ∙ s.0, s.1)
 
 pub old_unput : (b : Bool) (c : ChangeValue) → None ≡ option_and_then entry_in (puts_old b c) → old_pair b c ≡ None
 old_unput b c e = sym (old_moves b c) ∙ none_by _ _ _ e
 
-pub old_put : (b : Bool) (c : ChangeValue) (m : Pair × TxnAction) → Some m ≡ option_and_then entry_in (puts_old b c) → (old_pair b c ≡ Some m.0) × (m.1 ≡ Undo OldEntry c true)
+pub old_put : (b : Bool) (c : ChangeValue) (m : Pair × TxnAction) → Some m ≡ option_and_then entry_in (puts_old b c) → (old_pair b c ≡ Some m.0)
+    × (m.1 ≡ Undo OldEntry c true)
 old_put b c m e = let s = some_by _ _ _ m e in (sym (old_moves b c) ∙ s.0, s.1)

@@ -22,7 +22,8 @@ within m t =
 pub reserved_within : (v : CoreValue) (t : ℕ) (x : TxnState) → txn_shown v t ≡ Some x → IsSafe v → x.reserved ≤ v.index.pledged
 reserved_within v t x here safe =
     let h : Shows v safe.state safe.standing = safe.is.shown in
-    subst (λ n. n ≤ v.index.pledged) (places_are v safe.state safe.standing h t x here) (subst (λ n. reserved safe.state.pledges t ≤ n) h.pledged (within safe.state.pledges t))
+    subst (λ n. n ≤ v.index.pledged) (places_are v safe.state safe.standing h t x here)
+    (subst (λ n. reserved safe.state.pledges t ≤ n) h.pledged (within safe.state.pledges t))
 
 few_by : (v : CoreValue) (t : ℕ) (o : Option TxnState) → txn_shown v t ≡ o → IsSafe v → reserved_of o ≤ v.index.pledged
 few_by v t None here safe = omega arith

@@ -40,7 +40,8 @@ module _ (v : CoreValue) (e : Event) (improper : (s : State) (k : Standing) → 
 
 module _ (v : CoreValue) (t : ℕ) where
   -- it isn't ready
-  not_ready : (o : Option TxnState) → txn_shown v t ≡ o → IsUnready o → (s : State) (k : Standing) → Shows v s k → (s.txns t ≡ None → ⊥) × (IsReady (txn_at s t) → ⊥)
+  not_ready : (o : Option TxnState) → txn_shown v t ≡ o → IsUnready o → (s : State) (k : Standing) → Shows v s k → (s.txns t ≡ None → ⊥)
+      × (IsReady (txn_at s t) → ⊥)
   not_ready None here un s k h = absurd un
   not_ready (Some x) here un s k h = (
     known v s k h t x here,
@@ -59,7 +60,8 @@ module _ (v : CoreValue) (t : ℕ) where
   pub skips_commit : IsUnready (txn_shown v t) → Serves v (Event.Commit t) Skipped v
   skips_commit un = skips v (Event.Commit t) (not_ready (txn_shown v t) refl un)
 
-  owes_none : (o : Option TxnState) → txn_shown v t ≡ o → OwesNone o → (s : State) (k : Standing) → Shows v s k → (s.txns t ≡ None → ⊥) × (Owes (txn_at s t) → ⊥)
+  owes_none : (o : Option TxnState) → txn_shown v t ≡ o → OwesNone o → (s : State) (k : Standing) → Shows v s k → (s.txns t ≡ None → ⊥)
+      × (Owes (txn_at s t) → ⊥)
   owes_none None here none s k h = absurd none
   owes_none (Some x) here none s k h = (
     known v s k h t x here,

@@ -1,6 +1,7 @@
 -- The first step of a change: what the core shows after it.
 use Rattle.core_model.specs.Changes.{as_list, ◌▹◌}
-use Rattle.std.proofs.Common.{Bool, List, None, Option, Some, [], ap, arith, cond, eqb, false, inl, inr, length, refl, subst, sym, true, ℕ, ◌++◌, ◌+◌, ◌-◌, ◌∙◌, ◌∷◌, ◌≡◌, ◌≢◌}
+use Rattle.std.proofs.Common.{Bool, List, None, Option, Some, [], ap, arith, cond, eqb, false, inl, inr, length, refl, subst, sym, true, ℕ, ◌++◌, ◌+◌, ◌-◌, ◌∙◌}
+use Rattle.std.proofs.Common.{◌∷◌, ◌≡◌, ◌≢◌}
 use Rattle.std.specs.FinMap.{get, insert, len, len-insert}
 use Rattle.std.specs.Option.{option_map}
 use Rattle.records.specs.ChangeValue.{ChangeValue}
@@ -93,7 +94,8 @@ pub none_rolls : (o : Option Pair) → rolls (row_progress o) ≡ false
 none_rolls None = refl
 none_rolls (Some p) = refl
 
-module _ (v : CoreValue) (s : State) (k : Standing) (h : Shows v s k) (t : ℕ) (x : TxnState) (here : table.state_of t v.txns.active ≡ Some x) (ready : x.progress ≡ Ready) (c : ChangeValue) where
+module _ (v : CoreValue) (s : State) (k : Standing) (h : Shows v s k) (t : ℕ) (x : TxnState) (here : table.state_of t v.txns.active ≡ Some x)
+    (ready : x.progress ≡ Ready) (c : ChangeValue) where
   abbrev indexed : Bool
   indexed = is_indexed v.life
 
@@ -106,9 +108,11 @@ module _ (v : CoreValue) (s : State) (k : Standing) (h : Shows v s k) (t : ℕ) 
   now_reserved : reserved s.pledges t ≡ reserved_of (txn_shown v t)
   now_reserved = places_are v s k h t x here ∙ sym same_places
 
-  holder_is : (es : List (ℕ × TxnState)) → holder_of c.rid es ≡ Some t → ((q : Place) → q ≢ c.rid → holder_of q es ≡ holder_of q v.txns.active) → (q : Place) → update rid_cmp s.holder c.rid (Some t) q ≡ holder_of q es
+  holder_is : (es : List (ℕ × TxnState)) → holder_of c.rid es ≡ Some t → ((q : Place) → q ≢ c.rid → holder_of q es ≡ holder_of q v.txns.active) → (q : Place)
+      → update rid_cmp s.holder c.rid (Some t) q ≡ holder_of q es
   holder_is es held others q = elim (rid_decided q c.rid) [
-    | inl same ↦ ap (update rid_cmp s.holder c.rid (Some t)) same ∙ update_here rid_cmp_total s.holder c.rid (Some t) ∙ sym held ∙ ap (λ p. holder_of p es) (sym same)
+    | inl same ↦ ap (update rid_cmp s.holder c.rid (Some t)) same ∙ update_here rid_cmp_total s.holder c.rid (Some t) ∙ sym held
+        ∙ ap (λ p. holder_of p es) (sym same)
     | inr other ↦ update_apart rid_cmp-IsAntisymmetric s.holder c.rid (Some t) q other ∙ h.holder q ∙ sym (others q other)
   ]
 
@@ -129,7 +133,8 @@ module _ (v : CoreValue) (s : State) (k : Standing) (h : Shows v s k) (t : ℕ) 
     set_state = record (started s t (txn_at s t) c None) { pledges = with_places s t (places_of (is_indexed s.life)) s.entries }
 
     set_is : after s (Start t c) ≡ set_state
-    set_is = ap (λ o. record (started s t (txn_at s t) c o) { pledges = with_places s t (places_of (is_indexed s.life)) (started s t (txn_at s t) c o).entries }) (old_is None none)
+    set_is = ap (λ o. record (started s t (txn_at s t) c o)
+        { pledges = with_places s t (places_of (is_indexed s.life)) (started s t (txn_at s t) c o).entries }) (old_is None none)
 
     set_places : reserved s.pledges t + places_of (is_indexed s.life) - (len s.entries - len s.entries) ≡ reserved_of (txn_shown v t) + places_of indexed
     set_places = sums _ _ (len s.entries) _ _ now_reserved (ap places_of same_index)
@@ -148,7 +153,8 @@ module _ (v : CoreValue) (s : State) (k : Standing) (h : Shows v s k) (t : ℕ) 
         phase = subst (λ b. IsProgressOf (row_progress (new_pair indexed c)) (row_made (new_pair b c))) (sym same_index) (phase_is (new_pair indexed c));
         rolling = (is_ready v s k h t x here ready).1 ∙ sym (none_rolls (new_pair indexed c));
       };
-      holder = holder_is (row_first v t c).txns.active held (holder_apart v.txns.active t x here c (row_progress (new_pair indexed c)) (reserved_of (txn_shown v t) + places_of indexed));
+      holder = holder_is (row_first v t c).txns.active held
+          (holder_apart v.txns.active t x here c (row_progress (new_pair indexed c)) (reserved_of (txn_shown v t) + places_of indexed));
       places = ap (insert s.pledges t) set_places;
       pledged = sums _ _ _ _ same_places;
       states = states_changed v.txns.active t x here c _ _;
@@ -179,7 +185,8 @@ module _ (v : CoreValue) (s : State) (k : Standing) (h : Shows v s k) (t : ℕ) 
         sums pledged places r res e = omega (arith, e)
 
     pub row_shown : Shows (row_first v t c) (after s (Start t c)) (record k { made = k.made + 1 })
-    row_shown = subst (λ z. Shows (row_first v t c) z (record k { made = k.made + 1 })) (sym set_is) (moved_shown v s k h t x here set_txn (row_first v t c) set_state (record k { made = k.made + 1 }) did_set)
+    row_shown = subst (λ z. Shows (row_first v t c) z (record k { made = k.made + 1 })) (sym set_is)
+        (moved_shown v s k h t x here set_txn (row_first v t c) set_state (record k { made = k.made + 1 }) did_set)
 
   -- ---- the entry of the old row is marked first
   module _ (p : Pair) (some : old_pair indexed c ≡ Some p) (held : holder_of c.rid (mark_first v t c p).txns.active ≡ Some t) where
@@ -193,10 +200,13 @@ module _ (v : CoreValue) (s : State) (k : Standing) (h : Shows v s k) (t : ℕ) 
     mark_state = record (started s t (txn_at s t) c (Some p)) { pledges = with_places s t (places_of (is_indexed s.life)) (set_at s.entries p (Some Marked)) }
 
     mark_is : after s (Start t c) ≡ mark_state
-    mark_is = ap (λ o. record (started s t (txn_at s t) c o) { pledges = with_places s t (places_of (is_indexed s.life)) (started s t (txn_at s t) c o).entries }) (old_is (Some p) some)
+    mark_is = ap (λ o. record (started s t (txn_at s t) c o)
+        { pledges = with_places s t (places_of (is_indexed s.life)) (started s t (txn_at s t) c o).entries }) (old_is (Some p) some)
 
-    mark_places : reserved s.pledges t + places_of (is_indexed s.life) - (len (set_at s.entries p (Some Marked)) - len s.entries) ≡ reserved_of (txn_shown v t) + left_over
-    mark_places = sums _ _ _ _ _ now_reserved (ap places_of (same_index ∙ has_index indexed c p some)) (grown s.entries p Marked ∙ ap (λ m. pledges_used (get m p)) h.entries) (used_few (get v.index.entries p))
+    mark_places : reserved s.pledges t + places_of (is_indexed s.life) - (len (set_at s.entries p (Some Marked)) - len s.entries)
+        ≡ reserved_of (txn_shown v t) + left_over
+    mark_places = sums _ _ _ _ _ now_reserved (ap places_of (same_index ∙ has_index indexed c p some)) (grown s.entries p Marked
+        ∙ ap (λ m. pledges_used (get m p)) h.entries) (used_few (get v.index.entries p))
       where
         sums : (r places u r' u' : ℕ) → r ≡ r' → places ≡ PLACES_PER_CHANGE → u ≡ u' → u' ≤ 1 → r + places - u ≡ r' + (PLACES_PER_CHANGE - u')
         sums r places u r' u' e f g few = omega (arith, e, f, g, few)
@@ -239,9 +249,11 @@ module _ (v : CoreValue) (s : State) (k : Standing) (h : Shows v s k) (t : ℕ) 
         sums pledged places r res e = omega (arith, e)
 
     pub mark_shown : Shows (mark_first v t c p) (after s (Start t c)) (record k { made = k.made + 1 })
-    mark_shown = subst (λ z. Shows (mark_first v t c p) z (record k { made = k.made + 1 })) (sym mark_is) (moved_shown v s k h t x here mark_txn (mark_first v t c p) mark_state (record k { made = k.made + 1 }) did_mark)
+    mark_shown = subst (λ z. Shows (mark_first v t c p) z (record k { made = k.made + 1 })) (sym mark_is)
+        (moved_shown v s k h t x here mark_txn (mark_first v t c p) mark_state (record k { made = k.made + 1 }) did_mark)
 
   -- ---- either
-  pub first_shown : (o : Option Pair) → old_pair indexed c ≡ o → holder_of c.rid (first_made v t c o).txns.active ≡ Some t → Shows (first_made v t c o) (after s (Start t c)) (record k { made = k.made + 1 })
+  pub first_shown : (o : Option Pair) → old_pair indexed c ≡ o → holder_of c.rid (first_made v t c o).txns.active ≡ Some t
+      → Shows (first_made v t c o) (after s (Start t c)) (record k { made = k.made + 1 })
   first_shown None e held = row_shown e held
   first_shown (Some p) e held = mark_shown p e held

@@ -45,7 +45,8 @@ module _ (es : List (ℕ × TxnState)) (t : ℕ) (x : TxnState) (here : table.st
   }
 
 -- one after the other
-pub now_then : (before : List (ℕ × TxnState)) (t : ℕ) (x y : TxnState) (between after : List (ℕ × TxnState)) → IsNow before t x between → IsNow between t y after → IsNow before t y after
+pub now_then : (before : List (ℕ × TxnState)) (t : ℕ) (x y : TxnState) (between after : List (ℕ × TxnState)) → IsNow before t x between
+    → IsNow between t y after → IsNow before t y after
 now_then before t x y between after first second = record {
   states = λ u. second.states u ∙ ap (cond (eqb u t) (Some y)) (first.states u) ∙ either (eqb u t) (Some y) (Some x) (table.state_of u before);
   holders = λ q. second.holders q ∙ first.holders q;
@@ -56,15 +57,18 @@ pub now_here : (before : List (ℕ × TxnState)) (t : ℕ) (x : TxnState) (after
 now_here before t x after now = now.states t ∙ ap (λ b. cond b (Some x) (table.state_of t before)) (same_number t t refl)
 
 -- ---- equal steps
-pub row_as : (v : CoreValue) (t : ℕ) {f f' : Progress} {r r' : Place} {row row' : Option Row} {a a' : TxnAction} → f ≡ f' → r ≡ r' → row ≡ row' → a ≡ a' → row_stepped v t f r row a ≡ row_stepped v t f' r' row' a'
+pub row_as : (v : CoreValue) (t : ℕ) {f f' : Progress} {r r' : Place} {row row' : Option Row} {a a' : TxnAction} → f ≡ f' → r ≡ r' → row ≡ row' → a ≡ a'
+    → row_stepped v t f r row a ≡ row_stepped v t f' r' row' a'
 row_as v t e g h k = λ i. row_stepped v t (e i) (g i) (h i) (k i)
 
 -- the newest change goes off the list behind a step
-pub taken_off_behind : (w target : CoreValue) (t : ℕ) (txns : TableValue) → txns ≡ record w.txns { active = table.with_state without_last t w.txns.active } → w ≡ target → record w { txns = txns } ≡ newest_taken_off target t
+pub taken_off_behind : (w target : CoreValue) (t : ℕ) (txns : TableValue) → txns ≡ record w.txns { active = table.with_state without_last t w.txns.active }
+    → w ≡ target → record w { txns = txns } ≡ newest_taken_off target t
 taken_off_behind w target t txns popped same = ap (λ (x : TableValue). record w { txns = x }) popped ∙ ap (λ (x : CoreValue). newest_taken_off x t) same
 
 -- ---- what the core shows
-module _ (v : CoreValue) (s : State) (k : Standing) (h : Shows v s k) (t : ℕ) (x : TxnState) (here : table.state_of t v.txns.active ≡ Some x) (x' : TxnState) (a : Active) (is : ShowsTxn x' a) (active : List (ℕ × TxnState)) (now : IsNow v.txns.active t x' active) (outbox : List RecordValue) where
+module _ (v : CoreValue) (s : State) (k : Standing) (h : Shows v s k) (t : ℕ) (x : TxnState) (here : table.state_of t v.txns.active ≡ Some x) (x' : TxnState)
+    (a : Active) (is : ShowsTxn x' a) (active : List (ℕ × TxnState)) (now : IsNow v.txns.active t x' active) (outbox : List RecordValue) where
   next_standing : record k { made = k.made + 1 } ≡ record k { made = v.last + 1 }
   next_standing = ap (λ n. record k { made = n + 1 }) h.made
 
@@ -73,7 +77,12 @@ module _ (v : CoreValue) (s : State) (k : Standing) (h : Shows v s k) (t : ℕ) 
 
   module _ (r : Place) (row : Option Row) (same : x'.reserved ≡ x.reserved) where
     abbrev row_value : CoreValue
-    row_value = record v { heap = record v.heap { rows = set_at v.heap.rows r row }; txns = record v.txns { active = active }; last = v.last + 1; outbox = outbox }
+    row_value = record v {
+      heap = record v.heap { rows = set_at v.heap.rows r row };
+      txns = record v.txns { active = active };
+      last = v.last + 1;
+      outbox = outbox;
+    }
 
     abbrev row_state : State
     row_state = record s { rows = set_at s.rows r row; txns = with_txn s t a; pledges = with_places s t 0 s.entries }
@@ -118,9 +127,16 @@ module _ (v : CoreValue) (s : State) (k : Standing) (h : Shows v s k) (t : ℕ) 
     pub row_moved : Shows row_value row_state (record k { made = k.made + 1 })
     row_moved = moved_shown v s k h t x here x' row_value row_state (record k { made = k.made + 1 }) did_row
 
-  module _ (p : Pair) (mark : Mark) (used : x'.reserved ≡ x.reserved - pledges_used (get v.index.entries p)) (enough : pledges_used (get v.index.entries p) ≤ x.reserved) (within : x.reserved ≤ v.index.pledged) where
+  module _ (p : Pair) (mark : Mark) (used : x'.reserved ≡ x.reserved - pledges_used (get v.index.entries p))
+      (enough : pledges_used (get v.index.entries p) ≤ x.reserved) (within : x.reserved ≤ v.index.pledged) where
     abbrev entry_value : CoreValue
-    entry_value = record v { txns = record v.txns { active = active }; index = record v.index { entries = set_at v.index.entries p (Some mark); pledged = v.index.pledged - pledges_used (get v.index.entries p) }; last = v.last + 1; outbox = outbox }
+    entry_value = record v {
+      txns = record v.txns { active = active };
+      index = record v.index { entries = set_at v.index.entries p (Some mark); pledged = v.index.pledged - pledges_used (get v.index.entries p) };
+      last =
+          v.last + 1;
+      outbox = outbox;
+    }
 
     abbrev entry_state : State
     entry_state = record s { entries = set_at s.entries p (Some mark); txns = with_txn s t a; pledges = with_places s t 0 (set_at s.entries p (Some mark)) }

@@ -42,11 +42,13 @@ module _ (t : ℕ) (c : ChangeValue) where
   row_said : (old new : Option Pair) (p : Pair) → old ≡ Some p → Some (forward t Slot c) ≡ said_by t (slice_get (forward_list c old new) 1)
   row_said old new p e = ap (λ o. said_by t (slice_get (forward_list c o new) 1)) (sym e)
 
-  entry_by : (old : Option Pair) (p : Pair) → Some (forward t NewEntry c) ≡ said_by t (slice_get (forward_list c old (Some p)) (length (forward_list c old (Some p)) - 1))
+  entry_by : (old : Option Pair) (p : Pair) → Some (forward t NewEntry c)
+      ≡ said_by t (slice_get (forward_list c old (Some p)) (length (forward_list c old (Some p)) - 1))
   entry_by None p = refl
   entry_by (Some q) p = refl
 
-  entry_said : (old new : Option Pair) (p : Pair) → new ≡ Some p → Some (forward t NewEntry c) ≡ said_by t (slice_get (forward_list c old new) (length (forward_list c old new) - 1))
+  entry_said : (old new : Option Pair) (p : Pair) → new ≡ Some p
+      → Some (forward t NewEntry c) ≡ said_by t (slice_get (forward_list c old new) (length (forward_list c old new) - 1))
   entry_said old new p e = entry_by old p ∙ ap (λ n. said_by t (slice_get (forward_list c old n) (length (forward_list c old n) - 1))) (sym e)
 
   none_said : (steps : List Step) → None ≡ said_by t (slice_get steps (length steps))
@@ -64,18 +66,21 @@ module _ (t : ℕ) (c : ChangeValue) where
   back_said : (old new : Option Pair) (p : Pair) → new ≡ Some p → Some (undo t Slot c (is_last old)) ≡ said_by t (slice_get (undo_list c old new) 1)
   back_said old new p e = back_by old p ∙ ap (λ n. said_by t (slice_get (undo_list c old n) 1)) (sym e)
 
-  live_by : (p : Pair) (new : Option Pair) → Some (undo t OldEntry c true) ≡ said_by t (slice_get (undo_list c (Some p) new) (length (undo_list c (Some p) new) - 1))
+  live_by : (p : Pair) (new : Option Pair) → Some (undo t OldEntry c true)
+      ≡ said_by t (slice_get (undo_list c (Some p) new) (length (undo_list c (Some p) new) - 1))
   live_by p None = refl
   live_by p (Some q) = refl
 
-  live_said : (old new : Option Pair) (p : Pair) → old ≡ Some p → Some (undo t OldEntry c true) ≡ said_by t (slice_get (undo_list c old new) (length (undo_list c old new) - 1))
+  live_said : (old new : Option Pair) (p : Pair) → old ≡ Some p
+      → Some (undo t OldEntry c true) ≡ said_by t (slice_get (undo_list c old new) (length (undo_list c old new) - 1))
   live_said old new p e = live_by p new ∙ ap (λ o. said_by t (slice_get (undo_list c o new) (length (undo_list c o new) - 1))) (sym e)
 
 -- ---- by how far the transaction is
 module _ (b : Bool) (t : ℕ) (older : Changes) (c : ChangeValue) where
   next_said : (phase : Phase) → HasShape b c phase → next_action t (older ▹ c) phase ≡ forward_record b t c (forward_made b c phase)
   next_said OldMarked has = row_said t c (old_pair b c) (new_pair b c) has.it has.is ∙ ap (λ steps. said_by t (slice_get steps 1)) (sym (forward_is b c))
-  next_said RowSet has = entry_said t c (old_pair b c) (new_pair b c) has.it has.is ∙ ap (λ steps. said_by t (slice_get steps (length steps - 1))) (sym (forward_is b c))
+  next_said RowSet has = entry_said t c (old_pair b c) (new_pair b c) has.it has.is
+      ∙ ap (λ steps. said_by t (slice_get steps (length steps - 1))) (sym (forward_is b c))
   next_said Made has = none_said t c (forward_steps b c)
   next_said (NewMarked applied) has = none_said t c (forward_steps b c)
   next_said OldSet has = none_said t c (forward_steps b c)
@@ -87,14 +92,18 @@ module _ (b : Bool) (t : ℕ) (older : Changes) (c : ChangeValue) where
   undo_said OldMarked has = begun_is
   undo_said RowSet has = begun_is
   undo_said Made has = begun_is
-  undo_said (NewMarked applied) has = back_said t c (old_pair b c) (new_pair b c) has.it has.is ∙ ap (λ steps. said_by t (slice_get steps 1)) (sym (undo_is b c))
-  undo_said OldSet has = live_said t c (old_pair b c) (new_pair b c) has.it has.is ∙ ap (λ steps. said_by t (slice_get steps (length steps - 1))) (sym (undo_is b c))
+  undo_said (NewMarked applied) has = back_said t c (old_pair b c) (new_pair b c) has.it has.is
+      ∙ ap (λ steps. said_by t (slice_get steps 1)) (sym (undo_is b c))
+  undo_said OldSet has = live_said t c (old_pair b c) (new_pair b c) has.it has.is
+      ∙ ap (λ steps. said_by t (slice_get steps (length steps - 1))) (sym (undo_is b c))
 
 -- ---- in a state
 pub start_record : (s : State) (t : ℕ) (c : ChangeValue) → action_of s (Start t c) ≡ forward_record (is_indexed s.life) t c 0
-start_record s t c = first_said t c (old_pair (is_indexed s.life) c) (new_pair (is_indexed s.life) c) ∙ ap (λ steps. said_by t (slice_get steps 0)) (sym (forward_is (is_indexed s.life) c))
+start_record s t c = first_said t c (old_pair (is_indexed s.life) c) (new_pair (is_indexed s.life) c)
+    ∙ ap (λ steps. said_by t (slice_get steps 0)) (sym (forward_is (is_indexed s.life) c))
 
-module _ (s : State) (t : ℕ) (fit : IsWellFormed s) (active : IsActive s t) (older : Changes) (c : ChangeValue) (newest : (txn_at s t).changes ≡ older ▹ c) where
+module _ (s : State) (t : ℕ) (fit : IsWellFormed s) (active : IsActive s t) (older : Changes) (c : ChangeValue)
+    (newest : (txn_at s t).changes ≡ older ▹ c) where
   has : HasShape (is_indexed s.life) c (txn_at s t).phase
   has = subst (λ cs. IsShaped (is_indexed s.life) cs (txn_at s t).phase) newest (fit.txns t (txn_at s t) active).shaped
 

@@ -1,5 +1,6 @@
 -- A step of an undo.
-use Rattle.std.proofs.Common.{Bool, List, None, Option, Some, [], ap, append-nil, arith, false, inl, inr, is_some, length, refl, subst, sym, take, true, ℕ, ◌++◌, ◌+◌, ◌-◌, ◌<◌, ◌∙◌, ◌∷◌, ◌≡◌, ◌≢◌, ◌≤◌}
+use Rattle.std.proofs.Common.{Bool, List, None, Option, Some, [], ap, append-nil, arith, false, inl, inr, is_some, length, refl, subst, sym, take, true, ℕ}
+use Rattle.std.proofs.Common.{◌++◌, ◌+◌, ◌-◌, ◌<◌, ◌∙◌, ◌∷◌, ◌≡◌, ◌≢◌, ◌≤◌}
 use Rattle.std.proofs.Math.Seq.{take-append_seam}
 use Rattle.std.proofs.lemmas.List.{length-append}
 use Rattle.std.specs.FinMap.{get, insert, len}
@@ -63,7 +64,8 @@ undoes_entry UndoesEntry e = refl
 -- the next undo step is the first
 record IsFirstPhase (phase : Phase) : Type 0 where
   applied : Bool
-  does : (s : State) (t : ℕ) (x : Active) (older : Changes) (c : ChangeValue) → undone s t x (older ▹ c) phase ≡ undone_first s t x c older applied (new_pair (is_indexed s.life) c)
+  does : (s : State) (t : ℕ) (x : Active) (older : Changes) (c : ChangeValue)
+      → undone s t x (older ▹ c) phase ≡ undone_first s t x c older applied (new_pair (is_indexed s.life) c)
   says : (b : Bool) (t : ℕ) (older : Changes) (c : ChangeValue) → undo_action b t (older ▹ c) phase ≡ Some (begun_action t c (old_pair b c) (new_pair b c))
 
 first_made : IsFirstPhase Made
@@ -153,13 +155,19 @@ module _ (v : CoreValue) (s : State) (k : Standing) (st : IsState v s k) (t : �
     action_is : action_of s (Undo t) ≡ undo_action (is_indexed s.life) t (older.0 ▹ c) (txn_at s t).phase
     action_is = ap (λ cs. undo_action (is_indexed s.life) t cs (txn_at s t).phase) older.1
 
-    answer : v.last < LAST_NUMBER → (v' : CoreValue) → Shows v' (after s (Undo t)) (record k { made = k.made + 1 }) → v'.outbox ≡ v.outbox ++ one_record v.last (action_of s (Undo t)) → Answers v s k (Event.Undo t) Undone v'
-    answer numbered v' shown waits = made v s k h (Event.Undo t) (known v s k h t x here) tt refl Undone (Undo t) (inr (changed, refl), refl) (λ n. n) (λ n. numbered) v' shown waits
+    answer : v.last < LAST_NUMBER → (v' : CoreValue) → Shows v' (after s (Undo t)) (record k { made = k.made + 1 })
+        → v'.outbox ≡ v.outbox ++ one_record v.last (action_of s (Undo t)) → Answers v s k (Event.Undo t) Undone v'
+    answer numbered v' shown waits = made v s k h (Event.Undo t) (known v s k h t x here) tt refl Undone (Undo t) (inr (changed, refl), refl) (λ n. n) (λ n.
+        numbered) v' shown waits
 
     -- ---- the row is restored
     module _ (sets : SetsRow s c (txn_at s t).phase) where
       abbrev row_state : Option Pair → State
-      row_state o = record s { rows = set_at s.rows c.rid (old_row c.rows); txns = with_txn s t (core.row_undone (txn_at s t) older.0 o); pledges = with_places s t 0 s.entries }
+      row_state o = record s {
+        rows = set_at s.rows c.rid (old_row c.rows);
+        txns = with_txn s t (core.row_undone (txn_at s t) older.0 o);
+        pledges = with_places s t 0 s.entries;
+      }
 
       row_is : (o : Option Pair) → old_pair (is_indexed v.life) c ≡ o → after s (Undo t) ≡ row_state o
       row_is o e = after_is ∙ ap stepped_by (sets.does t (txn_at s t) older.0) ∙ ap row_state (old_is ∙ e)
@@ -170,10 +178,13 @@ module _ (v : CoreValue) (s : State) (k : Standing) (st : IsState v s k) (t : �
       row_shown : (o : Option Pair) → old_pair (is_indexed v.life) c ≡ o → Shows (row_restored v t c o) (after s (Undo t)) (record k { made = k.made + 1 })
       row_shown None e =
           subst (λ z. Shows (row_restored v t c None) z (record k { made = k.made + 1 })) (sym (row_is None e))
-          (row_moved v s k h t x here (without_last (put_at Rolling (reserved_of (txn_shown v t)) x)) (without_newest older.0) (popped_txn _) _ (popped_list _) (row_restored v t c None).outbox c.rid (old_row c.rows) same_places)
+          (row_moved v s k h t x here (without_last (put_at Rolling (reserved_of (txn_shown v t)) x)) (without_newest older.0) (popped_txn _) _ (popped_list _)
+          (row_restored v t c None).outbox c.rid (old_row c.rows) same_places)
       row_shown (Some p) e =
           subst (λ z. Shows (row_restored v t c (Some p)) z (record k { made = k.made + 1 })) (sym (row_is (Some p) e))
-          (row_moved v s k h t x here (put_at UndoesEntry (reserved_of (txn_shown v t)) x) (undoing (txn_at s t) OldSet) (record { changes = still_listed; phase = refl; rolling = refl }) _ (put_now v.txns.active t x here UndoesEntry _) (row_restored v t c (Some p)).outbox c.rid (old_row c.rows) same_places)
+          (row_moved v s k h t x here (put_at UndoesEntry (reserved_of (txn_shown v t)) x) (undoing (txn_at s t) OldSet)
+          (record { changes = still_listed; phase = refl; rolling = refl }) _ (put_now v.txns.active t x here UndoesEntry _)
+          (row_restored v t c (Some p)).outbox c.rid (old_row c.rows) same_places)
 
       row_waits : (o : Option Pair) → old_pair (is_indexed v.life) c ≡ o → (row_restored v t c o).outbox ≡ v.outbox ++ one_record v.last (action_of s (Undo t))
       row_waits None e = ap (λ a. v.outbox ++ one_record v.last a) (sym (row_says None e))
@@ -185,7 +196,11 @@ module _ (v : CoreValue) (s : State) (k : Standing) (st : IsState v s k) (t : �
     -- ---- the new entry is marked, or the row is restored
     module _ (first : IsFirstPhase (txn_at s t).phase) where
       abbrev mark_state : Pair → State
-      mark_state p = record s { entries = set_at s.entries p (Some Marked); txns = with_txn s t (undoing (txn_at s t) (NewMarked first.applied)); pledges = with_places s t 0 (set_at s.entries p (Some Marked)) }
+      mark_state p = record s {
+        entries = set_at s.entries p (Some Marked);
+        txns = with_txn s t (undoing (txn_at s t) (NewMarked first.applied));
+        pledges = with_places s t 0 (set_at s.entries p (Some Marked));
+      }
 
       mark_is : (p : Pair) → new_pair (is_indexed v.life) c ≡ Some p → after s (Undo t) ≡ mark_state p
       mark_is p e = after_is ∙ ap stepped_by (first.does s t (txn_at s t) older.0 c ∙ ap (undone_first s t (txn_at s t) c older.0 first.applied) (new_is ∙ e))
@@ -193,18 +208,26 @@ module _ (v : CoreValue) (s : State) (k : Standing) (st : IsState v s k) (t : �
       mark_says : (p : Pair) → new_pair (is_indexed v.life) c ≡ Some p → action_of s (Undo t) ≡ Some (undo t NewEntry c false)
       mark_says p e = action_is ∙ first.says (is_indexed s.life) t older.0 c ∙ ap (λ q. Some (begun_action t c (old_pair (is_indexed s.life) c) q)) (new_is ∙ e)
 
-      begun_answers : v.last < LAST_NUMBER → (new : Option Pair) → new_pair (is_indexed v.life) c ≡ new → Answers v s k (Event.Undo t) Undone (undo_begun v t c (old_pair (is_indexed v.life) c) new)
+      begun_answers : v.last < LAST_NUMBER → (new : Option Pair) → new_pair (is_indexed v.life) c ≡ new
+          → Answers v s k (Event.Undo t) Undone (undo_begun v t c (old_pair (is_indexed v.life) c) new)
       begun_answers numbered None e = row_answers (sets_first s c (txn_at s t).phase first (new_is ∙ e)) numbered
       begun_answers numbered (Some p) e =
           answer numbered _
           (subst (λ z. Shows (undo_begun v t c (old_pair (is_indexed v.life) c) (Some p)) z (record k { made = k.made + 1 })) (sym (mark_is p e))
-          (entry_moved v s k h t x here (put_at UndoesRow (reserved_of (txn_shown v t) - pledges_used (get v.index.entries p)) x) (undoing (txn_at s t) (NewMarked first.applied)) (record { changes = still_listed; phase = (first.applied, refl); rolling = refl }) _ (put_now v.txns.active t x here UndoesRow _) (undo_begun v t c (old_pair (is_indexed v.life) c) (Some p)).outbox p Marked (ap (λ n. n - pledges_used (get v.index.entries p)) same_places) (new_paid v s k st t x here c older.0 older.1 p e) within))
+          (entry_moved v s k h t x here (put_at UndoesRow (reserved_of (txn_shown v t) - pledges_used (get v.index.entries p)) x)
+          (undoing (txn_at s t) (NewMarked first.applied)) (record { changes = still_listed; phase = (first.applied, refl); rolling = refl }) _
+          (put_now v.txns.active t x here UndoesRow _) (undo_begun v t c (old_pair (is_indexed v.life) c) (Some p)).outbox p Marked
+          (ap (λ n. n - pledges_used (get v.index.entries p)) same_places) (new_paid v s k st t x here c older.0 older.1 p e) within))
           (ap (λ a. v.outbox ++ one_record v.last a) (sym (mark_says p e)))
 
     -- ---- the old entry is live again
     module _ (is_set : (txn_at s t).phase ≡ OldSet) (p : Pair) (pair : old_pair (is_indexed v.life) c ≡ Some p) where
       abbrev live_state : State
-      live_state = record s { entries = set_at s.entries p (Some Live); txns = with_txn s t (without_newest older.0); pledges = with_places s t 0 (set_at s.entries p (Some Live)) }
+      live_state = record s {
+        entries = set_at s.entries p (Some Live);
+        txns = with_txn s t (without_newest older.0);
+        pledges = with_places s t 0 (set_at s.entries p (Some Live));
+      }
 
       live_is : after s (Undo t) ≡ live_state
       live_is = after_is ∙ ap (λ phase. stepped_by (undone s t (txn_at s t) (older.0 ▹ c) phase)) is_set
@@ -217,7 +240,9 @@ module _ (v : CoreValue) (s : State) (k : Standing) (st : IsState v s k) (t : �
       live_answers numbered =
           answer numbered _
           (subst (λ z. Shows (entry_restored v t c p) z (record k { made = k.made + 1 })) (sym live_is)
-          (entry_moved v s k h t x here (without_last (put_at Rolling (reserved_of (txn_shown v t) - pledges_used (get v.index.entries p)) x)) (without_newest older.0) (popped_txn _) _ (popped_list _) (entry_restored v t c p).outbox p Live (ap (λ n. n - pledges_used (get v.index.entries p)) same_places) (old_paid v s k st t x here c older.0 older.1 p pair) within))
+          (entry_moved v s k h t x here (without_last (put_at Rolling (reserved_of (txn_shown v t) - pledges_used (get v.index.entries p)) x))
+          (without_newest older.0) (popped_txn _) _ (popped_list _) (entry_restored v t c p).outbox p Live
+          (ap (λ n. n - pledges_used (get v.index.entries p)) same_places) (old_paid v s k st t x here c older.0 older.1 p pair) within))
           (ap (λ a. v.outbox ++ one_record v.last a) (sym live_says))
 
     -- ---- nothing but a number or memory refuses it
@@ -235,7 +260,8 @@ module _ (v : CoreValue) (s : State) (k : Standing) (st : IsState v s k) (t : �
     spent_answers le = no_number v s k h (Event.Undo t) (known v s k h t x here) tt refl Undone (Undo t) (inr (changed, refl), refl) (λ n. n) makes le
 
     wants_answers : v.last < LAST_NUMBER → Answers v s k (Event.Undo t) (Refused Error.NoMemory) v
-    wants_answers numbered = wants_memory v s k h (Event.Undo t) (known v s k h t x here) tt refl Undone (Undo t) (inr (changed, refl), refl) (λ n. n) (λ n. numbered) (inl makes)
+    wants_answers numbered = wants_memory v s k h (Event.Undo t) (known v s k h t x here) tt refl Undone (Undo t) (inr (changed, refl), refl) (λ n. n) (λ n.
+        numbered) (inl makes)
 
   -- ---- no change is left
   module _ (none : last_change x ≡ None) where
@@ -252,7 +278,8 @@ module _ (v : CoreValue) (s : State) (k : Standing) (st : IsState v s k) (t : �
     empty_state = record s { txns = with_txn s t (undoing (txn_at s t) (txn_at s t).phase); pledges = with_places s t 0 s.entries }
 
     empty_is : after s (Undo t) ≡ empty_state
-    empty_is = ap (λ cs. record (undone s t (txn_at s t) cs (txn_at s t).phase) { pledges = with_places s t 0 (undone s t (txn_at s t) cs (txn_at s t).phase).entries }) empty
+    empty_is = ap (λ cs. record (undone s t (txn_at s t) cs (txn_at s t).phase)
+        { pledges = with_places s t 0 (undone s t (txn_at s t) cs (txn_at s t).phase).entries }) empty
 
     no_action : action_of s (Undo t) ≡ None
     no_action = ap (λ cs. undo_action (is_indexed s.life) t cs (txn_at s t).phase) empty
@@ -305,8 +332,10 @@ module _ (v : CoreValue) (s : State) (k : Standing) (st : IsState v s k) (t : �
         sums r n r' e = omega (arith, e)
 
     empty_answers : Answers v s k (Event.Undo t) Empty (newest_taken_off v t)
-    empty_answers = made v s k h (Event.Undo t) (known v s k h t x here) tt refl Empty (Undo t) (inl (empty, refl), refl) (λ n. n) (λ n. absurd (n no_action)) (newest_taken_off v t)
-        (subst (λ z. Shows (newest_taken_off v t) z k) (sym empty_is) (moved_shown v s k h t x here (without_last x) (newest_taken_off v t) empty_state k did_nothing))
+    empty_answers = made v s k h (Event.Undo t) (known v s k h t x here) tt refl Empty (Undo t) (inl (empty, refl), refl) (λ n. n) (λ n. absurd (n no_action))
+        (newest_taken_off v t)
+        (subst (λ z. Shows (newest_taken_off v t) z k) (sym empty_is)
+        (moved_shown v s k h t x here (without_last x) (newest_taken_off v t) empty_state k did_nothing))
         (sym (append-nil v.outbox) ∙ ap (λ o. v.outbox ++ one_record v.last o) (sym no_action))
 
 -- ---- whether a transaction is active
@@ -325,7 +354,8 @@ is_there (Some x) e none = not_none refl none
 -- ---- whatever state the core stands for
 module _ (v : CoreValue) (t : ℕ) where
   -- a transaction that has no change, and one that is not active
-  pub nothing_left : option_and_then last_change (txn_shown v t) ≡ None → txn_shown v t ≢ None → (v' : CoreValue) → v' ≡ newest_taken_off v t → Serves v (Event.Undo t) Empty v'
+  pub nothing_left : option_and_then last_change (txn_shown v t) ≡ None → txn_shown v t ≢ None → (v' : CoreValue) → v' ≡ newest_taken_off v t
+      → Serves v (Event.Undo t) Empty v'
   nothing_left none active v' same s k is =
       let x = there v t active in
       subst (Answers v s k (Event.Undo t) Empty) (sym same) (empty_answers v s k is t x.0 x.1 (ap (option_and_then last_change) (sym x.1) ∙ none))
@@ -339,12 +369,14 @@ module _ (v : CoreValue) (t : ℕ) where
 
     pub undo_refused : (error : Error) → HasNoRecord v t error → Serves v (Event.Undo t) (Refused error) v
     undo_refused error (inl why) s k is = subst (λ n. Answers v s k (Event.Undo t) (Refused n) v) (sym why.0) (undo_unknown why.1 s k is)
-    undo_refused error (inr why) s k is = subst (λ n. Answers v s k (Event.Undo t) (Refused n) v) (sym why.0) (spent_answers v s k is t of_txn.0 of_txn.1 c of_txn.2 why.2)
+    undo_refused error (inr why) s k is = subst (λ n. Answers v s k (Event.Undo t) (Refused n) v) (sym why.0)
+        (spent_answers v s k is t of_txn.0 of_txn.1 c of_txn.2 why.2)
 
     module _ (has : HasRecord v t) where
       pub undo_wants : (error : Error) (v' : CoreValue) → error ≡ Error.NoMemory → v' ≡ v → Serves v (Event.Undo t) (Refused error) v'
       undo_wants error v' e same s k is =
-          subst (λ w. Answers v s k (Event.Undo t) (Refused error) w) (sym same) (subst (λ n. Answers v s k (Event.Undo t) (Refused n) v) (sym e) (wants_answers v s k is t of_txn.0 of_txn.1 c of_txn.2 has.numbered))
+          subst (λ w. Answers v s k (Event.Undo t) (Refused error) w) (sym same)
+          (subst (λ n. Answers v s k (Event.Undo t) (Refused n) v) (sym e) (wants_answers v s k is t of_txn.0 of_txn.1 c of_txn.2 has.numbered))
 
       -- by how far the transaction is
       module _ (f : Progress) (at_f : ◌≡◌ {A = Option Progress} (Some f) (option_map (λ (y : TxnState). y.progress) (txn_shown v t))) where
@@ -358,25 +390,33 @@ module _ (v : CoreValue) (t : ℕ) where
         entry_there : (s : State) (k : Standing) (is : IsState v s k) → f ≡ UndoesEntry → (p : Pair) × (old_pair (is_indexed v.life) c ≡ Some p)
         entry_there s k is is_entry =
             let first = newest_last v s k is t of_txn.0 of_txn.1 c of_txn.2 in
-            let has_shape : HasShape (is_indexed s.life) c OldSet = subst (HasShape (is_indexed s.life) c) (phase s k is UndoesEntry is_entry) (shape v s k is t of_txn.0 of_txn.1 c first.0 first.1) in
+            let has_shape : HasShape (is_indexed s.life) c OldSet =
+            subst (HasShape (is_indexed s.life) c) (phase s k is UndoesEntry is_entry) (shape v s k is t of_txn.0 of_txn.1 c first.0 first.1) in
             (has_shape.it, ap (λ life. old_pair (is_indexed life) c) (sym is.shown.life) ∙ has_shape.is)
 
         pub entry_moved_back : part_to_undo f ≡ OldEntry → IsSafe v → old_pair (is_indexed v.life) c ≢ None
         entry_moved_back is_entry safe = not_none (entry_there safe.state safe.standing safe.is (undoes_entry f is_entry)).1
 
         pub row_back : part_to_undo f ≡ Slot → (v' : CoreValue) → v' ≡ row_restored v t c (old_pair (is_indexed v.life) c) → Serves v (Event.Undo t) Undone v'
-        row_back is_row v' same s k is = subst (Answers v s k (Event.Undo t) Undone) (sym same) (row_answers v s k is t of_txn.0 of_txn.1 c of_txn.2 (sets_second s c (txn_at s t).phase (phase s k is UndoesRow (undoes_row f is_row))) has.numbered)
+        row_back is_row v' same s k is = subst (Answers v s k (Event.Undo t) Undone) (sym same)
+            (row_answers v s k is t of_txn.0 of_txn.1 c of_txn.2
+            (sets_second s c (txn_at s t).phase (phase s k is UndoesRow (undoes_row f is_row))) has.numbered)
 
-        pub begun_back : part_to_undo f ≡ NewEntry → (v' : CoreValue) → v' ≡ undo_begun v t c (old_pair (is_indexed v.life) c) (new_pair (is_indexed v.life) c) → Serves v (Event.Undo t) Undone v'
-        begun_back un v' same s k is = subst (Answers v s k (Event.Undo t) Undone) (sym same) (begun_answers v s k is t of_txn.0 of_txn.1 c of_txn.2 (first_by f (txn_at s t).phase un (phase s k is f refl)) has.numbered _ refl)
+        pub begun_back : part_to_undo f ≡ NewEntry → (v' : CoreValue) → v' ≡ undo_begun v t c (old_pair (is_indexed v.life) c) (new_pair (is_indexed v.life) c)
+            → Serves v (Event.Undo t) Undone v'
+        begun_back un v' same s k is = subst (Answers v s k (Event.Undo t) Undone) (sym same)
+            (begun_answers v s k is t of_txn.0 of_txn.1 c of_txn.2 (first_by f (txn_at s t).phase un (phase s k is f refl)) has.numbered _ refl)
 
-        pub entry_back : part_to_undo f ≡ OldEntry → (v' : CoreValue) → ((p : Pair) → old_pair (is_indexed v.life) c ≡ Some p → v' ≡ entry_restored v t c p) → Serves v (Event.Undo t) Undone v'
+        pub entry_back : part_to_undo f ≡ OldEntry → (v' : CoreValue) → ((p : Pair) → old_pair (is_indexed v.life) c ≡ Some p → v' ≡ entry_restored v t c p)
+            → Serves v (Event.Undo t) Undone v'
         entry_back is_entry v' same s k is =
             let p = entry_there s k is (undoes_entry f is_entry) in
-            subst (Answers v s k (Event.Undo t) Undone) (sym (same p.0 p.1)) (live_answers v s k is t of_txn.0 of_txn.1 c of_txn.2 (phase s k is UndoesEntry (undoes_entry f is_entry)) p.0 p.1 has.numbered)
+            subst (Answers v s k (Event.Undo t) Undone) (sym (same p.0 p.1))
+            (live_answers v s k is t of_txn.0 of_txn.1 c of_txn.2 (phase s k is UndoesEntry (undoes_entry f is_entry)) p.0 p.1 has.numbered)
 
 -- ---- what the code needs to know
-pub old_enough : (v : CoreValue) (t : ℕ) (c : ChangeValue) → option_and_then last_change (txn_shown v t) ≡ Some c → (p : Pair) → old_pair (is_indexed v.life) c ≡ Some p → IsSafe v → pledges_used (get v.index.entries p) ≤ reserved_of (txn_shown v t)
+pub old_enough : (v : CoreValue) (t : ℕ) (c : ChangeValue) → option_and_then last_change (txn_shown v t) ≡ Some c → (p : Pair)
+    → old_pair (is_indexed v.life) c ≡ Some p → IsSafe v → pledges_used (get v.index.entries p) ≤ reserved_of (txn_shown v t)
 old_enough v t c newest p pair safe =
     let x = some_txn (txn_shown v t) c newest in
     let first = newest_last v safe.state safe.standing safe.is t x.0 x.1 c x.2 in

@@ -15,7 +15,8 @@ on_success P Q (Ok x) is h = h
 on_success P Q (Err e) is h = absurd cc
 
 -- one record more
-pub one_more : (old mid : CoreValue) (before taken after rest : List RecordValue) (x : RecordValue) → HandsOn old mid before taken → 0 < length mid.outbox → x ≡ slice_index_or mid.outbox 0 x → rest ≡ drop 1 mid.outbox → after ≡ taken ++ x ∷ []
+pub one_more : (old mid : CoreValue) (before taken after rest : List RecordValue) (x : RecordValue) → HandsOn old mid before taken → 0 < length mid.outbox
+    → x ≡ slice_index_or mid.outbox 0 x → rest ≡ drop 1 mid.outbox → after ≡ taken ++ x ∷ []
     → HandsOn old (record mid { outbox = rest }) before after
 one_more old mid before taken after rest x on some first others more = record {
   handed = on.handed ++ x ∷ [];
@@ -29,7 +30,11 @@ one_more old mid before taken after rest x on some first others more = record {
 
 -- a core stays one, whatever waits
 other_outbox : (v : CoreValue) (waiting : List RecordValue) → IsSafe v → IsSafe (record v { outbox = waiting })
-other_outbox v waiting safe = record { state = safe.state; standing = safe.standing; is = record { shown = shown; fit = safe.is.fit; standing = safe.is.standing; counted = safe.is.counted } }
+other_outbox v waiting safe = record {
+  state = safe.state;
+  standing = safe.standing;
+  is = record { shown = shown; fit = safe.is.fit; standing = safe.is.standing; counted = safe.is.counted };
+}
   where
     h : Shows v safe.state safe.standing
     h = safe.is.shown
@@ -48,7 +53,15 @@ other_outbox v waiting safe = record { state = safe.state; standing = safe.stand
       places = h.places;
       cleaned = h.cleaned;
       bound = h.bound;
-      scan = record { run = h.scan.run; made = h.scan.made; given = h.scan.given; missed = h.scan.missed; taken = h.scan.taken; in_a_row = h.scan.in_a_row; untaken = h.scan.untaken };
+      scan = record {
+        run = h.scan.run;
+        made = h.scan.made;
+        given = h.scan.given;
+        missed = h.scan.missed;
+        taken = h.scan.taken;
+        in_a_row = h.scan.in_a_row;
+        untaken = h.scan.untaken;
+      };
       made = h.made;
       begun = h.begun;
       active = h.active;

@@ -106,7 +106,8 @@ module _ (f g : Pair → Bool) (weaker : (q : Pair) → f q ≡ true → g q ≡
   fewer [] m found = absurd (some_none m found)
   fewer (e ∷ es) m found = by (fewer es m) (eq_by_cmp pair_cmp p e.0) refl found
     where
-      by : (find pair_cmp p es ≡ Some m → passing f es < passing g es) → (b : Bool) → eq_by_cmp pair_cmp p e.0 ≡ b → cond b (Some e.1) (find pair_cmp p es) ≡ Some m → passing f (e ∷ es) < passing g (e ∷ es)
+      by : (find pair_cmp p es ≡ Some m → passing f es < passing g es) → (b : Bool) → eq_by_cmp pair_cmp p e.0 ≡ b
+          → cond b (Some e.1) (find pair_cmp p es) ≡ Some m → passing f (e ∷ es) < passing g (e ∷ es)
       by rest true is found =
           let same : p ≡ e.0 = key_is pair_exact p e.0 is in
           fewer_here (f e.0) (g e.0) (passing f es) (passing g es) (ap f (sym same) ∙ out) (ap g (sym same) ∙ within) (no_more es)
@@ -129,10 +130,14 @@ fewer_left all last e least = fewer (above (Some e.0)) (above last) (λ q later.
 module _ (v : CoreValue) (safe : ∥ IsSafe v ∥₁) where
   fits : FitsStore (opened_of v)
   fits = record {
-    rows = λ r row is. ∥∥₁_elim safe le_prop (λ at. let h = at.is.fit.rows r row (ap (λ (t : Table). get t r) at.is.shown.rows ∙ is) in let e = at.is.shown.pages in omega (arith, h, e));
-    entries = λ p here. ∥∥₁_elim safe le_prop (λ at. let h = at.is.fit.inside.entries p (λ none. here (ap (λ (m : Index). get m p) (sym at.is.shown.entries) ∙ none)) in let e = at.is.shown.pages in omega (arith, h, e));
-    highest = λ p is. ∥∥₁_elim safe le_prop (λ at. let h = at.is.fit.inside.highest p (at.is.shown.life ∙ is) in let e = at.is.shown.pages in omega (arith, h, e));
-    room = ∥∥₁_elim safe le_prop (λ at. let h = at.is.fit.places.fits in let e = ap len at.is.shown.entries in let f = at.is.shown.places in omega (arith, h, e, f));
+    rows = λ r row is. ∥∥₁_elim safe le_prop (λ at. let h = at.is.fit.rows r row (ap (λ (t : Table). get t r) at.is.shown.rows ∙ is) in
+        let e = at.is.shown.pages in omega (arith, h, e));
+    entries = λ p here. ∥∥₁_elim safe le_prop (λ at. let h = at.is.fit.inside.entries p (λ none.
+        here (ap (λ (m : Index). get m p) (sym at.is.shown.entries) ∙ none)) in let e = at.is.shown.pages in omega (arith, h, e));
+    highest = λ p is. ∥∥₁_elim safe le_prop (λ at. let h = at.is.fit.inside.highest p (at.is.shown.life ∙ is) in let e = at.is.shown.pages in
+        omega (arith, h, e));
+    room = ∥∥₁_elim safe le_prop (λ at. let h = at.is.fit.places.fits in let e = ap len at.is.shown.entries in let f = at.is.shown.places in
+        omega (arith, h, e, f));
   }
 
   pub opens : EachMayStand v → EachIsShown v → CanOpen (opened_of v)

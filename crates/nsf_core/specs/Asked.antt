@@ -4,7 +4,8 @@ use Rattle.records.specs.declared.error.Error.{Error}
 use Rattle.records.specs.declared.error.Error.TheVariants.{NoMemory}
 use Rattle.core_contracts.specs.Events.{Event, Refused}
 use Rattle.txn_table.specs.declared.progress.Progress.{Progress}
-use Rattle.txn_table.specs.declared.progress.Progress.TheVariants.{OwesEntry, OwesRow, Ready, Rolling, UndoesEntry, UndoesRow}
+use Rattle.txn_table.specs.declared.progress.Progress.TheVariants.{OwesEntry, OwesRow, Ready, Rolling, UndoesEntry}
+use Rattle.txn_table.specs.declared.progress.Progress.TheVariants.{UndoesRow}
 use Rattle.nsf_core.specs.View.{CoreValue, Serves}
 use Rattle.nsf_core.specs.Moves.{txn_shown}
 use Rattle.nsf_core.specs.declared.reply.Owed.{Owed}

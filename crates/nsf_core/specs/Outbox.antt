@@ -3,7 +3,8 @@ use Rattle.std.specs.Prelude.{List, ◌++◌, ◌≡◌}
 use Rattle.records.specs.RecordValue.{RecordValue}
 use Rattle.nsf_core.specs.View.{CoreValue}
 
--- the first of the waiting records were handed on, in order, behind those that were taken before; the others still wait, and nothing else changed
+-- the first of the waiting records were handed on, in order, behind those that were taken before; the others still
+-- wait, and nothing else changed
 pub record HandsOn (old new : CoreValue) (before after : List RecordValue) : Type 0 where
   pub handed : List RecordValue
   pub split : old.outbox ≡ handed ++ new.outbox

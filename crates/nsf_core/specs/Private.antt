@@ -1,7 +1,8 @@
 -- Words for the private steps of the core. No public clause cites them.
 use Rattle.std.specs.FinMap as map
 use Rattle.std.specs.FinMap.{get, len}
-use Rattle.std.specs.Prelude.{◌≤◌, ◌-◌, List, None, Option, Some, [], length, true, ℕ, ◌++◌, ◌+◌, ◌<◌, ◌∷◌, ◌≡◌, ◌≢◌, ◌⊎◌, false, Contains, min, ◌^◌, ◌↔◌}
+use Rattle.std.specs.Prelude.{◌≤◌, ◌-◌, List, None, Option, Some, [], length, true, ℕ, ◌++◌, ◌+◌, ◌<◌, ◌∷◌, ◌≡◌, ◌≢◌}
+use Rattle.std.specs.Prelude.{◌⊎◌, false, Contains, min, ◌^◌, ◌↔◌}
 use Rattle.std.specs.declared.cmp.Ordering.TheVariants.{Less}
 use Rattle.records.specs.ChangeValue.{ChangeValue}
 use Rattle.records.specs.Maps.{set_at}
@@ -11,7 +12,8 @@ use Rattle.records.specs.Values.{Place}
 use Rattle.records.specs.declared.change.Rows.{Rows}
 use Rattle.records.specs.declared.change.TheConstants.{CHANGES_MAX}
 use Rattle.records.specs.declared.error.Error.{Error}
-use Rattle.records.specs.declared.error.Error.TheVariants.{Exhausted, IndexFull, NoIndex, NoSuchRow, NoSuchTxn, RowBusy, TooManyChanges, IndexExists, TxnsActive, NoMemory}
+use Rattle.records.specs.declared.error.Error.TheVariants.{Exhausted, IndexFull, NoIndex, NoSuchRow, NoSuchTxn, RowBusy}
+use Rattle.records.specs.declared.error.Error.TheVariants.{TooManyChanges, IndexExists, TxnsActive, NoMemory}
 use Rattle.records.specs.declared.row.Row.{Row}
 use Rattle.records.specs.declared.number.TheConstants.{LAST_NUMBER}
 use Rattle.records.specs.declared.limits.TheConstants.{PLACES_PER_CHANGE}
@@ -28,7 +30,8 @@ use Rattle.records.specs.declared.record.IndexAction.TheVariants as index_action
 use Rattle.heap_pages.specs.Pages.{IsPlaceInside, IsPairOnPage}
 use Rattle.txn_table.specs.Table.{TxnState, change_noted, holder_of, put_at}
 use Rattle.txn_table.specs.declared.progress.Progress.{Progress}
-use Rattle.txn_table.specs.declared.progress.Progress.TheVariants.{OwesEntry, OwesRow, Ready, Rolling, UndoesEntry, UndoesRow}
+use Rattle.txn_table.specs.declared.progress.Progress.TheVariants.{OwesEntry, OwesRow, Ready, Rolling, UndoesEntry}
+use Rattle.txn_table.specs.declared.progress.Progress.TheVariants.{UndoesRow}
 use Rattle.txn_table.specs.Table as table
 use Rattle.core_steps.specs.declared.step.Cell.{Cell}
 use Rattle.core_steps.specs.declared.step.Step.{Step}
@@ -65,11 +68,13 @@ pub record IsFreePlace (v : CoreValue) (r : Place) : Type 0 where
 
 -- there is room for the places of one more change
 abbrev pub HasPlacesLeft : CoreValue → Type 0
-HasPlacesLeft v = is_indexed v.life ≡ true → len v.index.entries + v.index.pledged + PLACES_PER_CHANGE ≤ v.index.capacity
+HasPlacesLeft v = is_indexed v.life ≡ true
+    → len v.index.entries + v.index.pledged + PLACES_PER_CHANGE ≤ v.index.capacity
 
 -- with an index, there is no room for the places of one more change
 abbrev pub LacksPlaces : CoreValue → Type 0
-LacksPlaces v = (is_indexed v.life ≡ true) × (v.index.capacity < len v.index.entries + v.index.pledged + PLACES_PER_CHANGE)
+LacksPlaces v = (is_indexed v.life ≡ true)
+    × (v.index.capacity < len v.index.entries + v.index.pledged + PLACES_PER_CHANGE)
 
 -- why a change that nothing else refuses has no room
 abbrev pub IsUnroomy : CoreValue → Error → Type 0
@@ -97,7 +102,8 @@ pub record MayStart (v : CoreValue) (t : ℕ) (r : Place) : Type 0 where
 -- why a transaction may change no row any more
 pub data IsUnable (v : CoreValue) (t : ℕ) (e : Error) : Type 0 where
   is_unknown : txn_shown v t ≡ None → e ≡ NoSuchTxn → IsUnable v t e
-  is_full : (x : TxnState) → txn_shown v t ≡ Some x → CHANGES_MAX ≤ length x.changes → e ≡ TooManyChanges → IsUnable v t e
+  is_full : (x : TxnState) → txn_shown v t ≡ Some x → CHANGES_MAX ≤ length x.changes → e ≡ TooManyChanges
+      → IsUnable v t e
 
 -- no other transaction holds the row
 abbrev pub IsMine : CoreValue → ℕ → Place → Type 0
@@ -108,7 +114,8 @@ pub data IsUnchangeable (v : CoreValue) (t : ℕ) (r : Place) (e : Error) : Type
   is_unable : IsUnable v t e → IsUnchangeable v t r e
   is_busy : IsAble v t → (u : ℕ) → holder_of r v.txns.active ≡ Some u → u ≢ t → e ≡ RowBusy → IsUnchangeable v t r e
   is_missing : IsAble v t → IsMine v t r → get v.heap.rows r ≡ None → e ≡ NoSuchRow → IsUnchangeable v t r e
-  is_unroomy : IsAble v t → IsMine v t r → (old : Row) → get v.heap.rows r ≡ Some old → IsUnroomy v e → IsUnchangeable v t r e
+  is_unroomy : IsAble v t → IsMine v t r → (old : Row) → get v.heap.rows r ≡ Some old → IsUnroomy v e
+      → IsUnchangeable v t r e
 
 -- the change that a transaction makes next
 abbrev pub next_change : CoreValue → ℕ → Place → Rows → ChangeValue
@@ -116,7 +123,10 @@ next_change v t r rows = record { position = changes_of (txn_shown v t); rid = r
 
 -- the core with one record more that waits
 abbrev pub with_record : CoreValue → Action → CoreValue
-with_record v action = record v { last = v.last + 1; outbox = v.outbox ++ record { number = v.last + 1; action = action } ∷ [] }
+with_record v action = record v {
+  last = v.last + 1;
+  outbox = v.outbox ++ record { number = v.last + 1; action = action } ∷ [];
+}
 
 -- how far a transaction is once its row is set
 abbrev pub row_progress : Option Pair → Progress
@@ -125,13 +135,17 @@ row_progress (Some p) = OwesEntry
 
 -- the transactions after one has noted a change, is so far, and has so many places
 abbrev pub change_begun : List (ℕ × TxnState) → ℕ → ChangeValue → Progress → ℕ → List (ℕ × TxnState)
-change_begun active t c progress reserved = table.with_state (put_at progress reserved) t (table.with_state (change_noted c) t active)
+change_begun active t c progress reserved = table.with_state (put_at progress reserved) t
+    (table.with_state (change_noted c) t active)
 
 -- the core after the first step of a change that sets the row
 abbrev pub row_first : CoreValue → ℕ → ChangeValue → CoreValue
 row_first v t c = record v {
   heap = record v.heap { rows = set_at v.heap.rows c.rid (new_row c.rows) };
-  txns = record v.txns { active = change_begun v.txns.active t c (row_progress (new_pair (is_indexed v.life) c)) (reserved_of (txn_shown v t) + places_of (is_indexed v.life)) };
+  txns = record v.txns {
+    active = change_begun v.txns.active t c (row_progress (new_pair (is_indexed v.life) c))
+        (reserved_of (txn_shown v t) + places_of (is_indexed v.life));
+  };
   index = record v.index { pledged = v.index.pledged + places_of (is_indexed v.life) };
   last = v.last + 1;
   outbox = v.outbox ++ record { number = v.last + 1; action = OfTxn t (Forward Slot c) } ∷ [];
@@ -139,7 +153,8 @@ row_first v t c = record v {
 
 -- why a transaction's next step, which nothing else refuses, has no record
 abbrev pub HasNoRecord : CoreValue → ℕ → Error → Type 0
-HasNoRecord v t e = ((e ≡ NoSuchTxn) × (txn_shown v t ≡ None)) ⊎ ((e ≡ Exhausted) × (txn_shown v t ≢ None) × (LAST_NUMBER ≤ v.last))
+HasNoRecord v t e = ((e ≡ NoSuchTxn) × (txn_shown v t ≡ None))
+    ⊎ ((e ≡ Exhausted) × (txn_shown v t ≢ None) × (LAST_NUMBER ≤ v.last))
 
 -- the transaction is active, and there is a number for its next record
 pub record HasRecord (v : CoreValue) (t : ℕ) : Type 0 where
@@ -158,8 +173,14 @@ ended v t action = record v {
 -- the core after the first step of a change that marks this entry
 abbrev pub mark_first : CoreValue → ℕ → ChangeValue → Pair → CoreValue
 mark_first v t c p = record v {
-  txns = record v.txns { active = change_begun v.txns.active t c OwesRow (reserved_of (txn_shown v t) + (PLACES_PER_CHANGE - pledges_used (get v.index.entries p))) };
-  index = record v.index { entries = set_at v.index.entries p (Some Marked); pledged = v.index.pledged + (PLACES_PER_CHANGE - pledges_used (get v.index.entries p)) };
+  txns = record v.txns {
+    active = change_begun v.txns.active t c OwesRow
+        (reserved_of (txn_shown v t) + (PLACES_PER_CHANGE - pledges_used (get v.index.entries p)));
+  };
+  index = record v.index {
+    entries = set_at v.index.entries p (Some Marked);
+    pledged = v.index.pledged + (PLACES_PER_CHANGE - pledges_used (get v.index.entries p));
+  };
   last = v.last + 1;
   outbox = v.outbox ++ record { number = v.last + 1; action = OfTxn t (Forward OldEntry c) } ∷ [];
 }
@@ -190,19 +211,27 @@ row_stepped v t progress r row action = record v {
 -- the core after a step of a transaction that gives an entry this mark, in a reserved place where there was none
 abbrev pub entry_stepped : CoreValue → ℕ → Progress → Pair → Mark → TxnAction → CoreValue
 entry_stepped v t progress p mark action = record v {
-  txns = record v.txns { active = table.with_state (put_at progress (reserved_of (txn_shown v t) - pledges_used (get v.index.entries p))) t v.txns.active };
-  index = record v.index { entries = set_at v.index.entries p (Some mark); pledged = v.index.pledged - pledges_used (get v.index.entries p) };
+  txns = record v.txns {
+    active = table.with_state (put_at progress
+        (reserved_of (txn_shown v t) - pledges_used (get v.index.entries p))) t v.txns.active;
+  };
+  index = record v.index {
+    entries = set_at v.index.entries p (Some mark);
+    pledged = v.index.pledged - pledges_used (get v.index.entries p);
+  };
   last = v.last + 1;
   outbox = v.outbox ++ record { number = v.last + 1; action = OfTxn t action } ∷ [];
 }
 
 -- why no index can be created, but for want of a number or of memory
 abbrev pub IsUncreatable : CoreValue → Error → Type 0
-IsUncreatable v e = ((e ≡ IndexExists) × (is_indexed v.life ≡ true)) ⊎ ((e ≡ TxnsActive) × (is_indexed v.life ≡ false) × (v.txns.active ≢ []))
+IsUncreatable v e = ((e ≡ IndexExists) × (is_indexed v.life ≡ true))
+    ⊎ ((e ≡ TxnsActive) × (is_indexed v.life ≡ false) × (v.txns.active ≢ []))
 
 -- the index is being built, and nothing of it is there yet
 abbrev pub index_created : CoreValue → CoreValue
-index_created v = with_record (record v { life = Building None; scan = begun None v.heap.pages; tried = 0 }) (OfIndex index_action.Create)
+index_created v = with_record (record v { life = Building None; scan = begun None v.heap.pages; tried = 0 })
+    (OfIndex index_action.Create)
 
 -- why the index can't be dropped, but for want of a number or of memory
 abbrev pub IsUndroppable : CoreValue → Error → Type 0
@@ -210,7 +239,13 @@ IsUndroppable v e = ((e ≡ NoIndex) × (v.life ≡ Absent)) ⊎ ((e ≡ TxnsAct
 
 -- there is no index any more, and nothing of it is left
 abbrev pub index_dropped : CoreValue → CoreValue
-index_dropped v = with_record (record v { index = record v.index { entries = map.empty }; life = Absent; scan = begun None v.heap.pages; cleaned = None; tried = 0 }) (OfIndex index_action.Drop)
+index_dropped v = with_record (record v {
+  index = record v.index { entries = map.empty };
+  life = Absent;
+  scan = begun None v.heap.pages;
+  cleaned = None;
+  tried = 0;
+}) (OfIndex index_action.Drop)
 
 -- a number is left for a record
 abbrev pub HasNextNumber : CoreValue → Type 0
@@ -240,7 +275,10 @@ pub record HasPassed (v : CoreValue) (p : Pair) (v' : CoreValue) : Type 0 where
 
 -- the builder's entry is there, with its record
 abbrev pub placed : CoreValue → Pair → CoreValue
-placed v p = with_record (record v { index = record v.index { entries = entries_after v.index.entries KeyAction.BuildPut p } }) (OfIndex (index_action.BuildPlace p))
+placed v p = with_record (record v {
+  index = record v.index
+      { entries = entries_after v.index.entries KeyAction.BuildPut p };
+}) (OfIndex (index_action.BuildPlace p))
 
 -- the core without the entry of this pair
 abbrev pub without_entry : CoreValue → Pair → CoreValue
@@ -255,15 +293,18 @@ HasPut v p built.Placed v' = IsAbsent v.index.entries p × (IsFull v.index → �
 abbrev pub HasAttempted : CoreValue → Pair → BuildReply → CoreValue → Type 0
 HasAttempted v p answer v' =
     ((answer ≡ reply.Rejected p) × (get v.index.entries p ≢ None) × HasPassed v p v')
-    ⊎ ((answer ≡ reply.Placed p) × IsAbsent v.index.entries p × (IsFull v.index → ⊥) × HasNextNumber v × HasPassed (placed v p) p v')
+    ⊎ ((answer ≡ reply.Placed p) × IsAbsent v.index.entries p × (IsFull v.index → ⊥) × HasNextNumber v
+    × HasPassed (placed v p) p v')
 
 -- why an attempt is refused: there is no place for the entry, or else no record can be made
 abbrev pub IsUnplaced : CoreValue → Pair → Error → Type 0
-IsUnplaced v p e = IsAbsent v.index.entries p × (((e ≡ IndexFull) × IsFull v.index) ⊎ ((IsFull v.index → ⊥) × IsUnrecorded v e))
+IsUnplaced v p e = IsAbsent v.index.entries p × (((e ≡ IndexFull) × IsFull v.index)
+    ⊎ ((IsFull v.index → ⊥) × IsUnrecorded v e))
 
 -- the pair attempted last is a checkpoint
 abbrev pub checkpointed : CoreValue → Pair → CoreValue
-checkpointed v p = with_record (record v { life = Building (Some p); tried = 0 }) (OfIndex (index_action.BuildCheckpoint p))
+checkpointed v p = with_record (record v { life = Building (Some p); tried = 0 })
+    (OfIndex (index_action.BuildCheckpoint p))
 
 -- the core behind the end of the build
 abbrev pub completed : CoreValue → CoreValue
@@ -277,7 +318,12 @@ pub record MayClean (v : CoreValue) (p : Pair) : Type 0 where
 
 -- the entry of this pair is out of the index, and the cleaner is there
 abbrev pub taken_out : CoreValue → Pair → CoreValue
-taken_out v p = with_record (record v { index = record v.index { entries = entries_after v.index.entries (KeyAction.Clean true) p }; cleaned = Some p }) (OfIndex (index_action.Clean p))
+taken_out v p = with_record (record v {
+  index = record v.index
+      { entries = entries_after v.index.entries (KeyAction.Clean true) p };
+  cleaned = Some p;
+})
+    (OfIndex (index_action.Clean p))
 
 -- the part of its newest change that a transaction so far takes back next
 abbrev pub part_to_undo : Progress → Part
@@ -290,7 +336,10 @@ part_to_undo UndoesEntry = OldEntry
 
 -- the newest change, where there is one, is off the list of the transaction, which is rolling back
 abbrev pub newest_taken_off : CoreValue → ℕ → CoreValue
-newest_taken_off v t = record v { txns = record v.txns { active = table.with_state table.without_last t v.txns.active } }
+newest_taken_off v t = record v {
+  txns = record v.txns
+      { active = table.with_state table.without_last t v.txns.active };
+}
 
 -- the row is as before the change; this old entry is then owed, and without one the undo is at its end
 abbrev pub row_restored : CoreValue → ℕ → ChangeValue → (old : Option Pair) → CoreValue

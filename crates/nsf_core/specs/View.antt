@@ -11,7 +11,8 @@ use Rattle.heap_pages.specs.Pages.{HeapValue}
 use Rattle.txn_table.specs.Table as table
 use Rattle.txn_table.specs.Table.{TableValue, TxnState, change_noted, holder_of, put_at, rolls}
 use Rattle.txn_table.specs.declared.progress.Progress.{Progress}
-use Rattle.txn_table.specs.declared.progress.Progress.TheVariants.{OwesEntry, OwesRow, Ready, Rolling, UndoesEntry, UndoesRow}
+use Rattle.txn_table.specs.declared.progress.Progress.TheVariants.{OwesEntry, OwesRow, Ready, Rolling, UndoesEntry}
+use Rattle.txn_table.specs.declared.progress.Progress.TheVariants.{UndoesRow}
 use Rattle.marked_index.specs.Index.{IndexValue}
 use Rattle.sorted_scan.specs.Runs.{ScanRun, is_given, is_missed, is_taken, taken_in_a_row}
 use Rattle.sorted_scan.specs.Scans.{HasRun, ScanValue}
@@ -111,7 +112,8 @@ pub record IsSafe (v : CoreValue) : Type 0 where
 -- ---- what a call does
 
 -- the reply is allowed, by this step, and its record, if it makes one, waits behind the others
-pub record Answers (old : CoreValue) (s : State) (k : Standing) (e : Event) (reply : Reply) (new : CoreValue) : Type 0 where
+pub record Answers (old : CoreValue) (s : State) (k : Standing) (e : Event) (reply : Reply)
+    (new : CoreValue) : Type 0 where
   pub step : Option MachineStep
   pub allowed : IsAllowed s k e reply step
   pub shown : Shows new (after_any s step) (standing_after k reply)

@@ -1,5 +1,6 @@
 //! The steps of the builder.
-ghost use Rattle.std.specs.Prelude.{◌≡◌, ◌≢◌, ◌≤◌, ◌<◌, ◌+◌, ◌++◌, ◌∷◌, ◌⊎◌, [], None, Some, IfOk, IfErr, IfSome, IfNone, OnOk, OnErr};
+ghost use Rattle.std.specs.Prelude.{◌≡◌, ◌≢◌, ◌≤◌, ◌<◌, ◌+◌, ◌++◌, ◌∷◌, ◌⊎◌, [], None, Some, IfOk, IfErr, IfSome};
+ghost use Rattle.std.specs.Prelude.{IfNone, OnOk, OnErr};
 ghost use Rattle.std.specs.FinMap as map;
 ghost use Rattle.records.specs.Maps.{set_at};
 ghost use Rattle.records.specs.declared.number.TheConstants.{LAST_NUMBER};
@@ -13,7 +14,8 @@ ghost use Rattle.nsf_core.specs.View.{IsSafe, Serves};
 ghost use Rattle.nsf_core.specs.Replies.{reply_by};
 ghost use Rattle.nsf_core.specs.Parts.{parts_of};
 ghost use Rattle.nsf_core.specs.Builds.{built};
-ghost use Rattle.nsf_core.specs.Private.{with_record, HasAttempted, HasPassed, HasPut, HasTaken, HasNextNumber, IsUnplaced, IsUnrecorded, checkpointed, completed, without_entry};
+ghost use Rattle.nsf_core.specs.Private.{with_record, HasAttempted, HasPassed, HasPut, HasTaken, HasNextNumber};
+ghost use Rattle.nsf_core.specs.Private.{IsUnplaced, IsUnrecorded, checkpointed, completed, without_entry};
 
 use crate::parts::{Parts, Ticket};
 use crate::reply::BuildReply;
@@ -126,7 +128,8 @@ impl<A: Allocator + Copy> Parts<A> {
     fn record_placed(&mut self, number: RecordNumber, pair: Pair) -> Result<(), Error>
         requires number { number ≡ (parts_of self.old).last + 1 }
         requires left { HasNextNumber (parts_of self.old) }
-        ensures ok { OnOk result (parts_of self.new ≡ with_record (parts_of self.old) (Action.OfIndex (action.BuildPlace pair))) }
+        ensures ok { OnOk result (parts_of self.new ≡ with_record (parts_of self.old)
+            (Action.OfIndex (action.BuildPlace pair))) }
         ensures taken_out { OnErr result (parts_of self.new ≡ without_entry (parts_of self.old) pair) }
         ensures no_memory { IfErr result (λ e. e ≡ Error.NoMemory) }
     {
@@ -185,7 +188,8 @@ impl<A: Allocator + Copy> Parts<A> {
 
     // The index's life is this now, as the record says.
     pub(crate) fn turn(&mut self, action: IndexAction, life: Life) -> Result<Ticket, Error>
-        ensures ok { OnOk result (parts_of self.new ≡ with_record (record (parts_of self.old) { life = life }) (Action.OfIndex action)) }
+        ensures ok { OnOk result (parts_of self.new ≡ with_record (record (parts_of self.old) { life = life })
+            (Action.OfIndex action)) }
         ensures left { OnOk result (HasNextNumber (parts_of self.old)) }
         ensures ticket { IfOk result (λ t. t.record ≡ (parts_of self.old).last + 1) }
         ensures no_commit { IfOk result (λ t. t.commit ≡ None) }

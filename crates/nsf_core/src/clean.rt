@@ -75,7 +75,8 @@ impl<A: Allocator + Copy> Parts<A> {
     // The cleaner's step at this entry.
     fn clean_at(&mut self, pair: &Pair) -> Result<CleanReply, Error>
         requires safe { ∥ IsSafe (parts_of self.old) ∥₁ }
-        requires entry { (mark : Mark) × IsLeastAbove (parts_of self.old).index.entries (parts_of self.old).cleaned (Some (pair.now, mark)) }
+        requires entry { (mark : Mark)
+            × IsLeastAbove (parts_of self.old).index.entries (parts_of self.old).cleaned (Some (pair.now, mark)) }
         requires indexed { pairs.is_indexed (parts_of self.old).life ≡ true }
         ensures { Serves (parts_of self.old) Event.Clean (reply_by cleaner result) (parts_of self.new) }
     {

@@ -28,7 +28,8 @@ impl<A: Allocator + Copy> Parts<A> {
 
     /// The places of the rows with this key, ascending.
     pub(crate) fn find(&self, key: Key) -> Result<Vec<Rid, A>, Error>
-        ensures { Serves (parts_of self.now) (Event.Find key) (reply_by (λ rids. Reply.Found rids.items) result) (parts_of self.now) }
+        ensures { Serves (parts_of self.now) (Event.Find key) (reply_by (λ rids. Reply.Found rids.items) result)
+            (parts_of self.now) }
     {
         match self.life {
             Life::Absent => Err(Error::NoIndex),

@@ -19,31 +19,42 @@ ghost use Rattle.nsf_core.specs.Moves.{IsUnready, OwesNone, txn_shown};
 
 /// A law: whatever state a core stands for, an answer leaves it standing for the state after its step.
 pub fn each_answer()
-    ensures { (old new : CoreValue) (s : State) (k : Standing) (e : Event) (reply : Reply) → IsState old s k → (a : Answers old s k e reply new) → IsState new (after_any s a.step) (standing_after k reply) }
+    ensures { (old new : CoreValue) (s : State) (k : Standing) (e : Event) (reply : Reply) → IsState old s k
+        → (a : Answers old s k e reply new) → IsState new (after_any s a.step) (standing_after k reply) }
 {}
 
-/// A law: the record of each step of a change, and of its undo, is that of the step of `core_steps` that comes after those that
-/// were made.
+/// A law: the record of each step of a change, and of its undo, is that of the step of `core_steps` that comes after
+/// those that were made.
 pub fn each_change()
-    ensures first { (s : State) (t : ℕ) (c : ChangeValue) → action_of s (Start t c) ≡ forward_record (is_indexed s.life) t c 0 }
-    ensures next { (s : State) (t : ℕ) → IsWellFormed s → IsActive s t → (older : Changes) (c : ChangeValue) → (txn_at s t).changes ≡ older ▹ c
-        → action_of s (Next t) ≡ forward_record (is_indexed s.life) t c (forward_made (is_indexed s.life) c (txn_at s t).phase) }
-    ensures undo { (s : State) (t : ℕ) → IsWellFormed s → IsActive s t → (older : Changes) (c : ChangeValue) → (txn_at s t).changes ≡ older ▹ c
-        → action_of s (Undo t) ≡ undo_record (is_indexed s.life) t c (undo_made (is_indexed s.life) c (txn_at s t).phase) }
+    ensures first { (s : State) (t : ℕ) (c : ChangeValue)
+        → action_of s (Start t c) ≡ forward_record (is_indexed s.life) t c 0 }
+    ensures next { (s : State) (t : ℕ) → IsWellFormed s → IsActive s t → (older : Changes) (c : ChangeValue)
+        → (txn_at s t).changes ≡ older ▹ c
+        → action_of s (Next t) ≡ forward_record (is_indexed s.life) t c
+        (forward_made (is_indexed s.life) c (txn_at s t).phase) }
+    ensures undo { (s : State) (t : ℕ) → IsWellFormed s → IsActive s t → (older : Changes) (c : ChangeValue)
+        → (txn_at s t).changes ≡ older ▹ c
+        → action_of s (Undo t) ≡ undo_record (is_indexed s.life) t c
+        (undo_made (is_indexed s.life) c (txn_at s t).phase) }
 {}
 
 /// A law: a call that is refused, be it for want of memory, leaves the core as it was.
 pub fn refused_calls()
-    ensures { (old new : CoreValue) (e : Event) (error : Error) → IsSafe old → Serves old e (Refused error) new → new ≡ old }
+    ensures { (old new : CoreValue) (e : Event) (error : Error) → IsSafe old → Serves old e (Refused error) new
+        → new ≡ old }
 {}
 
 /// A law: which events of an active transaction are to be skipped. A change, or a commit, of one that owes a step or is
 /// rolling back; the next step of one that owes none; and the end of one that has a change left.
 pub fn skipped_events()
-    ensures insert { (v : CoreValue) (t : ℕ) (row : Row) → IsUnready (txn_shown v t) → Serves v (Event.Insert t row) Reply.Skipped v }
-    ensures delete { (v : CoreValue) (t : ℕ) (r : Place) → IsUnready (txn_shown v t) → Serves v (Event.Delete t r) Reply.Skipped v }
-    ensures update { (v : CoreValue) (t : ℕ) (r : Place) (row : Row) → IsUnready (txn_shown v t) → Serves v (Event.Update t r row) Reply.Skipped v }
+    ensures insert { (v : CoreValue) (t : ℕ) (row : Row) → IsUnready (txn_shown v t)
+        → Serves v (Event.Insert t row) Reply.Skipped v }
+    ensures delete { (v : CoreValue) (t : ℕ) (r : Place) → IsUnready (txn_shown v t)
+        → Serves v (Event.Delete t r) Reply.Skipped v }
+    ensures update { (v : CoreValue) (t : ℕ) (r : Place) (row : Row) → IsUnready (txn_shown v t)
+        → Serves v (Event.Update t r row) Reply.Skipped v }
     ensures commit { (v : CoreValue) (t : ℕ) → IsUnready (txn_shown v t) → Serves v (Event.Commit t) Reply.Skipped v }
     ensures step { (v : CoreValue) (t : ℕ) → OwesNone (txn_shown v t) → Serves v (Event.Step t) Reply.Skipped v }
-    ensures end { (v : CoreValue) (t : ℕ) (x : TxnState) → txn_shown v t ≡ Some x → x.changes ≢ [] → Serves v (Event.End t) Reply.Skipped v }
+    ensures end { (v : CoreValue) (t : ℕ) (x : TxnState) → txn_shown v t ≡ Some x → x.changes ≢ []
+        → Serves v (Event.End t) Reply.Skipped v }
 {}

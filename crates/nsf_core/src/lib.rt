@@ -1,12 +1,12 @@
 //! The core with its index: transactions, the index's builder and its cleaner, in memory. Each
 //! accepted step makes at most one record of the log.
 //!
-//! Proved of each call: its reply is one that `core_contracts` allows, its step the abstract core's, and its record waits behind
-//! the others (`Serves`). A refusal leaves the value as it was (`refused_calls`). `take_outbox` hands records on in order
-//! (`handed`, `most`). `can_open` is true just where a core may begin with what this one holds (`opened_of`). `detach_index` drops
-//! the index and answers its entries (`taken`). `page_slots` and `run_above` read a page's rows and the entries, some at once.
-//! Only tested (`store_tests`, `replay_rows`): that calls succeed where there is memory, and worked examples. Neither: when memory
-//! is freed.
+//! Proved of each call: its reply is one that `core_contracts` allows, its step the abstract core's, and its record
+//! waits behind the others (`Serves`). A refusal leaves the value as it was (`refused_calls`). `take_outbox` hands
+//! records on in order (`handed`, `most`). `can_open` is true just where a core may begin with what this one holds
+//! (`opened_of`). `detach_index` drops the index and answers its entries (`taken`). `page_slots` and `run_above` read a
+//! page's rows and the entries, some at once. Only tested (`store_tests`, `replay_rows`): that calls succeed where
+//! there is memory, and worked examples. Neither: when memory is freed.
 #![tactic(auto)]
 
 mod build;

@@ -35,7 +35,8 @@ impl<A: Allocator + Copy> Parts<A> {
         requires has { HasRecord (parts_of self.old) txn }
         requires newest { option_and_then table.last_change (txn_shown (parts_of self.old) txn) ≡ Some change }
         requires number { number ≡ (parts_of self.old).last + 1 }
-        ensures { Serves (parts_of self.old) (Event.Step txn) (reply_by (λ _. Reply.Stepped) result) (parts_of self.new) }
+        ensures { Serves (parts_of self.old) (Event.Step txn) (reply_by (λ _. Reply.Stepped) result)
+            (parts_of self.new) }
     {
         let indexed = self.indexed();
         match self.txns.progress(txn) {
@@ -59,7 +60,8 @@ impl<A: Allocator + Copy> Parts<A> {
     pub(crate) fn next_step(&mut self, txn: Txn) -> Result<(), Error>
         requires safe { ∥ IsSafe (parts_of self.old) ∥₁ }
         requires asked { OwesOrNone (txn_shown (parts_of self.old) txn) }
-        ensures { Serves (parts_of self.old) (Event.Step txn) (reply_by (λ _. Reply.Stepped) result) (parts_of self.new) }
+        ensures { Serves (parts_of self.old) (Event.Step txn) (reply_by (λ _. Reply.Stepped) result)
+            (parts_of self.new) }
     {
         let number = self.number_for(txn)?;
         let change = self.owed_change(txn);

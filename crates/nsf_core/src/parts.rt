@@ -1,5 +1,6 @@
 //! What a core consists of, and what its steps do to it.
-ghost use Rattle.std.specs.Prelude.{◌≡◌, ◌≢◌, ◌≤◌, ◌<◌, ◌+◌, ◌-◌, ◌++◌, ◌∷◌, [], None, Some, true, false, IfOk, IfErr, IfSome, IfNone, OnOk, OnErr, IsTrue, ◌↔◌};
+ghost use Rattle.std.specs.Prelude.{◌≡◌, ◌≢◌, ◌≤◌, ◌<◌, ◌+◌, ◌-◌, ◌++◌, ◌∷◌, [], None, Some, true, false, IfOk, IfErr};
+ghost use Rattle.std.specs.Prelude.{IfSome, IfNone, OnOk, OnErr, IsTrue, ◌↔◌};
 ghost use Rattle.std.specs.FinMap as map;
 ghost use Rattle.records.specs.Maps.{set_at};
 ghost use Rattle.std.specs.Prelude.{option_and_then};
@@ -16,7 +17,10 @@ ghost use Rattle.txn_table.specs.Table as table;
 ghost use Rattle.nsf_core.specs.View.{CoreValue, IsSafe, Serves};
 ghost use Rattle.nsf_core.specs.Moves.{HasNoChange, IsReadyOrNone, fresh, txn_shown};
 ghost use Rattle.nsf_core.specs.Replies.{reply_by, reply_of_ticket};
-ghost use Rattle.nsf_core.specs.Private.{IsUnchangeable, entry_in, first_made, mark_first, HasPlacesLeft, HasNoRecord, HasRecord, ended, IsAble, IsFreePlace, IsPlaceFor, IsUnroomy, MayStart, changes_of, next_change, reserved_of, row_first, row_progress, change_begun, HasNextNumber};
+ghost use Rattle.nsf_core.specs.Private.{IsUnchangeable, entry_in, first_made, mark_first, HasPlacesLeft, HasNoRecord};
+ghost use Rattle.nsf_core.specs.Private.{HasRecord, ended, IsAble, IsFreePlace, IsPlaceFor, IsUnroomy, MayStart};
+ghost use Rattle.nsf_core.specs.Private.{changes_of, next_change, reserved_of, row_first, row_progress, change_begun};
+ghost use Rattle.nsf_core.specs.Private.{HasNextNumber};
 ghost use Rattle.txn_table.specs.Sound.{IsSound};
 ghost use Rattle.nsf_core.specs.Parts.{parts_of};
 
@@ -43,8 +47,8 @@ pub struct Ticket {
     pub commit: Option<u64>,
 }
 
-/// An index that was dropped: the record that tells of it, and the entries, in the memory that they have. It is freed where this
-/// is let go, in a time that grows with their number.
+/// An index that was dropped: the record that tells of it, and the entries, in the memory that they have. It is freed
+/// where this is let go, in a time that grows with their number.
 #[derive(Drop)]
 pub struct Detached<A: Allocator> {
     /// The record of the dropping.
@@ -89,8 +93,10 @@ fn number_after(last: u64) -> Option<RecordNumber>
 
 // Whether the places of one more change may be reserved; without an index it needs none.
 fn may_reserve<A: Allocator + Clone>(index: &MarkedIndex<A>, indexed: bool) -> bool
-    ensures yes { IsTrue result → indexed ≡ true → map.len index.now.entries + index.now.pledged + PLACES_PER_CHANGE ≤ index.now.capacity }
-    ensures no { result ≡ false → (indexed ≡ true) × (index.now.capacity < map.len index.now.entries + index.now.pledged + PLACES_PER_CHANGE) }
+    ensures yes { IsTrue result → indexed ≡ true
+        → map.len index.now.entries + index.now.pledged + PLACES_PER_CHANGE ≤ index.now.capacity }
+    ensures no { result ≡ false → (indexed ≡ true)
+        × (index.now.capacity < map.len index.now.entries + index.now.pledged + PLACES_PER_CHANGE) }
 {
     if indexed { index.can_pledge() } else { true }
 }
@@ -123,7 +129,8 @@ fn note<A: Allocator + Copy>(
     change: Change,
 ) -> Result<(), Error>
     requires { table.touch_refusal txn change.rid txns.old.active ≡ None }
-    ensures txns { OnOk result (txns.new ≡ record txns.old { active = table.with_state (table.change_noted change) txn txns.old.active }) }
+    ensures txns { OnOk result (txns.new ≡ record txns.old
+        { active = table.with_state (table.change_noted change) txn txns.old.active }) }
     ensures held { OnOk result (table.holder_of change.rid txns.new.active ≡ Some txn) }
     ensures outbox { OnOk result (outbox.new.items ≡ outbox.old.items ++ made ∷ []) }
     ensures unchanged { OnErr result ((txns.new ≡ txns.old) × (outbox.new.items ≡ outbox.old.items)) }
@@ -146,10 +153,14 @@ fn reserve<A: Allocator + Copy>(
     progress: Progress,
     reserved: usize,
 )
-    requires room { indexed ≡ true → map.len index.old.entries + index.old.pledged + PLACES_PER_CHANGE ≤ index.old.capacity }
+    requires room { indexed ≡ true
+        → map.len index.old.entries + index.old.pledged + PLACES_PER_CHANGE ≤ index.old.capacity }
     requires few { reserved ≤ 65536 }
     ensures index { index.new ≡ record index.old { pledged = index.old.pledged + places_of indexed } }
-    ensures txns { txns.new ≡ record txns.old { active = table.with_state (table.put_at progress (reserved + places_of indexed)) txn txns.old.active } }
+    ensures txns { txns.new ≡ record txns.old {
+      active = table.with_state
+          (table.put_at progress (reserved + places_of indexed)) txn txns.old.active;
+    } }
     ensures holders { (r : Place) → table.holder_of r txns.new.active ≡ table.holder_of r txns.old.active }
 {
     if !indexed {
@@ -200,7 +211,10 @@ fn unmark<A: Allocator + Clone>(
 )
     requires there { map.get index.old.entries pair.now ≢ None }
     requires left { left ≤ index.old.pledged }
-    ensures { index.new ≡ record index.old { entries = set_at index.old.entries pair.now before; pledged = index.old.pledged - left } }
+    ensures { index.new ≡ record index.old {
+      entries = set_at index.old.entries pair.now before;
+      pledged = index.old.pledged - left;
+    } }
 {
     let Ok(()) = index.load(pair, before) else {
         unreachable!()
@@ -281,7 +295,8 @@ impl<A: Allocator + Copy> Parts<A> {
     // are `IndexFull`, and then `Exhausted`.
     fn may_add(&self) -> Result<RecordNumber, Error>
         ensures fits { OnOk result (HasPlacesLeft (parts_of self.now)) }
-        ensures numbered { IfOk result (λ n. ((parts_of self.now).last < LAST_NUMBER) × (n ≡ (parts_of self.now).last + 1)) }
+        ensures numbered { IfOk result (λ n. ((parts_of self.now).last < LAST_NUMBER)
+            × (n ≡ (parts_of self.now).last + 1)) }
         ensures err { IfErr result (λ e. IsUnroomy (parts_of self.now) e) }
     {
         let has_room = may_reserve(&self.index, self.indexed());
@@ -295,7 +310,8 @@ impl<A: Allocator + Copy> Parts<A> {
     /// memory.
     pub(crate) fn place_for(&self, txn: Txn) -> Result<(Rid, RecordNumber), Error>
         requires { IsReadyOrNone (txn_shown (parts_of self.now) txn) }
-        ensures refused { IfErr result (λ e. (row : Row) → Serves (parts_of self.now) (Event.Insert txn row) (Reply.Refused e) (parts_of self.now)) }
+        ensures refused { IfErr result (λ e. (row : Row)
+            → Serves (parts_of self.now) (Event.Insert txn row) (Reply.Refused e) (parts_of self.now)) }
         ensures by_state { IfErr result (λ e. e ≢ Error.NoMemory) }
         ensures place { IfOk result (λ p. IsPlaceFor (parts_of self.now) p.0) }
         ensures may { IfOk result (λ p. MayStart (parts_of self.now) txn p.0) }
@@ -329,7 +345,8 @@ impl<A: Allocator + Copy> Parts<A> {
         requires may { MayStart (parts_of self.old) txn change.rid }
         requires number { number ≡ (parts_of self.old).last + 1 }
         ensures ok { OnOk result (parts_of self.new ≡ row_first (parts_of self.old) txn change) }
-        ensures held { OnOk result (table.holder_of change.rid (row_first (parts_of self.old) txn change).txns.active ≡ Some txn) }
+        ensures held { OnOk result (table.holder_of change.rid (row_first (parts_of self.old) txn change).txns.active
+            ≡ Some txn) }
         ensures unchanged { OnErr result (parts_of self.new ≡ parts_of self.old) }
         ensures no_memory { IfErr result (λ e. e ≡ Error.NoMemory) }
     {
@@ -366,7 +383,8 @@ impl<A: Allocator + Copy> Parts<A> {
         requires action { marked.1 ≡ TxnAction.Forward Part.OldEntry change }
         requires whole { IsTrue (txn_has_rows marked.1) }
         ensures ok { OnOk result (parts_of self.new ≡ mark_first (parts_of self.old) txn change marked.0) }
-        ensures held { OnOk result (table.holder_of change.rid (mark_first (parts_of self.old) txn change marked.0).txns.active ≡ Some txn) }
+        ensures held { OnOk result (table.holder_of change.rid
+            (mark_first (parts_of self.old) txn change marked.0).txns.active ≡ Some txn) }
         ensures unchanged { OnErr result (parts_of self.new ≡ parts_of self.old) }
         ensures no_memory { IfErr result (λ e. e ≡ Error.NoMemory) }
     {
@@ -389,8 +407,11 @@ impl<A: Allocator + Copy> Parts<A> {
         requires safe { ∥ IsSafe (parts_of self.old) ∥₁ }
         requires may { MayStart (parts_of self.old) txn change.rid }
         requires number { number ≡ (parts_of self.old).last + 1 }
-        ensures ok { OnOk result (parts_of self.new ≡ first_made (parts_of self.old) txn change (pairs.old_pair (pairs.is_indexed (parts_of self.old).life) change)) }
-        ensures held { OnOk result (table.holder_of change.rid (first_made (parts_of self.old) txn change (pairs.old_pair (pairs.is_indexed (parts_of self.old).life) change)).txns.active ≡ Some txn) }
+        ensures ok { OnOk result (parts_of self.new ≡ first_made (parts_of self.old) txn change
+            (pairs.old_pair (pairs.is_indexed (parts_of self.old).life) change)) }
+        ensures held { OnOk result (table.holder_of change.rid
+            (first_made (parts_of self.old) txn change (pairs.old_pair
+            (pairs.is_indexed (parts_of self.old).life) change)).txns.active ≡ Some txn) }
         ensures unchanged { OnErr result (parts_of self.new ≡ parts_of self.old) }
         ensures no_memory { IfErr result (λ e. e ≡ Error.NoMemory) }
     {
@@ -421,7 +442,8 @@ impl<A: Allocator + Copy> Parts<A> {
     pub(crate) fn start_delete(&mut self, txn: Txn, rid: Rid) -> Result<(), Error>
         requires safe { ∥ IsSafe (parts_of self.old) ∥₁ }
         requires asked { IsReadyOrNone (txn_shown (parts_of self.old) txn) }
-        ensures { Serves (parts_of self.old) (Event.Delete txn rid) (reply_by (λ _. Reply.Stepped) result) (parts_of self.new) }
+        ensures { Serves (parts_of self.old) (Event.Delete txn rid) (reply_by (λ _. Reply.Stepped) result)
+            (parts_of self.new) }
     {
         let (old, number) = self.row_for(txn, rid)?;
         let change = self.next_change(txn, rid, Rows::Deleted { old });
@@ -439,7 +461,8 @@ impl<A: Allocator + Copy> Parts<A> {
     ) -> Result<(), Error>
         requires safe { ∥ IsSafe (parts_of self.old) ∥₁ }
         requires asked { IsReadyOrNone (txn_shown (parts_of self.old) txn) }
-        ensures { Serves (parts_of self.old) (Event.Update txn rid (record { key = key; body = body })) (reply_by (λ _. Reply.Stepped) result) (parts_of self.new) }
+        ensures { Serves (parts_of self.old) (Event.Update txn rid (record { key = key; body = body }))
+            (reply_by (λ _. Reply.Stepped) result) (parts_of self.new) }
     {
         let (old, number) = self.row_for(txn, rid)?;
         let new = Row { key, body };
@@ -452,7 +475,8 @@ impl<A: Allocator + Copy> Parts<A> {
     pub(crate) fn start_insert(&mut self, txn: Txn, key: Key, body: Body) -> Result<Rid, Error>
         requires safe { ∥ IsSafe (parts_of self.old) ∥₁ }
         requires asked { IsReadyOrNone (txn_shown (parts_of self.old) txn) }
-        ensures { Serves (parts_of self.old) (Event.Insert txn (record { key = key; body = body })) (reply_by Reply.Rid result) (parts_of self.new) }
+        ensures { Serves (parts_of self.old) (Event.Insert txn (record { key = key; body = body }))
+            (reply_by Reply.Rid result) (parts_of self.new) }
     {
         let (rid, number) = self.place_for(txn)?;
         let new = Row { key, body };
@@ -519,7 +543,8 @@ impl<A: Allocator + Copy> Parts<A> {
     pub(crate) fn commit(&mut self, txn: Txn) -> Result<Ticket, Error>
         requires safe { ∥ IsSafe (parts_of self.old) ∥₁ }
         requires asked { IsReadyOrNone (txn_shown (parts_of self.old) txn) }
-        ensures serves { Serves (parts_of self.old) (Event.Commit txn) (reply_by reply_of_ticket result) (parts_of self.new) }
+        ensures serves { Serves (parts_of self.old) (Event.Commit txn) (reply_by reply_of_ticket result)
+            (parts_of self.new) }
         ensures record_number { IfOk result (λ t. t.record ≡ (parts_of self.old).last + 1) }
         ensures commit_number { IfOk result (λ t. t.commit ≡ Some ((parts_of self.old).commits + 1)) }
     {

@@ -89,10 +89,12 @@ impl<A: Allocator + Copy> Parts<A> {
         entry: (Pair, TxnAction),
     ) -> Result<(), Error>
         requires safe { ∥ IsSafe (parts_of self.old) ∥₁ }
-        requires places { pledges_used (map.get (parts_of self.old).index.entries entry.0) ≤ reserved_of (txn_shown (parts_of self.old) txn) }
+        requires places { pledges_used (map.get (parts_of self.old).index.entries entry.0) ≤ reserved_of
+            (txn_shown (parts_of self.old) txn) }
         requires number { number ≡ (parts_of self.old).last + 1 }
         requires whole { IsTrue (txn_has_rows entry.1) }
-        ensures ok { OnOk result (parts_of self.new ≡ entry_stepped (parts_of self.old) txn progress entry.0 mark entry.1) }
+        ensures ok { OnOk result (parts_of self.new ≡ entry_stepped
+            (parts_of self.old) txn progress entry.0 mark entry.1) }
         ensures unchanged { OnErr result (parts_of self.new ≡ parts_of self.old) }
         ensures no_memory { IfErr result (λ e. e ≡ Error.NoMemory) }
     {

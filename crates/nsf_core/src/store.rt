@@ -1,5 +1,7 @@
 //! The core.
-ghost use Rattle.std.specs.Prelude.{◌≡◌, ◌<◌, ◌≤◌, ◌+◌, ◌-◌, ◌⊎◌, ◌↔◌, [], Err, None, Some, is_some, length, option_and_then, option_map, slice_get, ℕ, IsSome, IsTrue, IfSome, IfOk, IfErr, OnOk, OnErr};
+ghost use Rattle.std.specs.Prelude.{◌≡◌, ◌<◌, ◌≤◌, ◌+◌, ◌-◌, ◌⊎◌, ◌↔◌, [], Err, None, Some, is_some, length};
+ghost use Rattle.std.specs.Prelude.{option_and_then, option_map, slice_get, ℕ, IsSome, IsTrue, IfSome, IfOk, IfErr};
+ghost use Rattle.std.specs.Prelude.{OnOk, OnErr};
 ghost use Rattle.std.specs.FinMap as map;
 ghost use Rattle.std.specs.Option.{option_copied};
 ghost use Rattle.records.specs.Maps.{set_at};
@@ -106,8 +108,11 @@ impl<A: Allocator + Copy> Core<A> {
 
     /// The rows of a page, by their slots: none where a slot is empty. `None` only where no slot of the page has a row.
     pub fn page_slots(&self, page: u32) -> Option<&[Option<Row>; ROWS_PER_PAGE]>
-        ensures slots { IfSome result (λ rows. (slot : ℕ) → slot < SLOTS_PER_PAGE → slice_get rows.now slot ≡ Some (map.get (value_of self.now).heap.rows (record { page = page; slot = slot }))) }
-        ensures none { result ≡ None → (slot : ℕ) → slot < SLOTS_PER_PAGE → map.get (value_of self.now).heap.rows (record { page = page; slot = slot }) ≡ None }
+        ensures slots { IfSome result (λ rows. (slot : ℕ) → slot < SLOTS_PER_PAGE
+            → slice_get rows.now slot ≡ Some (map.get (value_of self.now).heap.rows
+            (record { page = page; slot = slot }))) }
+        ensures none { result ≡ None → (slot : ℕ) → slot < SLOTS_PER_PAGE
+            → map.get (value_of self.now).heap.rows (record { page = page; slot = slot }) ≡ None }
     {
         self.parts.heap.page_slots(page)
     }
@@ -120,12 +125,13 @@ impl<A: Allocator + Copy> Core<A> {
         self.parts.life
     }
 
-    /// Whether a core may begin with the rows, the entries and the index's life that this one holds: each visible entry is the
-    /// pair of a row; the pair of each row is visible, as far as the index is built, and nowhere marked; without an index there is
-    /// no entry; and all of it is of the geometry.
+    /// Whether a core may begin with the rows, the entries and the index's life that this one holds: each visible entry
+    /// is the pair of a row; the pair of each row is visible, as far as the index is built, and nowhere marked; without
+    /// an index there is no entry; and all of it is of the geometry.
     ///
-    /// It tells of what is held now, be it of active transactions: where one is, it may be false of a sound core, since an entry
-    /// is owed once a row is set, and stays marked once its row was. With none active it is what a restart would begin with.
+    /// It tells of what is held now, be it of active transactions: where one is, it may be false of a sound core, since
+    /// an entry is owed once a row is set, and stays marked once its row was. With none active it is what a restart
+    /// would begin with.
     ///
     /// It takes no memory, and goes over every entry and every row once (no clause says so).
     pub fn can_open(&self) -> bool
@@ -154,7 +160,8 @@ impl<A: Allocator + Copy> Core<A> {
     ///
     /// `NoIndex`, then `NotBuilt` while the index is built, and `NoMemory`.
     pub fn find(&self, key: Key) -> Result<Vec<Rid, A>, Error>
-        ensures { Serves (value_of self.now) (Event.Find key) (reply_by (λ rids. Reply.Found rids.items) result) (value_of self.now) }
+        ensures { Serves (value_of self.now) (Event.Find key) (reply_by (λ rids. Reply.Found rids.items) result)
+            (value_of self.now) }
     {
         self.parts.find(key)
     }
@@ -166,11 +173,12 @@ impl<A: Allocator + Copy> Core<A> {
         self.parts.index.above(pair)
     }
 
-    /// The next entries above the pair, or the first of all: some that stand together, in order. There is none only where none
-    /// is above.
+    /// The next entries above the pair, or the first of all: some that stand together, in order. There is none only
+    /// where none is above.
     pub fn run_above(&self, pair: Option<&Pair>) -> &[Entry]
         ensures run { IsRunAbove (value_of self.now).index.entries (option_copied pair.entry) result.now }
-        ensures none { result.now ≡ [] → IsLeastAbove (value_of self.now).index.entries (option_copied pair.entry) None }
+        ensures none { result.now ≡ []
+            → IsLeastAbove (value_of self.now).index.entries (option_copied pair.entry) None }
     {
         self.parts.index.run_above(pair)
     }
@@ -241,7 +249,8 @@ impl<A: Allocator + Copy> Core<A> {
     pub fn check_change(&self, txn: Txn, rid: Rid) -> Result<(), Error>
         requires { IsReadyOrNone (txn_shown (value_of self.now) txn) }
         ensures refused_delete { IfErr result (IsRefused (value_of self.now) (Event.Delete txn rid)) }
-        ensures refused_update { IfErr result (λ e. (row : Row) → IsRefused (value_of self.now) (Event.Update txn rid row) e) }
+        ensures refused_update { IfErr result (λ e. (row : Row)
+            → IsRefused (value_of self.now) (Event.Update txn rid row) e) }
         ensures fine_delete { OnOk result (IsFine (value_of self.now) (Event.Delete txn rid)) }
         ensures fine_update { OnOk result ((row : Row) → IsFine (value_of self.now) (Event.Update txn rid row)) }
     {
@@ -279,7 +288,8 @@ impl<A: Allocator + Copy> Core<A> {
     /// How many pages there are for rows. Each row is at a place of them.
     pub fn pages(&self) -> u32
         ensures number { result ≡ (value_of self.now).heap.pages }
-        ensures rows_inside { (r : Place) → IsSome (map.get (value_of self.now).heap.rows r) → IsPlaceInside (value_of self.now).heap r }
+        ensures rows_inside { (r : Place) → IsSome (map.get (value_of self.now).heap.rows r)
+            → IsPlaceInside (value_of self.now).heap r }
         ensures safe { ∥ IsSafe (value_of self.now) ∥₁ }
     {
         self.parts.heap.pages()
@@ -339,7 +349,8 @@ impl<A: Allocator + Copy> Core<A> {
     /// number is left for a record, and `NoMemory`. After a refusal the core is as before.
     pub fn start_insert(&mut self, txn: Txn, key: Key, body: Body) -> Result<Rid, Error>
         requires { IsReadyOrNone (txn_shown (value_of self.old) txn) }
-        ensures { Serves (value_of self.old) (Event.Insert txn (record { key = key; body = body })) (reply_by Reply.Rid result) (value_of self.new) }
+        ensures { Serves (value_of self.old) (Event.Insert txn (record { key = key; body = body }))
+            (reply_by Reply.Rid result) (value_of self.new) }
     {
         self.parts.start_insert(txn, key, body)
     }
@@ -353,7 +364,8 @@ impl<A: Allocator + Copy> Core<A> {
     /// `NoMemory`. After a refusal the core is as before.
     pub fn start_delete(&mut self, txn: Txn, rid: Rid) -> Result<(), Error>
         requires { IsReadyOrNone (txn_shown (value_of self.old) txn) }
-        ensures { Serves (value_of self.old) (Event.Delete txn rid) (reply_by (λ _. Reply.Stepped) result) (value_of self.new) }
+        ensures { Serves (value_of self.old) (Event.Delete txn rid) (reply_by (λ _. Reply.Stepped) result)
+            (value_of self.new) }
     {
         self.parts.start_delete(txn, rid)
     }
@@ -365,7 +377,8 @@ impl<A: Allocator + Copy> Core<A> {
     /// The refusals are those of `start_delete`.
     pub fn start_update(&mut self, txn: Txn, rid: Rid, key: Key, body: Body) -> Result<(), Error>
         requires { IsReadyOrNone (txn_shown (value_of self.old) txn) }
-        ensures { Serves (value_of self.old) (Event.Update txn rid (record { key = key; body = body })) (reply_by (λ _. Reply.Stepped) result) (value_of self.new) }
+        ensures { Serves (value_of self.old) (Event.Update txn rid (record { key = key; body = body }))
+            (reply_by (λ _. Reply.Stepped) result) (value_of self.new) }
     {
         self.parts.start_update(txn, rid, key, body)
     }
@@ -375,7 +388,8 @@ impl<A: Allocator + Copy> Core<A> {
     /// The refusals are those of `end`.
     pub fn next_step(&mut self, txn: Txn) -> Result<(), Error>
         requires { OwesOrNone (txn_shown (value_of self.old) txn) }
-        ensures { Serves (value_of self.old) (Event.Step txn) (reply_by (λ _. Reply.Stepped) result) (value_of self.new) }
+        ensures { Serves (value_of self.old) (Event.Step txn) (reply_by (λ _. Reply.Stepped) result)
+            (value_of self.new) }
     {
         self.parts.next_step(txn)
     }
@@ -411,7 +425,8 @@ impl<A: Allocator + Copy> Core<A> {
     /// The refusals are those of `end`.
     pub fn commit(&mut self, txn: Txn) -> Result<Ticket, Error>
         requires { IsReadyOrNone (txn_shown (value_of self.old) txn) }
-        ensures serves { Serves (value_of self.old) (Event.Commit txn) (reply_by reply_of_ticket result) (value_of self.new) }
+        ensures serves { Serves (value_of self.old) (Event.Commit txn) (reply_by reply_of_ticket result)
+            (value_of self.new) }
         ensures record_number { IfOk result (λ t. t.record ≡ (value_of self.old).last + 1) }
         ensures commit_number { IfOk result (λ t. t.commit ≡ Some ((value_of self.old).commits + 1)) }
     {
@@ -431,16 +446,16 @@ impl<A: Allocator + Copy> Core<A> {
     /// Drops the index, be it complete or not: no entry is left, and nothing of its builder and its cleaner. It may be
     /// created again.
     ///
-    /// `NoIndex`, then `TxnsActive` where a transaction is active, `Exhausted` where no number is left for a record, and
-    /// `NoMemory`. After a refusal the core is as before.
+    /// `NoIndex`, then `TxnsActive` where a transaction is active, `Exhausted` where no number is left for a record,
+    /// and `NoMemory`. After a refusal the core is as before.
     pub fn drop_index(&mut self) -> Result<Ticket, Error>
         ensures { Serves (value_of self.old) Event.Drop (reply_by reply_of_ticket result) (value_of self.new) }
     {
         Ok(self.detach_index()?.ticket)
     }
 
-    /// Drops the index as `drop_index` does, and answers the entries that it had, in the memory that they have (no clause
-    /// says so): the caller lets them go where it has the time.
+    /// Drops the index as `drop_index` does, and answers the entries that it had, in the memory that they have (no
+    /// clause says so): the caller lets them go where it has the time.
     pub fn detach_index(&mut self) -> Result<Detached<A>, Error>
         ensures serves { Serves (value_of self.old) Event.Drop (reply_by reply_of_detached result) (value_of self.new) }
         ensures taken { IfOk result (λ d. entries_of d ≡ (value_of self.old).index.entries) }

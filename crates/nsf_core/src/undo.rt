@@ -37,7 +37,8 @@ impl<A: Allocator + Copy> Parts<A> {
         requires safe { ∥ IsSafe (parts_of self.old) ∥₁ }
         requires newest { option_and_then table.last_change (txn_shown (parts_of self.old) txn) ≡ Some change }
         requires number { number ≡ (parts_of self.old).last + 1 }
-        ensures ok { OnOk result (parts_of self.new ≡ row_restored (parts_of self.old) txn change (pairs.old_pair (pairs.is_indexed (parts_of self.old).life) change)) }
+        ensures ok { OnOk result (parts_of self.new ≡ row_restored (parts_of self.old) txn change
+            (pairs.old_pair (pairs.is_indexed (parts_of self.old).life) change)) }
         ensures unchanged { OnErr result (parts_of self.new ≡ parts_of self.old) }
         ensures no_memory { IfErr result (λ e. e ≡ Error.NoMemory) }
     {
@@ -60,7 +61,8 @@ impl<A: Allocator + Copy> Parts<A> {
         requires newest { option_and_then table.last_change (txn_shown (parts_of self.old) txn) ≡ Some change }
         requires number { number ≡ (parts_of self.old).last + 1 }
         requires moved { pairs.old_pair (pairs.is_indexed (parts_of self.old).life) change ≢ None }
-        ensures ok { OnOk result ((p : Pair) → pairs.old_pair (pairs.is_indexed (parts_of self.old).life) change ≡ Some p → parts_of self.new ≡ entry_restored (parts_of self.old) txn change p) }
+        ensures ok { OnOk result ((p : Pair) → pairs.old_pair (pairs.is_indexed (parts_of self.old).life) change
+            ≡ Some p → parts_of self.new ≡ entry_restored (parts_of self.old) txn change p) }
         ensures unchanged { OnErr result (parts_of self.new ≡ parts_of self.old) }
         ensures no_memory { IfErr result (λ e. e ≡ Error.NoMemory) }
     {
@@ -77,7 +79,9 @@ impl<A: Allocator + Copy> Parts<A> {
         requires safe { ∥ IsSafe (parts_of self.old) ∥₁ }
         requires newest { option_and_then table.last_change (txn_shown (parts_of self.old) txn) ≡ Some change }
         requires number { number ≡ (parts_of self.old).last + 1 }
-        ensures ok { OnOk result (parts_of self.new ≡ undo_begun (parts_of self.old) txn change (pairs.old_pair (pairs.is_indexed (parts_of self.old).life) change) (pairs.new_pair (pairs.is_indexed (parts_of self.old).life) change)) }
+        ensures ok { OnOk result (parts_of self.new ≡ undo_begun (parts_of self.old) txn change
+            (pairs.old_pair (pairs.is_indexed (parts_of self.old).life) change)
+            (pairs.new_pair (pairs.is_indexed (parts_of self.old).life) change)) }
         ensures unchanged { OnErr result (parts_of self.new ≡ parts_of self.old) }
         ensures no_memory { IfErr result (λ e. e ≡ Error.NoMemory) }
     {
@@ -95,7 +99,8 @@ impl<A: Allocator + Copy> Parts<A> {
         requires newest { option_and_then table.last_change (txn_shown (parts_of self.old) txn) ≡ Some change }
         requires has { HasRecord (parts_of self.old) txn }
         requires number { number ≡ (parts_of self.old).last + 1 }
-        ensures { Serves (parts_of self.old) (Event.Undo txn) (reply_by (λ _. Reply.Undone) result) (parts_of self.new) }
+        ensures { Serves (parts_of self.old) (Event.Undo txn) (reply_by (λ _. Reply.Undone) result)
+            (parts_of self.new) }
     {
         let Some(progress) = self.txns.progress(txn) else {
             unreachable!()

@@ -5,9 +5,11 @@ use Rattle.sorted_scan.specs.FullRuns.{AreFull, AreFullButOne, MergeValue, full_
 use Rattle.sorted_scan.specs.Pairs.{AreSame}
 use Rattle.sorted_scan.proofs.Counts.{same_length}
 
-module _ (run others : List Pair) (old new : MergeValue) (full : AreFull old) (added : AreSame ((run ++ others) ++ old.pairs) new.pairs) (runs : new.runs ≡ runs_of run + (runs_of others + old.runs)) where
+module _ (run others : List Pair) (old new : MergeValue) (full : AreFull old) (added : AreSame ((run ++ others) ++ old.pairs) new.pairs)
+    (runs : new.runs ≡ runs_of run + (runs_of others + old.runs)) where
   longer : length new.pairs ≡ length run + length others + length old.pairs
-  longer = let long = same_length ((run ++ others) ++ old.pairs) new.pairs added in omega (arith, long, length-append (run ++ others) old.pairs, length-append run others)
+  longer = let long = same_length ((run ++ others) ++ old.pairs) new.pairs added in
+      omega (arith, long, length-append (run ++ others) old.pairs, length-append run others)
 
   -- a full run, and no other
   pub still_full : length run ≡ full_run → length others ≡ 0 → AreFull new

@@ -1,5 +1,6 @@
 -- What the scan hands out is the next pair of its run, and how it goes on behind it.
-use Rattle.std.proofs.Common.{◌≡◌, ◌<◌, ◌≤◌, ◌+◌, ◌-◌, ℕ, true, false, Option, Some, None, List, [], ◌∷◌, ◌++◌, length, get_or, nat_eq, refl, sym, ap, subst, ◌∙◌, inl, inr, arith, eqb-true}
+use Rattle.std.proofs.Common.{◌≡◌, ◌<◌, ◌≤◌, ◌+◌, ◌-◌, ℕ, true, false, Option, Some, None, List, [], ◌∷◌, ◌++◌, length, get_or, nat_eq, refl, sym, ap, subst}
+use Rattle.std.proofs.Common.{◌∙◌, inl, inr, arith, eqb-true}
 use Rattle.std.specs.declared.cmp.Ordering.TheVariants.{Less}
 use Rattle.std.specs.List.{All, Contains, list_any}
 use Rattle.std.specs.Option.{IfSome, IfNone}
@@ -59,7 +60,8 @@ module _ (pages : ℕ) (low : Option Pair) (waiting : List Pair) (r : ScanRun) (
       none_in (k, within, is) = omega arith
 
   -- the run goes on behind the pair
-  pub run_behind : (p : Pair) (rest : List Pair) → Contains waiting p → IsLow p waiting → All (λ q. is_above low q ≡ true) waiting → AreSame waiting (p ∷ rest) → HasRun (scan_of pages None (Some p) rest) (with_step r (HandedOut p))
+  pub run_behind : (p : Pair) (rest : List Pair) → Contains waiting p → IsLow p waiting → All (λ q. is_above low q ≡ true) waiting → AreSame waiting (p ∷ rest)
+      → HasRun (scan_of pages None (Some p) rest) (with_step r (HandedOut p))
   run_behind p rest waits lowest above same = record {
     pages = has.pages;
     last_is = refl;
@@ -69,7 +71,8 @@ module _ (pages : ℕ) (low : Option Pair) (waiting : List Pair) (r : ScanRun) (
     given = All-tail (λ q. is_given r q ≡ true) p rest (same_all (λ q. is_given r q ≡ true) waiting (p ∷ rest) same has.given);
     left = λ q inside before always over.
         let later : pair_cmp p q ≡ Less = less_is _ over in
-        among_others p rest q later (same_contains waiting (p ∷ rest) same q (has.left q inside tt always (above_above low p q (All-contains (λ x. is_above low x ≡ true) waiting p above waits) later)));
+        among_others p rest q later (same_contains waiting (p ∷ rest) same q
+        (has.left q inside tt always (above_above low p q (All-contains (λ x. is_above low x ≡ true) waiting p above waits) later)));
   }
 
 -- no other pair is as low as the least one
@@ -85,7 +88,8 @@ above_least p rest once lowest k d h =
           )
     ]
 
-module _ (pages next_page : ℕ) (low : Option Pair) (remaining : ℕ) (gathered : List Pair) (merge : MergeValue) (sound : IsSound pages next_page low remaining gathered merge) (past : pages ≤ next_page) where
+module _ (pages next_page : ℕ) (low : Option Pair) (remaining : ℕ) (gathered : List Pair) (merge : MergeValue)
+    (sound : IsSound pages next_page low remaining gathered merge) (past : pages ≤ next_page) where
   abbrev merged : List Pair
   merged = merge.pairs
 
@@ -107,7 +111,8 @@ module _ (pages next_page : ℕ) (low : Option Pair) (remaining : ℕ) (gathered
 
     pub next_pair : (result : Option Pair) → result ≡ least merged → IfSome result (λ p. (r : ScanRun) → HasRun v r → MayHandOut r p)
     next_pair None e = tt
-    next_pair (Some p) e = λ r has. let it = least_has merged p (sym e) in is_next pages low merged r (subst (λ x. HasRun x r) value_is has) p it.0 it.1 merged_above
+    next_pair (Some p) e = λ r has. let it = least_has merged p (sym e) in
+        is_next pages low merged r (subst (λ x. HasRun x r) value_is has) p it.0 it.1 merged_above
 
     pub at_end : (result : Option Pair) → result ≡ least merged → IfNone result (v.wanted ≡ None → (r : ScanRun) → HasRun v r → IsAtEnd r)
     at_end None e = λ none r has. is_end pages low merged r (subst (λ x. HasRun x r) value_is has) (least_none merged (sym e))
@@ -120,8 +125,11 @@ module _ (pages next_page : ℕ) (low : Option Pair) (remaining : ℕ) (gathered
       pub run_out : (r : ScanRun) → HasRun v r → HasRun (scan_of pages (page_from pages next_page) (Some p) (gathered ++ rest)) (with_step r (HandedOut p))
       run_out r has =
           let it = least_has merged p (sym first) in
-          let e : scan_of pages (page_from pages next_page) (Some p) (gathered ++ rest) ≡ scan_of pages None (Some p) rest = ap (λ w. scan_of pages w (Some p) (gathered ++ rest)) (page_none pages next_page past) ∙ ap (λ xs. scan_of pages None (Some p) (xs ++ rest)) none_gathered in
-          subst (λ x. HasRun x (with_step r (HandedOut p))) (sym e) (run_behind pages low merged r (subst (λ x. HasRun x r) value_is has) p rest it.0 it.1 merged_above same)
+          let e : scan_of pages (page_from pages next_page) (Some p) (gathered ++ rest) ≡ scan_of pages None (Some p) rest =
+          ap (λ w. scan_of pages w (Some p) (gathered ++ rest)) (page_none pages next_page past)
+          ∙ ap (λ xs. scan_of pages None (Some p) (xs ++ rest)) none_gathered in
+          subst (λ x. HasRun x (with_step r (HandedOut p))) (sym e)
+          (run_behind pages low merged r (subst (λ x. HasRun x r) value_is has) p rest it.0 it.1 merged_above same)
 
       one_fewer : remaining ≡ 1 + length rest
       one_fewer =
@@ -132,7 +140,8 @@ module _ (pages next_page : ℕ) (low : Option Pair) (remaining : ℕ) (gathered
       sound_out no_more =
           let it = least_has merged p (sym first) in
           let once = same_once merged (p ∷ rest) same (subst IsOnceEach all_merged sound.once) in
-          let on_pages = All-tail (λ q. q.rid.page < next_page) p rest (same_all (λ q. q.rid.page < next_page) merged (p ∷ rest) same (subst (All (λ q. q.rid.page < next_page)) all_merged sound.on_pages)) in
+          let on_pages = All-tail (λ q. q.rid.page < next_page) p rest
+          (same_all (λ q. q.rid.page < next_page) merged (p ∷ rest) same (subst (All (λ q. q.rid.page < next_page)) all_merged sound.on_pages)) in
           let lowest = same_all (λ q. is_lt (pair_cmp q p) ≡ false) merged (p ∷ rest) same it.1 in
           let few = sound.few in
           let fewer = one_fewer in

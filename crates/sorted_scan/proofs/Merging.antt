@@ -7,7 +7,8 @@ use Rattle.std.specs.BinaryHeap.{IsUpperBound, KeepsHeap, PopsGreatest}
 use Rattle.std.specs.Vec.Iter.{into_iter_items}
 use Rattle.std.proofs.lemmas.List.Elements.{All-append, All-cons, All-head, All-tail, All-weaker, Contains-append_left, Contains-append_right}
 use Rattle.std.proofs.lemmas.List.Sums.{sum_by-cons}
-use Rattle.std.proofs.lemmas.List.Sorted.{sum_by-IsPermutation, sorted_far, ranks_by, All-permutation, length_permutation, Contains-permutation, IsPermutation-sym}
+use Rattle.std.proofs.lemmas.List.Sorted.{sum_by-IsPermutation, sorted_far, ranks_by, All-permutation, length_permutation, Contains-permutation}
+use Rattle.std.proofs.lemmas.List.Sorted.{IsPermutation-sym}
 use Rattle.records.specs.Orders.{pair_cmp, pair_cmp_total}
 use Rattle.records.specs.declared.pair.Pair.{Pair}
 use Rattle.sorted_scan.specs.declared.merge.SortedRun.{SortedRun}
@@ -44,44 +45,59 @@ module _ {Z : Type 0} where
 
   first_in : (runs : List (SortedRun Z)) (run : SortedRun Z) → Contains runs run → Contains (pairs_in runs) run.first
   first_in [] run (k, within, is) = absurd (omega arith)
-  first_in (r ∷ runs) run (zero, within, is) = Contains-append_left (run_pairs r) (pairs_in runs) run.first (0, omega arith, ap (λ (x : SortedRun Z). x.first) is)
+  first_in (r ∷ runs) run (zero, within, is) = Contains-append_left (run_pairs r) (pairs_in runs) run.first (
+    0,
+    omega arith,
+    ap (λ (x : SortedRun Z). x.first) is,
+  )
   first_in (r ∷ runs) run (suc k, within, is) = Contains-append_right (run_pairs r) (pairs_in runs) run.first (first_in runs run (k, omega arith, is))
 
-  low_in : (p : Pair) (runs : List (SortedRun Z)) → AllByRecursion (λ (y : SortedRun Z). is_lt (pair_cmp y.first p) ≡ false) runs → All (λ (run : SortedRun Z). IsSorted pair_cmp (run_pairs run)) runs → IsLow p (pairs_in runs)
+  low_in : (p : Pair) (runs : List (SortedRun Z)) → AllByRecursion (λ (y : SortedRun Z). is_lt (pair_cmp y.first p) ≡ false) runs
+      → All (λ (run : SortedRun Z). IsSorted pair_cmp (run_pairs run)) runs → IsLow p (pairs_in runs)
   low_in p [] above sorted = λ k d h. absurd (omega arith)
   low_in p (r ∷ runs) above sorted =
       All-append (λ q. is_lt (pair_cmp q p) ≡ false) (run_pairs r) (pairs_in runs)
-      (All-weaker (λ q. is_lt (pair_cmp q r.first) ≡ false) (λ q. is_lt (pair_cmp q p) ≡ false) (λ q h. not_below p r.first q above.0 h) (run_pairs r) (sorted_low r.first (into_iter_items r.rest) (All-head (λ (run : SortedRun Z). IsSorted pair_cmp (run_pairs run)) r runs sorted)))
+      (All-weaker (λ q. is_lt (pair_cmp q r.first) ≡ false) (λ q. is_lt (pair_cmp q p) ≡ false) (λ q h. not_below p r.first q above.0 h) (run_pairs r)
+      (sorted_low r.first (into_iter_items r.rest) (All-head (λ (run : SortedRun Z). IsSorted pair_cmp (run_pairs run)) r runs sorted)))
       (low_in p runs above.1 (All-tail (λ (run : SortedRun Z). IsSorted pair_cmp (run_pairs run)) r runs sorted))
 
   -- the first pair of the greatest run is the least of all
-  pub top_least : (runs : List (SortedRun Z)) (run : SortedRun Z) → Contains runs run → IsUpperBound run_cmp run runs → All (λ (r : SortedRun Z). IsSorted pair_cmp (run_pairs r)) runs → least (pairs_in runs) ≡ Some run.first
+  pub top_least : (runs : List (SortedRun Z)) (run : SortedRun Z) → Contains runs run → IsUpperBound run_cmp run runs
+      → All (λ (r : SortedRun Z). IsSorted pair_cmp (run_pairs r)) runs → least (pairs_in runs) ≡ Some run.first
   top_least runs run has top sorted = least_is (pairs_in runs) run.first (first_in runs run has) (low_in run.first runs top sorted)
 
   -- one more run in the heap
-  pub added_run : (pairs : List Pair) (run : SortedRun Z) (runs runs' : List (SortedRun Z)) → IsPermutation pairs (run_pairs run) → IsPermutation (run ∷ runs) runs' → AreSame (pairs ++ pairs_in runs) (pairs_in runs')
+  pub added_run : (pairs : List Pair) (run : SortedRun Z) (runs runs' : List (SortedRun Z)) → IsPermutation pairs (run_pairs run)
+      → IsPermutation (run ∷ runs) runs' → AreSame (pairs ++ pairs_in runs) (pairs_in runs')
   added_run pairs run runs runs' sorted moved =
       same_trans (pairs ++ pairs_in runs) (run_pairs run ++ pairs_in runs) (pairs_in runs')
       (same_append pairs (run_pairs run) (pairs_in runs) (pairs_in runs) (from_permutation pairs (run_pairs run) sorted) (same_refl (pairs_in runs)))
       (pairs_moved (run ∷ runs) runs' moved)
 
-  pub sound_run : (run : SortedRun Z) (runs runs' : List (SortedRun Z)) → AreSortedRuns runs → IsSorted pair_cmp (run_pairs run) → length (run_pairs run) ≤ full_run → KeepsHeap run_cmp runs runs' → IsPermutation (run ∷ runs) runs' → AreSortedRuns runs'
+  pub sound_run : (run : SortedRun Z) (runs runs' : List (SortedRun Z)) → AreSortedRuns runs → IsSorted pair_cmp (run_pairs run)
+      → length (run_pairs run) ≤ full_run → KeepsHeap run_cmp runs runs' → IsPermutation (run ∷ runs) runs' → AreSortedRuns runs'
   sound_run run runs runs' sound sorted short keeps moved = record {
     heap = keeps sound.heap;
-    sorted = All-permutation (λ (r : SortedRun Z). IsSorted pair_cmp (run_pairs r)) (run ∷ runs) runs' moved (All-cons (λ (r : SortedRun Z). IsSorted pair_cmp (run_pairs r)) run runs sorted sound.sorted);
-    short = All-permutation (λ (r : SortedRun Z). length (run_pairs r) ≤ full_run) (run ∷ runs) runs' moved (All-cons (λ (r : SortedRun Z). length (run_pairs r) ≤ full_run) run runs short sound.short);
+    sorted = All-permutation (λ (r : SortedRun Z). IsSorted pair_cmp (run_pairs r)) (run ∷ runs) runs' moved
+        (All-cons (λ (r : SortedRun Z). IsSorted pair_cmp (run_pairs r)) run runs sorted sound.sorted);
+    short = All-permutation (λ (r : SortedRun Z). length (run_pairs r) ≤ full_run) (run ∷ runs) runs' moved
+        (All-cons (λ (r : SortedRun Z). length (run_pairs r) ≤ full_run) run runs short sound.short);
   }
 
   -- a run whose first pair was taken goes back
-  pub left_run : (run rest : SortedRun Z) (runs runs' : List (SortedRun Z)) → run_pairs run ≡ run.first ∷ run_pairs rest → IsPermutation (rest ∷ runs) runs' → AreSame (run_pairs run ++ pairs_in runs) (run.first ∷ pairs_in runs')
+  pub left_run : (run rest : SortedRun Z) (runs runs' : List (SortedRun Z)) → run_pairs run ≡ run.first ∷ run_pairs rest → IsPermutation (rest ∷ runs) runs'
+      → AreSame (run_pairs run ++ pairs_in runs) (run.first ∷ pairs_in runs')
   left_run run rest runs runs' e moved =
       subst (λ ps. AreSame (ps ++ pairs_in runs) (run.first ∷ pairs_in runs')) (sym e)
-      (same_append (run.first ∷ []) (run.first ∷ []) (run_pairs rest ++ pairs_in runs) (pairs_in runs') (same_refl (run.first ∷ [])) (pairs_moved (rest ∷ runs) runs' moved))
+      (same_append (run.first ∷ []) (run.first ∷ []) (run_pairs rest ++ pairs_in runs) (pairs_in runs') (same_refl (run.first ∷ []))
+      (pairs_moved (rest ∷ runs) runs' moved))
 
-  pub sorted_left : (run rest : SortedRun Z) → run_pairs run ≡ run.first ∷ run_pairs rest → IsSorted pair_cmp (run_pairs run) → IsSorted pair_cmp (run_pairs rest)
+  pub sorted_left : (run rest : SortedRun Z) → run_pairs run ≡ run.first ∷ run_pairs rest → IsSorted pair_cmp (run_pairs run)
+      → IsSorted pair_cmp (run_pairs rest)
   sorted_left run rest e up = sorted_rest run.first (run_pairs rest) (subst (IsSorted pair_cmp) e up)
 
-  pub short_left : (run rest : SortedRun Z) → run_pairs run ≡ run.first ∷ run_pairs rest → length (run_pairs run) ≤ full_run → length (run_pairs rest) ≤ full_run
+  pub short_left : (run rest : SortedRun Z) → run_pairs run ≡ run.first ∷ run_pairs rest → length (run_pairs run) ≤ full_run
+      → length (run_pairs rest) ≤ full_run
   short_left run rest e short = let f = ap length e in omega arith
 
   -- a run is of as many pairs as it was made of
@@ -91,7 +107,8 @@ module _ {Z : Type 0} where
   pub one_made : (pairs : List Pair) (run : SortedRun Z) → IsPermutation pairs (run_pairs run) → runs_of pairs ≡ 1
   one_made pairs run moved = let e = length_permutation pairs (run_pairs run) moved in omega arith
 
-  module _ (runs : List (SortedRun Z)) (sound : AreSortedRuns runs) (run : SortedRun Z) (rest : List (SortedRun Z)) (moved : IsPermutation runs (run ∷ rest)) (pops : PopsGreatest run_cmp runs run rest) where
+  module _ (runs : List (SortedRun Z)) (sound : AreSortedRuns runs) (run : SortedRun Z) (rest : List (SortedRun Z)) (moved : IsPermutation runs (run ∷ rest))
+      (pops : PopsGreatest run_cmp runs run rest) where
     popped_all : All (λ (r : SortedRun Z). IsSorted pair_cmp (run_pairs r)) (run ∷ rest)
     popped_all = All-permutation (λ (r : SortedRun Z). IsSorted pair_cmp (run_pairs r)) runs (run ∷ rest) moved sound.sorted
 
@@ -112,7 +129,8 @@ module _ {Z : Type 0} where
     popped_sorted = All-head (λ (r : SortedRun Z). IsSorted pair_cmp (run_pairs r)) run rest popped_all
 
     pub popped_least : least (pairs_in runs) ≡ Some run.first
-    popped_least = top_least runs run (Contains-permutation (run ∷ rest) runs run (IsPermutation-sym runs (run ∷ rest) moved) (0, omega arith, refl)) (pops sound.heap).1 sound.sorted
+    popped_least = top_least runs run (Contains-permutation (run ∷ rest) runs run (IsPermutation-sym runs (run ∷ rest) moved) (0, omega arith, refl))
+        (pops sound.heap).1 sound.sorted
 
     pub popped_left : (others : List Pair) → AreSame (run_pairs run ++ pairs_in rest) others → AreSame (pairs_in runs) others
     popped_left others left = same_trans (pairs_in runs) (run_pairs run ++ pairs_in rest) others (pairs_moved runs (run ∷ rest) moved) left

@@ -1,5 +1,6 @@
 //! Sorted runs of pairs, merged as they are handed out.
-ghost use Rattle.std.specs.Prelude.{◌≡◌, ◌+◌, ◌<◌, ◌≤◌, [], ◌∷◌, ◌++◌, Some, None, OnOk, OnErr, IfSome, IfNone, MatchOption, length};
+ghost use Rattle.std.specs.Prelude.{◌≡◌, ◌+◌, ◌<◌, ◌≤◌, [], ◌∷◌, ◌++◌, Some, None, OnOk, OnErr, IfSome, IfNone};
+ghost use Rattle.std.specs.Prelude.{MatchOption, length};
 ghost use Rattle.std.specs.List.Sorted.{IsPermutation, IsSorted};
 ghost use Rattle.std.specs.Ordering.{is_eq, eq_by_cmp};
 ghost use Rattle.std.specs.Cmp.{partial_order_from_total, partial_equiv_from_equiv, eq_by_cmp_equiv};
@@ -78,7 +79,8 @@ impl<A: Allocator> SortedRun<A> {
 
     /// The run behind its first pair, if there is more of it.
     fn behind(mut self) -> Option<SortedRun<A>>
-        ensures { MatchOption result (run_pairs self ≡ self.first ∷ []) (λ run. run_pairs self ≡ self.first ∷ run_pairs run) }
+        ensures { MatchOption result (run_pairs self ≡ self.first ∷ []) (λ run.
+            run_pairs self ≡ self.first ∷ run_pairs run) }
     {
         let first = self.rest.next()?;
         Some(SortedRun {
@@ -125,7 +127,8 @@ fn push_behind<A: Allocator>(runs: &mut BinaryHeap<SortedRun<A>, A>, run: Sorted
     requires sound { AreSortedRuns (heap_items runs.old) }
     requires sorted { IsSorted pair_cmp (run_pairs run) }
     requires short { length (run_pairs run) ≤ full_run }
-    ensures left { AreSame (run_pairs run ++ pairs_in (heap_items runs.old)) (run.first ∷ pairs_in (heap_items runs.new)) }
+    ensures left { AreSame (run_pairs run ++ pairs_in (heap_items runs.old))
+        (run.first ∷ pairs_in (heap_items runs.new)) }
     ensures sound { AreSortedRuns (heap_items runs.new) }
     ensures len { heap_len runs.new ≤ heap_len runs.old + 1 }
 {

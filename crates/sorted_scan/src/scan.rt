@@ -1,5 +1,6 @@
 //! The scan.
-ghost use Rattle.std.specs.Prelude.{◌≡◌, ℕ, ◌+◌, ◌<◌, ◌≤◌, ◌∷◌, ◌++◌, Some, None, length, map, filter, All, OnOk, IfOk, OnErr, IfErr, IfSome, IfNone, IsTrue, false, ◌⊎◌, ◌^◌, []};
+ghost use Rattle.std.specs.Prelude.{◌≡◌, ℕ, ◌+◌, ◌<◌, ◌≤◌, ◌∷◌, ◌++◌, Some, None, length, map, filter, All, OnOk, IfOk};
+ghost use Rattle.std.specs.Prelude.{OnErr, IfErr, IfSome, IfNone, IsTrue, false, ◌⊎◌, ◌^◌, []};
 ghost use Rattle.std.specs.List.Sorted.{IsStrictlyIncreasing};
 ghost use Rattle.records.specs.declared.pair.Pair.{Pair};
 ghost use Rattle.sorted_scan.specs.FullRuns.{full_run, AreFull, AreFullButOne};
@@ -87,7 +88,8 @@ fn gather<A: Allocator + Copy>(
     requires open_run { length gathered.old.items < full_run }
     requires few { length pairs.items < full_run }
     requires full { AreFull merge.old }
-    ensures added { OnOk result (AreSame (pairs.items ++ (gathered.old.items ++ merge.old.pairs)) (gathered.new.items ++ merge.new.pairs)) }
+    ensures added { OnOk result (AreSame (pairs.items ++ (gathered.old.items ++ merge.old.pairs))
+        (gathered.new.items ++ merge.new.pairs)) }
     ensures open_run { OnOk result (length gathered.new.items < full_run) }
     ensures full { OnOk result (is_last ≡ false → AreFull merge.new) }
     ensures one_short { OnOk result (AreFullButOne merge.new) }

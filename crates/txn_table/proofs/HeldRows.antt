@@ -1,5 +1,6 @@
 -- The rows that somebody holds, as a list.
-use Rattle.std.proofs.Common.{◌≡◌, ℕ, Bool, true, false, cond, not, List, suc, [], ◌∷◌, ◌++◌, filter, Contains, Option, Some, None, is_some, nat_eq, ◌==◌, ◌&&◌, ◌||◌, refl, sym, ap, ◌∙◌, arith, eqb, eq-eqb}
+use Rattle.std.proofs.Common.{◌≡◌, ℕ, Bool, true, false, cond, not, List, suc, [], ◌∷◌, ◌++◌, filter, Contains, Option, Some, None, is_some, nat_eq, ◌==◌, ◌&&◌}
+use Rattle.std.proofs.Common.{◌||◌, refl, sym, ap, ◌∙◌, arith, eqb, eq-eqb}
 use Rattle.std.proofs.Math.Bool.{or-false, or-true}
 use Rattle.std.proofs.lemmas.List.Folds.{list_any_at}
 use Rattle.std.specs.Map.{lookup, set_value}
@@ -66,9 +67,11 @@ is_some-noted txn c q (e ∷ es) s here = by (is_some-noted txn c q es s) (eqb t
     before : is_some (holder_of q (e ∷ es)) ≡ (is_among q e.1.rows || is_some (holder_of q es))
     before = is_some-cond (is_among q e.1.rows) e.0 (holder_of q es)
 
-    by : (lookup (nat_eq txn) es ≡ Some s → is_some (holder_of q (set_value (nat_eq txn) es (change_noted c s))) ≡ (is_some (holder_of q es) || is_same q c.rid))
+    by : (lookup (nat_eq txn) es ≡ Some s → is_some (holder_of q (set_value (nat_eq txn) es (change_noted c s)))
+        ≡ (is_some (holder_of q es) || is_same q c.rid))
         → (b : Bool) → cond b (Some e.1) (lookup (nat_eq txn) es) ≡ Some s
-        → is_some (holder_of q (cond b ((e.0, change_noted c s) ∷ es) (e ∷ set_value (nat_eq txn) es (change_noted c s)))) ≡ (is_some (holder_of q (e ∷ es)) || is_same q c.rid)
+        → is_some (holder_of q (cond b ((e.0, change_noted c s) ∷ es) (e ∷ set_value (nat_eq txn) es (change_noted c s))))
+        ≡ (is_some (holder_of q (e ∷ es)) || is_same q c.rid)
     by rest true h =
         let its : e.1 ≡ s = cc in
         is_some-cond (is_among q (with_rid c.rid s.rows)) e.0 (holder_of q es)
@@ -138,7 +141,8 @@ is_among-filter q rows (x ∷ xs) = by (is_among-filter q rows xs) (is_same q x)
 
     by : (is_among q (filter (λ r. not (is_among r rows)) xs) ≡ (is_among q xs && not (is_among q rows)))
         → (t : Bool) → is_same q x ≡ t → (m : Bool) → is_among x rows ≡ m
-        → is_among q (cond (not (is_among x rows)) (x ∷ filter (λ r. not (is_among r rows)) xs) (filter (λ r. not (is_among r rows)) xs)) ≡ ((is_same q x || is_among q xs) && not (is_among q rows))
+        → is_among q (cond (not (is_among x rows)) (x ∷ filter (λ r. not (is_among r rows)) xs) (filter (λ r. not (is_among r rows)) xs))
+        ≡ ((is_same q x || is_among q xs) && not (is_among q rows))
     by rest true same true inside =
         ap (λ m. is_among q (cond (not m) (x ∷ filter (λ r. not (is_among r rows)) xs) (filter (λ r. not (is_among r rows)) xs))) inside
         ∙ rest

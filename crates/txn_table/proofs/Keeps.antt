@@ -1,5 +1,6 @@
 -- What holds of every table stays so.
-use Rattle.std.proofs.Common.{◌≡◌, ◌≢◌, ℕ, ◌+◌, ◌-◌, ◌<◌, ◌≤◌, Bool, true, false, cond, List, zero, suc, [], ◌∷◌, ◌++◌, length, take, filter, not, is_some, Option, Some, None, nat_eq, ◌⊎◌, inl, inr, refl, sym, ap, subst, ◌∙◌, arith, eqb, length-append, length-take}
+use Rattle.std.proofs.Common.{◌≡◌, ◌≢◌, ℕ, ◌+◌, ◌-◌, ◌<◌, ◌≤◌, Bool, true, false, cond, List, zero, suc, [], ◌∷◌, ◌++◌, length, take, filter, not, is_some}
+use Rattle.std.proofs.Common.{Option, Some, None, nat_eq, ◌⊎◌, inl, inr, refl, sym, ap, subst, ◌∙◌, arith, eqb, length-append, length-take}
 use Rattle.std.proofs.lemmas.Bool.Decides.{eqb_tells}
 use Rattle.std.specs.Map.{lookup, set_value}
 use Rattle.indexmap.specs.IndexMap.{insert_entry}
@@ -23,7 +24,8 @@ pub insert_entry-next : (low n : ℕ) (es : List (ℕ × TxnState)) (k : ℕ) (w
 insert_entry-next low n [] k w rises h = refl
 insert_entry-next low n (e ∷ es) k w rises h = by (insert_entry-next e.0 n es k w rises.1 h) (eqb_tells k e.0)
   where
-    by : insert_entry nat_eq es k w ≡ es ++ (k, w) ∷ [] → ((eqb k e.0 ≡ true) × (k ≡ e.0)) ⊎ ((eqb k e.0 ≡ false) × (k ≢ e.0)) → cond (eqb k e.0) ((e.0, w) ∷ es) (e ∷ insert_entry nat_eq es k w) ≡ e ∷ (es ++ (k, w) ∷ [])
+    by : insert_entry nat_eq es k w ≡ es ++ (k, w) ∷ [] → ((eqb k e.0 ≡ true) × (k ≡ e.0)) ⊎ ((eqb k e.0 ≡ false) × (k ≢ e.0))
+        → cond (eqb k e.0) ((e.0, w) ∷ es) (e ∷ insert_entry nat_eq es k w) ≡ e ∷ (es ++ (k, w) ∷ [])
     by rest (inl p) = let same = p.1 in let below = at_most e.0 n es rises.1 in absurd (omega arith)
     by rest (inr p) = ap (λ b. cond b ((e.0, w) ∷ es) (e ∷ insert_entry nat_eq es k w)) p.0 ∙ ap (λ xs. e ∷ xs) rest
 
@@ -85,7 +87,8 @@ none-without : (txn : ℕ) (r : Place) (es : List (ℕ × TxnState)) → holder_
 none-without txn r [] none = refl
 none-without txn r (e ∷ es) none = by (none-without txn r es) (eqb txn e.0) (is_among r e.1.rows) refl none
   where
-    by : (holder_of r es ≡ None → holder_of r (without txn es) ≡ None) → (b a : Bool) → is_among r e.1.rows ≡ a → cond a (Some e.0) (holder_of r es) ≡ None → holder_of r (cond b es (e ∷ without txn es)) ≡ None
+    by : (holder_of r es ≡ None → holder_of r (without txn es) ≡ None) → (b a : Bool) → is_among r e.1.rows ≡ a → cond a (Some e.0) (holder_of r es) ≡ None
+        → holder_of r (cond b es (e ∷ without txn es)) ≡ None
     by rest b true among n = absurd cc
     by rest true false among n = n
     by rest false false among n = ap (λ a. cond a (Some e.0) (holder_of r (without txn es))) among ∙ rest n
@@ -144,11 +147,13 @@ state_is txn (e ∷ es) w here txns = by (λ h. state_is txn es w h txns.1) (eqb
     by rest false h = rest h
 
 -- nobody holds the row yet, where the new state does not hold it either
-none-set : (txn : ℕ) (q : Place) (es : List (ℕ × TxnState)) (w' : TxnState) → is_among q w'.rows ≡ false → holder_of q es ≡ None → holder_of q (set_value (nat_eq txn) es w') ≡ None
+none-set : (txn : ℕ) (q : Place) (es : List (ℕ × TxnState)) (w' : TxnState) → is_among q w'.rows ≡ false → holder_of q es ≡ None
+    → holder_of q (set_value (nat_eq txn) es w') ≡ None
 none-set txn q [] w' not_new none = refl
 none-set txn q (e ∷ es) w' not_new none = by (none-set txn q es w' not_new) (eqb txn e.0) (is_among q e.1.rows) refl none
   where
-    by : (holder_of q es ≡ None → holder_of q (set_value (nat_eq txn) es w') ≡ None) → (b a : Bool) → is_among q e.1.rows ≡ a → cond a (Some e.0) (holder_of q es) ≡ None → holder_of q (cond b ((e.0, w') ∷ es) (e ∷ set_value (nat_eq txn) es w')) ≡ None
+    by : (holder_of q es ≡ None → holder_of q (set_value (nat_eq txn) es w') ≡ None) → (b a : Bool) → is_among q e.1.rows ≡ a
+        → cond a (Some e.0) (holder_of q es) ≡ None → holder_of q (cond b ((e.0, w') ∷ es) (e ∷ set_value (nat_eq txn) es w')) ≡ None
     by rest b true among n = absurd cc
     by rest true false among n = ap (λ a. cond a (Some e.0) (holder_of q es)) not_new ∙ n
     by rest false false among n = ap (λ a. cond a (Some e.0) (holder_of q (set_value (nat_eq txn) es w'))) among ∙ rest n
@@ -158,7 +163,8 @@ not_true true h = absurd (h refl)
 not_true false h = refl
 
 -- the new state holds at most one row more, which nobody else holds
-OneHolder-set : (low high txn : ℕ) (r : Place) (es : List (ℕ × TxnState)) (w w' : TxnState) → Rises low es high → lookup (nat_eq txn) es ≡ Some w → ((q : Place) → is_among q w'.rows ≡ true → (is_among q w.rows ≡ true) ⊎ (q ≡ r))
+OneHolder-set : (low high txn : ℕ) (r : Place) (es : List (ℕ × TxnState)) (w w' : TxnState) → Rises low es high → lookup (nat_eq txn) es ≡ Some w
+    → ((q : Place) → is_among q w'.rows ≡ true → (is_among q w.rows ≡ true) ⊎ (q ≡ r))
     → ((k : ℕ) → holder_of r es ≡ Some k → k ≡ txn) → OneHolder es → OneHolder (set_value (nat_eq txn) es w')
 OneHolder-set low high txn r [] w w' rises here more own one = tt
 OneHolder-set low high txn r (e ∷ es) w w' rises here more own one = by (λ h o. OneHolder-set e.0 high txn r es w w' rises.1 h more o one.1) (eqb_tells txn e.0)
@@ -204,7 +210,8 @@ OneHolder-set low high txn r (e ∷ es) w w' rises here more own one = by (λ h 
       rest (found false p.0) (λ k h. own k (ap (λ b. cond b (Some e.0) (holder_of r es)) (not_true (is_among r e.1.rows) (apart p.1)) ∙ h)),
     )
 
-pub IsSound-set : (t : TableValue) (txn : ℕ) (r : Place) (w w' : TxnState) → lookup (nat_eq txn) t.active ≡ Some w → IsSoundTxn w' → ((q : Place) → is_among q w'.rows ≡ true → (is_among q w.rows ≡ true) ⊎ (q ≡ r))
+pub IsSound-set : (t : TableValue) (txn : ℕ) (r : Place) (w w' : TxnState) → lookup (nat_eq txn) t.active ≡ Some w → IsSoundTxn w'
+    → ((q : Place) → is_among q w'.rows ≡ true → (is_among q w.rows ≡ true) ⊎ (q ≡ r))
     → ((k : ℕ) → holder_of r t.active ≡ Some k → k ≡ txn) → IsSound t → IsSound (record t { active = set_value (nat_eq txn) t.active w' })
 IsSound-set t txn r w w' here is more own sound =
     let same = length-set txn t.active w' in
@@ -242,26 +249,33 @@ IsSoundTxn-without_last w is =
     let before = is.few in
     record { few = omega (arith, length-take (length w.changes - 1) w.changes); held = AllHeld-take (length w.changes - 1) w.rows w.changes is.held }
 
-holder_of-rows : (txn : ℕ) (q : Place) (es : List (ℕ × TxnState)) (w w' : TxnState) → lookup (nat_eq txn) es ≡ Some w → w'.rows ≡ w.rows → holder_of q (set_value (nat_eq txn) es w') ≡ holder_of q es
+holder_of-rows : (txn : ℕ) (q : Place) (es : List (ℕ × TxnState)) (w w' : TxnState) → lookup (nat_eq txn) es ≡ Some w → w'.rows ≡ w.rows
+    → holder_of q (set_value (nat_eq txn) es w') ≡ holder_of q es
 holder_of-rows txn q [] w w' here same = refl
 holder_of-rows txn q (e ∷ es) w w' here same = by (λ h. holder_of-rows txn q es w w' h same) (eqb txn e.0) here
   where
     by : (lookup (nat_eq txn) es ≡ Some w → holder_of q (set_value (nat_eq txn) es w') ≡ holder_of q es)
-        → (b : Bool) → cond b (Some e.1) (lookup (nat_eq txn) es) ≡ Some w → holder_of q (cond b ((e.0, w') ∷ es) (e ∷ set_value (nat_eq txn) es w')) ≡ cond (is_among q e.1.rows) (Some e.0) (holder_of q es)
-    by rest true h = let its : e.1 ≡ w = cc in ap (λ (rs : List Place). cond (is_among q rs) (Some e.0) (holder_of q es)) (same ∙ ap (λ (x : TxnState). x.rows) (sym its))
+        → (b : Bool) → cond b (Some e.1) (lookup (nat_eq txn) es) ≡ Some w
+        → holder_of q (cond b ((e.0, w') ∷ es) (e ∷ set_value (nat_eq txn) es w')) ≡ cond (is_among q e.1.rows) (Some e.0) (holder_of q es)
+    by rest true h = let its : e.1 ≡ w = cc in ap (λ (rs : List Place). cond (is_among q rs) (Some e.0) (holder_of q es)) (same
+        ∙ ap (λ (x : TxnState). x.rows) (sym its))
     by rest false h = ap (λ o. cond (is_among q e.1.rows) (Some e.0) o) (rest h)
 
 -- a state whose rows stay
-OneHolder-rows : (txn : ℕ) (es : List (ℕ × TxnState)) (w w' : TxnState) → lookup (nat_eq txn) es ≡ Some w → w'.rows ≡ w.rows → OneHolder es → OneHolder (set_value (nat_eq txn) es w')
+OneHolder-rows : (txn : ℕ) (es : List (ℕ × TxnState)) (w w' : TxnState) → lookup (nat_eq txn) es ≡ Some w → w'.rows ≡ w.rows → OneHolder es
+    → OneHolder (set_value (nat_eq txn) es w')
 OneHolder-rows txn [] w w' here same one = tt
-OneHolder-rows txn (e ∷ es) w w' here same one = by (λ h. OneHolder-rows txn es w w' h same one.1) (λ h q. holder_of-rows txn q es w w' h same) (eqb txn e.0) here
+OneHolder-rows txn (e ∷ es) w w' here same one = by (λ h. OneHolder-rows txn es w w' h same one.1) (λ h q. holder_of-rows txn q es w w' h same)
+    (eqb txn e.0) here
   where
-    by : (lookup (nat_eq txn) es ≡ Some w → OneHolder (set_value (nat_eq txn) es w')) → (lookup (nat_eq txn) es ≡ Some w → (q : Place) → holder_of q (set_value (nat_eq txn) es w') ≡ holder_of q es)
+    by : (lookup (nat_eq txn) es ≡ Some w → OneHolder (set_value (nat_eq txn) es w'))
+        → (lookup (nat_eq txn) es ≡ Some w → (q : Place) → holder_of q (set_value (nat_eq txn) es w') ≡ holder_of q es)
         → (b : Bool) → cond b (Some e.1) (lookup (nat_eq txn) es) ≡ Some w → OneHolder (cond b ((e.0, w') ∷ es) (e ∷ set_value (nat_eq txn) es w'))
     by rest holders true h = let its : e.1 ≡ w = cc in (λ q among. one.0 q (ap (is_among q) (ap (λ (x : TxnState). x.rows) its ∙ sym same) ∙ among), one.1)
     by rest holders false h = (λ q among. holders h q ∙ one.0 q among, rest h)
 
-pub IsSound-rows : (t : TableValue) (txn : ℕ) (w w' : TxnState) → lookup (nat_eq txn) t.active ≡ Some w → IsSoundTxn w' → w'.rows ≡ w.rows → IsSound t → IsSound (record t { active = set_value (nat_eq txn) t.active w' })
+pub IsSound-rows : (t : TableValue) (txn : ℕ) (w w' : TxnState) → lookup (nat_eq txn) t.active ≡ Some w → IsSoundTxn w' → w'.rows ≡ w.rows → IsSound t
+    → IsSound (record t { active = set_value (nat_eq txn) t.active w' })
 IsSound-rows t txn w w' here is same sound =
     let long = length-set txn t.active w' in
     let before = sound.few in
@@ -290,10 +304,12 @@ IsTableKept-without t held txn s here kept = record {
   held_rows = AreHeldRows-without txn held t.active s kept.sound.one_holder here kept.held_rows;
 }
 
-pub IsTableKept-noted : (t : TableValue) (held : List Place) (txn : ℕ) (c : ChangeValue) (s : TxnState) → lookup (nat_eq txn) t.active ≡ Some s → length s.changes < CHANGES_MAX → ((k : ℕ) → holder_of c.rid t.active ≡ Some k → k ≡ txn)
+pub IsTableKept-noted : (t : TableValue) (held : List Place) (txn : ℕ) (c : ChangeValue) (s : TxnState) → lookup (nat_eq txn) t.active ≡ Some s
+    → length s.changes < CHANGES_MAX → ((k : ℕ) → holder_of c.rid t.active ≡ Some k → k ≡ txn)
     → IsTableKept t held → IsTableKept (table (set_value (nat_eq txn) t.active (change_noted c s)) t.begun) (with_rid c.rid held)
 IsTableKept-noted t held txn c s here room own kept = record {
-  sound = IsSound-set t txn c.rid s (change_noted c s) here (IsSoundTxn-noted c s room (state_is txn t.active s here kept.sound.txns)) (λ q among. among_more q c.rid s.rows among) own kept.sound;
+  sound = IsSound-set t txn c.rid s (change_noted c s) here (IsSoundTxn-noted c s room (state_is txn t.active s here kept.sound.txns)) (λ q among.
+      among_more q c.rid s.rows among) own kept.sound;
   held_rows = AreHeldRows-noted txn c held t.active s here kept.held_rows;
 }
 
@@ -304,7 +320,8 @@ IsTableKept-without_last t held txn s here kept = record {
   held_rows = λ q. kept.held_rows q ∙ sym (ap is_some (holder_of-rows txn q t.active s (without_last s) here refl));
 }
 
-pub IsTableKept-put_at : (p : Progress) (n : ℕ) (t : TableValue) (held : List Place) (txn : ℕ) (s : TxnState) → lookup (nat_eq txn) t.active ≡ Some s → IsTableKept t held
+pub IsTableKept-put_at : (p : Progress) (n : ℕ) (t : TableValue) (held : List Place) (txn : ℕ) (s : TxnState) → lookup (nat_eq txn) t.active ≡ Some s
+    → IsTableKept t held
     → IsTableKept (table (set_value (nat_eq txn) t.active (put_at p n s)) t.begun) held
 IsTableKept-put_at p n t held txn s here kept =
     let is = state_is txn t.active s here kept.sound.txns in

@@ -1,5 +1,6 @@
 -- Lookups by number and by row.
-use Rattle.std.proofs.Common.{◌≡◌, ℕ, ◌<◌, Bool, true, false, cond, List, [], ◌∷◌, ◌++◌, Some, None, nat_eq, ◌==◌, ◌&&◌, ◌||◌, ◌⊎◌, inl, inr, refl, sym, ap, ◌∙◌, arith, eqb, eq-eqb, zero, suc, drop, slice_get}
+use Rattle.std.proofs.Common.{◌≡◌, ℕ, ◌<◌, Bool, true, false, cond, List, [], ◌∷◌, ◌++◌, Some, None, nat_eq, ◌==◌, ◌&&◌, ◌||◌, ◌⊎◌, inl, inr, refl, sym, ap}
+use Rattle.std.proofs.Common.{◌∙◌, arith, eqb, eq-eqb, zero, suc, drop, slice_get}
 use Rattle.std.proofs.Math.Bool.{or-false}
 use Rattle.std.proofs.lemmas.Bool.{eqb-true}
 use Rattle.std.proofs.lemmas.List.Folds.{list_any-append}
@@ -21,11 +22,14 @@ or_cases true b e = inl refl
 or_cases false b e = inr e
 
 -- a write through the map is one by number
-pub set_value-with_state : (f : TxnState → TxnState) (txn : ℕ) (es : List (ℕ × TxnState)) (w w' : TxnState) → lookup (nat_eq txn) es ≡ Some w → w' ≡ f w → set_value (nat_eq txn) es w' ≡ with_state f txn es
+pub set_value-with_state : (f : TxnState → TxnState) (txn : ℕ) (es : List (ℕ × TxnState)) (w w' : TxnState) → lookup (nat_eq txn) es ≡ Some w → w' ≡ f w
+    → set_value (nat_eq txn) es w' ≡ with_state f txn es
 set_value-with_state f txn [] w w' here e = refl
 set_value-with_state f txn (d ∷ es) w w' here e = by (λ h. set_value-with_state f txn es w w' h e) (eqb txn d.0) here
   where
-    by : (lookup (nat_eq txn) es ≡ Some w → set_value (nat_eq txn) es w' ≡ with_state f txn es) → (b : Bool) → cond b (Some d.1) (lookup (nat_eq txn) es) ≡ Some w → cond b ((d.0, w') ∷ es) (d ∷ set_value (nat_eq txn) es w') ≡ cond b ((d.0, f d.1) ∷ es) (d ∷ with_state f txn es)
+    by : (lookup (nat_eq txn) es ≡ Some w → set_value (nat_eq txn) es w' ≡ with_state f txn es) → (b : Bool)
+        → cond b (Some d.1) (lookup (nat_eq txn) es) ≡ Some w
+        → cond b ((d.0, w') ∷ es) (d ∷ set_value (nat_eq txn) es w') ≡ cond b ((d.0, f d.1) ∷ es) (d ∷ with_state f txn es)
     by rest true h = let same : d.1 ≡ w = cc in ap (λ (x : TxnState). (d.0, x) ∷ es) (e ∙ ap f (sym same))
     by rest false h = ap (λ xs. d ∷ xs) (rest h)
 
@@ -34,7 +38,8 @@ pub set_value-same : (txn : ℕ) (es : List (ℕ × TxnState)) (w w' : TxnState)
 set_value-same txn [] w w' here e = refl
 set_value-same txn (d ∷ es) w w' here e = by (λ h. set_value-same txn es w w' h e) (eqb txn d.0) here
   where
-    by : (lookup (nat_eq txn) es ≡ Some w → set_value (nat_eq txn) es w' ≡ es) → (b : Bool) → cond b (Some d.1) (lookup (nat_eq txn) es) ≡ Some w → cond b ((d.0, w') ∷ es) (d ∷ set_value (nat_eq txn) es w') ≡ d ∷ es
+    by : (lookup (nat_eq txn) es ≡ Some w → set_value (nat_eq txn) es w' ≡ es) → (b : Bool) → cond b (Some d.1) (lookup (nat_eq txn) es) ≡ Some w
+        → cond b ((d.0, w') ∷ es) (d ∷ set_value (nat_eq txn) es w') ≡ d ∷ es
     by rest true h = let same : d.1 ≡ w = cc in ap (λ (x : TxnState). (d.0, x) ∷ es) (e ∙ sym same)
     by rest false h = ap (λ xs. d ∷ xs) (rest h)
 
@@ -43,7 +48,8 @@ pub with_state-unknown : (f : TxnState → TxnState) (txn : ℕ) (es : List (ℕ
 with_state-unknown f txn [] none = refl
 with_state-unknown f txn (d ∷ es) none = by (with_state-unknown f txn es) (eqb txn d.0) none
   where
-    by : (lookup (nat_eq txn) es ≡ None → with_state f txn es ≡ es) → (b : Bool) → cond b (Some d.1) (lookup (nat_eq txn) es) ≡ None → cond b ((d.0, f d.1) ∷ es) (d ∷ with_state f txn es) ≡ d ∷ es
+    by : (lookup (nat_eq txn) es ≡ None → with_state f txn es ≡ es) → (b : Bool) → cond b (Some d.1) (lookup (nat_eq txn) es) ≡ None
+        → cond b ((d.0, f d.1) ∷ es) (d ∷ with_state f txn es) ≡ d ∷ es
     by rest true h = absurd cc
     by rest false h = ap (λ xs. d ∷ xs) (rest h)
 
@@ -57,7 +63,8 @@ holder_above low high r (e ∷ es) k rises h = by (holder_above e.0 high r es k 
     by rest false h = let later = rest h in let first = rises.0 in omega arith
 
 -- an active transaction with the row is its holder
-pub holder_is : (txn : ℕ) (w : TxnState) (r : Place) (es : List (ℕ × TxnState)) → OneHolder es → lookup (nat_eq txn) es ≡ Some w → is_among r w.rows ≡ true → holder_of r es ≡ Some txn
+pub holder_is : (txn : ℕ) (w : TxnState) (r : Place) (es : List (ℕ × TxnState)) → OneHolder es → lookup (nat_eq txn) es ≡ Some w → is_among r w.rows ≡ true
+    → holder_of r es ≡ Some txn
 holder_is txn w r [] one here among = absurd cc
 holder_is txn w r (e ∷ es) one here among = by (λ h. holder_is txn w r es one.1 h among) (eqb txn e.0) (eqb-true txn e.0) here
   where
@@ -65,7 +72,8 @@ holder_is txn w r (e ∷ es) one here among = by (λ h. holder_is txn w r es one
     later held true also = let none = one.0 r also in absurd cc
     later held false not_here = held
 
-    by : (lookup (nat_eq txn) es ≡ Some w → holder_of r es ≡ Some txn) → (b : Bool) → (b ≡ true → txn ≡ e.0) → cond b (Some e.1) (lookup (nat_eq txn) es) ≡ Some w
+    by : (lookup (nat_eq txn) es ≡ Some w → holder_of r es ≡ Some txn) → (b : Bool) → (b ≡ true → txn ≡ e.0)
+        → cond b (Some e.1) (lookup (nat_eq txn) es) ≡ Some w
         → cond (is_among r e.1.rows) (Some e.0) (holder_of r es) ≡ Some txn
     by rest true same h =
         let its : e.1 ≡ w = cc in
@@ -73,24 +81,31 @@ holder_is txn w r (e ∷ es) one here among = by (λ h. holder_is txn w r es one
     by rest false same h = later (rest h) (is_among r e.1.rows) refl
 
 -- a holder has the row
-pub among_own : (low high txn : ℕ) (w : TxnState) (r : Place) (es : List (ℕ × TxnState)) → Rises low es high → lookup (nat_eq txn) es ≡ Some w → holder_of r es ≡ Some txn → is_among r w.rows ≡ true
+pub among_own : (low high txn : ℕ) (w : TxnState) (r : Place) (es : List (ℕ × TxnState)) → Rises low es high → lookup (nat_eq txn) es ≡ Some w
+    → holder_of r es ≡ Some txn → is_among r w.rows ≡ true
 among_own low high txn w r [] rises here held = absurd cc
 among_own low high txn w r (e ∷ es) rises here held =
-    by (among_own e.0 high txn w r es rises.1) (holder_above e.0 high r es txn rises.1) (eqb txn e.0) (eqb-true txn e.0) (eq-eqb txn e.0) here (is_among r e.1.rows) refl held
+    by (among_own e.0 high txn w r es rises.1) (holder_above e.0 high r es txn rises.1) (eqb txn e.0) (eqb-true txn e.0) (eq-eqb txn e.0) here
+    (is_among r e.1.rows) refl held
   where
-    by : (lookup (nat_eq txn) es ≡ Some w → holder_of r es ≡ Some txn → is_among r w.rows ≡ true) → (holder_of r es ≡ Some txn → e.0 < txn) → (b : Bool) → (b ≡ true → txn ≡ e.0) → (txn ≡ e.0 → b ≡ true)
-        → cond b (Some e.1) (lookup (nat_eq txn) es) ≡ Some w → (a : Bool) → is_among r e.1.rows ≡ a → cond a (Some e.0) (holder_of r es) ≡ Some txn → is_among r w.rows ≡ true
+    by : (lookup (nat_eq txn) es ≡ Some w → holder_of r es ≡ Some txn → is_among r w.rows ≡ true) → (holder_of r es ≡ Some txn → e.0 < txn) → (b : Bool)
+        → (b ≡ true → txn ≡ e.0) → (txn ≡ e.0 → b ≡ true)
+        → cond b (Some e.1) (lookup (nat_eq txn) es) ≡ Some w → (a : Bool) → is_among r e.1.rows ≡ a → cond a (Some e.0) (holder_of r es) ≡ Some txn
+        → is_among r w.rows ≡ true
     by rest later true same is h true among held = let its : e.1 ≡ w = cc in ap (λ (x : TxnState). is_among r x.rows) (sym its) ∙ among
     by rest later true same is h false among held = let above = later held in let own = same refl in absurd (omega arith)
     by rest later false same is h true among held = let own : e.0 ≡ txn = cc in let no = is (sym own) in absurd cc
     by rest later false same is h false among held = rest h held
 
 -- a transaction does not have a row that nobody holds
-pub not_among : (txn : ℕ) (w : TxnState) (r : Place) (es : List (ℕ × TxnState)) → lookup (nat_eq txn) es ≡ Some w → holder_of r es ≡ None → is_among r w.rows ≡ false
+pub not_among : (txn : ℕ) (w : TxnState) (r : Place) (es : List (ℕ × TxnState)) → lookup (nat_eq txn) es ≡ Some w → holder_of r es ≡ None
+    → is_among r w.rows ≡ false
 not_among txn w r [] here none = absurd cc
 not_among txn w r (e ∷ es) here none = by (not_among txn w r es) (eqb txn e.0) here (is_among r e.1.rows) refl none
   where
-    by : (lookup (nat_eq txn) es ≡ Some w → holder_of r es ≡ None → is_among r w.rows ≡ false) → (b : Bool) → cond b (Some e.1) (lookup (nat_eq txn) es) ≡ Some w → (a : Bool) → is_among r e.1.rows ≡ a → cond a (Some e.0) (holder_of r es) ≡ None → is_among r w.rows ≡ false
+    by : (lookup (nat_eq txn) es ≡ Some w → holder_of r es ≡ None → is_among r w.rows ≡ false) → (b : Bool)
+        → cond b (Some e.1) (lookup (nat_eq txn) es) ≡ Some w → (a : Bool) → is_among r e.1.rows ≡ a → cond a (Some e.0) (holder_of r es) ≡ None
+        → is_among r w.rows ≡ false
     by rest b h true among n = absurd cc
     by rest true h false among n = let its : e.1 ≡ w = cc in ap (λ (x : TxnState). is_among r x.rows) (sym its) ∙ among
     by rest false h false among n = rest h n
@@ -103,7 +118,8 @@ place_test q r e =
 
 pub is_among-append : (q r : Place) (rs : List Place) → is_among q (rs ++ r ∷ []) ≡ (is_among q rs || ((r.page == q.page) && (r.slot == q.slot)))
 is_among-append q r rs =
-    list_any-append (λ x. (x.page == q.page) && (x.slot == q.slot)) rs (r ∷ []) ∙ ap (λ b. is_among q rs || b) (or-false ((r.page == q.page) && (r.slot == q.slot)))
+    list_any-append (λ x. (x.page == q.page) && (x.slot == q.slot)) rs (r ∷ [])
+    ∙ ap (λ b. is_among q rs || b) (or-false ((r.page == q.page) && (r.slot == q.slot)))
 
 -- a row among those with r was among them, or is r
 pub among_more : (q r : Place) (rs : List Place) → is_among q (with_rid r rs) ≡ true → (is_among q rs ≡ true) ⊎ (q ≡ r)
@@ -148,7 +164,8 @@ among_new r rs = by (is_among r rs) refl
     by false e = is_among-append r r rs ∙ or_right (is_among r rs) ((r.page == r.page) && (r.slot == r.slot)) itself
 
 -- a search from i on looks at that entry first
-pub holder_of-drop : (r : Place) (es : List (ℕ × TxnState)) (i : ℕ) (e : ℕ × TxnState) → slice_get es i ≡ Some e → holder_of r (drop i es) ≡ cond (is_among r e.1.rows) (Some e.0) (holder_of r (drop (suc i) es))
+pub holder_of-drop : (r : Place) (es : List (ℕ × TxnState)) (i : ℕ) (e : ℕ × TxnState) → slice_get es i ≡ Some e
+    → holder_of r (drop i es) ≡ cond (is_among r e.1.rows) (Some e.0) (holder_of r (drop (suc i) es))
 holder_of-drop r [] i e h = absurd cc
 holder_of-drop r (d ∷ es) zero e h = let same : d ≡ e = cc in ap (λ (x : ℕ × TxnState). cond (is_among r x.1.rows) (Some x.0) (holder_of r es)) same
 holder_of-drop r (d ∷ es) (suc i) e h = holder_of-drop r es i e h

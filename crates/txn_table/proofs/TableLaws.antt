@@ -1,10 +1,12 @@
 -- Laws of the words of specs/Table: what a lookup finds after a step, and who holds a row.
-use Rattle.std.proofs.Common.{◌≡◌, ◌≢◌, ℕ, ◌+◌, ◌≤◌, Bool, true, false, cond, List, [], ◌∷◌, Some, None, option_map, ◌⊎◌, inl, inr, refl, sym, ap, ◌∙◌, arith, eqb, ◌==◌, ◌||◌}
+use Rattle.std.proofs.Common.{◌≡◌, ◌≢◌, ℕ, ◌+◌, ◌≤◌, Bool, true, false, cond, List, [], ◌∷◌, Some, None, option_map, ◌⊎◌, inl, inr, refl, sym, ap, ◌∙◌, arith}
+use Rattle.std.proofs.Common.{eqb, ◌==◌, ◌||◌}
 use Rattle.std.proofs.Math.Bool.{or-false}
 use Rattle.std.proofs.lemmas.Bool.Decides.{eqb_tells}
 use Rattle.records.specs.Values.{Place}
 use Rattle.records.specs.ChangeValue.{ChangeValue}
-use Rattle.txn_table.specs.Table.{TxnState, TableValue, is_among, with_rid, change_noted, without_last, put_at, state_of, with_state, without, with_next, holder_of}
+use Rattle.txn_table.specs.Table.{TxnState, TableValue, is_among, with_rid, change_noted, without_last, put_at, state_of, with_state, without, with_next}
+use Rattle.txn_table.specs.Table.{holder_of}
 use Rattle.txn_table.specs.declared.progress.Progress.{Progress}
 use Rattle.txn_table.specs.Sound.{Rises, OneHolder, IsSound}
 use Rattle.txn_table.proofs.Lookups.{place_test, among_new, holder_above, holder_is}
@@ -31,7 +33,8 @@ eqb_apart n m ne = by (eqb_tells n m)
     by (inl p) = absurd (ne p.1)
     by (inr p) = p.0
 
-pub state_of-with_state : (f : TxnState → TxnState) (txn q : ℕ) (es : List (ℕ × TxnState)) → state_of q (with_state f txn es) ≡ cond (q == txn) (option_map f (state_of txn es)) (state_of q es)
+pub state_of-with_state : (f : TxnState → TxnState) (txn q : ℕ) (es : List (ℕ × TxnState))
+    → state_of q (with_state f txn es) ≡ cond (q == txn) (option_map f (state_of txn es)) (state_of q es)
 state_of-with_state f txn q [] = either_way (q == txn) None
 state_of-with_state f txn q (e ∷ es) = by (state_of-with_state f txn q es) (eqb_tells txn e.0) (eqb_tells q e.0)
   where
@@ -105,7 +108,8 @@ pub holder_of-without_last : (txn : ℕ) (r : Place) (es : List (ℕ × TxnState
 holder_of-without_last txn r [] = refl
 holder_of-without_last txn r (e ∷ es) = by (eqb txn e.0) (holder_of-without_last txn r es)
   where
-    by : (b : Bool) → holder_of r (with_state without_last txn es) ≡ holder_of r es → holder_of r (cond b ((e.0, without_last e.1) ∷ es) (e ∷ with_state without_last txn es)) ≡ holder_of r (e ∷ es)
+    by : (b : Bool) → holder_of r (with_state without_last txn es) ≡ holder_of r es
+        → holder_of r (cond b ((e.0, without_last e.1) ∷ es) (e ∷ with_state without_last txn es)) ≡ holder_of r (e ∷ es)
     by true rest = refl
     by false rest = ap (cond (is_among r e.1.rows) (Some e.0)) rest
 
@@ -113,7 +117,8 @@ pub holder_of-put_at : (p : Progress) (n txn : ℕ) (r : Place) (es : List (ℕ 
 holder_of-put_at p n txn r [] = refl
 holder_of-put_at p n txn r (e ∷ es) = by (eqb txn e.0) (holder_of-put_at p n txn r es)
   where
-    by : (b : Bool) → holder_of r (with_state (put_at p n) txn es) ≡ holder_of r es → holder_of r (cond b ((e.0, put_at p n e.1) ∷ es) (e ∷ with_state (put_at p n) txn es)) ≡ holder_of r (e ∷ es)
+    by : (b : Bool) → holder_of r (with_state (put_at p n) txn es) ≡ holder_of r es
+        → holder_of r (cond b ((e.0, put_at p n e.1) ∷ es) (e ∷ with_state (put_at p n) txn es)) ≡ holder_of r (e ∷ es)
     by true rest = refl
     by false rest = ap (cond (is_among r e.1.rows) (Some e.0)) rest
 
@@ -125,30 +130,36 @@ not_same q r ne = by (is_same q r) refl
     by false e = refl
 
 -- a change of another row
-pub holder_of-noted_other : (txn : ℕ) (c : ChangeValue) (q : Place) (es : List (ℕ × TxnState)) → q ≢ c.rid → holder_of q (with_state (change_noted c) txn es) ≡ holder_of q es
+pub holder_of-noted_other : (txn : ℕ) (c : ChangeValue) (q : Place) (es : List (ℕ × TxnState)) → q ≢ c.rid
+    → holder_of q (with_state (change_noted c) txn es) ≡ holder_of q es
 holder_of-noted_other txn c q [] ne = refl
 holder_of-noted_other txn c q (e ∷ es) ne = by (eqb txn e.0) (holder_of-noted_other txn c q es ne)
   where
     among : is_among q (with_rid c.rid e.1.rows) ≡ is_among q e.1.rows
     among = is_among-with_rid q c.rid e.1.rows ∙ ap (λ b. is_among q e.1.rows || b) (not_same q c.rid ne) ∙ or-false (is_among q e.1.rows)
 
-    by : (b : Bool) → holder_of q (with_state (change_noted c) txn es) ≡ holder_of q es → holder_of q (cond b ((e.0, change_noted c e.1) ∷ es) (e ∷ with_state (change_noted c) txn es)) ≡ holder_of q (e ∷ es)
+    by : (b : Bool) → holder_of q (with_state (change_noted c) txn es) ≡ holder_of q es
+        → holder_of q (cond b ((e.0, change_noted c e.1) ∷ es) (e ∷ with_state (change_noted c) txn es)) ≡ holder_of q (e ∷ es)
     by true rest = ap (λ b. cond b (Some e.0) (holder_of q es)) among
     by false rest = ap (cond (is_among q e.1.rows) (Some e.0)) rest
 
 -- a change of this row
-pub holder_of-noted : (txn : ℕ) (c : ChangeValue) (es : List (ℕ × TxnState)) (s : TxnState) → state_of txn es ≡ Some s → OneHolder (with_state (change_noted c) txn es) → holder_of c.rid (with_state (change_noted c) txn es) ≡ Some txn
+pub holder_of-noted : (txn : ℕ) (c : ChangeValue) (es : List (ℕ × TxnState)) (s : TxnState) → state_of txn es ≡ Some s
+    → OneHolder (with_state (change_noted c) txn es) → holder_of c.rid (with_state (change_noted c) txn es) ≡ Some txn
 holder_of-noted txn c es s here one =
     holder_is txn (change_noted c s) c.rid (with_state (change_noted c) txn es) one
-    (state_of-with_state (change_noted c) txn txn es ∙ ap (λ b. cond b (option_map (change_noted c) (state_of txn es)) (state_of txn es)) (eqb_itself txn txn refl) ∙ ap (option_map (change_noted c)) here)
+    (state_of-with_state (change_noted c) txn txn es
+    ∙ ap (λ b. cond b (option_map (change_noted c) (state_of txn es)) (state_of txn es)) (eqb_itself txn txn refl) ∙ ap (option_map (change_noted c)) here)
     (among_new c.rid s.rows)
 
 -- the rows of a transaction are those that it is the holder of
-holds_it : (low high txn : ℕ) (q : Place) (es : List (ℕ × TxnState)) (s : TxnState) → Rises low es high → state_of txn es ≡ Some s → holder_of q es ≡ Some txn → is_among q s.rows ≡ true
+holds_it : (low high txn : ℕ) (q : Place) (es : List (ℕ × TxnState)) (s : TxnState) → Rises low es high → state_of txn es ≡ Some s → holder_of q es ≡ Some txn
+    → is_among q s.rows ≡ true
 holds_it low high txn q [] s rises here holds = absurd cc
 holds_it low high txn q (e ∷ es) s rises here holds = by (holds_it e.0 high txn q es s rises.1) (is_among q e.1.rows) refl holds
   where
-    by : (state_of txn es ≡ Some s → holder_of q es ≡ Some txn → is_among q s.rows ≡ true) → (b : Bool) → is_among q e.1.rows ≡ b → cond b (Some e.0) (holder_of q es) ≡ Some txn → is_among q s.rows ≡ true
+    by : (state_of txn es ≡ Some s → holder_of q es ≡ Some txn → is_among q s.rows ≡ true) → (b : Bool) → is_among q e.1.rows ≡ b
+        → cond b (Some e.0) (holder_of q es) ≡ Some txn → is_among q s.rows ≡ true
     by rest true among h =
         let same : e.0 ≡ txn = cc in
         let its : Some e.1 ≡ Some s = sym (ap (λ b. cond b (Some e.1) (state_of txn es)) (eqb_itself txn e.0 (sym same))) ∙ here in
@@ -159,13 +170,15 @@ holds_it low high txn q (e ∷ es) s rises here holds = by (holds_it e.0 high tx
         rest (sym (ap (λ b. cond b (Some e.1) (state_of txn es)) (eqb_apart txn e.0 (λ x. omega arith))) ∙ here) h
 
 -- the end of the holder
-pub holder_of-without : (t : TableValue) (txn : ℕ) (q : Place) (s : TxnState) → IsSound t → state_of txn t.active ≡ Some s → holder_of q t.active ≡ Some txn → holder_of q (without txn t.active) ≡ None
+pub holder_of-without : (t : TableValue) (txn : ℕ) (q : Place) (s : TxnState) → IsSound t → state_of txn t.active ≡ Some s → holder_of q t.active ≡ Some txn
+    → holder_of q (without txn t.active) ≡ None
 holder_of-without t txn q s sound here holds =
     holder_of-without_rows txn q t.active s sound.one_holder here
     ∙ ap (λ b. cond b None (holder_of q t.active)) (holds_it 0 t.begun txn q t.active s sound.rising here holds)
 
 -- the end of another
-pub holder_of-without_other : (t : TableValue) (txn : ℕ) (q : Place) (s : TxnState) → IsSound t → state_of txn t.active ≡ Some s → holder_of q t.active ≢ Some txn → holder_of q (without txn t.active) ≡ holder_of q t.active
+pub holder_of-without_other : (t : TableValue) (txn : ℕ) (q : Place) (s : TxnState) → IsSound t → state_of txn t.active ≡ Some s
+    → holder_of q t.active ≢ Some txn → holder_of q (without txn t.active) ≡ holder_of q t.active
 holder_of-without_other t txn q s sound here other =
     holder_of-without_rows txn q t.active s sound.one_holder here ∙ by (is_among q s.rows) refl
   where

@@ -1,5 +1,6 @@
 -- What clauses see of the table: the active transactions in the order in which they began.
-use Rattle.std.specs.Prelude.{ℕ, ◌+◌, ◌-◌, List, [], ◌∷◌, ◌++◌, length, take, Option, Some, None, Bool, true, false, not, nat_eq, nat_le, ◌==◌, ◌&&◌, if◌then◌else◌, slice_get}
+use Rattle.std.specs.Prelude.{ℕ, ◌+◌, ◌-◌, List, [], ◌∷◌, ◌++◌, length, take, Option, Some, None, Bool, true, false}
+use Rattle.std.specs.Prelude.{not, nat_eq, nat_le, ◌==◌, ◌&&◌, if◌then◌else◌, slice_get}
 use Rattle.std.specs.List.{list_any}
 use Rattle.std.specs.Option.{option_or}
 use Rattle.std.specs.Map.{lookup, remove_entry}
@@ -9,7 +10,8 @@ use Rattle.records.specs.declared.change.TheConstants.{CHANGES_MAX}
 use Rattle.records.specs.declared.error.Error.{Error}
 use Rattle.records.specs.declared.error.Error.TheVariants.{NoSuchTxn, TooManyChanges, RowBusy}
 use Rattle.txn_table.specs.declared.progress.Progress.{Progress}
-use Rattle.txn_table.specs.declared.progress.Progress.TheVariants.{OwesEntry, OwesRow, Ready, Rolling, UndoesEntry, UndoesRow}
+use Rattle.txn_table.specs.declared.progress.Progress.TheVariants.{OwesEntry, OwesRow, Ready, Rolling, UndoesEntry}
+use Rattle.txn_table.specs.declared.progress.Progress.TheVariants.{UndoesRow}
 
 -- whether a transaction that is so far is rolling back
 abbrev pub rolls : Progress → Bool
@@ -20,7 +22,8 @@ rolls Rolling = true
 rolls UndoesRow = true
 rolls UndoesEntry = true
 
--- the changes that a transaction may still take back, oldest first, the rows that it holds, in the order of its first touch, how far it is, and how many entry places it has reserved and not used
+-- the changes that a transaction may still take back, oldest first, the rows that it holds, in the order of its first
+-- touch, how far it is, and how many entry places it has reserved and not used
 pub record TxnState : Type 0 where
   pub changes : List ChangeValue
   pub rows : List Place
@@ -46,11 +49,21 @@ with_rid r rs = if is_among r rs then rs else rs ++ r ∷ []
 
 -- a transaction with one more change, whose row it holds from now on
 abbrev pub change_noted : ChangeValue → TxnState → TxnState
-change_noted c s = record { changes = s.changes ++ c ∷ []; rows = with_rid c.rid s.rows; progress = s.progress; reserved = s.reserved }
+change_noted c s = record {
+  changes = s.changes ++ c ∷ [];
+  rows = with_rid c.rid s.rows;
+  progress = s.progress;
+  reserved = s.reserved;
+}
 
 -- a transaction without its last change, where it had one. It still holds the row, and is rolling back from now on
 abbrev pub without_last : TxnState → TxnState
-without_last s = record { changes = take (length s.changes - 1) s.changes; rows = s.rows; progress = Rolling; reserved = s.reserved }
+without_last s = record {
+  changes = take (length s.changes - 1) s.changes;
+  rows = s.rows;
+  progress = Rolling;
+  reserved = s.reserved;
+}
 
 -- a transaction that is so far, with so many places
 abbrev pub put_at : Progress → ℕ → TxnState → TxnState

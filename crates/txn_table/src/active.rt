@@ -23,7 +23,12 @@ impl<A: Allocator> Model for ActiveTxn<A> {
 
     ghost Value = { TxnState };
 
-    ghost view = { λ t. record { changes = t.changes.items; rows = t.rows.items; progress = t.progress; reserved = t.reserved } };
+    ghost view = { λ t. record {
+      changes = t.changes.items;
+      rows = t.rows.items;
+      progress = t.progress;
+      reserved = t.reserved;
+    } };
 }
 
 impl<A: Allocator + Copy> ActiveTxn<A> {

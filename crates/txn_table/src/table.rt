@@ -1,8 +1,12 @@
 //! The table of the active transactions.
-ghost use Rattle.std.specs.Prelude.{◌≡◌, ◌≢◌, ◌+◌, ◌<◌, ◌≤◌, ◌↔◌, ◌⊎◌, ℕ, [], length, not, filter, Contains, Some, None, is_some, slice_get, option_map, option_and_then, IsTrue, IsErr, IsSome, IfOk, IfErr, OnOk, OnErr, IsOkUnless};
+ghost use Rattle.std.specs.Prelude.{◌≡◌, ◌≢◌, ◌+◌, ◌<◌, ◌≤◌, ◌↔◌, ◌⊎◌, ℕ, [], length, not, filter, Contains, Some};
+ghost use Rattle.std.specs.Prelude.{None, is_some, slice_get, option_map, option_and_then, IsTrue, IsErr, IsSome, IfOk};
+ghost use Rattle.std.specs.Prelude.{IfErr, OnOk, OnErr, IsOkUnless};
 ghost use Rattle.std.specs.Result.{result_err};
 ghost use Rattle.records.specs.Values.{Place};
-ghost use Rattle.txn_table.specs.Table.{TxnState, holds_rows, is_among, with_rid, holder_of, state_of, with_state, with_next, without, change_noted, without_last, put_at, last_change, change_refusal, touch_refusal};
+ghost use Rattle.txn_table.specs.Table.{TxnState, holds_rows, is_among, with_rid, holder_of, state_of, with_state};
+ghost use Rattle.txn_table.specs.Table.{with_next, without, change_noted, without_last, put_at, last_change};
+ghost use Rattle.txn_table.specs.Table.{change_refusal, touch_refusal};
 ghost use Rattle.txn_table.specs.Sound.{IsSound};
 
 use crate::active::ActiveTxn;
@@ -153,7 +157,10 @@ impl<A: Allocator + Copy> TxnTable<A> {
 
     /// The transaction is so far from now on, and has so many places. One that is not active stays so.
     pub fn put(&mut self, txn: Txn, progress: Progress, reserved: usize)
-        ensures rest { self.new ≡ record self.old { active = with_state (put_at progress reserved) txn self.old.active } }
+        ensures rest { self.new ≡ record self.old {
+          active = with_state
+              (put_at progress reserved) txn self.old.active;
+        } }
         ensures holders { (r : Place) → holder_of r self.new.active ≡ holder_of r self.old.active }
     {
         let Some(active) = self.active.get_mut(&txn) else {

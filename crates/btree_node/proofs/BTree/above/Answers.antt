@@ -26,7 +26,8 @@ above_in-requires-clause-some g c =
 pub returns-in_err-entry-in-Some-pair : goal.returns-in_err-entry-in-Some-pair
 returns-in_err-entry-in-Some-pair g c =
     let top = c.deref-in-Some-pair.ensures ∙ sym (ap tree_at c.in-Some.is) ∙ c.self.view_is in
-    let none : first_above (entries c.args.self.now) c.in-Some-pair.pair.now ≡ None = ap (λ t. first_above (entries t) c.in-Some-pair.pair.now) (sym top) ∙ sym c.in_err-entry-in-Some-pair.ensures in
+    let none : first_above (entries c.args.self.now) c.in-Some-pair.pair.now ≡ None = ap (λ t. first_above (entries t) c.in-Some-pair.pair.now) (sym top)
+    ∙ sym c.in_err-entry-in-Some-pair.ensures in
     rw (c.in-Some-pair.is, c.from_residual.ensures) (least-none c.args.self.now c.in-Some-pair.pair.now none)
 
 pub returns : goal.returns
@@ -37,10 +38,14 @@ returns g c =
           let top = w.deref.ensures ∙ sym (ap tree_at c.in-Some.is) ∙ c.self.view_is in
           let first : first_of (entries c.args.self.now) ≡ Some w.first_in-entry.result = ap (λ t. first_of (entries t)) (sym top) ∙ w.first_in-entry.ensures in
           subst (λ e. IsLeastAbove (contents c.args.self.now) (option_copied c.args.pair) (Some (e.pair, e.mark))) (sym w.entry-is)
-          (subst (λ p. IsLeastAbove (contents c.args.self.now) (option_copied p) (Some (w.first_in-entry.result.pair, w.first_in-entry.result.mark))) (sym w.in-None.is) (least-first c.args.self.now w.first_in-entry.result up first))
+          (subst (λ p. IsLeastAbove (contents c.args.self.now) (option_copied p) (Some (w.first_in-entry.result.pair, w.first_in-entry.result.mark)))
+          (sym w.in-None.is) (least-first c.args.self.now w.first_in-entry.result up first))
       | in-Some-pair+in_ok-entry-in-Some-pair w ↦
           let top = w.deref-in-Some-pair.ensures ∙ sym (ap tree_at c.in-Some.is) ∙ c.self.view_is in
-          let found : first_above (entries c.args.self.now) w.in-Some-pair.pair.now ≡ Some w.in_ok-entry-in-Some-pair.entry = ap (λ t. first_above (entries t) w.in-Some-pair.pair.now) (sym top) ∙ sym w.in_ok-entry-in-Some-pair.ensures in
+          let found : first_above (entries c.args.self.now) w.in-Some-pair.pair.now ≡ Some w.in_ok-entry-in-Some-pair.entry =
+          ap (λ t. first_above (entries t) w.in-Some-pair.pair.now) (sym top) ∙ sym w.in_ok-entry-in-Some-pair.ensures in
           subst (λ e. IsLeastAbove (contents c.args.self.now) (option_copied c.args.pair) (Some (e.pair, e.mark))) (sym w.entry-is)
-          (subst (λ p. IsLeastAbove (contents c.args.self.now) (option_copied p) (Some (w.in_ok-entry-in-Some-pair.entry.pair, w.in_ok-entry-in-Some-pair.entry.mark))) (sym w.in-Some-pair.is) (least-after c.args.self.now w.in-Some-pair.pair.now w.in_ok-entry-in-Some-pair.entry up found))
+          (subst (λ p. IsLeastAbove (contents c.args.self.now) (option_copied p)
+          (Some (w.in_ok-entry-in-Some-pair.entry.pair, w.in_ok-entry-in-Some-pair.entry.mark))) (sym w.in-Some-pair.is)
+          (least-after c.args.self.now w.in-Some-pair.pair.now w.in_ok-entry-in-Some-pair.entry up found))
     ]

@@ -27,7 +27,8 @@ returns-in-None-clause-found g c =
 pub returns-in-Some-clause-found : goal.returns-in-Some-clause-found
 returns-in-Some-clause-found g c =
     let node = ap (λ r. r.node) c.new-way.ensures ∙ c.deref.ensures in
-    c.mark_below-mark.ensures.found ∙ ap (λ t. mark_in (entries t) c.args.pair.now) (node ∙ sym (ap tree_at c.in-Some.is) ∙ c.self.view_is) ∙ sym (get-contents _ _)
+    c.mark_below-mark.ensures.found ∙ ap (λ t. mark_in (entries t) c.args.pair.now) (node ∙ sym (ap tree_at c.in-Some.is) ∙ c.self.view_is)
+    ∙ sym (get-contents _ _)
 
 pub returns-in-Some-clause-few_visited : goal.returns-in-Some-clause-few_visited
 returns-in-Some-clause-few_visited g c =

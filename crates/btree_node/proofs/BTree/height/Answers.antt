@@ -35,7 +35,8 @@ returns-in-Some-clause-empty g c =
     let whole = subst IsWholeTree c.in-Some.is c.self.invariant.whole in
     let deep : 0 < depth c.in-Some.root.value = root_deep c.in-Some.root.value in
     let some : 0 < length (entries c.in-Some.root.value) = root_some _ _ whole in
-    let same : length (entries c.args.self.now) ≡ length (entries c.in-Some.root.value) = ap (λ t. length (entries t)) (sym c.self.view_is ∙ ap tree_at c.in-Some.is) in
+    let same : length (entries c.args.self.now) ≡ length (entries c.in-Some.root.value) =
+    ap (λ t. length (entries t)) (sym c.self.view_is ∙ ap tree_at c.in-Some.is) in
     (λ z. absurd (omega (arith, z, c.levels.ensures, ap depth c.deref.ensures, deep)), λ e. absurd (omega (arith, length_of-empty _ up e, same, some)))
 
 pub returns-in-Some-clause-height : goal.returns-in-Some-clause-height

@@ -6,4 +6,5 @@ use Rattle.btree_node.proofs.BTree.len.Goals as goal
 
 pub returns-clause-len : goal.returns-clause-len
 returns-clause-len g c =
-    c.self.invariant.counted ∙ ap (λ t. length (entries t)) c.self.view_is ∙ sym (len-contents _ (subst (λ t. IsAscending (entries t)) c.self.view_is c.self.invariant.ascending))
+    c.self.invariant.counted ∙ ap (λ t. length (entries t)) c.self.view_is
+    ∙ sym (len-contents _ (subst (λ t. IsAscending (entries t)) c.self.view_is c.self.invariant.ascending))

@@ -11,7 +11,8 @@ use Rattle.btree_node.proofs.Contents.{contents-without, present-contents, not_e
 use Rattle.btree_node.proofs.BTree.remove.Goals as goal
 
 pub returns-in_default : goal.returns-in_default
-returns-in_default g c = not_empty c.args.self.now c.args.pair.now c.requires.present (ap entries (sym c.self.view_is ∙ ap tree_at (sym c.take.ensures.value ∙ c.in_default.is)))
+returns-in_default g c = not_empty c.args.self.now c.args.pair.now c.requires.present
+    (ap entries (sym c.self.view_is ∙ ap tree_at (sym c.take.ensures.value ∙ c.in_default.is)))
 
 pub remove_below-requires-clause-present : goal.remove_below-requires-clause-present
 remove_below-requires-clause-present g c =
@@ -34,10 +35,13 @@ overflow_sub-self g c =
 pub invariant_of-self-2 : goal.invariant_of-self-2
 invariant_of-self-2 g c =
     let at : c.self.inside.root ≡ Some c.in-Some.root = sym c.take.ensures.value ∙ c.in-Some.is in
-    let here : entries (tree_at c.self.inside.root) ≡ entries c.deref_mut.result.now = ap (λ r. entries (tree_at r)) at ∙ ap entries (sym c.deref_mut.ensures.value) in
+    let here : entries (tree_at c.self.inside.root) ≡ entries c.deref_mut.result.now = ap (λ r. entries (tree_at r)) at
+    ∙ ap entries (sym c.deref_mut.ensures.value) in
     let up : IsAscending (entries c.deref_mut.result.now) = subst IsAscending here c.self.invariant.ascending in
-    let present : IsSome (mark_in (entries c.deref_mut.result.now) c.args.pair.now) = subst (λ es. IsSome (mark_in es c.args.pair.now)) (ap entries (sym c.self.view_is) ∙ here) (present-contents _ _ c.requires.present) in
-    let now : entries (tree_at c.shrink.result) ≡ without (entries c.deref_mut.result.now) c.args.pair.now = c.shrink.ensures.entries ∙ c.remove_below.ensures.entries in
+    let present : IsSome (mark_in (entries c.deref_mut.result.now) c.args.pair.now) =
+    subst (λ es. IsSome (mark_in es c.args.pair.now)) (ap entries (sym c.self.view_is) ∙ here) (present-contents _ _ c.requires.present) in
+    let now : entries (tree_at c.shrink.result) ≡ without (entries c.deref_mut.result.now) c.args.pair.now = c.shrink.ensures.entries
+    ∙ c.remove_below.ensures.entries in
     let s = stands_parts _ _ _ (stands _ _ up present) in
     record {
       ascending = rw now (ascending_without _ _ up);
@@ -50,4 +54,5 @@ pub returns : goal.returns
 returns g c =
     let at : c.self.inside.root ≡ Some c.in-Some.root = sym c.take.ensures.value ∙ c.in-Some.is in
     let here : entries c.deref_mut.result.now ≡ entries c.args.self.now = ap entries (c.deref_mut.ensures.value ∙ sym (ap tree_at at) ∙ c.self.view_is) in
-    contents-without c.args.self.now (tree_at c.shrink.result) c.args.pair.now (c.shrink.ensures.entries ∙ c.remove_below.ensures.entries ∙ ap (λ es. without es c.args.pair.now) here)
+    contents-without c.args.self.now (tree_at c.shrink.result) c.args.pair.now (c.shrink.ensures.entries ∙ c.remove_below.ensures.entries
+    ∙ ap (λ es. without es c.args.pair.now) here)

@@ -12,7 +12,8 @@ use Rattle.btree_node.proofs.Fronts.{none-after, run-after, run-first}
 use Rattle.btree_node.proofs.BTree.run_above.Goals as goal
 
 pub returns-in_default-clause-none : goal.returns-in_default-clause-none
-returns-in_default-clause-none g c = λ none. least-empty c.args.self.now (option_copied c.args.pair) (ap entries (sym c.self.view_is ∙ ap tree_at c.in_default.is))
+returns-in_default-clause-none g c = λ none. least-empty c.args.self.now (option_copied c.args.pair)
+    (ap entries (sym c.self.view_is ∙ ap tree_at c.in_default.is))
 
 pub first_run-requires : goal.first_run-requires
 first_run-requires g c =
@@ -29,7 +30,8 @@ returns-in-None-clause-run g c =
     let up : IsAscending (entries c.args.self.now) = subst (λ t. IsAscending (entries t)) c.self.view_is c.self.invariant.ascending in
     let top = c.deref.ensures ∙ sym (ap tree_at c.in-Some.is) ∙ c.self.view_is in
     let front = subst (λ t. IsFront (entries t) c.first_run.result.now) top c.first_run.ensures in
-    subst (λ p. IsRunAbove (contents c.args.self.now) (option_copied p) c.first_run.result.now) (sym c.in-None.is) (run-first c.args.self.now c.first_run.result.now up front)
+    subst (λ p. IsRunAbove (contents c.args.self.now) (option_copied p) c.first_run.result.now) (sym c.in-None.is)
+    (run-first c.args.self.now c.first_run.result.now up front)
 
 pub returns-in-None-clause-none : goal.returns-in-None-clause-none
 returns-in-None-clause-none g c = λ none.
@@ -41,10 +43,12 @@ returns-in-Some-pair-clause-run g c =
     let up : IsAscending (entries c.args.self.now) = subst (λ t. IsAscending (entries t)) c.self.view_is c.self.invariant.ascending in
     let top = c.deref-in-Some-pair.ensures ∙ sym (ap tree_at c.in-Some.is) ∙ c.self.view_is in
     let front = subst (λ t. IsFront (all_above (entries t) c.in-Some-pair.pair.now) c.run_in.result.now) top c.run_in.ensures in
-    subst (λ p. IsRunAbove (contents c.args.self.now) (option_copied p) c.run_in.result.now) (sym c.in-Some-pair.is) (run-after c.args.self.now c.in-Some-pair.pair.now c.run_in.result.now up front)
+    subst (λ p. IsRunAbove (contents c.args.self.now) (option_copied p) c.run_in.result.now) (sym c.in-Some-pair.is)
+    (run-after c.args.self.now c.in-Some-pair.pair.now c.run_in.result.now up front)
 
 pub returns-in-Some-pair-clause-none : goal.returns-in-Some-pair-clause-none
 returns-in-Some-pair-clause-none g c = λ none.
     let top = c.deref-in-Some-pair.ensures ∙ sym (ap tree_at c.in-Some.is) ∙ c.self.view_is in
     let front = subst (λ t. IsFront (all_above (entries t) c.in-Some-pair.pair.now) c.run_in.result.now) top c.run_in.ensures in
-    subst (λ p. IsLeastAbove (contents c.args.self.now) (option_copied p) None) (sym c.in-Some-pair.is) (none-after c.args.self.now c.in-Some-pair.pair.now c.run_in.result.now front none)
+    subst (λ p. IsLeastAbove (contents c.args.self.now) (option_copied p) None) (sym c.in-Some-pair.is)
+    (none-after c.args.self.now c.in-Some-pair.pair.now c.run_in.result.now front none)

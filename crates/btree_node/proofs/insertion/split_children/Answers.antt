@@ -10,7 +10,8 @@ split_into-requires-clause-empty g c = no_children _ _ _ c.upper.view_is c.in-In
 
 pub invariant_of-upper : goal.invariant_of-upper
 invariant_of-upper g c =
-    let l : AreLabelled (c.split_into.new.row.items ++ c.split_into.new.upper.items) = rw c.split_into.ensures.joined (labelled-insert c.args.row.now.items c.args.place c.args.child c.requires.labelled c.requires.label) in
+    let l : AreLabelled (c.split_into.new.row.items ++ c.split_into.new.upper.items) =
+    rw c.split_into.ensures.joined (labelled-insert c.args.row.now.items c.args.place c.args.child c.requires.labelled c.requires.label) in
     (search rules, search rules, labelled-right c.split_into.new.row.items _ l)
 
 pub returns-clause-joined : goal.returns-clause-joined
@@ -22,7 +23,8 @@ returns-clause-joined g c =
 
 pub returns-clause-labelled : goal.returns-clause-labelled
 returns-clause-labelled g c =
-    let l : AreLabelled (c.split_into.new.row.items ++ c.split_into.new.upper.items) = rw c.split_into.ensures.joined (labelled-insert c.args.row.now.items c.args.place c.args.child c.requires.labelled c.requires.label) in
+    let l : AreLabelled (c.split_into.new.row.items ++ c.split_into.new.upper.items) =
+    rw c.split_into.ensures.joined (labelled-insert c.args.row.now.items c.args.place c.args.child c.requires.labelled c.requires.label) in
     labelled-left _ c.split_into.new.upper.items l
 
 pub returns-clause-upper_low : goal.returns-clause-upper_low

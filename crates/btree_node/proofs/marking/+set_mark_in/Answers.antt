@@ -27,7 +27,8 @@ index_mut-requires-in-Inner g t c =
 
 pub set_mark_in-requires : goal.set_mark_in-requires
 set_mark_in-requires g t c κs within =
-    let a = at_child _ _ _ _ _ c.index_mut-in-Inner.result.now _ c.node.view_is c.in-Inner.is c.node.invariant c.requires.ascending c.requires.some c.requires.tree c.place-at.ensures c.index_mut-in-Inner.ensures.value c.deref_mut.ensures.value in
+    let a = at_child _ _ _ _ _ c.index_mut-in-Inner.result.now _ c.node.view_is c.in-Inner.is c.node.invariant c.requires.ascending c.requires.some
+    c.requires.tree c.place-at.ensures c.index_mut-in-Inner.ensures.value c.deref_mut.ensures.value in
     let lower : depth c.deref_mut.result.now < depth c.args.node.now = at.lower a in
     (search (rules, lower), (search rules, (at.ascending a, (at.level a, (at.some a, subst IsSome (mark_of a) c.requires.present)))))
 
@@ -38,9 +39,11 @@ invariant_of-node g t c =
           let s = sound_leaf _ _ c.node.invariant w.in-Leaf.is in
           rw w.node-inside-is s
       | in-Inner w ↦
-          let a = at_child _ _ _ _ _ w.index_mut-in-Inner.result.now _ c.node.view_is w.in-Inner.is c.node.invariant c.requires.ascending c.requires.some c.requires.tree c.place-at.ensures w.index_mut-in-Inner.ensures.value w.deref_mut.ensures.value in
+          let a = at_child _ _ _ _ _ w.index_mut-in-Inner.result.now _ c.node.view_is w.in-Inner.is c.node.invariant c.requires.ascending c.requires.some
+          c.requires.tree c.place-at.ensures w.index_mut-in-Inner.ensures.value w.deref_mut.ensures.value in
           let e = w.set_mark_in.ensures in
-          let n : IsMarked w.deref_mut.result.now w.index_mut-in-Inner.result.now _ c.args.pair.now c.args.mark = record { entries_are = e.entries; least_is = refl; level = e.tree; count_is = e.count } in
+          let n : IsMarked w.deref_mut.result.now w.index_mut-in-Inner.result.now _ c.args.pair.now c.args.mark =
+          record { entries_are = e.entries; least_is = refl; level = e.tree; count_is = e.count } in
           let s = sound_inner _ _ c.node.invariant w.in-Inner.is in
           rw w.node-inside-is (s.0, s.1, marked_labelled a n)
     ]
@@ -50,11 +53,14 @@ returns-clause-entries g t c =
     elim c.match-node.branch [
       | in-Leaf w ↦
           let seen = leaf_is _ _ _ c.node.view_is w.in-Leaf.is in
-          rw w.node-inside-is (leaf_marked _ _ _ c.args.mark w.index_mut.result.now _ seen c.place-at.ensures c.requires.ascending c.requires.present w.index_mut.ensures.value)
+          rw w.node-inside-is (leaf_marked _ _ _ c.args.mark w.index_mut.result.now _ seen c.place-at.ensures c.requires.ascending c.requires.present
+          w.index_mut.ensures.value)
       | in-Inner w ↦
-          let a = at_child _ _ _ _ _ w.index_mut-in-Inner.result.now _ c.node.view_is w.in-Inner.is c.node.invariant c.requires.ascending c.requires.some c.requires.tree c.place-at.ensures w.index_mut-in-Inner.ensures.value w.deref_mut.ensures.value in
+          let a = at_child _ _ _ _ _ w.index_mut-in-Inner.result.now _ c.node.view_is w.in-Inner.is c.node.invariant c.requires.ascending c.requires.some
+          c.requires.tree c.place-at.ensures w.index_mut-in-Inner.ensures.value w.deref_mut.ensures.value in
           let e = w.set_mark_in.ensures in
-          let n : IsMarked w.deref_mut.result.now w.index_mut-in-Inner.result.now _ c.args.pair.now c.args.mark = record { entries_are = e.entries; least_is = refl; level = e.tree; count_is = e.count } in
+          let n : IsMarked w.deref_mut.result.now w.index_mut-in-Inner.result.now _ c.args.pair.now c.args.mark =
+          record { entries_are = e.entries; least_is = refl; level = e.tree; count_is = e.count } in
           rw w.node-inside-is (marked_entries a n)
     ]
 
@@ -64,11 +70,20 @@ returns-clause-tree g t c =
       | in-Leaf w ↦
           let seen = leaf_is _ _ _ c.node.view_is w.in-Leaf.is in
           let few : length w.in-Leaf.row.items ≤ 32 = (subst (λ x. IsTree (depth x) x) seen c.requires.tree).1 in
-          rw w.node-inside-is (ap depth seen, omega (arith, few, length-set w.in-Leaf.row.items c.place-at.result (record { pair = w.index_mut.result.now.pair; mark = c.args.mark })))
+          rw w.node-inside-is (
+            ap depth seen,
+            omega (
+              arith,
+              few,
+              length-set w.in-Leaf.row.items c.place-at.result (record { pair = w.index_mut.result.now.pair; mark = c.args.mark }),
+            ),
+          )
       | in-Inner w ↦
-          let a = at_child _ _ _ _ _ w.index_mut-in-Inner.result.now _ c.node.view_is w.in-Inner.is c.node.invariant c.requires.ascending c.requires.some c.requires.tree c.place-at.ensures w.index_mut-in-Inner.ensures.value w.deref_mut.ensures.value in
+          let a = at_child _ _ _ _ _ w.index_mut-in-Inner.result.now _ c.node.view_is w.in-Inner.is c.node.invariant c.requires.ascending c.requires.some
+          c.requires.tree c.place-at.ensures w.index_mut-in-Inner.ensures.value w.deref_mut.ensures.value in
           let e = w.set_mark_in.ensures in
-          let n : IsMarked w.deref_mut.result.now w.index_mut-in-Inner.result.now _ c.args.pair.now c.args.mark = record { entries_are = e.entries; least_is = refl; level = e.tree; count_is = e.count } in
+          let n : IsMarked w.deref_mut.result.now w.index_mut-in-Inner.result.now _ c.args.pair.now c.args.mark =
+          record { entries_are = e.entries; least_is = refl; level = e.tree; count_is = e.count } in
           rw w.node-inside-is (marked_tree a n)
     ]
 
@@ -77,10 +92,13 @@ returns-clause-count g t c =
     elim c.match-node.branch [
       | in-Leaf w ↦
           let seen = leaf_is _ _ _ c.node.view_is w.in-Leaf.is in
-          rw w.node-inside-is (length-set w.in-Leaf.row.items c.place-at.result (record { pair = w.index_mut.result.now.pair; mark = c.args.mark }) ∙ sym (ap count seen))
+          rw w.node-inside-is (length-set w.in-Leaf.row.items c.place-at.result (record { pair = w.index_mut.result.now.pair; mark = c.args.mark })
+          ∙ sym (ap count seen))
       | in-Inner w ↦
-          let a = at_child _ _ _ _ _ w.index_mut-in-Inner.result.now _ c.node.view_is w.in-Inner.is c.node.invariant c.requires.ascending c.requires.some c.requires.tree c.place-at.ensures w.index_mut-in-Inner.ensures.value w.deref_mut.ensures.value in
+          let a = at_child _ _ _ _ _ w.index_mut-in-Inner.result.now _ c.node.view_is w.in-Inner.is c.node.invariant c.requires.ascending c.requires.some
+          c.requires.tree c.place-at.ensures w.index_mut-in-Inner.ensures.value w.deref_mut.ensures.value in
           let e = w.set_mark_in.ensures in
-          let n : IsMarked w.deref_mut.result.now w.index_mut-in-Inner.result.now _ c.args.pair.now c.args.mark = record { entries_are = e.entries; least_is = refl; level = e.tree; count_is = e.count } in
+          let n : IsMarked w.deref_mut.result.now w.index_mut-in-Inner.result.now _ c.args.pair.now c.args.mark =
+          record { entries_are = e.entries; least_is = refl; level = e.tree; count_is = e.count } in
           rw w.node-inside-is (marked_count a n)
     ]

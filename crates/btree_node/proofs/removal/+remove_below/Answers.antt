@@ -7,7 +7,8 @@ use Rattle.node_parts.specs.Seen.{least_of}
 use Rattle.node_parts.proofs.Children.{sound_inner}
 use Rattle.btree_node.proofs.Top.{root_some}
 use Rattle.btree_node.proofs.Leaves.{leaf_stands}
-use Rattle.btree_node.proofs.Remove.{child_present, child_root, IsLess, less_entries, less_labelled, less_trees, less_some, row_tree, row_count, two_children, short}
+use Rattle.btree_node.proofs.Remove.{child_present, child_root, IsLess, less_entries, less_labelled, less_trees, less_some, row_tree, row_count, two_children}
+use Rattle.btree_node.proofs.Remove.{short}
 use Rattle.btree_node.proofs.At as at
 use Rattle.btree_node.proofs.At.{at_child, at_range}
 use Rattle.btree_node.proofs.removal.+remove_below.Goals as goal
@@ -31,14 +32,16 @@ index_mut-child-requires g t c =
 pub remove_below-requires : goal.remove_below-requires
 remove_below-requires g t c κs within =
     let filled = root_some _ _ c.requires.root in
-    let a = at_child _ _ _ _ _ c.index_mut-child.result.now _ c.node.view_is c.in-Inner.is c.node.invariant c.requires.ascending filled c.requires.root.0 c.place-at.ensures c.index_mut-child.ensures.value c.deref_mut.ensures.value in
+    let a = at_child _ _ _ _ _ c.index_mut-child.result.now _ c.node.view_is c.in-Inner.is c.node.invariant c.requires.ascending filled c.requires.root.0
+    c.place-at.ensures c.index_mut-child.ensures.value c.deref_mut.ensures.value in
     let lower : depth c.deref_mut.result.now < depth c.args.node.now = at.lower a in
     (search (rules, lower), (search rules, (at.ascending a, (child_root a, child_present a c.requires.present))))
 
 pub least-child-requires : goal.least-child-requires
 least-child-requires g t c =
     let filled = root_some _ _ c.requires.root in
-    let a = at_child _ _ _ _ _ c.index_mut-child.result.now _ c.node.view_is c.in-Inner.is c.node.invariant c.requires.ascending filled c.requires.root.0 c.place-at.ensures c.index_mut-child.ensures.value c.deref_mut.ensures.value in
+    let a = at_child _ _ _ _ _ c.index_mut-child.result.now _ c.node.view_is c.in-Inner.is c.node.invariant c.requires.ascending filled c.requires.root.0
+    c.place-at.ensures c.index_mut-child.ensures.value c.deref_mut.ensures.value in
     let e = c.remove_below.ensures in
     let some : 0 < length (entries c.remove_below.new.node) = less_some _ _ e.tree e.count (at.child_level a).0 in
     record { some = rw c.deref.ensures some }
@@ -46,31 +49,47 @@ least-child-requires g t c =
 pub mend-requires-clause-in_range : goal.mend-requires-clause-in_range
 mend-requires-clause-in_range g t c =
     let filled = root_some _ _ c.requires.root in
-    let a = at_child _ _ _ _ _ c.index_mut-child.result.now _ c.node.view_is c.in-Inner.is c.node.invariant c.requires.ascending filled c.requires.root.0 c.place-at.ensures c.index_mut-child.ensures.value c.deref_mut.ensures.value in
+    let a = at_child _ _ _ _ _ c.index_mut-child.result.now _ c.node.view_is c.in-Inner.is c.node.invariant c.requires.ascending filled c.requires.root.0
+    c.place-at.ensures c.index_mut-child.ensures.value c.deref_mut.ensures.value in
     let e = c.remove_below.ensures in
     let label : least_of (entries c.remove_below.new.node) ≡ Some c.least-child.result = rw c.deref.ensures at c.least-child.ensures.least in
-    let n : IsLess c.deref_mut.result.now (record { least = c.least-child.result; node = with_value c.index_mut-child.result.now.node c.remove_below.new.node }) c.args.pair.now = record { entries_are = e.entries; label = label; level = e.tree; count_is = e.count } in
+    let n : IsLess c.deref_mut.result.now (record { least = c.least-child.result; node = with_value c.index_mut-child.result.now.node c.remove_below.new.node })
+    c.args.pair.now = record { entries_are = e.entries; label = label; level = e.tree; count_is = e.count } in
     let small : count c.remove_below.new.node < 16 = omega (arith, c.if-count-lt-LEAST.true, c.count.ensures.count, ap count c.deref-2.ensures) in
     let s = short c.saturating_sub.result a n small c.requires.root.1 c.saturating_sub.ensures in
     let o : length c.in-Inner.row.items ≡ vec_len c.in-Inner.row = search rules in
-    omega (arith, o, two_children a c.requires.root.1, a.in_range, c.saturating_sub.ensures, length-set c.in-Inner.row.items c.place-at.result (record { least = c.least-child.result; node = with_value c.index_mut-child.result.now.node c.remove_below.new.node }))
+    omega (
+      arith,
+      o,
+      two_children a c.requires.root.1,
+      a.in_range,
+      c.saturating_sub.ensures,
+      length-set c.in-Inner.row.items c.place-at.result (record {
+        least = c.least-child.result;
+        node = with_value c.index_mut-child.result.now.node c.remove_below.new.node;
+      }),
+    )
 
 pub mend-requires-clause-labelled : goal.mend-requires-clause-labelled
 mend-requires-clause-labelled g t c =
     let filled = root_some _ _ c.requires.root in
-    let a = at_child _ _ _ _ _ c.index_mut-child.result.now _ c.node.view_is c.in-Inner.is c.node.invariant c.requires.ascending filled c.requires.root.0 c.place-at.ensures c.index_mut-child.ensures.value c.deref_mut.ensures.value in
+    let a = at_child _ _ _ _ _ c.index_mut-child.result.now _ c.node.view_is c.in-Inner.is c.node.invariant c.requires.ascending filled c.requires.root.0
+    c.place-at.ensures c.index_mut-child.ensures.value c.deref_mut.ensures.value in
     let e = c.remove_below.ensures in
     let label : least_of (entries c.remove_below.new.node) ≡ Some c.least-child.result = rw c.deref.ensures at c.least-child.ensures.least in
-    let n : IsLess c.deref_mut.result.now (record { least = c.least-child.result; node = with_value c.index_mut-child.result.now.node c.remove_below.new.node }) c.args.pair.now = record { entries_are = e.entries; label = label; level = e.tree; count_is = e.count } in
+    let n : IsLess c.deref_mut.result.now (record { least = c.least-child.result; node = with_value c.index_mut-child.result.now.node c.remove_below.new.node })
+    c.args.pair.now = record { entries_are = e.entries; label = label; level = e.tree; count_is = e.count } in
     less_labelled a n
 
 pub mend-requires-clause-neighbours : goal.mend-requires-clause-neighbours
 mend-requires-clause-neighbours g t c =
     let filled = root_some _ _ c.requires.root in
-    let a = at_child _ _ _ _ _ c.index_mut-child.result.now _ c.node.view_is c.in-Inner.is c.node.invariant c.requires.ascending filled c.requires.root.0 c.place-at.ensures c.index_mut-child.ensures.value c.deref_mut.ensures.value in
+    let a = at_child _ _ _ _ _ c.index_mut-child.result.now _ c.node.view_is c.in-Inner.is c.node.invariant c.requires.ascending filled c.requires.root.0
+    c.place-at.ensures c.index_mut-child.ensures.value c.deref_mut.ensures.value in
     let e = c.remove_below.ensures in
     let label : least_of (entries c.remove_below.new.node) ≡ Some c.least-child.result = rw c.deref.ensures at c.least-child.ensures.least in
-    let n : IsLess c.deref_mut.result.now (record { least = c.least-child.result; node = with_value c.index_mut-child.result.now.node c.remove_below.new.node }) c.args.pair.now = record { entries_are = e.entries; label = label; level = e.tree; count_is = e.count } in
+    let n : IsLess c.deref_mut.result.now (record { least = c.least-child.result; node = with_value c.index_mut-child.result.now.node c.remove_below.new.node })
+    c.args.pair.now = record { entries_are = e.entries; label = label; level = e.tree; count_is = e.count } in
     let small : count c.remove_below.new.node < 16 = omega (arith, c.if-count-lt-LEAST.true, c.count.ensures.count, ap count c.deref-2.ensures) in
     let s = short c.saturating_sub.result a n small c.requires.root.1 c.saturating_sub.ensures in
     s.0
@@ -78,29 +97,35 @@ mend-requires-clause-neighbours g t c =
 pub invariant_of-node-else-count-lt-LEAST : goal.invariant_of-node-else-count-lt-LEAST
 invariant_of-node-else-count-lt-LEAST g t c =
     let filled = root_some _ _ c.requires.root in
-    let a = at_child _ _ _ _ _ c.index_mut-child.result.now _ c.node.view_is c.in-Inner.is c.node.invariant c.requires.ascending filled c.requires.root.0 c.place-at.ensures c.index_mut-child.ensures.value c.deref_mut.ensures.value in
+    let a = at_child _ _ _ _ _ c.index_mut-child.result.now _ c.node.view_is c.in-Inner.is c.node.invariant c.requires.ascending filled c.requires.root.0
+    c.place-at.ensures c.index_mut-child.ensures.value c.deref_mut.ensures.value in
     let e = c.remove_below.ensures in
     let label : least_of (entries c.remove_below.new.node) ≡ Some c.least-child.result = rw c.deref.ensures at c.least-child.ensures.least in
-    let n : IsLess c.deref_mut.result.now (record { least = c.least-child.result; node = with_value c.index_mut-child.result.now.node c.remove_below.new.node }) c.args.pair.now = record { entries_are = e.entries; label = label; level = e.tree; count_is = e.count } in
+    let n : IsLess c.deref_mut.result.now (record { least = c.least-child.result; node = with_value c.index_mut-child.result.now.node c.remove_below.new.node })
+    c.args.pair.now = record { entries_are = e.entries; label = label; level = e.tree; count_is = e.count } in
     let s = sound_inner _ _ c.node.invariant c.in-Inner.is in
     (s.0, s.1, less_labelled a n)
 
 pub returns-then-count-lt-LEAST-clause-entries : goal.returns-then-count-lt-LEAST-clause-entries
 returns-then-count-lt-LEAST-clause-entries g t c =
     let filled = root_some _ _ c.requires.root in
-    let a = at_child _ _ _ _ _ c.index_mut-child.result.now _ c.node.view_is c.in-Inner.is c.node.invariant c.requires.ascending filled c.requires.root.0 c.place-at.ensures c.index_mut-child.ensures.value c.deref_mut.ensures.value in
+    let a = at_child _ _ _ _ _ c.index_mut-child.result.now _ c.node.view_is c.in-Inner.is c.node.invariant c.requires.ascending filled c.requires.root.0
+    c.place-at.ensures c.index_mut-child.ensures.value c.deref_mut.ensures.value in
     let e = c.remove_below.ensures in
     let label : least_of (entries c.remove_below.new.node) ≡ Some c.least-child.result = rw c.deref.ensures at c.least-child.ensures.least in
-    let n : IsLess c.deref_mut.result.now (record { least = c.least-child.result; node = with_value c.index_mut-child.result.now.node c.remove_below.new.node }) c.args.pair.now = record { entries_are = e.entries; label = label; level = e.tree; count_is = e.count } in
+    let n : IsLess c.deref_mut.result.now (record { least = c.least-child.result; node = with_value c.index_mut-child.result.now.node c.remove_below.new.node })
+    c.args.pair.now = record { entries_are = e.entries; label = label; level = e.tree; count_is = e.count } in
     c.mend.ensures.entries ∙ less_entries a n
 
 pub returns-then-count-lt-LEAST-clause-tree : goal.returns-then-count-lt-LEAST-clause-tree
 returns-then-count-lt-LEAST-clause-tree g t c =
     let filled = root_some _ _ c.requires.root in
-    let a = at_child _ _ _ _ _ c.index_mut-child.result.now _ c.node.view_is c.in-Inner.is c.node.invariant c.requires.ascending filled c.requires.root.0 c.place-at.ensures c.index_mut-child.ensures.value c.deref_mut.ensures.value in
+    let a = at_child _ _ _ _ _ c.index_mut-child.result.now _ c.node.view_is c.in-Inner.is c.node.invariant c.requires.ascending filled c.requires.root.0
+    c.place-at.ensures c.index_mut-child.ensures.value c.deref_mut.ensures.value in
     let e = c.remove_below.ensures in
     let label : least_of (entries c.remove_below.new.node) ≡ Some c.least-child.result = rw c.deref.ensures at c.least-child.ensures.least in
-    let n : IsLess c.deref_mut.result.now (record { least = c.least-child.result; node = with_value c.index_mut-child.result.now.node c.remove_below.new.node }) c.args.pair.now = record { entries_are = e.entries; label = label; level = e.tree; count_is = e.count } in
+    let n : IsLess c.deref_mut.result.now (record { least = c.least-child.result; node = with_value c.index_mut-child.result.now.node c.remove_below.new.node })
+    c.args.pair.now = record { entries_are = e.entries; label = label; level = e.tree; count_is = e.count } in
     let small : count c.remove_below.new.node < 16 = omega (arith, c.if-count-lt-LEAST.true, c.count.ensures.count, ap count c.deref-2.ensures) in
     let s = short c.saturating_sub.result a n small c.requires.root.1 c.saturating_sub.ensures in
     let v : length c.mend.new.row.items ≡ vec_len c.mend.new.row = search rules in
@@ -109,7 +134,8 @@ returns-then-count-lt-LEAST-clause-tree g t c =
 pub returns-then-count-lt-LEAST-clause-count : goal.returns-then-count-lt-LEAST-clause-count
 returns-then-count-lt-LEAST-clause-count g t c =
     let filled = root_some _ _ c.requires.root in
-    let a = at_child _ _ _ _ _ c.index_mut-child.result.now _ c.node.view_is c.in-Inner.is c.node.invariant c.requires.ascending filled c.requires.root.0 c.place-at.ensures c.index_mut-child.ensures.value c.deref_mut.ensures.value in
+    let a = at_child _ _ _ _ _ c.index_mut-child.result.now _ c.node.view_is c.in-Inner.is c.node.invariant c.requires.ascending filled c.requires.root.0
+    c.place-at.ensures c.index_mut-child.ensures.value c.deref_mut.ensures.value in
     let o : length c.in-Inner.row.items ≡ vec_len c.in-Inner.row = search rules in
     let v : length c.mend.new.row.items ≡ vec_len c.mend.new.row = search rules in
     row_count a _ (omega (arith, v, o, c.mend.ensures.count))
@@ -117,28 +143,44 @@ returns-then-count-lt-LEAST-clause-count g t c =
 pub returns-else-count-lt-LEAST-clause-entries : goal.returns-else-count-lt-LEAST-clause-entries
 returns-else-count-lt-LEAST-clause-entries g t c =
     let filled = root_some _ _ c.requires.root in
-    let a = at_child _ _ _ _ _ c.index_mut-child.result.now _ c.node.view_is c.in-Inner.is c.node.invariant c.requires.ascending filled c.requires.root.0 c.place-at.ensures c.index_mut-child.ensures.value c.deref_mut.ensures.value in
+    let a = at_child _ _ _ _ _ c.index_mut-child.result.now _ c.node.view_is c.in-Inner.is c.node.invariant c.requires.ascending filled c.requires.root.0
+    c.place-at.ensures c.index_mut-child.ensures.value c.deref_mut.ensures.value in
     let e = c.remove_below.ensures in
     let label : least_of (entries c.remove_below.new.node) ≡ Some c.least-child.result = rw c.deref.ensures at c.least-child.ensures.least in
-    let n : IsLess c.deref_mut.result.now (record { least = c.least-child.result; node = with_value c.index_mut-child.result.now.node c.remove_below.new.node }) c.args.pair.now = record { entries_are = e.entries; label = label; level = e.tree; count_is = e.count } in
+    let n : IsLess c.deref_mut.result.now (record { least = c.least-child.result; node = with_value c.index_mut-child.result.now.node c.remove_below.new.node })
+    c.args.pair.now = record { entries_are = e.entries; label = label; level = e.tree; count_is = e.count } in
     less_entries a n
 
 pub returns-else-count-lt-LEAST-clause-tree : goal.returns-else-count-lt-LEAST-clause-tree
 returns-else-count-lt-LEAST-clause-tree g t c =
     let filled = root_some _ _ c.requires.root in
-    let a = at_child _ _ _ _ _ c.index_mut-child.result.now _ c.node.view_is c.in-Inner.is c.node.invariant c.requires.ascending filled c.requires.root.0 c.place-at.ensures c.index_mut-child.ensures.value c.deref_mut.ensures.value in
+    let a = at_child _ _ _ _ _ c.index_mut-child.result.now _ c.node.view_is c.in-Inner.is c.node.invariant c.requires.ascending filled c.requires.root.0
+    c.place-at.ensures c.index_mut-child.ensures.value c.deref_mut.ensures.value in
     let e = c.remove_below.ensures in
     let label : least_of (entries c.remove_below.new.node) ≡ Some c.least-child.result = rw c.deref.ensures at c.least-child.ensures.least in
-    let n : IsLess c.deref_mut.result.now (record { least = c.least-child.result; node = with_value c.index_mut-child.result.now.node c.remove_below.new.node }) c.args.pair.now = record { entries_are = e.entries; label = label; level = e.tree; count_is = e.count } in
+    let n : IsLess c.deref_mut.result.now (record { least = c.least-child.result; node = with_value c.index_mut-child.result.now.node c.remove_below.new.node })
+    c.args.pair.now = record { entries_are = e.entries; label = label; level = e.tree; count_is = e.count } in
     let big : 16 ≤ count c.remove_below.new.node = omega (arith, c.if-count-lt-LEAST.false, c.count.ensures.count, ap count c.deref-2.ensures) in
-    let few : length (set c.in-Inner.row.items c.place-at.result _) ≤ 32 = omega (arith, length-set c.in-Inner.row.items c.place-at.result (record { least = c.least-child.result; node = with_value c.index_mut-child.result.now.node c.remove_below.new.node }), (at.levels a).1) in
+    let few : length (set c.in-Inner.row.items c.place-at.result _) ≤ 32 =
+    omega (
+      arith,
+      length-set c.in-Inner.row.items c.place-at.result
+          (record { least = c.least-child.result; node = with_value c.index_mut-child.result.now.node c.remove_below.new.node }),
+      (at.levels a).1,
+    ) in
     row_tree a _ few (less_trees a n big)
 
 pub returns-else-count-lt-LEAST-clause-count : goal.returns-else-count-lt-LEAST-clause-count
 returns-else-count-lt-LEAST-clause-count g t c =
     let filled = root_some _ _ c.requires.root in
-    let a = at_child _ _ _ _ _ c.index_mut-child.result.now _ c.node.view_is c.in-Inner.is c.node.invariant c.requires.ascending filled c.requires.root.0 c.place-at.ensures c.index_mut-child.ensures.value c.deref_mut.ensures.value in
+    let a = at_child _ _ _ _ _ c.index_mut-child.result.now _ c.node.view_is c.in-Inner.is c.node.invariant c.requires.ascending filled c.requires.root.0
+    c.place-at.ensures c.index_mut-child.ensures.value c.deref_mut.ensures.value in
     let e = c.remove_below.ensures in
     let label : least_of (entries c.remove_below.new.node) ≡ Some c.least-child.result = rw c.deref.ensures at c.least-child.ensures.least in
-    let n : IsLess c.deref_mut.result.now (record { least = c.least-child.result; node = with_value c.index_mut-child.result.now.node c.remove_below.new.node }) c.args.pair.now = record { entries_are = e.entries; label = label; level = e.tree; count_is = e.count } in
-    row_count a _ (omega (arith, length-set c.in-Inner.row.items c.place-at.result (record { least = c.least-child.result; node = with_value c.index_mut-child.result.now.node c.remove_below.new.node })))
+    let n : IsLess c.deref_mut.result.now (record { least = c.least-child.result; node = with_value c.index_mut-child.result.now.node c.remove_below.new.node })
+    c.args.pair.now = record { entries_are = e.entries; label = label; level = e.tree; count_is = e.count } in
+    row_count a _ (omega (
+      arith,
+      length-set c.in-Inner.row.items c.place-at.result
+          (record { least = c.least-child.result; node = with_value c.index_mut-child.result.now.node c.remove_below.new.node }),
+    ))

@@ -8,7 +8,9 @@ use Rattle.btree_node.proofs.removal.level_pair.Goals as goal
 pub returns-then-count-eq0-clause-joined : goal.returns-then-count-eq0-clause-joined
 returns-then-count-eq0-clause-joined g c =
     let zero : count c.level.new.right ≡ 0 = ap count (sym c.deref.ensures) ∙ sym c.count.ensures.count ∙ c.if-count-eq0.true in
-    ap (λ w. entries c.level.new.left ++ w) (sym (level.no_entries c.level.new.right zero)) ∙ c.level.ensures.joined ∙ ap (λ w. entries w ++ entries c.deref_mut-2.result.now) c.deref_mut.ensures.value ∙ ap (λ w. entries c.args.left.now.node.value ++ entries w) c.deref_mut-2.ensures.value
+    ap (λ w. entries c.level.new.left ++ w) (sym (level.no_entries c.level.new.right zero)) ∙ c.level.ensures.joined
+    ∙ ap (λ w. entries w ++ entries c.deref_mut-2.result.now) c.deref_mut.ensures.value
+    ∙ ap (λ w. entries c.args.left.now.node.value ++ entries w) c.deref_mut-2.ensures.value
 
 pub returns-then-count-eq0-clause-label : goal.returns-then-count-eq0-clause-label
 returns-then-count-eq0-clause-label g c =

@@ -36,7 +36,8 @@ index-requires-in-Inner g t c =
 -- src/lib.rt:308:25
 pub above_in-found-requires : goal.above_in-found-requires
 above_in-found-requires g t c κs within =
-    let a = at_child _ _ _ _ _ c.index.result.now _ c.node.view_is c.in-Inner.is c.node.invariant c.requires.ascending c.requires.some c.requires.tree c.place-at.ensures c.index.ensures c.deref-in-Inner.ensures in
+    let a = at_child _ _ _ _ _ c.index.result.now _ c.node.view_is c.in-Inner.is c.node.invariant c.requires.ascending c.requires.some c.requires.tree
+    c.place-at.ensures c.index.ensures c.deref-in-Inner.ensures in
     let n : length c.in-Inner.row.items ≡ vec_len c.in-Inner.row = search rules in
     let lower : depth c.deref-in-Inner.result.now < depth c.args.node.now = at.lower a in
     (search (rules, lower), (search rules, (at.ascending a, (at.level a, at.some a))))
@@ -44,7 +45,8 @@ above_in-found-requires g t c κs within =
 -- src/lib.rt:310:17
 pub returns-then-is_some : goal.returns-then-is_some
 returns-then-is_some g t c =
-    let a = at_child _ _ _ _ _ c.index.result.now _ c.node.view_is c.in-Inner.is c.node.invariant c.requires.ascending c.requires.some c.requires.tree c.place-at.ensures c.index.ensures c.deref-in-Inner.ensures in
+    let a = at_child _ _ _ _ _ c.index.result.now _ c.node.view_is c.in-Inner.is c.node.invariant c.requires.ascending c.requires.some c.requires.tree
+    c.place-at.ensures c.index.ensures c.deref-in-Inner.ensures in
     let n : length c.in-Inner.row.items ≡ vec_len c.in-Inner.row = search rules in
     let e = c.above_in-found.ensures in
     let s : is_some (first_above (entries c.deref-in-Inner.result.now) c.args.pair.now) ≡ c.is_some.result = ap is_some (sym e) ∙ sym c.is_some.ensures in
@@ -56,7 +58,8 @@ returns-then-is_some g t c =
 -- src/lib.rt:312:18
 pub first_in-requires : goal.first_in-requires
 first_in-requires g t c =
-    let a = at_child _ _ _ _ _ c.index.result.now _ c.node.view_is c.in-Inner.is c.node.invariant c.requires.ascending c.requires.some c.requires.tree c.place-at.ensures c.index.ensures c.deref-in-Inner.ensures in
+    let a = at_child _ _ _ _ _ c.index.result.now _ c.node.view_is c.in-Inner.is c.node.invariant c.requires.ascending c.requires.some c.requires.tree
+    c.place-at.ensures c.index.ensures c.deref-in-Inner.ensures in
     let n : length c.in-Inner.row.items ≡ vec_len c.in-Inner.row = search rules in
     let l : c.place-at.result + 1 < length c.in-Inner.row.items = omega (arith, a.in_range, c.if-at-len.false, c.len.ensures, n) in
     record { some = above.next_some _ _ _ _ a.labelled l c.index-in-Inner.ensures c.deref-in-Inner-2.ensures }
@@ -64,7 +67,8 @@ first_in-requires g t c =
 -- src/lib.rt:298:1
 pub returns-else-at-len : goal.returns-else-at-len
 returns-else-at-len g t c =
-    let a = at_child _ _ _ _ _ c.index.result.now _ c.node.view_is c.in-Inner.is c.node.invariant c.requires.ascending c.requires.some c.requires.tree c.place-at.ensures c.index.ensures c.deref-in-Inner.ensures in
+    let a = at_child _ _ _ _ _ c.index.result.now _ c.node.view_is c.in-Inner.is c.node.invariant c.requires.ascending c.requires.some c.requires.tree
+    c.place-at.ensures c.index.ensures c.deref-in-Inner.ensures in
     let n : length c.in-Inner.row.items ≡ vec_len c.in-Inner.row = search rules in
     let e = c.above_in-found.ensures in
     let s : is_some (first_above (entries c.deref-in-Inner.result.now) c.args.pair.now) ≡ c.is_some.result = ap is_some (sym e) ∙ sym c.is_some.ensures in

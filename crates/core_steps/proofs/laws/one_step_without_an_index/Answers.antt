@@ -15,7 +15,8 @@ none_moved c (Some row) = refl
 
 pub returns-clause-change : goal.returns-clause-change
 returns-clause-change a = λ c i.
-    some_step (entry_step (none_moved c (old_row c.rows) i) Marked (Forward OldEntry c)) ++ sets_new c ∷ some_step (entry_step (none_moved c (new_row c.rows) i) Live (Forward NewEntry c))
+    some_step (entry_step (none_moved c (old_row c.rows) i) Marked (Forward OldEntry c)) ++ sets_new c
+    ∷ some_step (entry_step (none_moved c (new_row c.rows) i) Live (Forward NewEntry c))
 
 pub returns-clause-undo : goal.returns-clause-undo
 returns-clause-undo a = λ c i.

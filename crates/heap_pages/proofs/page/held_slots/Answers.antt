@@ -20,7 +20,8 @@ loop-rid-preserved c =
     elim c.if-rid-page.branch [
       | then-rid-page w ↦
           λ s h. ap (λ xs. slice_get xs s) (w.slots-is ∙ ap (λ k. slice_set c.loop-rid.slots k true) slot)
-          ∙ held_here c.args.page c.loop-rid.slots held i r c.loop-rid.invariant here (ap (λ k. k == c.args.page) (sym page) ∙ eq-eqb _ _ w.if-rid-page.true) (slice_get_within c.loop-rid.slots r.slot _ (c.loop-rid.invariant r.slot (omega (arith, c.rid.invariant)))) s h
+          ∙ held_here c.args.page c.loop-rid.slots held i r c.loop-rid.invariant here (ap (λ k. k == c.args.page) (sym page)
+          ∙ eq-eqb _ _ w.if-rid-page.true) (slice_get_within c.loop-rid.slots r.slot _ (c.loop-rid.invariant r.slot (omega (arith, c.rid.invariant)))) s h
       | else-rid-page w ↦
           λ s h. ap (λ xs. slice_get xs s) w.slots-is
           ∙ held_elsewhere c.args.page c.loop-rid.slots held i r c.loop-rid.invariant here (λ e. w.if-rid-page.false (page ∙ e)) s h

@@ -24,7 +24,10 @@ invariant_of-self g c =
           let u = leaf_is _ _ _ c.right.view_is w.in-Leaf-parts.is in
           let m : length w.in-Leaf.row.items ≡ vec_len w.in-Leaf.row = search rules in
           let n : length w.in-Leaf-parts.other.items ≡ vec_len w.in-Leaf-parts.other = search rules in
-          rw w.self-inside-is (omega (arith, w.merge.ensures.len, c.requires.room, ap count t, ap count u, m, n), omega (arith, w.merge.ensures.capacity, (sound_leaf _ _ c.self.invariant w.in-Leaf.is).1))
+          rw w.self-inside-is (
+            omega (arith, w.merge.ensures.len, c.requires.room, ap count t, ap count u, m, n),
+            omega (arith, w.merge.ensures.capacity, (sound_leaf _ _ c.self.invariant w.in-Leaf.is).1),
+          )
       | in-Inner+in-Inner-parts w ↦
           let i = count_of _ _ (inner_is _ _ _ c.self.view_is w.in-Inner.is) in
           let j = count_of _ _ (inner_is _ _ _ c.right.view_is w.in-Inner-parts.is) in
@@ -32,7 +35,11 @@ invariant_of-self g c =
           let n : length w.in-Inner-parts.other.items ≡ vec_len w.in-Inner-parts.other = search rules in
           let s = sound_inner _ _ c.self.invariant w.in-Inner.is in
           let r = sound_inner _ _ c.right.invariant w.in-Inner-parts.is in
-          rw w.self-inside-is (omega (arith, w.merge-in-Inner.ensures.len, c.requires.room, i, j, m, n), omega (arith, w.merge-in-Inner.ensures.capacity, s.1), rw w.merge-in-Inner.ensures.items (AreLabelled-append _ _ s.2 r.2))
+          rw w.self-inside-is (
+            omega (arith, w.merge-in-Inner.ensures.len, c.requires.room, i, j, m, n),
+            omega (arith, w.merge-in-Inner.ensures.capacity, s.1),
+            rw w.merge-in-Inner.ensures.items (AreLabelled-append _ _ s.2 r.2),
+          )
     ]
 
 pub returns-clause-joined : goal.returns-clause-joined
@@ -60,7 +67,8 @@ returns-clause-tree g c =
           let t = inner_is _ _ _ c.self.view_is w.in-Inner.is in
           let u = inner_is _ _ _ c.right.view_is w.in-Inner-parts.is in
           let l = ap length w.merge-in-Inner.ensures.items ∙ length-append w.in-Inner.row.items w.in-Inner-parts.other.items in
-          let k = level.level_trees _ w.in-Inner.row.items w.in-Inner-parts.other.items w.merge-in-Inner.new.left.items [] _ _ (append-nil _ ∙ w.merge-in-Inner.ensures.items) t u c.requires.tree c.requires.right_tree in
+          let k = level.level_trees _ w.in-Inner.row.items w.in-Inner-parts.other.items w.merge-in-Inner.new.left.items [] _ _ (append-nil _
+          ∙ w.merge-in-Inner.ensures.items) t u c.requires.tree c.requires.right_tree in
           rw w.self-inside-is (k.0, omega (arith, length-trees w.merge-in-Inner.new.left.items, l, c.requires.room, count_of _ _ t, count_of _ _ u), k.1)
     ]
 

@@ -8,4 +8,5 @@ pub returns-in-Inner : goal.returns-in-Inner
 returns-in-Inner g c =
     let t = inner_is _ _ _ c.self.view_is c.in-Inner.is in
     let s = sound_inner _ _ c.self.invariant c.in-Inner.is in
-    c.saturating_sub.ensures ∙ ap (λ (n : ℕ). n - 1) (rw c.deref-in-Inner.ensures.value at c.child_place.ensures.place) ∙ sym (place_in-row c.args.pair.now c.in-Inner.row.items _ t s.2)
+    c.saturating_sub.ensures ∙ ap (λ (n : ℕ). n - 1) (rw c.deref-in-Inner.ensures.value at c.child_place.ensures.place)
+    ∙ sym (place_in-row c.args.pair.now c.in-Inner.row.items _ t s.2)

@@ -8,4 +8,5 @@ pub returns-in-None : goal.returns-in-None
 returns-in-None c = c.entry_of.ensures ∙ ap (option_and_then entry_in) (c.forward.ensures ∙ put_second c.args.indexed c.args.change.now c.in-None.ensures)
 
 pub returns-in-Some : goal.returns-in-Some
-returns-in-Some c = c.entry_of-in-Some.ensures ∙ ap (option_and_then entry_in) (c.forward-in-Some.ensures ∙ put_third c.args.indexed c.args.change.now _ c.in-Some.ensures)
+returns-in-Some c = c.entry_of-in-Some.ensures ∙ ap (option_and_then entry_in) (c.forward-in-Some.ensures
+    ∙ put_third c.args.indexed c.args.change.now _ c.in-Some.ensures)

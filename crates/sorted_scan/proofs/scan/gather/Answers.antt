@@ -13,7 +13,8 @@ returns-then-is_last-clause-one_short g c =
       | inl none ↦ inl none
       | inr room ↦ inr (omega (arith, long, room))
     ] in
-    one_short _ _ _ _ c.requires.full c.in_ok-add.ensures.added c.in_ok-add.ensures.runs (omega (arith, long, c.in_ok-behind.ensures.few)) which (omega (arith, all, parts))
+    one_short _ _ _ _ c.requires.full c.in_ok-add.ensures.added c.in_ok-add.ensures.runs (omega (arith, long, c.in_ok-behind.ensures.few)) which
+    (omega (arith, all, parts))
 
 pub returns-clause-full : goal.returns-clause-full
 returns-clause-full g c = λ before.
@@ -32,4 +33,5 @@ returns-clause-full g c = λ before.
 pub returns-clause-one_short : goal.returns-clause-one_short
 returns-clause-one_short g c =
     let long = long_run c.in_ok-run.run'.items c.deref-2.result.now c.deref-3.result.now c.in_ok-run.ensures in
-    one_short _ _ _ _ c.requires.full c.in_ok-add-2.ensures.added c.in_ok-add-2.ensures.runs (omega (arith, long, c.in_ok-behind.ensures.few)) (inl (omega (arith, c.new-2.ensures))) (omega (arith, c.new-2.ensures))
+    one_short _ _ _ _ c.requires.full c.in_ok-add-2.ensures.added c.in_ok-add-2.ensures.runs (omega (arith, long, c.in_ok-behind.ensures.few))
+    (inl (omega (arith, c.new-2.ensures))) (omega (arith, c.new-2.ensures))

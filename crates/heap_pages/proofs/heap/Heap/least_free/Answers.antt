@@ -4,7 +4,8 @@ use Rattle.heap_pages.proofs.Free.{free_place, none_on_full, none_before, none_f
 use Rattle.heap_pages.proofs.heap.Heap.least_free.Goals as goal
 
 pub loop-page-init : goal.loop-page-init
-loop-page-init g c = none_on_full c.self.inside.pages.items c.args.self.now c.args.held.now c.self.inside.first_open c.self.view_is c.self.invariant.1 c.self.invariant.2
+loop-page-init g c = none_on_full c.self.inside.pages.items c.args.self.now c.args.held.now c.self.inside.first_open c.self.view_is c.self.invariant.1
+    c.self.invariant.2
 
 pub returns-in-Some-clause-free : goal.returns-in-Some-clause-free
 returns-in-Some-clause-free g c =
@@ -13,7 +14,8 @@ returns-in-Some-clause-free g c =
     let within : n < length pages = omega (arith, ap (λ v. v.pages) c.self.view_is, c.pages-page-end.ensures.number) in
     let slots = c.index-slots.result.now in
     let page = slice_get_read pages (length pages) n slots refl within c.index-slots.ensures in
-    free_place pages c.args.self.now c.args.held.now n slots c.self.view_is page c.in-Some.slot c.held_slots.result c.held_slots.ensures c.in-Some.ensures.inside c.in-Some.ensures.free
+    free_place pages c.args.self.now c.args.held.now n slots c.self.view_is page c.in-Some.slot c.held_slots.result c.held_slots.ensures
+    c.in-Some.ensures.inside c.in-Some.ensures.free
 
 pub returns-in-Some-clause-least : goal.returns-in-Some-clause-least
 returns-in-Some-clause-least g c =
@@ -22,7 +24,8 @@ returns-in-Some-clause-least g c =
     let within : n < length pages = omega (arith, ap (λ v. v.pages) c.self.view_is, c.pages-page-end.ensures.number) in
     let slots = c.index-slots.result.now in
     let page = slice_get_read pages (length pages) n slots refl within c.index-slots.ensures in
-    none_before pages c.args.self.now c.args.held.now n slots c.self.view_is page c.in-Some.slot c.held_slots.result c.held_slots.ensures c.loop-page.invariant c.in-Some.ensures.first
+    none_before pages c.args.self.now c.args.held.now n slots c.self.view_is page c.in-Some.slot c.held_slots.result c.held_slots.ensures c.loop-page.invariant
+    c.in-Some.ensures.first
 
 pub loop-page-preserved : goal.loop-page-preserved
 loop-page-preserved g c =
@@ -31,7 +34,8 @@ loop-page-preserved g c =
     let within : n < length pages = omega (arith, ap (λ v. v.pages) c.self.view_is, c.pages-page-end.ensures.number) in
     let slots = c.index-slots.result.now in
     let page = slice_get_read pages (length pages) n slots refl within c.index-slots.ensures in
-    none_further pages c.args.self.now c.args.held.now n slots c.self.view_is page c.held_slots.result c.held_slots.ensures c.loop-page.invariant c.in_default.ensures
+    none_further pages c.args.self.now c.args.held.now n slots c.self.view_is page c.held_slots.result c.held_slots.ensures c.loop-page.invariant
+    c.in_default.ensures
 
 pub loop-page-preserved-then-is_full : goal.loop-page-preserved-then-is_full
 loop-page-preserved-then-is_full g c =

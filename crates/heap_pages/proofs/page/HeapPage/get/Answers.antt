@@ -7,7 +7,8 @@ pub returns-in-Some : goal.returns-in-Some
 returns-in-Some c =
     let slots = c.self.inside.slots in
     let found = c.in-Some.ensures.lookup in
-    slot_shown slots c.args.self.now c.args.slot c.in-Some.row.now c.self.view_is (slice_get_read slots (length slots) c.args.slot c.in-Some.row.now refl found.3.0 found.1)
+    slot_shown slots c.args.self.now c.args.slot c.in-Some.row.now c.self.view_is
+    (slice_get_read slots (length slots) c.args.slot c.in-Some.row.now refl found.3.0 found.1)
 
 pub returns-in-None : goal.returns-in-None
 returns-in-None c = no_slot_there c.self.inside.slots c.args.self.now c.args.slot c.self.view_is c.in-None.ensures.lookup.3

@@ -5,7 +5,8 @@ use Rattle.heap_pages.proofs.SlotLists.{is_empty, slot_shown}
 use Rattle.heap_pages.proofs.page.HeapPage.slots.Goals as goal
 
 pub returns-then-self-eq0-clause-none : goal.returns-then-self-eq0-clause-none
-returns-then-self-eq0-clause-none c = λ none s. is_empty c.self.inside.slots c.args.self.now c.self.inside.taken c.self.view_is c.self.invariant.1 c.if-self-eq0.true s
+returns-then-self-eq0-clause-none c = λ none s.
+    is_empty c.self.inside.slots c.args.self.now c.self.inside.taken c.self.view_is c.self.invariant.1 c.if-self-eq0.true s
 
 pub returns-clause-slots : goal.returns-clause-slots
 returns-clause-slots c = λ s low.

@@ -17,14 +17,16 @@ is_not_live Live e is = absurd (cc (e))
 is_not_live Marked e is = absurd (cc (is))
 
 pub loop-next-init : goal.loop-next-init
-loop-next-init g c = listed_none c.args.self.now.entries c.args.key c.first_of-next.result c.new-shown.result.items c.first_of-next.ensures c.new-shown.ensures.items
+loop-next-init g c = listed_none c.args.self.now.entries c.args.key c.first_of-next.result c.new-shown.result.items c.first_of-next.ensures
+    c.new-shown.ensures.items
 
 pub loop-next-smaller : goal.loop-next-smaller
 loop-next-smaller g c =
     let m = c.args.self.now.entries in
     let key = c.args.key in
     let e = c.in-Some.entry in
-    let here : IsListed m key (Some e) c.loop-next.shown.items = subst (λ (n : Option (Place × Mark)). IsListed m key n c.loop-next.shown.items) c.in-Some.is c.loop-next.invariant in
+    let here : IsListed m key (Some e) c.loop-next.shown.items =
+    subst (λ (n : Option (Place × Mark)). IsListed m key n c.loop-next.shown.items) c.in-Some.is c.loop-next.invariant in
     let falls = left_falls m key e.0 e.1 c.next_of-next.result here.entry c.next_of-next.ensures in
     subst (λ (n : Option (Place × Mark)). left m key c.next_of-next.result < left m key n) (sym c.in-Some.is) falls
 

@@ -4,5 +4,8 @@ use Rattle.nsf_core.proofs.parts.Parts.can_open.Goals as goal
 
 pub returns-then-entries_may_stand : goal.returns-then-entries_may_stand
 returns-then-entries_may_stand g c =
-    let v = parts_of c.args.self.now in
-    (λ yes. opens v c.requires (c.entries_may_stand.ensures.0 c.if-entries_may_stand.true) (c.rows_are_shown.ensures.0 yes), λ can. c.rows_are_shown.ensures.1 (shows v can))
+    let v = parts_of c.args.self.now in (
+      λ yes. opens v c.requires (c.entries_may_stand.ensures.0 c.if-entries_may_stand.true) (c.rows_are_shown.ensures.0 yes),
+      λ can.
+          c.rows_are_shown.ensures.1 (shows v can),
+    )

@@ -13,7 +13,8 @@ returns-in_err-may_create-clause-refused g c =
 pub returns-in_err-_number-clause-refused : goal.returns-in_err-_number-clause-refused
 returns-in_err-_number-clause-refused g c =
     let p = err_from_is_err_and c.from_residual-in_err-_number.result c.from_residual-in_err-_number.ensures.1 in
-    rw (p.1, p.2) (create_spent (parts_of c.args.self.now) c.in_ok-may_create.ensures.absent c.in_ok-may_create.ensures.quiet _ c.in_err-_number.ensures.exhausted)
+    rw (p.1, p.2) (create_spent (parts_of c.args.self.now) c.in_ok-may_create.ensures.absent c.in_ok-may_create.ensures.quiet _
+    c.in_err-_number.ensures.exhausted)
 
 pub returns-clause-fine : goal.returns-clause-fine
 returns-clause-fine g c = create_fine (parts_of c.args.self.now) c.in_ok-may_create.ensures.absent c.in_ok-may_create.ensures.quiet c.in_ok-_number.ensures.left

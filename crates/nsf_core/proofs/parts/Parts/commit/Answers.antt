@@ -15,10 +15,13 @@ returns-in_err-record-clause-serves g c =
 pub returns-in_err-leave-clause-serves : goal.returns-in_err-leave-clause-serves
 returns-in_err-leave-clause-serves g c =
     let p = err_from_is_err_and c.from_residual-in_err-leave.result c.from_residual-in_err-leave.ensures.1 in
-    rw (p.1, p.2) (commit_wants (parts_of c.args.self.now) c.args.txn c.in_ok-record.ensures.has c.requires.asked _ _ c.in_err-leave.ensures.no_memory c.in_err-leave.ensures.unchanged)
+    rw (p.1, p.2) (commit_wants (parts_of c.args.self.now) c.args.txn c.in_ok-record.ensures.has c.requires.asked _ _ c.in_err-leave.ensures.no_memory
+    c.in_err-leave.ensures.unchanged)
 
 pub returns-clause-serves : goal.returns-clause-serves
 returns-clause-serves g c =
     let v : CoreValue = parts_of c.args.self.now in
-    commit_served v c.args.txn c.in_ok-record.ensures.has c.requires.asked c.in_ok-leave.ensures.sound _ _ _ c.in_ok-record.ensures.number c.next_commit-commit.ensures
-    (ap (λ (w : CoreValue). record w { commits = c.next_commit-commit.result }) c.in_ok-leave.ensures.ok ∙ ap (λ n. record (ended v c.args.txn Commit) { commits = n }) c.next_commit-commit.ensures)
+    commit_served v c.args.txn c.in_ok-record.ensures.has c.requires.asked c.in_ok-leave.ensures.sound _ _ _ c.in_ok-record.ensures.number
+    c.next_commit-commit.ensures
+    (ap (λ (w : CoreValue). record w { commits = c.next_commit-commit.result }) c.in_ok-leave.ensures.ok
+    ∙ ap (λ n. record (ended v c.args.txn Commit) { commits = n }) c.next_commit-commit.ensures)

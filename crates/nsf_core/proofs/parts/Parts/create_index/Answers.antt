@@ -11,4 +11,5 @@ returns-in_err-may_create g c =
 pub returns : goal.returns
 returns g c =
     let e = c.create.ensures in
-    creation_serves (parts_of c.args.self.now) c.in_ok-may_create.ensures.absent c.in_ok-may_create.ensures.quiet _ _ e.ok e.run e.left e.ticket e.no_commit e.refused e.unchanged
+    creation_serves (parts_of c.args.self.now) c.in_ok-may_create.ensures.absent c.in_ok-may_create.ensures.quiet _ _ e.ok e.run e.left e.ticket e.no_commit
+    e.refused e.unchanged

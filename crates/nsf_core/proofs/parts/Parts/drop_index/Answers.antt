@@ -11,4 +11,5 @@ returns-in_err-may_drop-clause-serves g c =
 pub returns-clause-serves : goal.returns-clause-serves
 returns-clause-serves g c =
     let e = c.take_away.ensures in
-    dropping_serves (parts_of c.args.self.now) c.in_ok-may_drop.ensures.there c.in_ok-may_drop.ensures.quiet _ _ e.ok e.run e.left e.ticket e.no_commit e.refused e.unchanged
+    dropping_serves (parts_of c.args.self.now) c.in_ok-may_drop.ensures.there c.in_ok-may_drop.ensures.quiet _ _ e.ok e.run e.left e.ticket e.no_commit
+    e.refused e.unchanged

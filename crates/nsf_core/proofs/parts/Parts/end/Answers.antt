@@ -11,7 +11,9 @@ returns-in_err-number g c =
 pub returns-in_err-leave : goal.returns-in_err-leave
 returns-in_err-leave g c =
     let p = err_from_is_err_and c.from_residual-in_err-leave.result c.from_residual-in_err-leave.ensures.1 in
-    rw (p.1, p.2) (end_wants (parts_of c.args.self.now) c.args.txn c.in_ok-number.ensures.has c.requires.asked _ _ c.in_err-leave.ensures.no_memory c.in_err-leave.ensures.unchanged)
+    rw (p.1, p.2) (end_wants (parts_of c.args.self.now) c.args.txn c.in_ok-number.ensures.has c.requires.asked _ _ c.in_err-leave.ensures.no_memory
+    c.in_err-leave.ensures.unchanged)
 
 pub returns : goal.returns
-returns g c = end_served (parts_of c.args.self.now) c.args.txn c.in_ok-number.ensures.has c.requires.asked c.in_ok-leave.ensures.sound _ c.in_ok-leave.ensures.ok
+returns g c = end_served (parts_of c.args.self.now) c.args.txn c.in_ok-number.ensures.has c.requires.asked c.in_ok-leave.ensures.sound _
+    c.in_ok-leave.ensures.ok

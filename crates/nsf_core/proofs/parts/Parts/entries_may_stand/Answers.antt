@@ -14,13 +14,15 @@ loop-entry-init g c = let v : CoreValue = parts_of c.args.self.now in none_check
 pub loop-entry-smaller : goal.loop-entry-smaller
 loop-entry-smaller g c =
     let v : CoreValue = parts_of c.args.self.now in
-    let least = subst (λ (o : Option (Pair × Mark)). IsLeastAbove v.index.entries c.loop-entry.last o) {x = c.entry_above.result} c.in-Some.is c.entry_above.ensures in
+    let least = subst (λ (o : Option (Pair × Mark)). IsLeastAbove v.index.entries c.loop-entry.last o)
+    {x = c.entry_above.result} c.in-Some.is c.entry_above.ensures in
     fewer_left v.index.entries c.loop-entry.last c.in-Some.entry least
 
 pub loop-entry-preserved : goal.loop-entry-preserved
 loop-entry-preserved g c =
     let v : CoreValue = parts_of c.args.self.now in
-    let least = subst (λ (o : Option (Pair × Mark)). IsLeastAbove v.index.entries c.loop-entry.last o) {x = c.entry_above.result} c.in-Some.is c.entry_above.ensures in
+    let least = subst (λ (o : Option (Pair × Mark)). IsLeastAbove v.index.entries c.loop-entry.last o)
+    {x = c.entry_above.result} c.in-Some.is c.entry_above.ensures in
     one_checked v.index.entries (MayStand v) c.loop-entry.last c.loop-entry.invariant c.in-Some.entry least (c.may_stand.ensures.0 c.if-not-may_stand.false)
 
 pub returns : goal.returns

@@ -9,9 +9,11 @@ use Rattle.nsf_core.proofs.parts.Parts.load_life.Goals as goal
 pub returns-clause-safe : goal.returns-clause-safe
 returns-clause-safe g c =
     let v : CoreValue = parts_of c.args.self.now in
-    let now : c.new.result ≡ begun (highest_of c.args.life) v.heap.pages = c.new.ensures.made ∙ (λ i. begun (c.highest_of.ensures i) (c.pages.ensures.number i)) in
+    let now : c.new.result ≡ begun (highest_of c.args.life) v.heap.pages = c.new.ensures.made
+    ∙ (λ i. begun (c.highest_of.ensures i) (c.pages.ensures.number i)) in
     let run : HasRun (begun (highest_of c.args.life) v.heap.pages) (begun_run (highest_of c.args.life) v.heap.pages) =
     subst (λ w. HasRun w (begun_run (highest_of c.args.life) v.heap.pages)) now
     (subst (λ n. HasRun c.new.result (begun_run (highest_of c.args.life) n)) c.pages.ensures.number
     (subst (λ o. HasRun c.new.result (begun_run o c.pages.result)) c.highest_of.ensures c.new.ensures.run)) in
-    λ safe. subst (λ w. IsSafe (record v { life = c.args.life; scan = w; tried = 0 })) (sym now) (life_safe v c.requires.quiet safe c.args.life c.requires.inside run)
+    λ safe. subst (λ w. IsSafe (record v { life = c.args.life; scan = w; tried = 0 })) (sym now)
+    (life_safe v c.requires.quiet safe c.args.life c.requires.inside run)

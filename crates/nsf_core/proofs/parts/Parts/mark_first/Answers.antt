@@ -6,7 +6,8 @@ unmark-requires-clause-there g c = marked_there c.args.self.now.index _ c.args.m
 
 pub returns-in-Err-clause-unchanged : goal.returns-in-Err-clause-unchanged
 returns-in-Err-clause-unchanged g c =
-    let back = as_before c.args.self.now.index _ c.unmark.new.index c.args.marked.0 _ _ c.get-before.ensures c.in_ok-left.ensures.left c.in_ok-left.ensures.ok c.unmark.ensures in
+    let back = as_before c.args.self.now.index _ c.unmark.new.index c.args.marked.0 _ _ c.get-before.ensures c.in_ok-left.ensures.left c.in_ok-left.ensures.ok
+    c.unmark.ensures in
     λ i. record {
       heap = c.args.self.now.heap;
       txns = c.in-Err.ensures.unchanged.0 i;

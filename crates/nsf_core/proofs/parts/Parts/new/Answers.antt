@@ -31,4 +31,5 @@ pub returns-clause-safe : goal.returns-clause-safe
 returns-clause-safe g c =
     let run = subst (λ w. HasRun w (begun_run None c.geometry-2.inside.pages)) c.new-4.ensures.made c.new-4.ensures.run in
     let pages : c.geometry-2.inside.pages ≡ c.args.geometry.pages = ap (λ (v : GeometryValue). v.pages) c.geometry-2.view_is in
-    subst IsSafe (sym (returns-clause-made g c)) (fresh_safe c.args.geometry c.args.base c.requires (subst (λ n. HasRun (begun None n) (begun_run None n)) pages run))
+    subst IsSafe (sym (returns-clause-made g c)) (fresh_safe c.args.geometry c.args.base c.requires
+    (subst (λ n. HasRun (begun None n) (begun_run None n)) pages run))

@@ -6,4 +6,5 @@ use Rattle.nsf_core.proofs.Next.{newest_missing}
 use Rattle.nsf_core.proofs.parts.Parts.owed_change.Goals as goal
 
 pub unreachable-requires : goal.unreachable-requires
-unreachable-requires g c = ∥∥₁_elim c.requires.safe ⊥_prop (newest_missing (parts_of c.args.self.now) c.args.txn c.requires.asked c.requires.active (sym c.newest.ensures ∙ c.in_default.is))
+unreachable-requires g c = ∥∥₁_elim c.requires.safe ⊥_prop
+    (newest_missing (parts_of c.args.self.now) c.args.txn c.requires.asked c.requires.active (sym c.newest.ensures ∙ c.in_default.is))

@@ -35,7 +35,8 @@ set_row-requires-in-None-clause-inside g c =
 
 pub returns-in-Some-clause-ok : goal.returns-in-Some-clause-ok
 returns-in-Some-clause-ok g c =
-    let some = old_put (is_indexed c.args.self.now.life) c.args.change _ (c.in-Some.ensures ∙ ap (λ b. option_and_then entry_in (puts_old b c.args.change)) c.indexed-indexed.ensures) in
+    let some = old_put (is_indexed c.args.self.now.life) c.args.change _ (c.in-Some.ensures
+    ∙ ap (λ b. option_and_then entry_in (puts_old b c.args.change)) c.indexed-indexed.ensures) in
     let v : CoreValue = parts_of c.args.self.now in
     let same = row_as v c.args.txn {f = UndoesEntry} refl
     (ap (λ (w : ChangeValue). w.rid) c.change.view_is)
@@ -46,11 +47,13 @@ returns-in-Some-clause-ok g c =
 
 pub returns-in_ok-set_row-in-None-clause-ok : goal.returns-in_ok-set_row-in-None-clause-ok
 returns-in_ok-set_row-in-None-clause-ok g c =
-    let none = old_unput (is_indexed c.args.self.now.life) c.args.change (c.in-None.ensures ∙ ap (λ b. option_and_then entry_in (puts_old b c.args.change)) c.indexed-indexed.ensures) in
+    let none = old_unput (is_indexed c.args.self.now.life) c.args.change (c.in-None.ensures
+    ∙ ap (λ b. option_and_then entry_in (puts_old b c.args.change)) c.indexed-indexed.ensures) in
     let v : CoreValue = parts_of c.args.self.now in
     let same = row_as v c.args.txn {f = Rolling} refl
     (ap (λ (w : ChangeValue). w.rid) c.change.view_is)
     (c.old-row.ensures ∙ ap (λ (w : ChangeValue). old_row w.rows) c.change.view_is)
     (c.old_row-action.ensures ∙ ap (Undo Slot c.args.change) (is_last c.indexed-indexed.result c.args.change c.in-None.ensures))
     in
-    rw none (taken_off_behind (parts_of c.set_row-in-None.new.self) _ c.args.txn c.pop_undo.new.self c.pop_undo.ensures.rest (c.in_ok-set_row-in-None.ensures.ok ∙ same))
+    rw none (taken_off_behind (parts_of c.set_row-in-None.new.self) _ c.args.txn c.pop_undo.new.self c.pop_undo.ensures.rest (c.in_ok-set_row-in-None.ensures.ok
+    ∙ same))

@@ -7,11 +7,14 @@ use Rattle.nsf_core.proofs.parts.Parts.start_insert.Goals as goal
 pub returns-in_err-set_first : goal.returns-in_err-set_first
 returns-in_err-set_first g c =
     let p = err_from_is_err_and c.from_residual-in_err-set_first.result c.from_residual-in_err-set_first.ensures.1 in
-    rw (p.1, p.2) (insert_no_memory (parts_of c.args.self.now) c.args.txn (record { key = c.args.key; body = c.args.body }) c.requires.asked c.in_ok-rid.rid c.in_ok-rid.ensures.place c.in_ok-rid.ensures.may _ _ c.in_err-set_first.ensures.no_memory c.in_err-set_first.ensures.unchanged)
+    rw (p.1, p.2) (insert_no_memory (parts_of c.args.self.now) c.args.txn
+    (record { key = c.args.key; body = c.args.body }) c.requires.asked c.in_ok-rid.rid c.in_ok-rid.ensures.place c.in_ok-rid.ensures.may _ _
+    c.in_err-set_first.ensures.no_memory c.in_err-set_first.ensures.unchanged)
 
 pub returns : goal.returns
 returns g c =
-    insert_done (parts_of c.args.self.now) c.args.txn (record { key = c.args.key; body = c.args.body }) c.requires.asked c.in_ok-rid.rid c.in_ok-rid.ensures.place c.in_ok-rid.ensures.may _ _ c.next_change-change.ensures c.in_ok-set_first.ensures.ok c.in_ok-set_first.ensures.held
+    insert_done (parts_of c.args.self.now) c.args.txn (record { key = c.args.key; body = c.args.body }) c.requires.asked c.in_ok-rid.rid
+    c.in_ok-rid.ensures.place c.in_ok-rid.ensures.may _ _ c.next_change-change.ensures c.in_ok-set_first.ensures.ok c.in_ok-set_first.ensures.held
 
 pub set_first-requires-clause-safe : goal.set_first-requires-clause-safe
 set_first-requires-clause-safe g c = c.requires.safe

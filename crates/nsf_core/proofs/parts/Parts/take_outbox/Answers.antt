@@ -11,7 +11,8 @@ loop-next-preserved g c =
     let some : 0 < length waiting = omega (arith, positive, c.loop-next.self.outbox.ok) in
     let left = on_success _ _ c.take.result done c.take.ensures.left in
     record {
-      handed = one_more _ (parts_of c.loop-next.self) _ _ _ _ c.in-Some.field-0.now c.loop-next.invariant.handed some c.in-Some.ensures.lookup c.pop_front.ensures.rest (on_success _ _ c.take.result done c.take.ensures.taken);
+      handed = one_more _ (parts_of c.loop-next.self) _ _ _ _ c.in-Some.field-0.now c.loop-next.invariant.handed some c.in-Some.ensures.lookup
+          c.pop_front.ensures.rest (on_success _ _ c.take.result done c.take.ensures.taken);
       place = c.take.ensures.place ∙ c.loop-next.invariant.place;
       room = omega (arith, some, left, c.loop-next.invariant.room, ap length c.pop_front.ensures.rest, length-drop 1 waiting);
     }

@@ -11,4 +11,5 @@ returns-then-not-is_active g c = undo_unknown (parts_of c.args.self.now) c.args.
 pub returns : goal.returns
 returns g c =
     let v : CoreValue = parts_of c.args.self.now in
-    nothing_left v c.args.txn c.requires (is_there _ (sym c.is_active.ensures ∙ c.if-not-is_active.false)) _ (ap (λ (w : TableValue). record v { txns = w }) c.pop_undo.ensures.rest)
+    nothing_left v c.args.txn c.requires (is_there _ (sym c.is_active.ensures ∙ c.if-not-is_active.false)) _
+    (ap (λ (w : TableValue). record v { txns = w }) c.pop_undo.ensures.rest)

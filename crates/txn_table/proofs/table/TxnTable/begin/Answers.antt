@@ -17,7 +17,8 @@ invariant_of-self-2 g c =
     ∙ insert_entry-next 0 n es c.in_ok-txn.txn c.new.result c.self.invariant.sound.rising (omega (arith, number))
     ∙ (λ i. es ++ (number i, c.new.ensures i) ∷ []) in
     let room : length es < TXNS_MAX = omega (arith, c.in_ok-txn.ensures.room, ap (λ (v : TableValue). length v.active) c.self.view_is) in
-    subst (λ (v : List (ℕ × TxnState) × ℕ). IsTableKept (table v.0 v.1) c.self.inside.held.items) (sym (λ i. (added i, counted i))) (IsTableKept-next (table es n) c.self.inside.held.items room c.self.invariant)
+    subst (λ (v : List (ℕ × TxnState) × ℕ). IsTableKept (table v.0 v.1) c.self.inside.held.items) (sym (λ i. (added i, counted i)))
+    (IsTableKept-next (table es n) c.self.inside.held.items room c.self.invariant)
 
 pub returns-clause-ok : goal.returns-clause-ok
 returns-clause-ok g c =

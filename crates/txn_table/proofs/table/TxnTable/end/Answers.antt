@@ -12,7 +12,8 @@ pub invariant_of-self-2 : goal.invariant_of-self-2
 invariant_of-self-2 g c =
     subst (λ (v : List (ℕ × TxnState) × List Place). IsTableKept (table v.0 c.self.inside.begun) v.1)
     (sym (λ i. (c.in-Some.ensures.entries i, c.release.ensures i)))
-    (IsTableKept-without (table c.self.inside.active.entries c.self.inside.begun) c.self.inside.held.items c.args.txn c.in-Some.ended (sym c.in-Some.ensures.value) c.self.invariant)
+    (IsTableKept-without (table c.self.inside.active.entries c.self.inside.begun) c.self.inside.held.items c.args.txn c.in-Some.ended
+    (sym c.in-Some.ensures.value) c.self.invariant)
 
 pub returns-clause-unknown : goal.returns-clause-unknown
 returns-clause-unknown g c =

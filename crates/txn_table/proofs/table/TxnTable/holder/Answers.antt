@@ -13,11 +13,14 @@ returns-then-holds-clause-holder g c =
     let rest = holder_of r (drop (suc c.loop-i.i) active) in
     let here : is_among r c.in-Some.active.now.rows ≡ true = sym c.holds.ensures ∙ c.if-holds.true in
     let entry = ap (λ xs. slice_get xs c.loop-i.i) (ap (λ (v : TableValue). v.active) (sym c.self.view_is)) ∙ sym c.in-Some.ensures.entry in
-    sym (ap (λ b. cond b (Some c.in-Some.txn.now) rest) here) ∙ sym (holder_of-drop r active c.loop-i.i (c.in-Some.txn.now, c.in-Some.active.now) entry) ∙ c.loop-i.invariant
+    sym (ap (λ b. cond b (Some c.in-Some.txn.now) rest) here) ∙ sym (holder_of-drop r active c.loop-i.i (c.in-Some.txn.now, c.in-Some.active.now) entry)
+    ∙ c.loop-i.invariant
 
 pub returns-then-holds-clause-only : goal.returns-then-holds-clause-only
 returns-then-holds-clause-only g c = λ txn s known at.
-    returns-then-holds-clause-holder g c ∙ holder_is txn s c.args.rid c.args.self.now.active (subst (λ (v : TableValue). OneHolder v.active) c.self.view_is c.self.invariant.sound.one_holder) known (among_from-Contains c.args.rid s.rows at)
+    returns-then-holds-clause-holder g c
+    ∙ holder_is txn s c.args.rid c.args.self.now.active
+    (subst (λ (v : TableValue). OneHolder v.active) c.self.view_is c.self.invariant.sound.one_holder) known (among_from-Contains c.args.rid s.rows at)
 
 pub loop-i-preserved : goal.loop-i-preserved
 loop-i-preserved g c =
@@ -27,7 +30,8 @@ loop-i-preserved g c =
     let here : is_among r c.in-Some.active.now.rows ≡ false = sym c.holds.ensures ∙ c.if-holds.false in
     let entry = ap (λ xs. slice_get xs c.loop-i.i) (ap (λ (v : TableValue). v.active) (sym c.self.view_is)) ∙ sym c.in-Some.ensures.entry in
     let next : c.loop-i.i + 1 ≡ suc c.loop-i.i = omega arith in
-    ap (λ k. holder_of r (drop k active)) next ∙ sym (ap (λ b. cond b (Some c.in-Some.txn.now) rest) here) ∙ sym (holder_of-drop r active c.loop-i.i (c.in-Some.txn.now, c.in-Some.active.now) entry) ∙ c.loop-i.invariant
+    ap (λ k. holder_of r (drop k active)) next ∙ sym (ap (λ b. cond b (Some c.in-Some.txn.now) rest) here)
+    ∙ sym (holder_of-drop r active c.loop-i.i (c.in-Some.txn.now, c.in-Some.active.now) entry) ∙ c.loop-i.invariant
 
 pub returns-clause-holder : goal.returns-clause-holder
 returns-clause-holder g c =
@@ -36,7 +40,8 @@ returns-clause-holder g c =
 
 pub returns-clause-only : goal.returns-clause-only
 returns-clause-only g c = λ txn s known at.
-    returns-clause-holder g c ∙ holder_is txn s c.args.rid c.args.self.now.active (subst (λ (v : TableValue). OneHolder v.active) c.self.view_is c.self.invariant.sound.one_holder) known (among_from-Contains c.args.rid s.rows at)
+    returns-clause-holder g c ∙ holder_is txn s c.args.rid c.args.self.now.active
+    (subst (λ (v : TableValue). OneHolder v.active) c.self.view_is c.self.invariant.sound.one_holder) known (among_from-Contains c.args.rid s.rows at)
 
 pub loop-i-init : goal.loop-i-init
 loop-i-init g c = search rules

@@ -12,12 +12,15 @@ pub invariant_of-self-in-Err : goal.invariant_of-self-in-Err
 invariant_of-self-in-Err g c =
     let es = c.self.inside.active.entries in
     let rows = c.self.inside.held.items in
-    let before = c.truncate.ensures.items ∙ (λ i. take ((c.len-rows.ensures ∙ c.self.inside.held.ok.0) i) (c.in_ok-hold.ensures.ok i)) ∙ take_with_rid c.change.inside.rid rows in
-    kept_as_before es _ rows c.truncate.new.self.items c.self.inside.begun c.args.txn c.in-Some.active.now c.note.new.self (sym c.in-Some.ensures.value) (c.get_mut.follows.holds c.note.new.self).0 c.in-Err.ensures.err before c.self.invariant
+    let before = c.truncate.ensures.items ∙ (λ i. take ((c.len-rows.ensures ∙ c.self.inside.held.ok.0) i) (c.in_ok-hold.ensures.ok i))
+    ∙ take_with_rid c.change.inside.rid rows in
+    kept_as_before es _ rows c.truncate.new.self.items c.self.inside.begun c.args.txn c.in-Some.active.now c.note.new.self (sym c.in-Some.ensures.value)
+    (c.get_mut.follows.holds c.note.new.self).0 c.in-Err.ensures.err before c.self.invariant
 
 pub returns-in-Err-clause-err : goal.returns-in-Err-clause-err
 returns-in-Err-clause-err g c =
-    after_same c.self.inside.active.entries _ c.self.inside.begun c.args.txn c.in-Some.active.now c.note.new.self c.args.self.now c.self.view_is (sym c.in-Some.ensures.value) (c.get_mut.follows.holds c.note.new.self).0 c.in-Err.ensures.err
+    after_same c.self.inside.active.entries _ c.self.inside.begun c.args.txn c.in-Some.active.now c.note.new.self c.args.self.now c.self.view_is
+    (sym c.in-Some.ensures.value) (c.get_mut.follows.holds c.note.new.self).0 c.in-Err.ensures.err
 
 pub note-requires : goal.note-requires
 note-requires g c =
@@ -30,7 +33,8 @@ note-requires g c =
     let held = c.in_ok-is_held.ensures.held
     ∙ ap (λ r. is_some (holder_of r c.args.self.now.active)) row
     ∙ ap (λ (v : TableValue). is_some (holder_of c.args.change.rid v.active)) (sym c.self.view_is) in
-    held_is_own 0 c.self.inside.begun c.args.txn c.args.change.rid es c.in-Some.active.now c.in_ok-is_held.is_held c.self.invariant.sound.rising (sym c.in-Some.ensures.value) accepted held
+    held_is_own 0 c.self.inside.begun c.args.txn c.args.change.rid es c.in-Some.active.now c.in_ok-is_held.is_held c.self.invariant.sound.rising
+    (sym c.in-Some.ensures.value) accepted held
 
 pub invariant_of-self-in_default-note : goal.invariant_of-self-in_default-note
 invariant_of-self-in_default-note g c =
@@ -40,11 +44,13 @@ invariant_of-self-in_default-note g c =
     ∙ ap (λ r. touch_refusal c.args.txn r c.args.self.now.active) (sym (ap (λ (x : ChangeValue). x.rid) c.change.view_is))
     ∙ sym c.in_ok-is_held.ensures.refusal in
     let rows = c.in_ok-hold.ensures.ok ∙ ap (λ (x : ChangeValue). with_rid x.rid c.self.inside.held.items) c.change.view_is in
-    kept_after_note es _ c.self.inside.held.items c.hold.new.held.items c.self.inside.begun c.args.txn c.args.change c.in-Some.active.now c.note.new.self (sym c.in-Some.ensures.value) (c.get_mut.follows.holds c.note.new.self).0 c.in_default-note.ensures.ok rows accepted c.self.invariant
+    kept_after_note es _ c.self.inside.held.items c.hold.new.held.items c.self.inside.begun c.args.txn c.args.change c.in-Some.active.now c.note.new.self
+    (sym c.in-Some.ensures.value) (c.get_mut.follows.holds c.note.new.self).0 c.in_default-note.ensures.ok rows accepted c.self.invariant
 
 pub returns-clause-ok : goal.returns-clause-ok
 returns-clause-ok g c =
-    after_write (change_noted c.args.change) c.self.inside.active.entries _ c.self.inside.begun c.args.txn c.in-Some.active.now c.note.new.self c.args.self.now c.self.view_is (sym c.in-Some.ensures.value) (c.get_mut.follows.holds c.note.new.self).0 c.in_default-note.ensures.ok
+    after_write (change_noted c.args.change) c.self.inside.active.entries _ c.self.inside.begun c.args.txn c.in-Some.active.now c.note.new.self c.args.self.now
+    c.self.view_is (sym c.in-Some.ensures.value) (c.get_mut.follows.holds c.note.new.self).0 c.in_default-note.ensures.ok
 
 pub returns-clause-held : goal.returns-clause-held
 returns-clause-held g c =

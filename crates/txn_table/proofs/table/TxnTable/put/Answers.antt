@@ -6,15 +6,19 @@ use Rattle.txn_table.proofs.table.TxnTable.put.Goals as goal
 
 pub returns-in_default-clause-rest : goal.returns-in_default-clause-rest
 returns-in_default-clause-rest g c =
-    unknown_put c.args.progress c.args.reserved c.self.inside.active.entries _ c.self.inside.begun c.args.txn c.args.self.now c.self.view_is (sym c.in_default.ensures.value) (ap (λ m. m.entries) c.get_mut.follows.holds-at-none)
+    unknown_put c.args.progress c.args.reserved c.self.inside.active.entries _ c.self.inside.begun c.args.txn c.args.self.now c.self.view_is
+    (sym c.in_default.ensures.value) (ap (λ m. m.entries) c.get_mut.follows.holds-at-none)
 
 pub invariant_of-self-2 : goal.invariant_of-self-2
 invariant_of-self-2 g c =
-    kept_after_put c.args.progress c.args.reserved c.self.inside.active.entries _ c.self.inside.held.items c.self.inside.begun c.args.txn c.in-Some.active.now c.put.new.self (sym c.in-Some.ensures.value) (c.get_mut.follows.holds c.put.new.self).0 c.put.ensures c.self.invariant
+    kept_after_put c.args.progress c.args.reserved c.self.inside.active.entries _ c.self.inside.held.items c.self.inside.begun c.args.txn c.in-Some.active.now
+    c.put.new.self (sym c.in-Some.ensures.value) (c.get_mut.follows.holds c.put.new.self).0 c.put.ensures c.self.invariant
 
 pub returns-clause-rest : goal.returns-clause-rest
 returns-clause-rest g c =
-    after_write (put_at c.args.progress c.args.reserved) c.self.inside.active.entries _ c.self.inside.begun c.args.txn c.in-Some.active.now c.put.new.self c.args.self.now c.self.view_is (sym c.in-Some.ensures.value) (c.get_mut.follows.holds c.put.new.self).0 c.put.ensures
+    after_write (put_at c.args.progress c.args.reserved) c.self.inside.active.entries _ c.self.inside.begun c.args.txn c.in-Some.active.now c.put.new.self
+    c.args.self.now c.self.view_is (sym c.in-Some.ensures.value) (c.get_mut.follows.holds c.put.new.self).0 c.put.ensures
 
 pub returns-clause-holders : goal.returns-clause-holders
-returns-clause-holders g c = λ r. ap (λ (v : TableValue). holder_of r v.active) (returns-clause-rest g c) ∙ holder_of-put_at c.args.progress c.args.reserved c.args.txn r c.args.self.now.active
+returns-clause-holders g c = λ r. ap (λ (v : TableValue). holder_of r v.active) (returns-clause-rest g c)
+    ∙ holder_of-put_at c.args.progress c.args.reserved c.args.txn r c.args.self.now.active
