@@ -1,6 +1,7 @@
 //! A store of version 1 is moved to a device, and lives through days of requests.
 ghost use Rattle.std.specs.Prelude.{◌≡◌, ◌≢◌, IfErr, IfOk, OnOk};
 ghost use Rattle.sector_device.specs.History.{OnlyReads};
+ghost use Rattle.restart.specs.Migrating.{IsSmallAnswer, IsTooSmall};
 ghost use Rattle.restart.specs.Parts.{core_of};
 ghost use Rattle.headline.specs.Moved.{HoldsMoved, IsToldLater, IsNotLived};
 
@@ -27,7 +28,9 @@ fn later(error: Error) -> MigrateError
 ///
 /// `Old` where the old device failed in the move, or gives nothing by version 1. `New` with `DeviceTooSmall` where the new device has
 /// too few sectors; and else, where a core may begin with what the old one gave, with `DeviceFailed` alone. `NoMemory` at any time
-/// (`refused`). With any answer but `Old` with `DeviceFailed` the old device has not failed (`told`, `quiet`).
+/// (`refused`). Where the old device gives something and the new one has too few sectors for it, that is told, also where memory was
+/// wanting; but a failure of the old one comes first (`too_small`, `room`). With any answer but `Old` with `DeviceFailed` the old device
+/// has not failed (`told`, `quiet`).
 ///
 /// [`live_through`]: crate::live_through
 pub fn live_on<O: Device, D: Mortal, A: Allocator + Copy>(
@@ -40,6 +43,8 @@ pub fn live_on<O: Device, D: Mortal, A: Allocator + Copy>(
     ensures holds { IfOk result (λ lived. HoldsMoved (O.history old.old).disk.content days.now lived.answers.items build lived.unbuilt (core_of lived.engine)) }
     ensures kept { OnlyReads (O.history old.old) (O.history old.new) }
     ensures refused { IfErr result (IsNotLived (O.history old.old).disk.content (D.history device).disk.content (O.failures old.old) (O.failures old.new)) }
+    ensures room { OnOk result (IsTooSmall (O.history old.old).disk.content (D.history device).disk.content → ⊥) }
+    ensures too_small { IsTooSmall (O.history old.old).disk.content (D.history device).disk.content → IfErr result IsSmallAnswer }
     ensures quiet { OnOk result (O.failures old.new ≡ O.failures old.old) }
     ensures told { IfErr result (λ e. e ≢ MigrateError.Old Error.DeviceFailed → O.failures old.new ≡ O.failures old.old) }
 {

@@ -3,7 +3,7 @@ ghost use Rattle.std.specs.Prelude.{◌≡◌, ◌≢◌, ◌↔◌, IsTrue, OnO
 ghost use Rattle.sector_device.specs.History.{OnlyReads};
 ghost use Rattle.records.specs.declared.version.Version.TheVariants.{One};
 ghost use Rattle.store_reader.specs.Contents.{HasHeaderIn};
-ghost use Rattle.restart.specs.Migrating.{IsNotMigrated, WritesTheStoreAlone};
+ghost use Rattle.restart.specs.Migrating.{IsNotMigrated, IsSmallAnswer, IsTooSmall, WritesTheStoreAlone};
 ghost use Rattle.moving.specs.Moved.{HoldsStoreOf, IsNotVersionOne, IsStoreOf};
 
 use flip_image::Halves;
@@ -58,7 +58,8 @@ pub fn old_geometry<D: Device>(disk: &mut D) -> Result<Geometry, NotVersionOne>
 
 /// Moves the store of version 1 on the old disk to the new one, which is given back. The old one is only read.
 ///
-/// The refusals are those of `migrate`.
+/// The refusals are those of `migrate`, in that order: where the old disk gives something by version 1 and the new one has too few
+/// sectors for it, that is told, also where memory was wanting; but a failure of the old disk comes first (`too_small`, `room`).
 pub fn move_disk<O: Device, N: Device, A: Allocator + Copy>(
     alloc: A,
     old: &mut O,
@@ -69,6 +70,8 @@ pub fn move_disk<O: Device, N: Device, A: Allocator + Copy>(
     ensures kept { OnlyReads (O.history old.old) (O.history old.new) }
     ensures around { IfOk result (λ disk. WritesTheStoreAlone (O.history old.old).disk.content N.history new disk) }
     ensures memory { IfErr result (λ r. r.0 ≡ MigrateError.NoMemory → HasHeaderIn One (O.history old.old).disk.content) }
+    ensures room { OnOk result (IsTooSmall (O.history old.old).disk.content (N.history new).disk.content → ⊥) }
+    ensures too_small { IsTooSmall (O.history old.old).disk.content (N.history new).disk.content → IfErr result (λ r. IsSmallAnswer r.0) }
     ensures told { IfErr result (λ r. r.0 ≢ MigrateError.Old Error.DeviceFailed → O.failures old.new ≡ O.failures old.old) }
     ensures quiet { IfOk result (λ disk. (O.failures old.new ≡ O.failures old.old) × (N.failures disk ≡ N.failures new)) }
 {

@@ -1,12 +1,11 @@
 -- How a build comes to its end.
-use Rattle.std.proofs.Common.{max, Err, List, None, Ok, Option, Some, [], ap, arith, inl, inr, refl, subst, sym, ℕ, ◌++◌, ◌+◌, ◌<◌, ◌∙◌, ◌∷◌, ◌≡◌, ◌≢◌, ◌≤◌}
+use Rattle.std.proofs.Common.{Err, List, None, Ok, Option, Some, [], ap, arith, inl, inr, refl, subst, sym, ℕ, ◌++◌, ◌+◌, ◌<◌, ◌∙◌, ◌∷◌, ◌≡◌, ◌≢◌, ◌≤◌}
 use Rattle.std.specs.List.{All}
 use Rattle.std.proofs.Math.Bridge.{le_prop}
 use Rattle.std.proofs.Math.Logic.{∥∥₁_elim, ∥∥₁_map}
 use Rattle.std.proofs.lemmas.List.Elements.{All-push}
 use mathlib.Core.HLevel.{⊥_prop}
 use Rattle.records.specs.declared.error.Error.{Error}
-use Rattle.records.specs.declared.number.TheConstants.{LAST_NUMBER}
 use Rattle.records.specs.declared.pair.Pair.{Pair}
 use Rattle.model.specs.declared.life.Life.TheVariants.{Absent, Complete}
 use Rattle.core_model.specs.States.{State}
@@ -164,11 +163,11 @@ module _ {D M : Type 0} (old mid new : Parts D M) (scanned : ℕ) (so_far : HasB
       survives = survives_built history failures (so_far.replies ++ reply.Refused e ∷ []) old new (all_built (reply.Refused e) (core.Refused e) refl serves) laws;
     }
 
-    pub done_ends : (ticket : Ticket) → view.Serves (core_of mid) core.Build (built (build.Done ticket)) (core_of new) → IsBuiltToEnd history (Ok ticket) old new
-    done_ends ticket serves = record {
+    pub done_ends : (ticket : Ticket) (number : ℕ) → number ≡ ticket.record → view.Serves (core_of mid) core.Build (built (build.Done ticket)) (core_of new) → IsBuiltToEnd history (Ok number) old new
+    done_ends ticket number told serves = record {
       replies = so_far.replies ++ reply.Built (build.Done ticket) ∷ [];
       each = all_built (reply.Built (build.Done ticket)) (built (build.Done ticket)) refl serves;
-      ends = inr (so_far.began, ends_with (reply.Built (build.Done ticket)) (built (build.Done ticket)) refl serves);
+      ends = inr (record { unfinished = so_far.began; ticket = ticket; ends = ends_with (reply.Built (build.Done ticket)) (built (build.Done ticket)) refl serves; told = told });
       at = at_built history failures (so_far.replies ++ reply.Built (build.Done ticket) ∷ []) old new (all_built (reply.Built (build.Done ticket)) (built (build.Done ticket)) refl serves) laws;
       survives = survives_built history failures (so_far.replies ++ reply.Built (build.Done ticket) ∷ []) old new (all_built (reply.Built (build.Done ticket)) (built (build.Done ticket)) refl serves) laws;
     }
@@ -193,11 +192,8 @@ is_done build.Idle ticket is = absurd cc
 
 module _ {D M : Type 0} (history : D → History) (failures : D → ℕ) (old : Parts D M) (laws : Laws history (writer_of old)) where
   module _ (complete : (core_of old).life ≡ Complete) where
-    pub complete_ends : (ticket : Ticket) → ticket.record ≡ max (core_of old).last 1 → ticket.commit ≡ None → IsBuiltToEnd history (Ok ticket) old old
-    complete_ends ticket number none = record { replies = []; each = refl; ends = inl (record { complete = complete; none = refl; number = number; no_commit = none }); at = at_built history failures [] old old refl laws; survives = survives_built history failures [] old old refl laws }
+    pub complete_ends : (number : ℕ) → number ≡ (core_of old).last → IsBuiltToEnd history (Ok number) old old
+    complete_ends number last = record { replies = []; each = refl; ends = inl (record { complete = complete; none = refl; last = last }); at = at_built history failures [] old old refl laws; survives = survives_built history failures [] old old refl laws }
 
     pub complete_whole : BuildsWhole (core_of old) (core_of old)
     complete_whole come none = record { rows = refl; complete = complete; whole = whole_core (core_of old) come complete none }
-
-pub last_within : (v : CoreValue) → ∥ IsSafe v ∥₁ → v.last ≤ LAST_NUMBER
-last_within v safe = ∥∥₁_elim safe le_prop (λ at. omega (arith, at.is.standing.within, at.is.shown.made))

@@ -1,6 +1,6 @@
 -- A build that goes on to its end.
 use Rattle.std.specs.List.{All}
-use Rattle.std.specs.Prelude.{max, Err, List, None, Ok, Option, Result, Some, ℕ, ◌+◌, [], ◌++◌, ◌↔◌, ◌∷◌, ◌≡◌, ◌≢◌, ◌≤◌, ◌⊎◌}
+use Rattle.std.specs.Prelude.{Err, List, None, Ok, Option, Result, Some, ℕ, ◌+◌, [], ◌++◌, ◌↔◌, ◌∷◌, ◌≡◌, ◌≢◌, ◌≤◌, ◌⊎◌}
 use Rattle.std.specs.FinMap.{get, len}
 use Rattle.records.specs.RecordValue.{RecordValue}
 use Rattle.records.specs.declared.error.Error.{Error}
@@ -94,22 +94,28 @@ pub record EndsWith {M : Type 0} (last : Reply M) (replies : List (Reply M)) : T
   pub all : replies ≡ before ++ last ∷ []
   pub underway : All IsUnderway before
 
--- where the index was complete already: no step, and the number of the last record made, or 1 where there was none
-pub record WasComplete {M : Type 0} (ticket : Ticket) (replies : List (Reply M)) (old : CoreValue) : Type 0 where
+-- where the index was complete already: no step, and the number of the last record made
+pub record WasComplete {M : Type 0} (number : ℕ) (replies : List (Reply M)) (old : CoreValue) : Type 0 where
   pub complete : old.life ≡ Complete
   pub none : replies ≡ []
-  pub number : ticket.record ≡ max old.last 1
-  pub no_commit : ticket.commit ≡ None
+  pub last : number ≡ old.last
+
+-- where it wasn't: the steps, the last of which tells the end of the build, by the record of this number
+pub record BecameComplete {M : Type 0} (number : ℕ) (replies : List (Reply M)) (old : CoreValue) : Type 0 where
+  pub unfinished : old.life ≢ Complete
+  pub ticket : Ticket
+  pub ends : EndsWith (reply.Built (build.Done ticket)) replies
+  pub told : number ≡ ticket.record
 
 -- how it ends: at once where the index was complete, and else with the end of the build, or with the refusal that is answered
-abbrev pub IsEnd : {M : Type 0} → Result Ticket Error → List (Reply M) → CoreValue → Type 0
-IsEnd (Ok ticket) replies old = WasComplete ticket replies old ⊎ ((old.life ≢ Complete) × EndsWith (reply.Built (build.Done ticket)) replies)
+abbrev pub IsEnd : {M : Type 0} → Result ℕ Error → List (Reply M) → CoreValue → Type 0
+IsEnd (Ok number) replies old = WasComplete number replies old ⊎ BecameComplete number replies old
 IsEnd (Err e) replies old = (old.life ≢ Complete) × EndsWith (reply.Refused e) replies
 
 -- The engine went on by steps of the builder alone, to the end that is answered. Where some run had left it, that run goes on with
 -- these requests. A crash at any moment leaves a prefix of the history with them, with every record up to the horizon before, and so
 -- what was acknowledged.
-pub record IsBuiltToEnd {D M : Type 0} (history : D → History) (result : Result Ticket Error) (old new : Parts D M) : Type 0 where
+pub record IsBuiltToEnd {D M : Type 0} (history : D → History) (result : Result ℕ Error) (old new : Parts D M) : Type 0 where
   pub replies : List (Reply M)
   pub each : AreBuilt replies old new
   pub ends : IsEnd result replies (core_of old)

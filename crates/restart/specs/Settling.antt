@@ -1,12 +1,14 @@
 -- An engine that is left as a restart would leave it.
 use Rattle.std.specs.FinMap.{len}
-use Rattle.std.specs.Prelude.{◌≡◌, ◌≤◌, ℕ, false, None}
+use Rattle.std.specs.Prelude.{◌≡◌, ◌⊎◌, ◌≤◌, ℕ, false, None}
 use Rattle.records.specs.GeometryValue.{GeometryValue}
 use Rattle.records.specs.declared.error.Error.{Error}
+use Rattle.records.specs.declared.error.Error.TheVariants.{NoMemory, TxnsActive}
 use Rattle.model.specs.Given.{opening_cells}
 use Rattle.core_contracts.specs.Events.{standing_at}
 use Rattle.core_loader.specs.Loaded.{holding}
 use Rattle.core_model.specs.Histories.{Opened, opened}
+use Rattle.nsf_core.specs.Loading.{IsQuiet}
 use Rattle.nsf_core.specs.Opening.{opened_of}
 use Rattle.nsf_core.specs.View.{CoreValue, IsState}
 use Rattle.sector_device.specs.Disk.{Image, IsCrashImage}
@@ -69,3 +71,10 @@ pub record WritesWhole {D M : Type 0} (history : D → History) (failures : D �
 -- there was no memory for it, or the device failed: the engine's run goes on, by a copy that was refused so
 abbrev pub IsNotWritten : {D M : Type 0} → (D → History) → (D → ℕ) → Parts D M → Parts D M → Error → Type 0
 IsNotWritten history failures old new e = CopiesAnew history failures (Refused e) old new
+
+-- A transaction is active, and the engine is as it was. Or none is: then there was no memory for a core, and it is as it was; or what
+-- it holds could not be written, and its run goes on.
+abbrev pub IsNotParted : {D M : Type 0} → (D → History) → (D → ℕ) → Parts D M → Parts D M → Error → Type 0
+IsNotParted history failures old new e =
+    ((e ≡ TxnsActive) × (IsQuiet (core_of old) → ⊥) × (new ≡ old))
+    ⊎ (IsQuiet (core_of old) × (((e ≡ NoMemory) × (new ≡ old)) ⊎ IsNotWritten history failures old new e))

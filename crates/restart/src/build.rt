@@ -1,5 +1,5 @@
 //! The index is built to its end.
-ghost use Rattle.std.specs.Prelude.{◌≡◌, ◌⊎◌, ◌≤◌, max, None, IfErr, OnOk};
+ghost use Rattle.std.specs.Prelude.{◌≡◌, ◌⊎◌, ◌≤◌, IfErr, OnOk};
 ghost use Rattle.records.specs.declared.number.TheConstants.{LAST_NUMBER};
 ghost use Rattle.restart.specs.Building.{end_of, in_a_row};
 
@@ -8,7 +8,7 @@ use core_copies::each_list;
 use core_model::each_half;
 use model::Life;
 use nsf_core::{BuildReply, Ticket};
-use records::{Error, RecordNumber};
+use records::Error;
 use sector_device::Device;
 use std::alloc::Allocator;
 
@@ -18,8 +18,8 @@ impl<D: Device, A: Allocator + Copy> Parts<D, A> {
     ghost use Rattle.restart.specs.Parts.{core_of};
     ghost use Rattle.restart.specs.Store.{CanRun};
 
-    /// Makes steps of the builder until the index is complete, and answers the record of its end.
-    pub(crate) fn build_to_end(&mut self) -> Result<Ticket, Error>
+    /// Makes steps of the builder until the index is complete, and answers the number of the record of its end.
+    pub(crate) fn build_to_end(&mut self) -> Result<u64, Error>
         requires { CanRun D.history self.old }
         ensures built { IsBuiltToEnd D.history result self.old self.new }
         ensures whole { OnOk result (BuildsWhole (core_of self.old) (core_of self.new)) }
@@ -35,30 +35,15 @@ impl<D: Device, A: Allocator + Copy> Parts<D, A> {
         each_list();
         self.writer.goes_on();
         if let Life::Complete = self.core.life() {
-            return Ok(self.last_ticket());
+            return Ok(self.core.last());
         }
         let mut scanned = 0;
         'steps: loop {
             let reply = self.core.build_step()?;
             match end_of(&reply) {
-                Some(ticket) => return Ok(ticket),
+                Some(ticket) => return Ok(ticket.record.get()),
                 None => scanned = in_a_row(scanned, &reply),
             }
-        }
-    }
-
-    // The ticket of the last record made, or of record 1 where there is none.
-    fn last_ticket(&self) -> Ticket
-        requires { (core_of self.now).last ≤ LAST_NUMBER }
-        ensures record { result.record ≡ max (core_of self.now).last 1 }
-        ensures no_commit { result.commit ≡ None }
-    {
-        match RecordNumber::new(self.core.last().max(1)) {
-            Some(record) => Ticket {
-                record,
-                commit: None,
-            },
-            None => unreachable!(),
         }
     }
 }

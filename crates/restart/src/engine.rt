@@ -3,7 +3,7 @@ ghost use Rattle.std.specs.Prelude.{◌≡◌, ◌≢◌, ◌⊎◌, ◌≤◌, 
 
 use crate::parts::Parts;
 use crate::{Event, Reply};
-use nsf_core::{Core, Ticket};
+use nsf_core::Core;
 use records::Error;
 use sector_device::Device;
 use std::alloc::Allocator;
@@ -97,8 +97,8 @@ impl<D: Device, A: Allocator + Copy> Engine<D, A> {
         Ok(replies)
     }
 
-    /// Makes steps of the builder until the index is complete, and answers the record of its end. Where it is complete
-    /// already, the answer is the number of the last record made, or 1 where there is none, and nothing changes.
+    /// Makes steps of the builder until the index is complete, and answers the number of the record of its end. Where it is complete
+    /// already, the answer is the number of the last record made, 0 where there is none, and nothing changes.
     ///
     /// A refusal is that of the step that met it, and ends the steps; what was built before it stays (`built`). `NoIndex` comes only
     /// where there is none (`no_index`); `IndexFull` where a pair that has no entry meets no free place: each is taken or reserved
@@ -110,7 +110,7 @@ impl<D: Device, A: Allocator + Copy> Engine<D, A> {
     /// pair of each row was visible as far as the index was built and nowhere marked, and without an index there was no
     /// entry (`CanOpen`): a builder leaves a marked entry as it is. It stays so whatever the answer is (`come`), so that a
     /// build may be gone on with; and no row changes (`rows`).
-    pub fn build_to_end(&mut self) -> Result<Ticket, Error>
+    pub fn build_to_end(&mut self) -> Result<u64, Error>
         ensures built { IsBuiltToEnd D.history result self.old self.new }
         ensures whole { OnOk result (BuildsWhole (core_of self.old) (core_of self.new)) }
         ensures why { IfErr result (λ e. (e ≡ Error.NoIndex) ⊎ (e ≡ Error.IndexFull) ⊎ (e ≡ Error.Exhausted) ⊎ (e ≡ Error.NoMemory)) }
@@ -147,17 +147,16 @@ impl<D: Device, A: Allocator + Copy> Engine<D, A> {
         self.parts.writer.device()
     }
 
-    /// The core, and the writer that owns the device, with every record that the core made (`left`): the device is as it was.
-    /// The writer gives an image under way up at the first piece of another one (`checkpoint_step` of `store_writer`). The core goes on counting its transactions and
-    /// commits; one that served nothing is as `restart` loaded it.
+    /// The core, and the writer that owns the device, with every record that the core made (`left`): the device is as it was, and so is
+    /// an image under way. The core goes on counting its transactions and commits; one that served nothing is as `restart` loaded it.
     ///
     /// An `Err` gives the engine back, for want of memory to hand the records over: no record is lost, and the run goes on (`back`).
-    pub fn into_parts(self) -> Result<(Core<A>, StoreWriter<D, A>), Self>
+    pub fn take_apart(self) -> Result<(Core<A>, StoreWriter<D, A>), Self>
         ensures parts { IfOk result (λ r. ArePartsOf self (value_of r.0) r.1) }
         ensures left { IfOk result (λ r. LeavesPartsOf D.history self (value_of r.0) r.1) }
         ensures back { IfErr result (IsGivenBack D.history self) }
     {
-        match self.parts.into_parts() {
+        match self.parts.take_apart() {
             Ok(parts) => Ok(parts),
             Err(parts) => Err(Engine { parts }),
         }

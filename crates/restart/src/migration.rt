@@ -1,17 +1,17 @@
 //! A store of version 1 is moved to another device.
-ghost use Rattle.std.specs.Prelude.{◌≡◌, ◌≢◌, ◌⊎◌, ◌<◌, OnOk, IfOk, IfErr};
+ghost use Rattle.std.specs.Prelude.{◌≡◌, ◌≢◌, ◌<◌, ◌≤◌, length, OnOk, IfOk, IfErr};
 ghost use Rattle.sector_device.specs.History.{OnlyReads};
 ghost use Rattle.sector_device.specs.Disk.{IsSynced, SameOutside};
 ghost use Rattle.records.specs.GeometryValue.{GeometryValue, sectors_of};
 ghost use Rattle.records.specs.declared.version.Version.TheVariants.{One};
 ghost use Rattle.model.specs.Given.{Given, opening_cells};
 ghost use Rattle.image_half.specs.Source.{FitsImage};
-ghost use Rattle.flip_image.specs.Store.{IsStore};
+ghost use Rattle.flip_image.specs.Store.{IsDeviceFailure, IsStore};
 ghost use Rattle.redo.specs.Restored.{given_in};
 ghost use Rattle.store_reader.specs.Contents.{GivesIn, HasHeaderIn};
 ghost use Rattle.nsf_core.specs.Value.{value_of};
 ghost use Rattle.restart.specs.Parts.{device_of};
-ghost use Rattle.restart.specs.Migrating.{BeginsEmpty, IsFilled, IsMigrated, IsMigratedCore, IsNotFilled, IsNotMigrated, IsToldOfOld, WritesTheStoreAlone};
+ghost use Rattle.restart.specs.Migrating.{BeginsEmpty, IsFilled, IsMigrated, IsMigratedCore, IsNotFilled, IsNotMigrated, IsSmallAnswer, IsToldUnread, IsTooSmall, WritesTheStoreAlone};
 
 use crate::Engine;
 use crate::copying::Copying;
@@ -50,11 +50,15 @@ pub enum MigrateError {
 ///
 /// `Old` where the old device failed in the call, or gives nothing by version 1: `DeviceTooSmall`, `NotFormatted` or `Damaged`
 /// as `read_store_in` answers them, and `Damaged` with sector 0 of a store of another version. Then nothing was written. `New`
-/// where the new device has too few sectors, and then nothing was written either, or failed. `NoMemory` comes before anything is
-/// written too, and only where the old device holds a store of version 1 whose current half begins with a header (`memory`). Of
-/// faults that are met together the first of these is answered (no clause says so); but `NoMemory` may come while the old device is read, before a fault
-/// that a later sector has. Where the old device failed in the call, that is what is told (`told`). After `New` with `DeviceFailed`,
-/// and after a crash within the call, the new device may hold anything: the call is made again.
+/// where the new device has too few sectors, and then nothing was written either, or else where it failed. `NoMemory` comes before
+/// anything is written too, and only where the old device holds a store of version 1 whose current half begins with a header (`memory`).
+///
+/// Of faults that are met together the first of these is answered. `New` with `DeviceFailed` comes only where the old device gives
+/// something and the new one has room for it (`refused`). Where it gives something and the new one has no room, that is the answer,
+/// also where memory was wanting; but a failure of the old device comes first (`too_small`, `room`). Where there is no memory to read
+/// all of the old device, what stands behind its current half's header isn't known. A fault there goes untold then: the answer is
+/// `New` with `DeviceTooSmall`, or `NoMemory`. Where the old device failed in the call, that is what is told (`told`). After `New` with
+/// `DeviceFailed`, and after a crash within the call, the new device may hold anything: the call is made again.
 ///
 /// The new store's log is empty, and no image of it is under way (`emptied`). The sectors behind the store are as they were
 /// (`around`).
@@ -69,6 +73,8 @@ pub fn migrate<O: Device, N: Device, A: Allocator + Copy>(
     ensures kept { OnlyReads (O.history old.old) (O.history old.new) }
     ensures refused { IfErr result (λ r. IsNotMigrated (O.history old.old).disk.content (O.failures old.old) (O.failures old.new) N.history N.failures new r.1 r.0) }
     ensures memory { IfErr result (λ r. r.0 ≡ MigrateError.NoMemory → HasHeaderIn One (O.history old.old).disk.content) }
+    ensures room { OnOk result (IsTooSmall (O.history old.old).disk.content (N.history new).disk.content → ⊥) }
+    ensures too_small { IsTooSmall (O.history old.old).disk.content (N.history new).disk.content → IfErr result (λ r. IsSmallAnswer r.0) }
     ensures told { IfErr result (λ r. r.0 ≢ MigrateError.Old Error.DeviceFailed → O.failures old.new ≡ O.failures old.old) }
     ensures quiet { IfOk result (λ engine. (O.failures old.new ≡ O.failures old.old) × (N.failures (device_of engine) ≡ N.failures new)) }
 {
@@ -106,34 +112,48 @@ fn move_store<O: Device, N: Device, A: Allocator + Copy>(
     ensures kept { OnlyReads (O.history old.old) (O.history old.new) }
     ensures refused { IfErr result (IsNotMigrated (O.history old.old).disk.content (O.failures old.old) (O.failures old.new) N.history N.failures new.old new.new) }
     ensures memory { IfErr result (λ e. e ≡ MigrateError.NoMemory → HasHeaderIn One (O.history old.old).disk.content) }
+    ensures room { OnOk result (IsTooSmall (O.history old.old).disk.content (N.history new.old).disk.content → ⊥) }
+    ensures too_small { IsTooSmall (O.history old.old).disk.content (N.history new.old).disk.content → IfErr result IsSmallAnswer }
     ensures told { IfErr result (λ e. e ≢ MigrateError.Old Error.DeviceFailed → O.failures old.new ≡ O.failures old.old) }
     ensures quiet { OnOk result ((O.failures old.new ≡ O.failures old.old) × (N.failures new.new ≡ N.failures new.old)) }
 {
     room_for_given();
     one_old_answer();
-    match read_store_in(alloc, Version::One, old) {
-        Ok(found) => fill(alloc, new, found.restored),
-        Err(error) => Err(refusal_of_old(error)),
+    let error = match read_store_in(alloc, Version::One, old) {
+        Ok(found) => return fill(alloc, new, found.restored),
+        Err(error) => error,
+    };
+    match error {
+        Error::NoMemory => Err(unread(old, new)),
+        _ => Err(MigrateError::Old(error)),
     }
 }
 
-// Why nothing is moved where the old store isn't read.
-fn refusal_of_old(error: Error) -> MigrateError
-    ensures { IsToldOfOld error result }
+// What is told where there was no memory to read the old store: the new device may be too small for it besides.
+fn unread<O: Device, N: Device>(old: &mut O, new: &N) -> MigrateError
+    requires { HasHeaderIn One (O.history old.old).disk.content }
+    ensures why { IsToldUnread (O.history old.old).disk.content (N.history new.now).disk.content (O.failures old.old) (O.failures old.new) result }
+    ensures kept { OnlyReads (O.history old.old) (O.history old.new) }
+    ensures told { result ≢ MigrateError.Old Error.DeviceFailed → O.failures old.new ≡ O.failures old.old }
 {
-    match error {
-        Error::NoMemory => MigrateError::NoMemory,
-        _ => MigrateError::Old(error),
+    let halves = match Halves::open_in(Version::One, old) {
+        Ok(halves) => halves,
+        Err(error) => return MigrateError::Old(error),
+    };
+    if new.sectors() < halves.geometry().sectors() {
+        return MigrateError::New(Error::DeviceTooSmall);
     }
+    MigrateError::NoMemory
 }
 
 // Makes the device a store of this geometry, and opens it.
 fn format<D: Device>(device: &mut D, geometry: Geometry) -> Result<Halves, Error>
+    requires { sectors_of geometry ≤ length (D.history device.old).disk.content }
     ensures geometry { IfOk result (λ halves. halves.geometry ≡ geometry) }
     ensures store { IfOk result (λ halves. IsStore halves.geometry halves.current (D.history device.new).disk.content) }
     ensures synced { OnOk result (IsSynced (D.history device.new).disk) }
     ensures around { OnOk result (SameOutside (λ n. n < sectors_of geometry) (D.history device.old).disk.content (D.history device.new).disk.content) }
-    ensures refused { IfErr result (λ e. IsNotFilled geometry D.history D.failures device.old device.new (MigrateError.New e)) }
+    ensures refused { IfErr result (IsDeviceFailure (D.failures device.old) (D.failures device.new)) }
     ensures quiet { OnOk result (D.failures device.new ≡ D.failures device.old) }
 {
     Halves::format(device, geometry)?;
@@ -149,6 +169,7 @@ fn fill<D: Device, A: Allocator + Copy>(
     requires { FitsImage restored.geometry (opening_cells (given_in restored)) }
     ensures filled { IfOk result (λ r. IsFilled restored.geometry (given_in restored) (D.history device.new) r.1 r.2 (value_of r.0)) }
     ensures empty { IfOk result (λ r. r.2.open_slots ≡ 0) }
+    ensures room { OnOk result (sectors_of restored.geometry ≤ length (D.history device.old).disk.content) }
     ensures around { OnOk result (SameOutside (λ n. n < sectors_of restored.geometry) (D.history device.old).disk.content (D.history device.new).disk.content) }
     ensures refused { IfErr result (IsNotFilled restored.geometry D.history D.failures device.old device.new) }
     ensures quiet { OnOk result (D.failures device.new ≡ D.failures device.old) }

@@ -65,7 +65,7 @@ impl<D: Device, A: Allocator + Copy> Parts<D, A> {
     }
 
     /// The core, and the writer with every record that was made.
-    pub(crate) fn into_parts(mut self) -> Result<(Core<A>, StoreWriter<D, A>), Self>
+    pub(crate) fn take_apart(mut self) -> Result<(Core<A>, StoreWriter<D, A>), Self>
         requires { CanRun D.history self }
         ensures parts { IfOk result (λ r. ArePartsOf self (value_of r.0) r.1) }
         ensures left { IfOk result (λ r. LeavesPartsOf D.history self (value_of r.0) r.1) }

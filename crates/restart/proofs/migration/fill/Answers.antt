@@ -1,4 +1,4 @@
-use Rattle.std.proofs.Common.{◌≡◌, ◌<◌, ℕ, inr, refl, sym, ap, subst, ◌∙◌}
+use Rattle.std.proofs.Common.{◌≡◌, ◌<◌, arith, inr, refl, sym, ap, subst, ◌∙◌}
 use Rattle.sector_device.specs.History.{Rises}
 use Rattle.sector_device.proofs.Moments.{content_at_end}
 use Rattle.sector_device.proofs.Sectors.{same_outside_then, same_outside_wider}
@@ -44,7 +44,7 @@ returns-in-Ok-write_over-clause-filled g c =
 
 pub returns-in-Err-write_over-clause-refused : goal.returns-in-Err-write_over-clause-refused
 returns-in-Err-write_over-clause-refused g c =
-    inr (refl, subst (λ n. Rises n (g.D.Device.failures c.write_over.new.device)) c.in-Ok-format.ensures.quiet c.in-Err-write_over.ensures.counts.failed)
+    inr (refl, omega (arith, c.sectors.ensures, c.sectors-2.ensures, c.if-sectors.false), subst (λ n. Rises n (g.D.Device.failures c.write_over.new.device)) c.in-Ok-format.ensures.quiet c.in-Err-write_over.ensures.counts.failed)
 
 pub returns-in-Ok-write_over-clause-around : goal.returns-in-Ok-write_over-clause-around
 returns-in-Ok-write_over-clause-around g c =
@@ -58,3 +58,7 @@ returns-in-Ok-write_over-clause-around g c =
     same_outside_then (λ n. n < sectors_of size) before mid.disk.content now.disk.content c.in-Ok-format.ensures.around
     (same_outside_wider (IsSpare halves.geometry halves.current) (λ n. n < sectors_of size) mid.disk.content now.disk.content
     (λ n spare. subst (λ (x : GeometryValue). n < sectors_of x) c.in-Ok-format.ensures.geometry (spare_inside halves.geometry halves.current n spare)) written.outside)
+
+pub returns-in-Err-clause-refused : goal.returns-in-Err-clause-refused
+returns-in-Err-clause-refused g c =
+    inr (c.in-Err.ensures.refused.0, omega (arith, c.sectors.ensures, c.sectors-2.ensures, c.if-sectors.false), c.in-Err.ensures.refused.1)

@@ -1,10 +1,12 @@
-use Rattle.std.proofs.Common.{◌<◌, sym, subst}
-use Rattle.sector_device.specs.Disk.{SameOutside}
+use Rattle.std.proofs.Common.{◌<◌, ◌∙◌, ap, arith, inr, length, refl, sym, subst, ⊎_elim}
+use Rattle.sector_device.specs.Disk.{Disk, SameOutside}
 use Rattle.records.specs.GeometryValue.{GeometryValue, sectors_of}
 use Rattle.records.specs.declared.version.Version.TheVariants.{One}
 use Rattle.redo.specs.Restored.{given_in}
 use Rattle.nsf_core.specs.Value.{value_of}
-use Rattle.restart.proofs.Migrated.{has_header, if_err_weaker, if_ok_weaker, moved, on_ok_weaker, not_failed, not_filled, old_not_moved, wanted}
+use Rattle.restart.specs.Migrating.{IsToldUnread}
+use Rattle.restart.specs.declared.migration.MigrateError.TheVariants as refusals
+use Rattle.restart.proofs.Migrated.{has_header, if_err_weaker, if_ok_weaker, moved, on_ok_weaker, not_filled, old_refused, told_small, unread_not_moved, unread_small}
 use Rattle.restart.proofs.migration.move_store.Goals as goal
 
 pub fill-requires : goal.fill-requires
@@ -29,10 +31,48 @@ returns-in-Ok-clause-refused g c =
 pub returns-in-Ok-clause-kept : goal.returns-in-Ok-clause-kept
 returns-in-Ok-clause-kept g c = c.read_store_in.ensures.reads
 
-pub returns-in-Err-clause-refused : goal.returns-in-Err-clause-refused
-returns-in-Err-clause-refused g c =
+pub returns-in-Ok-clause-room : goal.returns-in-Ok-clause-room
+returns-in-Ok-clause-room g c =
+    let restored = c.in-Ok.found.restored in
+    let old = (g.O.Device.history c.args.old.now).disk.content in
+    let new = (g.N.Device.history c.args.new.now).disk.content in
+    on_ok_weaker _ _ c.fill.result
+    (λ enough small. omega (arith, enough, subst (λ (x : GeometryValue). length new < sectors_of x) (c.one_old_answer.ensures.geometry old small.geometry restored.geometry small.given (given_in restored) small.gave c.in-Ok.ensures.found.gives) small.few))
+    c.fill.ensures.room
+
+pub returns-in-Ok-clause-too_small : goal.returns-in-Ok-clause-too_small
+returns-in-Ok-clause-too_small g c small =
+    let restored = c.in-Ok.found.restored in
     let f = g.O.Device.failures in
-    old_not_moved (g.O.Device.history c.args.old.now).disk.content (f c.args.old.now) (f c.read_store_in.new.device) g.N.Device.history g.N.Device.failures c.args.new.now c.in-Err.error c.refusal_of_old.result c.refusal_of_old.ensures c.in-Err.ensures.refused
+    let old = (g.O.Device.history c.args.old.now).disk.content in
+    let new = (g.N.Device.history c.args.new.now).disk.content in
+    if_err_weaker _ _ c.fill.result
+    (λ e why. told_small old (f c.args.old.now) (f c.read_store_in.new.device) g.N.Device.history g.N.Device.failures c.args.new.now c.fill.new.device restored.geometry (given_in restored) c.in-Ok.ensures.found.gives
+    (λ is. subst (λ (x : GeometryValue). length new < sectors_of x) (c.one_old_answer.ensures.geometry old is.geometry restored.geometry is.given (given_in restored) is.gave c.in-Ok.ensures.found.gives) is.few) e why small)
+    c.fill.ensures.refused
+
+pub returns-in-NoMemory-clause-refused : goal.returns-in-NoMemory-clause-refused
+returns-in-NoMemory-clause-refused g c =
+    let f = g.O.Device.failures in
+    let new = (g.N.Device.history c.args.new.now).disk.content in
+    unread_not_moved (g.O.Device.history c.args.old.now).disk.content (f c.args.old.now) (f c.read_store_in.new.device) (f c.unread.new.old) g.N.Device.history g.N.Device.failures c.args.new.now (c.in-Err.ensures.told (λ is. let bad = sym c.in-NoMemory.is ∙ is in absurd cc)) c.unread.result
+    (subst (λ (d : Disk). IsToldUnread d.content new (f c.read_store_in.new.device) (f c.unread.new.old) c.unread.result) c.read_store_in.ensures.reads.disk c.unread.ensures.why)
+
+pub returns-in-NoMemory-clause-too_small : goal.returns-in-NoMemory-clause-too_small
+returns-in-NoMemory-clause-too_small g c =
+    let f = g.O.Device.failures in
+    let new = (g.N.Device.history c.args.new.now).disk.content in
+    unread_small (g.O.Device.history c.args.old.now).disk.content (f c.args.old.now) (f c.read_store_in.new.device) (f c.unread.new.old) g.N.Device.history g.N.Device.failures c.args.new.now c.unread.result
+    (subst (λ (d : Disk). IsToldUnread d.content new (f c.read_store_in.new.device) (f c.unread.new.old) c.unread.result) c.read_store_in.ensures.reads.disk c.unread.ensures.why)
+
+pub returns-in_default-clause-too_small : goal.returns-in_default-clause-too_small
+returns-in_default-clause-too_small g c small =
+    ⊎_elim (λ none. absurd (c.in_default.not-NoMemory none)) (λ failed. inr (ap refusals.Old failed.0)) (c.in-Err.ensures.accepted small.geometry small.given small.gave)
+
+pub returns-in_default-clause-refused : goal.returns-in_default-clause-refused
+returns-in_default-clause-refused g c =
+    let f = g.O.Device.failures in
+    (old_refused (g.O.Device.history c.args.old.now).disk.content (f c.args.old.now) (f c.read_store_in.new.device) c.in-Err.error c.in_default.not-NoMemory c.in-Err.ensures.refused, refl)
 
 pub returns-in-Ok-clause-memory : goal.returns-in-Ok-clause-memory
 returns-in-Ok-clause-memory g c =
@@ -41,12 +81,6 @@ returns-in-Ok-clause-memory g c =
 
 pub returns-in-Ok-clause-told : goal.returns-in-Ok-clause-told
 returns-in-Ok-clause-told g c = if_err_weaker _ _ c.fill.result (λ e why other. c.in-Ok.ensures.quiet) c.fill.ensures.refused
-
-pub returns-in-Err-clause-memory : goal.returns-in-Err-clause-memory
-returns-in-Err-clause-memory g c none = c.in-Err.ensures.memory (wanted c.in-Err.error c.refusal_of_old.result c.refusal_of_old.ensures none)
-
-pub returns-in-Err-clause-told : goal.returns-in-Err-clause-told
-returns-in-Err-clause-told g c other = c.in-Err.ensures.told (not_failed c.in-Err.error c.refusal_of_old.result c.refusal_of_old.ensures other)
 
 pub returns-in-Ok-clause-around : goal.returns-in-Ok-clause-around
 returns-in-Ok-clause-around g c =

@@ -12,15 +12,12 @@ use Rattle.restart.specs.declared.event.Reply.TheVariants.{Built, Refused}
 use Rattle.nsf_core.specs.declared.reply.BuildReply.TheVariants.{Done}
 use Rattle.restart.specs.Parts.{core_of}
 use Rattle.restart.proofs.BuiltOn.{can_run_built}
-use Rattle.restart.proofs.Ended.{all_built, comes_to, complete_ends, complete_whole, done_ends, done_whole, is_done, last_within, none_built, refused_ends, rows_stay, stepped}
+use Rattle.restart.proofs.Ended.{all_built, comes_to, complete_ends, complete_whole, done_ends, done_whole, is_done, none_built, refused_ends, rows_stay, stepped}
 use Rattle.restart.proofs.WhyRefused.{IsWhy, refused_full, refused_none, refused_out, refused_why}
 use Rattle.restart.proofs.parts.Parts.build_to_end.Goals as goal
 
-pub last_ticket-requires : goal.last_ticket-requires
-last_ticket-requires g c = last_within (core_of c.args.self.now) c.args.self.now.core.safe
-
 pub returns-in-Complete-clause-built : goal.returns-in-Complete-clause-built
-returns-in-Complete-clause-built g c = complete_ends g.D.Device.history g.D.Device.failures c.args.self.now (record { half = c.each_half.ensures.goes_on; lists = c.each_list.ensures.goes_on; goes = c.goes_on.ensures }) (sym c.life.ensures.life ∙ c.in-Complete.is) c.last_ticket.result c.last_ticket.ensures.record c.last_ticket.ensures.no_commit
+returns-in-Complete-clause-built g c = complete_ends g.D.Device.history g.D.Device.failures c.args.self.now (record { half = c.each_half.ensures.goes_on; lists = c.each_list.ensures.goes_on; goes = c.goes_on.ensures }) (sym c.life.ensures.life ∙ c.in-Complete.is) c.last.result c.last.ensures
 
 pub returns-in-Complete-clause-whole : goal.returns-in-Complete-clause-whole
 returns-in-Complete-clause-whole g c = complete_whole g.D.Device.history g.D.Device.failures c.args.self.now (record { half = c.each_half.ensures.goes_on; lists = c.each_list.ensures.goes_on; goes = c.goes_on.ensures }) (sym c.life.ensures.life ∙ c.in-Complete.is)
@@ -72,7 +69,7 @@ returns-in-Some-clause-built g c =
     let old = c.args.self.now in
     let mid = c.steps.self in
     let new : Parts g.row.D.Denot g.row.A.Denot = record c.steps.self { core = c.build_step.new.self } in
-    done_ends old mid new c.steps.scanned c.steps.invariant refl history failures (record { half = c.each_half.ensures.goes_on; lists = c.each_list.ensures.goes_on; goes = c.goes_on.ensures }) c.in-Some.ticket (subst (λ b. Serves (core_of mid) Build (built b) (core_of new)) (is_done c.in_ok-reply.reply c.in-Some.ticket (sym c.end_of.ensures ∙ c.in-Some.is)) c.in_ok-reply.ensures)
+    done_ends old mid new c.steps.scanned c.steps.invariant refl history failures (record { half = c.each_half.ensures.goes_on; lists = c.each_list.ensures.goes_on; goes = c.goes_on.ensures }) c.in-Some.ticket c.get.result c.get.ensures.value (subst (λ b. Serves (core_of mid) Build (built b) (core_of new)) (is_done c.in_ok-reply.reply c.in-Some.ticket (sym c.end_of.ensures ∙ c.in-Some.is)) c.in_ok-reply.ensures)
 
 pub returns-in-Some-clause-whole : goal.returns-in-Some-clause-whole
 returns-in-Some-clause-whole g c =

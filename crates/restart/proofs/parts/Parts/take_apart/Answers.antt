@@ -1,7 +1,7 @@
 use Rattle.std.proofs.lemmas.Bool.{false≢true}
 use Rattle.restart.proofs.Apart.{are_parts, given_back, leaves_parts}
 use Rattle.restart.proofs.Moving.{can_run_on}
-use Rattle.restart.proofs.parts.Parts.into_parts.Goals as goal
+use Rattle.restart.proofs.parts.Parts.take_apart.Goals as goal
 
 pub returns-then-all-clause-parts : goal.returns-then-all-clause-parts
 returns-then-all-clause-parts g c = are_parts g.D.Device.history c.args.self c.hand_over-all.new.self c.hand_over-all.ensures.hands (c.hand_over-all.ensures.all.0 c.if-all.true)
