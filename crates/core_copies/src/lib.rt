@@ -10,5 +10,5 @@ mod copy;
 mod laws;
 mod parts;
 
-pub use copy::{copy_step, copy_whole};
+pub use copy::Copies;
 pub use laws::{each_list, made_cells, one_copy};

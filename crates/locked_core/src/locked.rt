@@ -38,6 +38,7 @@ ghost use Rattle.tail.specs.Ends.{name_prop};
 use crate::group::Group;
 use crate::outbox::QueueSink;
 use crate::seat::SeatPart;
+use core_copies::Copies;
 use image_model::{Chunk, CopyPlace};
 use model::Life;
 use nsf_core::{BuildReply, CleanReply, Core, Detached, Ticket, Undone};
@@ -500,7 +501,7 @@ impl<B: Group, A: Memory> Locked<B, A> {
         ensures no_memory { IfErr result (λ e. e ≡ NoMemory) }
     {
         self.each_hold();
-        core_copies::copy_whole(alloc, &self.core)
+        self.core.copy_whole(alloc)
     }
 
     /// The next chunk of an image whose copying has come to this place, with the number of the last record made: a piece of
@@ -513,6 +514,6 @@ impl<B: Group, A: Memory> Locked<B, A> {
         ensures no_memory { IfErr result (λ e. e ≡ NoMemory) }
     {
         self.each_hold();
-        core_copies::copy_step(alloc, &self.core, place)
+        self.core.copy_step(alloc, place)
     }
 }

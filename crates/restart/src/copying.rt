@@ -10,7 +10,7 @@ ghost use Rattle.restart.specs.Store.{AreServed, IsAt, Past};
 
 use crate::Reply;
 use crate::parts::Parts;
-use core_copies::{copy_step, copy_whole, each_list, one_copy};
+use core_copies::{Copies, each_list, one_copy};
 use image_model::{Chunk, CopyPlace};
 use records::Error;
 use sector_device::Device;
@@ -106,7 +106,7 @@ impl<D: Device, A: Allocator + Copy> Parts<D, A> {
         each_list();
         one_copy();
         self.writer.next_pieces();
-        let chunk = match copy_step(self.alloc, &self.core, place) {
+        let chunk = match self.core.copy_step(self.alloc, place) {
             Ok(chunk) => chunk,
             Err(error) => return Reply::Refused(error),
         };
@@ -137,7 +137,7 @@ impl<D: Device, A: Allocator + Copy> Parts<D, A> {
         each_list();
         one_copy();
         self.writer.next_pieces();
-        let chunk = match copy_whole(self.alloc, &self.core) {
+        let chunk = match self.core.copy_whole(self.alloc) {
             Ok(chunk) => chunk,
             Err(error) => return Reply::Refused(error),
         };

@@ -10,7 +10,7 @@ ghost use Rattle.store_writer.specs.Parts.{image_of};
 use crate::copying::Copying;
 use crate::parts::Parts;
 use crate::{Engine, Reply};
-use core_copies::{copy_whole, each_list, one_copy};
+use core_copies::{Copies, each_list, one_copy};
 use core_loader::load;
 use image_model::{Chunk, Piece};
 use model::CellMaps;
@@ -29,7 +29,7 @@ impl<D: Device, A: Allocator + Copy> Parts<D, A> {
         ensures fresh { IfOk result (λ core. IsFresh (core_of self.now) (value_of core)) }
         ensures no_memory { IfErr result (λ e. e ≡ Error.NoMemory) }
     {
-        let Chunk { number, piece } = copy_whole(self.alloc, &self.core)?;
+        let Chunk { number, piece } = self.core.copy_whole(self.alloc)?;
         let Piece::Whole { cells } = piece else {
             unreachable!()
         };
