@@ -7,13 +7,20 @@
 #![tactic(auto)]
 
 mod backing;
+mod draft;
 mod error;
+mod host;
 mod mirror;
+mod names;
 mod opening;
 mod past;
+mod trouble;
 
-pub use backing::{Backing, Detached, HostFile};
+pub use backing::{Backing, Detached, Stored};
+pub use draft::{SECTORS_MAX, create, discard, publish};
 pub use error::OpenError;
+pub use host::{Held, HostFile, StoreFile};
 pub use mirror::FileDisk;
-pub use opening::{SECTORS_MAX, create, discard, open, publish, read};
+pub use opening::{hold, open, read};
 pub use past::Past;
+pub use trouble::{Trouble, Troubled};
