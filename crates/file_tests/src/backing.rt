@@ -34,8 +34,8 @@ pub struct Host {
     calls: u64,
     // The number of the call that fails, from 1, or 0.
     fails_at: u64,
-    // whether the last call was a sync that failed
-    failed_to_sync: bool,
+    // whether writes count as calls too
+    counts_writes: bool,
 }
 
 fn torn(old: &Sector, new: &Sector) -> Sector {
@@ -70,29 +70,31 @@ impl Host {
             pages,
             calls: 0,
             fails_at: 0,
-            failed_to_sync: false,
+            counts_writes: true,
         })
     }
 
-    /// How many writes and syncs were asked for since a failure was set last.
+    /// How many calls were counted since it was said which fails.
     pub fn calls(&self) -> u64 {
         self.calls
-    }
-
-    /// Whether a sync was the last call, and failed.
-    pub fn failed_to_sync(&self) -> bool {
-        self.failed_to_sync
     }
 
     /// The write or sync of this number from now on fails, from 1, or none at 0.
     pub fn fail_at(&mut self, number: u64) {
         self.calls = 0;
         self.fails_at = number;
-        self.failed_to_sync = false;
+        self.counts_writes = true;
     }
 
-    /// The cache is gone with the power.
+    /// The sync of this number from now on fails, from 1.
+    pub fn fail_at_sync(&mut self, number: u64) {
+        self.fail_at(number);
+        self.counts_writes = false;
+    }
+
+    /// The cache is gone with the power. No later call fails.
     pub fn lose_power(&mut self, loss: Loss) {
+        self.fails_at = 0;
         for page in &mut self.pages {
             let sector = left(page, loss);
             page.safe = sector;
@@ -107,7 +109,7 @@ impl Host {
             pages: self.pages.clone()?,
             calls: 0,
             fails_at: 0,
-            failed_to_sync: false,
+            counts_writes: true,
         })
     }
 
@@ -120,9 +122,15 @@ impl Host {
         Ok(())
     }
 
+    fn answer_write(&mut self) -> io::Result<()> {
+        if self.counts_writes {
+            return self.answer();
+        }
+        Ok(())
+    }
+
     fn sync(&mut self) -> io::Result<()> {
         let answer = self.answer();
-        self.failed_to_sync = answer.is_err();
         for page in &mut self.pages {
             if page.is_dirty && answer.is_ok() {
                 page.safe = page.shown;
@@ -149,7 +157,7 @@ pub struct Used<'a> {
 impl Backing for Used<'_> {
     fn put(&mut self, n: u64, bytes: &Sector) -> io::Result<()> {
         self.host.show(n, bytes);
-        self.host.answer()
+        self.host.answer_write()
     }
 
     fn sync(&mut self) -> io::Result<()> {
@@ -172,6 +180,6 @@ impl Stored for Used<'_> {
         for (n, sector) in run.iter().enumerate() {
             self.host.show(first.saturating_add(n as u64), sector);
         }
-        self.host.answer()
+        self.host.answer_write()
     }
 }

@@ -158,11 +158,15 @@ fn live(alloc: Global, host: &mut Host, told: Told, more: u8) -> Result<Told, Er
     }
 }
 
-// Loses the power, and looks at what is there.
-fn look(rt: &impl Abort, alloc: Global, host: &Host, told: Told, loss: Loss) -> Result<(), Fail> {
-    let mut left = host.copied()?;
-    left.lose_power(loss);
-    let Some(mut store) = opened(alloc, &mut left) else {
+// The store of which the power was lost holds what was acknowledged; and its index all of it, where that is to be built.
+fn look(
+    rt: &impl Abort,
+    alloc: Global,
+    left: &mut Host,
+    told: Told,
+    is_built: bool,
+) -> Result<(), Fail> {
+    let Some(mut store) = opened(alloc, left) else {
         return Err(Fail::new("the store can't be opened again"));
     };
     let Some(rows) = rows_in(&store) else {
@@ -170,26 +174,25 @@ fn look(rt: &impl Abort, alloc: Global, host: &Host, told: Told, loss: Loss) -> 
     };
     assert!(rt; told.acknowledged <= rows);
     assert!(rt; rows <= told.committed.saturating_add(1));
-    if build(&mut store) {
+    if is_built && build(&mut store) {
         assert_eq!(rt; entries_in(&store), Some(rows));
     }
     Ok(())
 }
 
-// A process goes on over the cache, and the power is lost at each of its calls.
+// A process goes on over the cache, and the power is lost before each of its syncs is done: what is on the device changes by these.
 fn cut_next(rt: &impl Abort, alloc: Global, host: &Host, told: Told) -> Result<(), Fail> {
-    for cut_at in 1..200 {
+    for cut_at in 1..100 {
         let mut next = host.copied()?;
-        next.fail_at(cut_at);
+        next.fail_at_sync(cut_at);
         let told = live(alloc, &mut next, told, 1)?;
-        for loss in LOSSES {
-            look(rt, alloc, &next, told, loss)?;
-        }
         if next.calls() < cut_at {
-            break;
+            return Ok(());
         }
+        next.lose_power(Loss::Dropped);
+        look(rt, alloc, &mut next, told, false)?;
     }
-    Ok(())
+    Err(Fail::new("more syncs than there are"))
 }
 
 #[test]
@@ -205,28 +208,29 @@ fn nothing_acknowledged_is_lost_whichever_call_fails(rt: HostRuntime) -> Result<
             return Ok(());
         }
         for loss in LOSSES {
-            look(&rt, alloc, &host, told, loss)?;
+            let mut left = host.copied()?;
+            left.lose_power(loss);
+            look(&rt, alloc, &mut left, told, true)?;
         }
     }
     Err(Fail::new("more calls than there are"))
 }
 
-// What a sync that failed didn't write is in the cache, and no later sync of it does. Each sync of a process fails in turn, and the
-// power is lost at each call of the next one.
+// What a sync that failed didn't write is in the cache, and no later sync writes it. Each sync of a process fails in turn, and the
+// power is lost in the next one.
 #[test]
 fn nothing_acknowledged_is_lost_in_the_next_process(rt: HostRuntime) -> Result<(), Fail> {
     let alloc = rt.alloc();
     let formatted = formatted(alloc)?;
-    for fails_at in 1..200 {
+    for fails_at in 1..100 {
         let mut host = formatted.copied()?;
-        host.fail_at(fails_at);
+        host.fail_at_sync(fails_at);
         let told = live(alloc, &mut host, Told::default(), ROWS)?;
-        if host.failed_to_sync() {
-            cut_next(&rt, alloc, &host, told)?;
-        }
         if host.calls() < fails_at {
-            break;
+            assert!(&rt; fails_at > 10);
+            return Ok(());
         }
+        cut_next(&rt, alloc, &host, told)?;
     }
-    Ok(())
+    Err(Fail::new("more syncs than there are"))
 }

@@ -42,10 +42,8 @@ fn a_draft_is_its_makers_until_it_has_its_name(rt: HostRuntime) -> Result<(), Fa
     // A publication that was cut off leaves both names.
     fs::hard_link(&rt, "kept.new", "kept")?;
     assert_eq!(&rt; read(&rt, alloc, "kept")?.content().len(), 2);
-    assert_eq!(&rt;
-        open(&rt, alloc, "kept")?.content(),
-        [[0; SECTOR_SIZE], [7; SECTOR_SIZE]]
-    );
+    let whole = [[0; SECTOR_SIZE], [7; SECTOR_SIZE]];
+    assert!(&rt; open(&rt, alloc, "kept")?.content() == whole.as_slice());
     assert!(&rt; !fs::exists(&rt, "kept.new")?);
     let no_memory = Refusing::new(alloc, 0);
     assert!(&rt; matches!(create(&rt, no_memory, "other", 2), Err(OpenError::NoMemory)));

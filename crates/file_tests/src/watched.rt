@@ -145,6 +145,7 @@ impl Seek for WatchedFile<'_> {
 }
 
 /// The system with these files.
+#[derive(Drop)]
 pub struct Watched<'a, R> {
     pub rt: &'a R,
     pub log: &'a Log,
