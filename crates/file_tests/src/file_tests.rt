@@ -104,7 +104,10 @@ fn trouble_after<R: Files<File = File> + AllocGlobal>(
     write(&mut disk, 1)?;
     match harm {
         0 => fs::remove_file(rt, path)?,
-        1 => fs::rename(rt, path, "moved")?,
+        1 => {
+            fs::write(rt, "other", [3; 1_024].as_slice())?;
+            fs::rename(rt, "other", path)?;
+        }
         _ => fs::OpenOptions::new()
             .write(true)
             .open(rt, path)?
@@ -124,9 +127,10 @@ fn a_file_that_is_harmed_while_it_is_open_is_told(rt: HostRuntime) -> Result<(),
         (2, Trouble::Resized),
     ] {
         assert_eq!(&rt; trouble_after(&rt, "harmed", harm)?, Some(trouble));
+        if fs::exists(&rt, "harmed")? {
+            fs::remove_file(&rt, "harmed")?;
+        }
     }
-    fs::remove_file(&rt, "moved")?;
-    fs::remove_file(&rt, "harmed")?;
     Ok(())
 }
 
