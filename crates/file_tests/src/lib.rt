@@ -16,3 +16,5 @@ mod migration_tests;
 mod program;
 #[cfg(test)]
 mod shell_tests;
+#[cfg(test)]
+mod watched;
